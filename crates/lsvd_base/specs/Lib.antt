@@ -1,0 +1,4 @@
+pub mod Limits
+pub mod Range
+pub mod Image
+pub mod Laws
