@@ -1,0 +1,3 @@
+pub mod Adapter
+pub mod Faults
+pub mod Memory
