@@ -1,0 +1,173 @@
+-- Which command a line spells is decided, and it is one.
+use Rattle.std.proofs.Common.{◌≡◌, ℕ, ◌+◌, ◌*◌, ◌^◌, ◌<◌, ◌⊎◌, inl, inr, Option, Some, None, Bool, true, false, List, [], ◌∷◌, length, codes, sym, ◌∙◌, ap, subst, arith}
+use Rattle.std.specs.Prelude.{IsTrue, nat_le, ◌&&◌}
+use Rattle.std.specs.Bool.{then_some}
+use Rattle.std.specs.Option.{IfNone, MatchOption}
+use Rattle.std.specs.Str.{bytes_eq}
+use Rattle.std.proofs.lemmas.Bool.Decides.{nat_tests}
+use Rattle.std.proofs.lemmas.Fmt.{decimal_injective}
+use Rattle.std.proofs.lemmas.Slice.Eq.{bytes_eq-Decides}
+use Rattle.lsvd_base.specs.Limits.{is_within_limits}
+use Rattle.lsvd_base.specs.declared.geometry.Geometry.{Geometry}
+use Rattle.replay_script.specs.Grammar.{Spells, spelling, Fits, SizesFit, words_of}
+use Rattle.replay_script.specs.declared.command.Command.{Command}
+use Rattle.replay_script.specs.declared.command.Command.TheVariants.{New, Write, Read}
+use Rattle.replay_script.proofs.Numbers.{decided, decide_number, decide_byte, hexadecimal_injective}
+
+-- the limits of a volume keep each size below 2^64
+within_limits_parts : (s m b l : ℕ) → (nat_le 8 s && nat_le s (2 ^ 31) && nat_le 8 m && nat_le m 65536 && nat_le 1 b && nat_le b 65536 && nat_le (2 * (m + 1)) l && nat_le l (2 ^ 31)) ≡ true → (s < 2 ^ 64) × (l < 2 ^ 64) × (m < 2 ^ 64) × (b < 2 ^ 64)
+within_limits_parts s m b l e = (grind (arith, nat_tests), grind (arith, nat_tests), grind (arith, nat_tests), grind (arith, nat_tests))
+
+pub geometry_fits : (g : Geometry) → IsTrue (is_within_limits g) → SizesFit g
+geometry_fits g fits = within_limits_parts g.sectors g.max_write g.batch g.log fits
+
+-- geometries with the same sizes are one
+same_fields : (s s' m m' b b' l l' : ℕ) → s ≡ s' → m ≡ m' → b ≡ b' → l ≡ l' → ◌≡◌ {A = Geometry} (record { sectors = s; max_write = m; batch = b; log = l }) (record { sectors = s'; max_write = m'; batch = b'; log = l' })
+same_fields s s' m m' b b' l l' e1 e2 e3 e4 = cc
+
+-- two geometries that are spelled alike are one
+pub same_geometry : (g h : Geometry) → spelling (New g) ≡ spelling (New h) → SizesFit g → Fits (New h) → g ≡ h
+same_geometry g h e fits_g fits =
+    let fits_h = geometry_fits h fits in
+    let sectors = decimal_injective g.sectors h.sectors fits_g.0 fits_h.0 (cc) in
+    let log = decimal_injective g.log h.log fits_g.1 fits_h.1 (cc) in
+    let max_write = decimal_injective g.max_write h.max_write fits_g.2 fits_h.2 (cc) in
+    let batch = decimal_injective g.batch h.batch fits_g.3 fits_h.3 (cc) in
+    same_fields g.sectors h.sectors g.max_write h.max_write g.batch h.batch g.log h.log sectors max_write batch log
+
+-- where the numbers make no geometry within the limits, the words spell no command `new`
+pub no_new_outside : (words : List (List ℕ)) (g : Geometry) → words ≡ spelling (New g) → SizesFit g → (IsTrue (is_within_limits g) → ⊥) → (h : Geometry) → words ≡ spelling (New h) → Fits (New h) → ⊥
+no_new_outside words g e fits outside h e' fits_h =
+    let same = same_geometry g h (sym e ∙ e') fits fits_h in
+    outside (subst (λ (x : Geometry). IsTrue (is_within_limits x)) (sym same) fits_h)
+
+-- words spell one command
+pub one_spelling : (a b : Command) → spelling a ≡ spelling b → Fits a → Fits b → a ≡ b
+one_spelling (New g) (New h) e fits_g fits_h = ap New (same_geometry g h e (geometry_fits g fits_g) fits_h)
+one_spelling (New g) (Write lba sectors byte) e fits_a fits_b = cc
+one_spelling (New g) (Read lba sectors) e fits_a fits_b = cc
+one_spelling (Write lba sectors byte) (New g) e fits_a fits_b = cc
+one_spelling (Write lba sectors byte) (Write lba' sectors' byte') e fits_a fits_b =
+    let same_lba = decimal_injective lba lba' fits_a.0 fits_b.0 (cc) in
+    let same_sectors = decimal_injective sectors sectors' fits_a.1 fits_b.1 (cc) in
+    let same_byte = hexadecimal_injective byte byte' fits_a.2 fits_b.2 (cc) in
+    cc
+one_spelling (Write lba sectors byte) (Read lba' sectors') e fits_a fits_b = cc
+one_spelling (Read lba sectors) (New g) e fits_a fits_b = cc
+one_spelling (Read lba sectors) (Write lba' sectors' byte) e fits_a fits_b = cc
+one_spelling (Read lba sectors) (Read lba' sectors') e fits_a fits_b =
+    let same_lba = decimal_injective lba lba' fits_a.0 fits_b.0 (cc) in
+    let same_sectors = decimal_injective sectors sectors' fits_a.1 fits_b.1 (cc) in
+    cc
+
+-- a line spells one command
+pub one_command : (line : List ℕ) (a b : Command) → Spells line a → Spells line b → a ≡ b
+one_command line a b spells_a spells_b = one_spelling a b (sym spells_a.words ∙ spells_b.words) spells_a.fits spells_b.fits
+
+-- whether words spell the command `new` is decided
+pub decide_new : (words : List (List ℕ)) → ((g : Geometry) × (words ≡ spelling (New g)) × Fits (New g)) ⊎ ((g : Geometry) → words ≡ spelling (New g) → Fits (New g) → ⊥)
+decide_new (name ∷ a ∷ b ∷ c ∷ d ∷ []) =
+    elim (decided (bytes_eq name (codes "new")) (bytes_eq-Decides name (codes "new"))) [
+      | inr other ↦ inr (λ g e fits. other (cc))
+      | inl is_new ↦
+          elim (decide_number a) [
+            | inr other ↦ inr (λ g e fits. other g.sectors (geometry_fits g fits).0 (cc))
+            | inl sectors ↦
+                elim (decide_number b) [
+                  | inr other ↦ inr (λ g e fits. other g.log (geometry_fits g fits).1 (cc))
+                  | inl log ↦
+                      elim (decide_number c) [
+                        | inr other ↦ inr (λ g e fits. other g.max_write (geometry_fits g fits).2 (cc))
+                        | inl max_write ↦
+                            elim (decide_number d) [
+                              | inr other ↦ inr (λ g e fits. other g.batch (geometry_fits g fits).3 (cc))
+                              | inl batch ↦
+                                  let g : Geometry = record { sectors = sectors.0; log = log.0; max_write = max_write.0; batch = batch.0 } in
+                                  let e : name ∷ a ∷ b ∷ c ∷ d ∷ [] ≡ spelling (New g) = cc (is_new, sectors.2, log.2, max_write.2, batch.2) in
+                                  elim (decided (is_within_limits g) ((λ t. t), (λ t. t))) [
+                                    | inl inside ↦ inl (g, e, inside)
+                                    | inr outside ↦ inr (no_new_outside _ g e (sectors.1, log.1, max_write.1, batch.1) outside)
+                                  ]
+                            ]
+                      ]
+                ]
+          ]
+    ]
+decide_new _ = inr (λ g e fits. omega (arith, ap length e))
+
+-- whether words spell the command `w` is decided
+pub decide_write : (words : List (List ℕ)) → ((command : Command) × (words ≡ spelling command) × Fits command) ⊎ ((lba sectors byte : ℕ) → words ≡ spelling (Write lba sectors byte) → Fits (Write lba sectors byte) → ⊥)
+decide_write (name ∷ a ∷ b ∷ c ∷ []) =
+    elim (decided (bytes_eq name (codes "w")) (bytes_eq-Decides name (codes "w"))) [
+      | inr other ↦ inr (λ lba sectors byte e fits. other (cc))
+      | inl is_write ↦
+          elim (decide_number a) [
+            | inr other ↦ inr (λ lba sectors byte e fits. other lba fits.0 (cc))
+            | inl lba ↦
+                elim (decide_number b) [
+                  | inr other ↦ inr (λ lba sectors byte e fits. other sectors fits.1 (cc))
+                  | inl sectors ↦
+                      elim (decide_byte c) [
+                        | inr other ↦ inr (λ lba sectors byte e fits. other byte fits.2 (cc))
+                        | inl byte ↦ inl (Write lba.0 sectors.0 byte.0, cc (is_write, lba.2, sectors.2, byte.2), (lba.1, sectors.1, byte.1))
+                      ]
+                ]
+          ]
+    ]
+decide_write _ = inr (λ lba sectors byte e fits. omega (arith, ap length e))
+
+-- whether words spell the command `r` is decided
+pub decide_read : (words : List (List ℕ)) → ((command : Command) × (words ≡ spelling command) × Fits command) ⊎ ((lba sectors : ℕ) → words ≡ spelling (Read lba sectors) → Fits (Read lba sectors) → ⊥)
+decide_read (name ∷ a ∷ b ∷ []) =
+    elim (decided (bytes_eq name (codes "r")) (bytes_eq-Decides name (codes "r"))) [
+      | inr other ↦ inr (λ lba sectors e fits. other (cc))
+      | inl is_read ↦
+          elim (decide_number a) [
+            | inr other ↦ inr (λ lba sectors e fits. other lba fits.0 (cc))
+            | inl lba ↦
+                elim (decide_number b) [
+                  | inr other ↦ inr (λ lba sectors e fits. other sectors fits.1 (cc))
+                  | inl sectors ↦ inl (Read lba.0 sectors.0, cc (is_read, lba.2, sectors.2), (lba.1, sectors.1))
+                ]
+          ]
+    ]
+decide_read _ = inr (λ lba sectors e fits. omega (arith, ap length e))
+
+-- what `then_some` gives where the geometry may be outside the limits
+pub new_none : (words : List (List ℕ)) (g : Geometry) (inside : Bool) (found : Option Command) → found ≡ then_some inside (New g) → inside ≡ is_within_limits g → words ≡ spelling (New g) → SizesFit g → IfNone found ((h : Geometry) → words ≡ spelling (New h) → Fits (New h) → ⊥)
+new_none words g true found is_found is_inside e fits = rw is_found tt
+new_none words g false found is_found is_inside e fits = rw is_found (no_new_outside words g e fits (λ inside. let same = is_inside ∙ inside in cc))
+
+-- a search that goes on where the first came to nothing finds nothing only where neither does
+pub or_else_none : {A P : Type 0} (M N : Type 0) (first found : Option A) → IfNone first M → MatchOption first P (λ x. found ≡ Some x) → (P → IfNone found N) → IfNone found (M × N)
+or_else_none M N None None nothing then next = (nothing, next then)
+or_else_none M N None (Some x) nothing then next = tt
+or_else_none M N (Some x) None nothing then next = cc
+or_else_none M N (Some x) (Some y) nothing then next = tt
+
+-- what holds of a search that found nothing, weakened
+pub IfNone-weaker : {A M N : Type 0} (found : Option A) → IfNone found M → (M → N) → IfNone found N
+IfNone-weaker None nothing f = f nothing
+IfNone-weaker (Some x) nothing f = tt
+
+-- words that spell none of the three commands spell none
+pub no_command : (words : List (List ℕ)) → ((g : Geometry) → words ≡ spelling (New g) → Fits (New g) → ⊥) → ((lba sectors byte : ℕ) → words ≡ spelling (Write lba sectors byte) → Fits (Write lba sectors byte) → ⊥) → ((lba sectors : ℕ) → words ≡ spelling (Read lba sectors) → Fits (Read lba sectors) → ⊥) → (command : Command) → words ≡ spelling command → Fits command → ⊥
+no_command words no_new no_write no_read (New g) e fits = no_new g e fits
+no_command words no_new no_write no_read (Write lba sectors byte) e fits = no_write lba sectors byte e fits
+no_command words no_new no_write no_read (Read lba sectors) e fits = no_read lba sectors e fits
+
+-- whether a line spells a command is decided
+pub decide_line : (line : List ℕ) → ((command : Command) × Spells line command) ⊎ ((command : Command) → Spells line command → ⊥)
+decide_line line =
+    elim (decide_new (words_of line)) [
+      | inl found ↦ inl (New found.0, record { words = found.1; fits = found.2 })
+      | inr no_new ↦
+          elim (decide_write (words_of line)) [
+            | inl found ↦ inl (found.0, record { words = found.1; fits = found.2 })
+            | inr no_write ↦
+                elim (decide_read (words_of line)) [
+                  | inl found ↦ inl (found.0, record { words = found.1; fits = found.2 })
+                  | inr no_read ↦ inr (λ command spells. no_command (words_of line) no_new no_write no_read command spells.words spells.fits)
+                ]
+          ]
+    ]

@@ -1,0 +1,4 @@
+pub mod Decide
+pub mod Lines
+pub mod Numbers
+pub mod Runs

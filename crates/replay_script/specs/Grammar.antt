@@ -1,0 +1,46 @@
+-- The grammar of scripts: which bytes are a line, and which lines spell a command.
+use Rattle.std.specs.Prelude.{◌≡◌, ℕ, ◌/◌, ◌%◌, ◌^◌, ◌<◌, List, [], ◌∷◌, ◌==◌, IsTrue, if◌then◌else◌, length, codes, decimal}
+use Rattle.std.specs.Char.{digit_char}
+use Rattle.std.specs.List.{slice_split}
+use Rattle.lsvd_base.specs.Limits.{is_within_limits}
+use Rattle.lsvd_base.specs.declared.geometry.Geometry.{Geometry}
+use Rattle.replay_script.specs.declared.command.Command.{Command}
+use Rattle.replay_script.specs.declared.command.Command.TheVariants.{New, Write, Read}
+
+-- the parts between newlines; an empty last part is no line, so that the last newline may be absent
+abbrev pub without_empty_last : List (List ℕ) → List (List ℕ)
+without_empty_last [] = []
+without_empty_last (part ∷ []) = if length part == 0 then [] else part ∷ []
+without_empty_last (part ∷ next ∷ more) = part ∷ without_empty_last (next ∷ more)
+
+abbrev pub lines_of : List ℕ → List (List ℕ)
+lines_of script = without_empty_last (slice_split (λ b. b == 10) script)
+
+-- the words of a line: the parts between single spaces
+abbrev pub words_of : List ℕ → List (List ℕ)
+words_of line = slice_split (λ b. b == 32) line
+
+-- a byte as two lower-case hexadecimal digits
+abbrev pub hexadecimal : ℕ → List ℕ
+hexadecimal byte = digit_char (byte / 16) ∷ digit_char (byte % 16) ∷ []
+
+-- the words that spell a command; a number is in decimal digits without sign or needless zeros
+abbrev pub spelling : Command → List (List ℕ)
+spelling (New g) = codes "new" ∷ decimal g.sectors ∷ decimal g.log ∷ decimal g.max_write ∷ decimal g.batch ∷ []
+spelling (Write lba sectors byte) = codes "w" ∷ decimal lba ∷ decimal sectors ∷ hexadecimal byte ∷ []
+spelling (Read lba sectors) = codes "r" ∷ decimal lba ∷ decimal sectors ∷ []
+
+-- each size of a geometry is below 2^64
+abbrev pub SizesFit : Geometry → Type 0
+SizesFit g = (g.sectors < 2 ^ 64) × (g.log < 2 ^ 64) × (g.max_write < 2 ^ 64) × (g.batch < 2 ^ 64)
+
+-- the numbers of a command are below 2^64, a byte is one, and a geometry keeps the limits of a volume
+abbrev pub Fits : Command → Type 0
+Fits (New g) = IsTrue (is_within_limits g)
+Fits (Write lba sectors byte) = (lba < 2 ^ 64) × (sectors < 2 ^ 64) × (byte < 256)
+Fits (Read lba sectors) = (lba < 2 ^ 64) × (sectors < 2 ^ 64)
+
+-- a line is a command
+pub record Spells (line : List ℕ) (command : Command) : Type 0 where
+  pub words : words_of line ≡ spelling command
+  pub fits : Fits command
