@@ -1,0 +1,83 @@
+-- A script has one transcript.
+use Rattle.std.proofs.Common.{◌≡◌, ℕ, ◌+◌, ◌*◌, List, [], ◌∷◌, ◌++◌, replicate, sym, ◌∙◌, subst, inl, inr, arith}
+use Rattle.std.specs.Prelude.{Some, None}
+use Rattle.plain_disk.specs.Machine.{Disk, reply_of}
+use Rattle.plain_disk.specs.declared.event.Event.{Event}
+use Rattle.plain_disk.specs.declared.event.Event.TheVariants as events
+use Rattle.plain_disk.specs.declared.event.Reply.{Reply}
+use Rattle.plain_disk.specs.declared.event.Reply.TheVariants.{Entered, Data, Range}
+use Rattle.replay_script.specs.declared.command.Command.{Command}
+use Rattle.replay_script.specs.declared.command.Command.TheVariants.{New, Write, Read}
+use Rattle.replay_script.specs.Grammar.{lines_of}
+use Rattle.replay_script.proofs.Decide.{one_command}
+use Rattle.replay_script.proofs.Runs.{one_run_text}
+use Rattle.vol_replay.specs.declared.outcome.Outcome.{Outcome}
+use Rattle.vol_replay.specs.Transcript.{State, TellsReply, Steps, Answers, IsAnswered, StopsAt, Transcript, IsTranscript}
+
+-- a reply is told by one text
+one_telling : (reply : Reply) (a b : List ℕ) → TellsReply reply a → TellsReply reply b → a ≡ b
+one_telling (Entered count) a b s t = s ∙ sym t
+one_telling (Data bytes) a b s t = one_run_text bytes a b s t
+one_telling Range a b s t = s ∙ sym t
+
+-- one text and one state
+abbrev AreSame : List ℕ → List ℕ → State → State → Type 0
+AreSame a b p q = (a ≡ b) × (p ≡ q)
+
+one_step : (disk : Disk) (event : Event) (a b : List ℕ) (p q : State) → Steps disk event a p → Steps disk event b q → AreSame a b p q
+one_step disk event a b p q s t = (one_telling (reply_of disk event) a b s.0 t.0, s.1 ∙ sym t.1)
+
+-- a command is answered in one way
+one_answer : (state : State) (command : Command) (a b : List ℕ) (p q : State) → Answers state command a p → Answers state command b q → AreSame a b p q
+one_answer None (New g) a b p q s t = (s.0 ∙ sym t.0, s.1 ∙ sym t.1)
+one_answer None (Write lba sectors byte) a b p q s t = absurd s
+one_answer None (Read lba sectors) a b p q s t = absurd s
+one_answer (Some disk) (New g) a b p q s t = absurd s
+one_answer (Some disk) (Write lba sectors byte) a b p q s t = one_step disk (events.Write lba (replicate (512 * sectors) byte)) a b p q s t
+one_answer (Some disk) (Read lba sectors) a b p q s t = one_step disk (events.Read lba sectors) a b p q s t
+
+-- a line is answered in one way
+one_answered : (state : State) (line a b : List ℕ) (p q : State) → IsAnswered state line a p → IsAnswered state line b q → AreSame a b p q
+one_answered state line a b p q s t =
+    let P : Command → Type 0 = λ c. Answers state c b q in
+    one_answer state s.command a b p q s.answered (subst P (one_command line t.command s.command t.spelled s.spelled) t.answered)
+
+-- a line that is answered is not bad
+answered_or_bad : (number : ℕ) (state : State) (line answer : List ℕ) (next : State) (outcome : Outcome) → IsAnswered state line answer next → StopsAt number state line outcome → ⊥
+answered_or_bad number state line answer next outcome s (inl long) = omega (arith, s.short, long.0)
+answered_or_bad number state line answer next outcome s (inr bad) = bad.1 s.command answer next s.spelled s.answered
+
+-- a line is bad for one reason
+one_stop : (number : ℕ) (state : State) (line : List ℕ) (x y : Outcome) → StopsAt number state line x → StopsAt number state line y → x ≡ y
+one_stop number state line x y (inl s) (inl t) = s.1 ∙ sym t.1
+one_stop number state line x y (inl s) (inr t) = absurd (omega (arith, s.0, t.0))
+one_stop number state line x y (inr s) (inl t) = absurd (omega (arith, s.0, t.0))
+one_stop number state line x y (inr s) (inr t) = s.2 ∙ sym t.2
+
+-- the lines have one transcript from each state on
+abbrev HaveOne : List (List ℕ) → Type 0
+HaveOne lines = (number : ℕ) (state : State) (a b : List ℕ) (x y : Outcome) → Transcript number state lines a x → Transcript number state lines b y → (a ≡ b) × (x ≡ y)
+
+same_line : (a b first second more rest : List ℕ) → a ≡ first ++ 10 ∷ more → b ≡ second ++ 10 ∷ rest → first ≡ second → more ≡ rest → a ≡ b
+same_line a b first second more rest s t e f = cc
+
+one_more : (line : List ℕ) (lines : List (List ℕ)) → HaveOne lines → HaveOne (line ∷ lines)
+one_more line lines one number state a b x y (inl s) (inl t) =
+    let same = one_answered state line s.0 t.0 s.1 t.1 s.3 t.3 in
+    let P : State → Type 0 = λ p. Transcript (number + 1) p lines t.2 y in
+    let after = one (number + 1) s.1 s.2 t.2 x y s.5 (subst P (sym same.1) t.5) in
+    (same_line a b s.0 t.0 s.2 t.2 s.4 t.4 same.0 after.0, after.1)
+one_more line lines one number state a b x y (inl s) (inr t) = absurd (answered_or_bad number state line s.0 s.1 y s.3 t.1)
+one_more line lines one number state a b x y (inr s) (inl t) = absurd (answered_or_bad number state line t.0 t.1 x t.3 s.1)
+one_more line lines one number state a b x y (inr s) (inr t) = (s.0 ∙ sym t.0, one_stop number state line x y s.1 t.1)
+
+one_transcript : (lines : List (List ℕ)) → HaveOne lines
+one_transcript [] = λ number state a b x y s t. (s.0 ∙ sym t.0, s.1 ∙ sym t.1)
+one_transcript (line ∷ lines) = one_more line lines (one_transcript lines)
+
+-- the transcript of a script and its outcome are determined
+pub determined : (script a b : List ℕ) (x y : Outcome) → IsTranscript script a x → IsTranscript script b y → (a ≡ b) × (x ≡ y)
+determined script a b x y (inl s) (inl t) = one_transcript (lines_of script) 1 None a b x y s.1 t.1
+determined script a b x y (inl s) (inr t) = absurd (omega (arith, s.0, t.0))
+determined script a b x y (inr s) (inl t) = absurd (omega (arith, s.0, t.0))
+determined script a b x y (inr s) (inr t) = (s.1 ∙ sym t.1, s.2 ∙ sym t.2)

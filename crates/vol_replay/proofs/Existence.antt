@@ -1,0 +1,111 @@
+-- Each script has a transcript.
+use Rattle.std.proofs.Common.{ℕ, ◌+◌, ◌*◌, ◌<◌, ◌≤◌, ◌^◌, ◌⊎◌, List, [], ◌∷◌, ◌++◌, length, replicate, refl, subst, inl, inr}
+use Rattle.std.specs.Prelude.{Some, None, codes, decimal}
+use Rattle.std.proofs.lemmas.Bool.{cases_lt}
+use Rattle.plain_disk.specs.Machine.{Disk, created, reply_of, disk_after}
+use Rattle.plain_disk.specs.declared.event.Event.{Event}
+use Rattle.plain_disk.specs.declared.event.Event.TheVariants as events
+use Rattle.plain_disk.specs.declared.event.Reply.{Reply}
+use Rattle.plain_disk.specs.declared.event.Reply.TheVariants.{Entered, Data, Range}
+use Rattle.replay_script.specs.declared.command.Command.{Command}
+use Rattle.replay_script.specs.declared.command.Command.TheVariants.{New, Write, Read}
+use Rattle.replay_script.specs.Grammar.{lines_of, Spells}
+use Rattle.replay_script.proofs.Decide.{decide_line, one_command}
+use Rattle.replay_script.proofs.Runs.{some_run_text}
+use Rattle.vol_replay.specs.declared.outcome.Outcome.{Outcome}
+use Rattle.vol_replay.specs.declared.outcome.Outcome.TheVariants.{Done, BadLine}
+use Rattle.vol_replay.specs.declared.outcome.Reason.TheVariants.{NotACommand, TooLong}
+use Rattle.vol_replay.specs.Transcript.{State, TellsReply, Steps, Answers, IsUnanswered, IsAnswered, IsNoCommand, StopsAt, Transcript, IsTranscript, IsFrontOfTranscript, line_after}
+
+-- each reply has a text
+some_telling : (reply : Reply) → (text : List ℕ) × TellsReply reply text
+some_telling (Entered count) = (codes "ok " ++ decimal count, refl)
+some_telling (Data bytes) = some_run_text bytes
+some_telling Range = (codes "range", refl)
+
+abbrev HasAnswer : State → Command → Type 0
+HasAnswer state command = (text : List ℕ) × (next : State) × Answers state command text next
+
+some_step : (disk : Disk) (event : Event) → (text : List ℕ) × (next : State) × Steps disk event text next
+some_step disk event = let told = some_telling (reply_of disk event) in (told.0, Some (disk_after disk event), (told.1, refl))
+
+-- a command is answered or not
+some_answer : (state : State) (command : Command) → HasAnswer state command ⊎ IsUnanswered state command
+some_answer None (New g) = inl (codes "new " ++ decimal g.sectors, Some (created g), (refl, refl))
+some_answer None (Write lba sectors byte) = inr (λ text next h. h)
+some_answer None (Read lba sectors) = inr (λ text next h. h)
+some_answer (Some disk) (New g) = inr (λ text next h. h)
+some_answer (Some disk) (Write lba sectors byte) = inl (some_step disk (events.Write lba (replicate (512 * sectors) byte)))
+some_answer (Some disk) (Read lba sectors) = inl (some_step disk (events.Read lba sectors))
+
+-- a line that spells a command which is not answered is bad
+pub unanswered_line : (state : State) (line : List ℕ) (command : Command) → Spells line command → IsUnanswered state command → IsNoCommand state line
+unanswered_line state line command spelled none other text next also answered =
+    let P : Command → Type 0 = λ c. Answers state c text next in
+    none text next (subst P (one_command line other command also spelled) answered)
+
+-- a line that spells no command is bad
+pub unspelled_line : (state : State) (line : List ℕ) → ((command : Command) → Spells line command → ⊥) → IsNoCommand state line
+unspelled_line state line none command text next spelled answered = none command spelled
+
+-- a line is answered or bad
+data LineFate (number : ℕ) (state : State) (line : List ℕ) : Type 0 where
+  goes : (answer : List ℕ) (next : State) → IsAnswered state line answer next → LineFate number state line
+  stops : (outcome : Outcome) → StopsAt number state line outcome → LineFate number state line
+
+fate_spelled : (number : ℕ) (state : State) (line : List ℕ) (command : Command) → length line ≤ 65536 → Spells line command → HasAnswer state command ⊎ IsUnanswered state command → LineFate number state line
+fate_spelled number state line command short spelled (inl a) = goes a.0 a.1 (record { short = short; command = command; spelled = spelled; answered = a.2 })
+fate_spelled number state line command short spelled (inr none) = stops (BadLine number NotACommand) (inr (short, unanswered_line state line command spelled none, refl))
+
+fate_short : (number : ℕ) (state : State) (line : List ℕ) → length line ≤ 65536 → ((command : Command) × Spells line command) ⊎ ((command : Command) → Spells line command → ⊥) → LineFate number state line
+fate_short number state line short (inl c) = fate_spelled number state line c.0 short c.1 (some_answer state c.0)
+fate_short number state line short (inr none) = stops (BadLine number NotACommand) (inr (short, unspelled_line state line none, refl))
+
+fate : (number : ℕ) (state : State) (line : List ℕ) → (65536 < length line) ⊎ (length line ≤ 65536) → LineFate number state line
+fate number state line (inl long) = stops (BadLine number TooLong) (inl (long, refl))
+fate number state line (inr short) = fate_short number state line short (decide_line line)
+
+abbrev SomeTranscript : ℕ → State → List (List ℕ) → Type 0
+SomeTranscript number state lines = (text : List ℕ) × (outcome : Outcome) × Transcript number state lines text outcome
+
+after_stop : (number : ℕ) (state : State) (line : List ℕ) (lines : List (List ℕ)) (outcome : Outcome) → StopsAt number state line outcome → SomeTranscript number state (line ∷ lines)
+after_stop number state line lines outcome s = ([], outcome, inr (refl, s))
+
+after_answer : (number : ℕ) (state next : State) (line answer : List ℕ) (lines : List (List ℕ)) → IsAnswered state line answer next → SomeTranscript (number + 1) next lines → SomeTranscript number state (line ∷ lines)
+after_answer number state next line answer lines a more = (answer ++ 10 ∷ more.0, more.1, inl (answer, next, more.0, a, refl, more.2))
+
+-- the lines have a transcript from each state on
+pub some_transcript : (lines : List (List ℕ)) (number : ℕ) (state : State) → SomeTranscript number state lines
+some_transcript [] number state = ([], Done state, (refl, refl))
+some_transcript (line ∷ lines) number state =
+    elim (fate number state line (cases_lt 65536 (length line))) [
+      | goes answer next a ↦ after_answer number state next line answer lines a (some_transcript lines (number + 1) next)
+      | stops outcome s ↦ after_stop number state line lines outcome s
+    ]
+
+-- the transcript of a script that passes its limit
+past_limit : (script : List ℕ) → 2 ^ 24 < length script → IsFrontOfTranscript script []
+past_limit script long = record { rest = []; outcome = BadLine (line_after (2 ^ 24) script) TooLong; transcript = inr (long, refl, refl) }
+
+within_limit : (script : List ℕ) → length script ≤ 2 ^ 24 → SomeTranscript 1 None (lines_of script) → IsFrontOfTranscript script []
+within_limit script short t = record { rest = t.0; outcome = t.1; transcript = inl (short, t.2) }
+
+by_length : (script : List ℕ) → (2 ^ 24 < length script) ⊎ (length script ≤ 2 ^ 24) → IsFrontOfTranscript script []
+by_length script (inl long) = past_limit script long
+by_length script (inr short) = within_limit script short (some_transcript (lines_of script) 1 None)
+
+-- nothing is the front of each script's transcript
+pub nothing_written : (script : List ℕ) → IsFrontOfTranscript script []
+nothing_written script = by_length script (cases_lt (2 ^ 24) (length script))
+
+-- a script and its transcript
+abbrev HasTranscript : List ℕ → Type 0
+HasTranscript script = (text : List ℕ) × (outcome : Outcome) × IsTranscript script text outcome
+
+transcript_by_length : (script : List ℕ) → (2 ^ 24 < length script) ⊎ (length script ≤ 2 ^ 24) → HasTranscript script
+transcript_by_length script (inl long) = ([], BadLine (line_after (2 ^ 24) script) TooLong, inr (long, refl, refl))
+transcript_by_length script (inr short) = let t = some_transcript (lines_of script) 1 None in (t.0, t.1, inl (short, t.2))
+
+-- each script has a transcript
+pub transcript_of : (script : List ℕ) → (text : List ℕ) × (outcome : Outcome) × IsTranscript script text outcome
+transcript_of script = transcript_by_length script (cases_lt (2 ^ 24) (length script))

@@ -1,0 +1,4 @@
+pub mod Determined
+pub mod Existence
+pub mod Progress
+pub mod Results

@@ -1,0 +1,103 @@
+-- The transcript of a script: which text answers its lines, and how a replay of it ends.
+use Rattle.std.specs.Prelude.{◌≡◌, ℕ, ◌+◌, ◌*◌, ◌^◌, ◌<◌, ◌≤◌, ◌⊎◌, Option, Some, None, List, [], ◌∷◌, ◌++◌, ◌==◌, length, take, replicate, count_by, codes, decimal}
+use Rattle.plain_disk.specs.Machine.{Disk, created, reply_of, disk_after}
+use Rattle.plain_disk.specs.declared.event.Event.{Event}
+use Rattle.plain_disk.specs.declared.event.Event.TheVariants as events
+use Rattle.plain_disk.specs.declared.event.Reply.{Reply}
+use Rattle.plain_disk.specs.declared.event.Reply.TheVariants.{Entered, Data, Range}
+use Rattle.replay_script.specs.declared.command.Command.{Command}
+use Rattle.replay_script.specs.declared.command.Command.TheVariants.{New, Write, Read}
+use Rattle.replay_script.specs.Grammar.{lines_of, Spells}
+use Rattle.replay_script.specs.RunText.{IsRunText}
+use Rattle.vol_replay.specs.declared.outcome.Outcome.{Outcome}
+use Rattle.vol_replay.specs.declared.outcome.Outcome.TheVariants.{Done, BadLine, ReadFault, WriteFault, OutOfMemory}
+use Rattle.vol_replay.specs.declared.outcome.Reason.TheVariants.{NotACommand, TooLong}
+
+-- where a replay stands: there is no disk before the line `new`
+abbrev pub State : Type 0
+State = Option Disk
+
+-- the text that tells a reply of the disk
+abbrev pub TellsReply : Reply → List ℕ → Type 0
+TellsReply (Entered count) text = text ≡ codes "ok " ++ decimal count
+TellsReply (Data bytes) text = IsRunText bytes text
+TellsReply Range text = text ≡ codes "range"
+
+-- the disk takes the event, tells its reply by this text, and is the next one then
+abbrev pub Steps : Disk → Event → List ℕ → State → Type 0
+Steps disk event text next = TellsReply (reply_of disk event) text × (next ≡ Some (disk_after disk event))
+
+-- In this state the command is answered by this text, and leaves the next state. `new` is answered first
+-- and only there, and everything else only after it.
+abbrev pub Answers : State → Command → List ℕ → State → Type 0
+Answers None (New g) text next = (text ≡ codes "new " ++ decimal g.sectors) × (next ≡ Some (created g))
+Answers None (Write lba sectors byte) text next = ⊥
+Answers None (Read lba sectors) text next = ⊥
+Answers (Some disk) (New g) text next = ⊥
+Answers (Some disk) (Write lba sectors byte) text next = Steps disk (events.Write lba (replicate (512 * sectors) byte)) text next
+Answers (Some disk) (Read lba sectors) text next = Steps disk (events.Read lba sectors) text next
+
+-- the line spells no command that this state answers
+abbrev pub IsNoCommand : State → List ℕ → Type 0
+IsNoCommand state line = (command : Command) (text : List ℕ) (next : State) → Spells line command → Answers state command text next → ⊥
+
+-- the line of this number is bad, and that is the outcome; its length is tested first
+abbrev pub StopsAt : ℕ → State → List ℕ → Outcome → Type 0
+StopsAt number state line outcome =
+    ((65536 < length line) × (outcome ≡ BadLine number TooLong))
+    ⊎ ((length line ≤ 65536) × IsNoCommand state line × (outcome ≡ BadLine number NotACommand))
+
+-- this state does not answer the command
+abbrev pub IsUnanswered : State → Command → Type 0
+IsUnanswered state command = (text : List ℕ) (next : State) → Answers state command text next → ⊥
+
+-- a line that is answered: its command, the answer, and the state after it
+pub record IsAnswered (state : State) (line answer : List ℕ) (next : State) : Type 0 where
+  pub short : length line ≤ 65536
+  pub command : Command
+  pub spelled : Spells line command
+  pub answered : Answers state command answer next
+
+-- The answers to the lines from this state on, each ended by a newline, up to the end or the first bad
+-- line, whose number counts on from this one.
+abbrev pub Transcript : ℕ → State → List (List ℕ) → List ℕ → Outcome → Type 0
+Transcript number state [] text outcome = (text ≡ []) × (outcome ≡ Done state)
+Transcript number state (line ∷ lines) text outcome =
+    ((answer : List ℕ) × (next : State) × (more : List ℕ) × IsAnswered state line answer next
+    × (text ≡ answer ++ 10 ∷ more) × Transcript (number + 1) next lines more outcome)
+    ⊎ ((text ≡ []) × StopsAt number state line outcome)
+
+-- the number of the line in which the byte after so many bytes stands, counted from 1
+unfoldable pub line_after : ℕ → List ℕ → ℕ
+line_after count script = 1 + count_by (λ b. b == 10) (take count script)
+
+-- The transcript of a script, and its outcome. Of a script past its limit nothing is run: bad is the line
+-- in which the limit is passed.
+abbrev pub IsTranscript : List ℕ → List ℕ → Outcome → Type 0
+IsTranscript script text outcome =
+    ((length script ≤ 2 ^ 24) × Transcript 1 None (lines_of script) text outcome)
+    ⊎ ((2 ^ 24 < length script) × (text ≡ [])
+    × (outcome ≡ BadLine (line_after (2 ^ 24) script) TooLong))
+
+-- the front of a transcript
+pub record IsFrontOfTranscript (script text : List ℕ) : Type 0 where
+  pub rest : List ℕ
+  pub outcome : Outcome
+  pub transcript : IsTranscript script (text ++ rest) outcome
+
+-- what was written when a replay ended: the whole transcript where each line was answered or a line is
+-- bad, and a front of it after a fault or where memory lacked
+abbrev pub IsWritten : List ℕ → List ℕ → Outcome → Type 0
+IsWritten script text (Done state) = IsTranscript script text (Done state)
+IsWritten script text (BadLine number reason) = IsTranscript script text (BadLine number reason)
+IsWritten script text ReadFault = IsFrontOfTranscript script text
+IsWritten script text WriteFault = IsFrontOfTranscript script text
+IsWritten script text OutOfMemory = IsFrontOfTranscript script text
+
+-- each line was answered
+abbrev pub IsDone : Outcome → Type 0
+IsDone (Done state) = Unit {0}
+IsDone (BadLine number reason) = ⊥
+IsDone ReadFault = ⊥
+IsDone WriteFault = ⊥
+IsDone OutOfMemory = ⊥

@@ -1,0 +1,134 @@
+ghost use Rattle.std.specs.Prelude.{◌≡◌, ℕ, List, [], ◌∷◌, ◌++◌, IsNone, IfOk, IfSome, IfNone, OnOk, IfErr, Some};
+ghost use Rattle.vol_replay.specs.Transcript.{TellsReply, Answers, IsUnanswered, IsAnswered};
+ghost use Rattle.std.specs.Bool.{OnTrue, OnFalse};
+ghost use Rattle.vol_replay.specs.Answer.{IsRefused};
+ghost use Rattle.vol_replay.specs.declared.answer.Refusal.TheVariants as refusals;
+
+use crate::outcome::Reason;
+use crate::rig::Rig;
+use lsvd_base::Geometry;
+use plain_disk::Reply;
+use replay_script::{Command, LINE_LIMIT, command_of, push_decimal, push_run_text};
+use std::alloc::{AllocError, Global};
+
+/// Why a line was not answered.
+#[derive(Clone, Copy, Debug, PartialEq, Eq)]
+pub(crate) enum Refusal {
+    Bad(Reason),
+    OutOfMemory,
+}
+
+impl From<AllocError> for Refusal {
+    ghost from_gives = { λ _ e. e ≡ refusals.OutOfMemory };
+
+    fn from(_: AllocError) -> Refusal {
+        Refusal::OutOfMemory
+    }
+}
+
+// Appends the text that tells a reply.
+fn push_text(answers: &mut Vec<u8>, reply: &Reply) -> Result<(), AllocError>
+    ensures { OnOk result ((text : List ℕ) × TellsReply reply.now text × (answers.new.items ≡ answers.old.items ++ text)) }
+{
+    match reply {
+        Reply::Entered(count) => {
+            answers.extend_from_slice(b"ok ")?;
+            push_decimal(answers, *count)
+        }
+        Reply::Data(body) => push_run_text(answers, body.as_bytes()),
+        Reply::Range => answers.extend_from_slice(b"range"),
+    }
+}
+
+// Appends the line that tells a reply.
+fn push_reply(answers: &mut Vec<u8>, reply: &Reply) -> Result<(), AllocError>
+    ensures { OnOk result ((text : List ℕ) × TellsReply reply.now text
+        × (answers.new.items ≡ answers.old.items ++ (text ++ 10 ∷ []))) }
+{
+    push_text(answers, reply)?;
+    answers.push(b'\n')?;
+    Ok(())
+}
+
+// Makes the volume, and appends the line that tells it.
+fn create(
+    alloc: Global,
+    rig: &mut Option<Rig>,
+    geometry: Geometry,
+    answers: &mut Vec<u8>,
+) -> Result<(), AllocError>
+    requires { IsNone rig.old }
+    ensures { OnOk result ((text : List ℕ) × Answers rig.old (Command.New geometry) text rig.new
+        × (answers.new.items ≡ answers.old.items ++ (text ++ 10 ∷ []))) }
+{
+    answers.extend_from_slice(b"new ")?;
+    push_decimal(answers, geometry.sectors)?;
+    answers.push(b'\n')?;
+    *rig = Some(Rig::new(alloc, geometry));
+    Ok(())
+}
+
+// Makes the step that a command asks of a disk, and answers its reply. None is for `new`.
+fn step(alloc: Global, rig: &mut Rig, command: Command) -> Result<Option<Reply>, AllocError>
+    ensures some { IfOk result (λ reply. IfSome reply (λ reply. (text : List ℕ) → TellsReply reply text → Answers (Some rig.old) command text (Some rig.new))) }
+    ensures none { IfOk result (λ reply. IfNone reply (IsUnanswered (Some rig.old) command)) }
+{
+    match command {
+        Command::New(_) => Ok(None),
+        Command::Write { lba, sectors, byte } => Ok(Some(rig.write(alloc, lba, sectors, byte)?)),
+        Command::Read { lba, sectors } => Ok(Some(rig.read(lba, sectors)?)),
+    }
+}
+
+// Appends the answer to a command; false is for one that the state does not answer.
+fn answer_command(
+    alloc: Global,
+    rig: &mut Option<Rig>,
+    command: Command,
+    answers: &mut Vec<u8>,
+) -> Result<bool, AllocError>
+    ensures answered { IfOk result (λ answered. OnTrue answered ((text : List ℕ) × Answers rig.old command text rig.new
+        × (answers.new.items ≡ answers.old.items ++ (text ++ 10 ∷ [])))) }
+    ensures unanswered { IfOk result (λ answered. OnFalse answered (IsUnanswered rig.old command × (answers.new.items ≡ answers.old.items))) }
+{
+    match rig {
+        None => match command {
+            Command::New(geometry) => {
+                create(alloc, rig, geometry, answers)?;
+                Ok(true)
+            }
+            _ => Ok(false),
+        },
+        Some(rig) => match step(alloc, rig, command)? {
+            Some(reply) => {
+                push_reply(answers, &reply)?;
+                Ok(true)
+            }
+            None => Ok(false),
+        },
+    }
+}
+
+/// Answers one line, and appends the answer with its newline.
+pub(crate) fn answer_line(
+    alloc: Global,
+    rig: &mut Option<Rig>,
+    line: &[u8],
+    answers: &mut Vec<u8>,
+) -> Result<(), Refusal>
+    ensures ok { OnOk result ((answer : List ℕ) × IsAnswered rig.old line.now answer rig.new
+        × (answers.new.items ≡ answers.old.items ++ (answer ++ 10 ∷ []))) }
+    ensures refused { IfErr result (IsRefused rig.old line.now answers.old.items answers.new.items) }
+{
+    if line.len() > LINE_LIMIT {
+        return Err(Refusal::Bad(Reason::TooLong));
+    }
+    let Some(command) = command_of(alloc, line)? else {
+        return Err(Refusal::Bad(Reason::NotACommand));
+    };
+    if answer_command(alloc, rig, command, answers)? {
+        Ok(())
+    } else {
+        Err(Refusal::Bad(Reason::NotACommand))
+    }
+}

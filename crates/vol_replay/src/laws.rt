@@ -1,0 +1,13 @@
+ghost use Rattle.std.specs.Prelude.{◌≡◌, ℕ, List};
+ghost use Rattle.vol_replay.specs.declared.outcome.Outcome.{Outcome};
+ghost use Rattle.vol_replay.specs.Transcript.{IsTranscript};
+
+/// The transcript of a script and its outcome are determined by the script.
+pub fn a_transcript_is_determined()
+    ensures { (script a b : List ℕ) (x y : Outcome) → IsTranscript script a x → IsTranscript script b y → (a ≡ b) × (x ≡ y) }
+{}
+
+/// Each script has a transcript.
+pub fn each_script_has_a_transcript()
+    ensures { (script : List ℕ) → (text : List ℕ) × (outcome : Outcome) × IsTranscript script text outcome }
+{}

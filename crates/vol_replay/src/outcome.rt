@@ -1,0 +1,40 @@
+ghost use Rattle.std.specs.Prelude.{◌≡◌};
+ghost use Rattle.vol_replay.specs.Reason.{code_of};
+
+use crate::rig::Rig;
+
+/// Why a line of a script is bad.
+#[derive(Clone, Copy, Debug, PartialEq, Eq)]
+pub enum Reason {
+    /// It spells no command that is allowed where it stands.
+    NotACommand,
+    /// It is longer than a line may be, or the script passes its limit in it.
+    TooLong,
+}
+
+impl Reason {
+    /// The number that is told for it.
+    pub fn code(self) -> u8
+        ensures { result ≡ code_of self }
+    {
+        match self {
+            Reason::NotACommand => 1,
+            Reason::TooLong => 6,
+        }
+    }
+}
+
+/// How a replay ended.
+#[derive(Drop)]
+pub enum Outcome {
+    /// Each line was answered. The rig is as the last line left it; there is none for a script without lines.
+    Done(Option<Rig>),
+    /// The lines before this one, counted from 1, were answered.
+    BadLine { number: u64, reason: Reason },
+    /// The source failed, and nothing was run.
+    ReadFault,
+    /// The sink failed, and took a front of the transcript.
+    WriteFault,
+    /// Memory lacked, and the sink took a front of the transcript.
+    OutOfMemory,
+}

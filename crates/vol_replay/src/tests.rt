@@ -1,0 +1,198 @@
+use crate::outcome::{Outcome, Reason};
+use crate::run::replay;
+use lsvd_fault::{MemSink, MemSource, Sink, Source};
+use std::alloc::{AllocError, Global};
+use std::process::Abort;
+use std::test::Fail;
+
+// An outcome without the rig.
+#[derive(Clone, Copy, Debug, PartialEq, Eq)]
+enum Ending {
+    Done,
+    NoLines,
+    Bad(u64, Reason),
+    ReadFault,
+    WriteFault,
+    OutOfMemory,
+}
+
+fn ending_of(outcome: &Outcome) -> Ending {
+    match outcome {
+        Outcome::Done(Some(_)) => Ending::Done,
+        Outcome::Done(None) => Ending::NoLines,
+        Outcome::BadLine { number, reason } => Ending::Bad(*number, *reason),
+        Outcome::ReadFault => Ending::ReadFault,
+        Outcome::WriteFault => Ending::WriteFault,
+        Outcome::OutOfMemory => Ending::OutOfMemory,
+    }
+}
+
+// Replays a script from memory to memory, and asserts what is written and how it ends.
+fn assert_replays(rt: &impl Abort, alloc: Global, script: Vec<u8>, text: &[u8], ending: Ending) {
+    let mut source = MemSource::new(script);
+    let mut sink = MemSink::new(alloc);
+    let outcome = replay(alloc, &mut source, &mut sink);
+    assert_eq!(rt; ending_of(&outcome), ending);
+    assert_eq!(rt; sink.bytes(), text);
+}
+
+const FIRST: &[u8] = b"new 64 64 8 16\n";
+
+const WRITTEN: &[u8] = b"new 64 64 8 16\nw 0 1 41\nr 0 2\n";
+
+#[test]
+fn answers_each_line(rt: HostRuntime) -> Result<(), Fail> {
+    let cases: [(&[u8], &[u8], Ending); 4] = [
+        (b"", b"", Ending::NoLines),
+        (WRITTEN, b"new 64\nok 1\n41x512 00x512\n", Ending::Done),
+        (
+            b"new 64 64 8 16\nw 0 1 41\nr 0 2",
+            b"new 64\nok 1\n41x512 00x512\n",
+            Ending::Done,
+        ),
+        (
+            b"new 64 64 8 16\nw 3 2 0f\nw 4 1 10\nr 2 4\n",
+            b"new 64\nok 1\nok 2\n00x512 0fx512 10x512 00x512\n",
+            Ending::Done,
+        ),
+    ];
+    for (script, text, ending) in cases {
+        let script = Vec::from_slice(rt.alloc(), script)?;
+        assert_replays(&rt, rt.alloc(), script, text, ending);
+    }
+    Ok(())
+}
+
+// A good first line, this line, and a line that must not be reached where this one is bad.
+fn with_line(alloc: Global, line: &[u8]) -> Result<Vec<u8>, AllocError> {
+    let mut script = Vec::from_slice(alloc, FIRST)?;
+    script.extend_from_slice(line)?;
+    script.extend_from_slice(b"\nr 63 1\n")?;
+    Ok(script)
+}
+
+#[test]
+fn requests_out_of_range_are_answered(rt: HostRuntime) -> Result<(), Fail> {
+    let lines: [&[u8]; 7] = [
+        b"w 63 2 41",
+        b"w 0 0 41",
+        b"w 0 9 41",
+        b"r 64 1",
+        b"r 0 0",
+        b"w 18446744073709551615 1 41",
+        b"w 0 9223372036854775807 41",
+    ];
+    for line in lines {
+        let script = with_line(rt.alloc(), line)?;
+        assert_replays(
+            &rt,
+            rt.alloc(),
+            script,
+            b"new 64\nrange\n00x512\n",
+            Ending::Done,
+        );
+    }
+    Ok(())
+}
+
+#[test]
+fn a_bad_second_line_keeps_the_first_answer(rt: HostRuntime) -> Result<(), Fail> {
+    let lines: [&[u8]; 12] = [
+        b"",
+        b"new 64 64 8 16",
+        b"w  0 1 41",
+        b"w 0 1 41 ",
+        b"w 0 1 41\r",
+        b"w 0 1 4F",
+        b"w 0 1 4",
+        b"w 0 1",
+        b"r 00 1",
+        b"r 18446744073709551616 1",
+        b"trim 0 1",
+        &[0xff; 65_536],
+    ];
+    for line in lines {
+        let script = with_line(rt.alloc(), line)?;
+        let ending = Ending::Bad(2, Reason::NotACommand);
+        assert_replays(&rt, rt.alloc(), script, b"new 64\n", ending);
+    }
+    let script = with_line(rt.alloc(), &[0xff; 65_537])?;
+    let ending = Ending::Bad(2, Reason::TooLong);
+    assert_replays(&rt, rt.alloc(), script, b"new 64\n", ending);
+    Ok(())
+}
+
+#[test]
+fn a_bad_first_line_is_answered_by_nothing(rt: HostRuntime) -> Result<(), Fail> {
+    let scripts: [&[u8]; 6] = [
+        b"\n",
+        b"w 0 1 41\n",
+        b"r 0 1\nnew 64 64 8 16\n",
+        b" new 64 64 8 16\n",
+        b"new 7 64 8 16\n",
+        b"new 64 17 8 16\n",
+    ];
+    for script in scripts {
+        let script = Vec::from_slice(rt.alloc(), script)?;
+        let ending = Ending::Bad(1, Reason::NotACommand);
+        assert_replays(&rt, rt.alloc(), script, b"", ending);
+    }
+    Ok(())
+}
+
+// A first piece, so many lines of 65,536 bytes with their newlines, and a last piece.
+fn long_script(
+    alloc: Global,
+    first: &[u8],
+    lines: u64,
+    last: &[u8],
+) -> Result<Vec<u8>, AllocError> {
+    let mut script = Vec::from_slice(alloc, first)?;
+    for _ in 0..lines {
+        script.extend_from_slice(&[b'r'; 65_535])?;
+        script.push(b'\n')?;
+    }
+    script.extend_from_slice(last)?;
+    Ok(script)
+}
+
+#[test]
+fn nothing_is_run_of_a_script_past_its_limit(rt: HostRuntime) -> Result<(), Fail> {
+    // The first has 2^24 bytes, and the others have one more.
+    let cases: [(&[u8], u64, &[u8], Ending); 4] = [
+        (b"", 256, b"", Ending::Bad(1, Reason::NotACommand)),
+        (b"", 256, b"r", Ending::Bad(257, Reason::TooLong)),
+        (b"", 256, b"\n", Ending::Bad(257, Reason::TooLong)),
+        (
+            FIRST,
+            255,
+            &[b'r'; 65_522],
+            Ending::Bad(257, Reason::TooLong),
+        ),
+    ];
+    for (first, lines, last, ending) in cases {
+        let script = long_script(rt.alloc(), first, lines, last)?;
+        assert_replays(&rt, rt.alloc(), script, b"", ending);
+    }
+    Ok(())
+}
+
+#[test]
+fn a_fault_is_told(rt: HostRuntime) -> Result<(), Fail> {
+    let script = Vec::from_slice(rt.alloc(), WRITTEN)?;
+    let mut source = MemSource::new(script).in_pieces(10).failing_at(2);
+    let mut sink = MemSink::new(rt.alloc());
+    let outcome = replay(rt.alloc(), &mut source, &mut sink);
+    assert_eq!(rt; ending_of(&outcome), Ending::ReadFault);
+    assert_eq!(rt; source.faults(), 1);
+    assert_eq!(rt; sink.bytes(), b"".as_slice());
+
+    let script = Vec::from_slice(rt.alloc(), WRITTEN)?;
+    let mut source = MemSource::new(script);
+    let mut sink = MemSink::new(rt.alloc()).in_pieces(5).failing_at(1);
+    let outcome = replay(rt.alloc(), &mut source, &mut sink);
+    assert_eq!(rt; ending_of(&outcome), Ending::WriteFault);
+    assert_eq!(rt; sink.faults(), 1);
+    assert_eq!(rt; sink.bytes(), b"new 6".as_slice());
+    Ok(())
+}
