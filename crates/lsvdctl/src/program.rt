@@ -1,0 +1,250 @@
+ghost use Rattle.std.specs.Prelude.{◌≡◌, ◌≢◌, ◌⊎◌, ◌↔◌, List, ℕ, [], ◌∷◌, map, codes, string_bytes, IsTrue, IfSome};
+ghost use Rattle.std.specs.Io.KnownBytes.{Appends, IsAtEnd};
+ghost use Rattle.lsvd_fault.specs.Faults.{HasRisen};
+ghost use Rattle.lsvdctl.specs.Report.{status_of, line_of, IsTold};
+ghost use Rattle.lsvdctl.specs.Run.{IsReported, report_of};
+
+use crate::report::Report;
+use crate::world::World;
+use lsvd_fault::{Sink, Source};
+use std::alloc::Global;
+use vol_replay::{Outcome, replay};
+
+/// Runs the program on the words after its name, and answers its exit status.
+///
+/// `replay` reads a script from `input` and writes its transcript to `out`; a line on `err` tells each end
+/// but a good one.
+pub fn run<W: World>(
+    alloc: Global,
+    words: &[String],
+    _world: &mut W,
+    input: &mut W::In,
+    out: &mut W::Out,
+    err: &mut W::Err,
+) -> u8
+    // 0: each line is answered. 3: a line is bad. 1 or 4: a fault, or want of memory. The output and the line on
+    // the error stream say so too.
+    ensures report { (report : Report) × (result ≡ status_of report)
+        × IsTold (W.Err.contents err.old) (W.Err.contents err.new) (W.Err.faults err.old) (W.Err.faults err.new) (line_of report)
+        × IfSome (W.In.remaining input.old) (λ script. (text : List ℕ)
+        × Appends (W.Out.contents out.old) (W.Out.contents out.new) text × IsReported script text report) }
+
+    // The input was read to its end.
+    ensures end { result ≡ 0 → IsAtEnd (W.In.remaining input.new) }
+
+    // 2 is for words other than `replay`, and for nothing else.
+    ensures usage { (result ≡ 2) ↔ (map string_bytes words.now ≢ codes "replay" ∷ []) }
+
+    // Then nothing was read or written.
+    ensures untouched { result ≡ 2 → (input.new ≡ input.old) × (out.new ≡ out.old) }
+
+    // 1 is only for a fault that was counted.
+    ensures fault { result ≡ 1 → HasRisen (W.In.faults input.old) (W.In.faults input.new) ⊎ HasRisen (W.Out.faults out.old) (W.Out.faults out.new) }
+{
+    let report = execute::<W::In, W::Out>(alloc, words, input, out);
+    report.tell(err);
+    report.status()
+}
+
+// Does what the words ask for, and says how it ended.
+fn execute<I: Source, O: Sink>(
+    alloc: Global,
+    words: &[String],
+    input: &mut I,
+    out: &mut O,
+) -> Report
+    ensures output { IfSome (I.remaining input.old) (λ script. (text : List ℕ)
+        × Appends (O.contents out.old) (O.contents out.new) text × IsReported script text result) }
+    ensures end { result ≡ Report.Done → IsAtEnd (I.remaining input.new) }
+    ensures usage { (result ≡ Report.Usage) ↔ (map string_bytes words.now ≢ codes "replay" ∷ []) }
+    ensures untouched { result ≡ Report.Usage → (input.new ≡ input.old) × (out.new ≡ out.old) }
+    ensures fault { result ≡ Report.Fault → HasRisen (I.faults input.old) (I.faults input.new) ⊎ HasRisen (O.faults out.old) (O.faults out.new) }
+{
+    if is_replay(words) {
+        report_of(replay(alloc, input, out))
+    } else {
+        Report::Usage
+    }
+}
+
+// Whether the words are the one word `replay`.
+fn is_replay(words: &[String]) -> bool
+    ensures { IsTrue result ↔ (map string_bytes words.now ≡ codes "replay" ∷ []) }
+{
+    match words {
+        [word] => word.as_str() == "replay",
+        _ => false,
+    }
+}
+
+// How an outcome is reported.
+fn report_of(outcome: Outcome) -> Report
+    ensures { result ≡ report_of outcome }
+{
+    match outcome {
+        Outcome::Done(_) => Report::Done,
+        Outcome::BadLine { number, reason } => Report::BadLine { number, reason },
+        Outcome::ReadFault | Outcome::WriteFault => Report::Fault,
+        Outcome::OutOfMemory => Report::Memory,
+    }
+}
+
+#[cfg(test)]
+mod tests {
+    use super::*;
+    use crate::world::MemWorld;
+    use lsvd_fault::{MemSink, MemSource};
+    use std::alloc::AllocError;
+    use std::test::Fail;
+
+    // What is run, and what has to come of it.
+    struct Case {
+        words: &'static [&'static str],
+        script: &'static [u8],
+        status: u8,
+        out: &'static [u8],
+        err: &'static [u8],
+    }
+
+    const CASES: [Case; 8] = [
+        Case {
+            words: &["replay"],
+            script: b"new 64 64 8 16\nw 0 1 41\nr 0 2\n",
+            status: 0,
+            out: b"new 64\nok 1\n41x512 00x512\n",
+            err: b"",
+        },
+        Case {
+            words: &["replay"],
+            script: b"",
+            status: 0,
+            out: b"",
+            err: b"",
+        },
+        Case {
+            words: &["replay"],
+            script: b"new 64 64 8 16\nw 63 2 41\nw 0 0 41\nr 63 1",
+            status: 0,
+            out: b"new 64\nrange\nrange\n00x512\n",
+            err: b"",
+        },
+        Case {
+            words: &["replay"],
+            script: b"new 64 64 8 16\nw 0 1 41\nread 0 1\nr 0 1\n",
+            status: 3,
+            out: b"new 64\nok 1\n",
+            err: b"line 3 reason 1\n",
+        },
+        Case {
+            words: &[],
+            script: b"new 64 64 8 16\n",
+            status: 2,
+            out: b"",
+            err: b"usage\n",
+        },
+        Case {
+            words: &["replay", "replay"],
+            script: b"new 64 64 8 16\n",
+            status: 2,
+            out: b"",
+            err: b"usage\n",
+        },
+        Case {
+            words: &["Replay"],
+            script: b"",
+            status: 2,
+            out: b"",
+            err: b"usage\n",
+        },
+        Case {
+            words: &["serve"],
+            script: b"",
+            status: 2,
+            out: b"",
+            err: b"usage\n",
+        },
+    ];
+
+    fn words_of(alloc: Global, texts: &[&str]) -> Result<Vec<String>, AllocError> {
+        let mut words = Vec::new(alloc);
+        for text in texts {
+            words.push(String::from_str(alloc, text)?)?;
+        }
+        Ok(words)
+    }
+
+    #[test]
+    fn each_end_has_its_status_and_line(rt: HostRuntime) -> Result<(), Fail> {
+        let alloc = rt.alloc();
+        for case in &CASES {
+            let words = words_of(alloc, case.words)?;
+            let mut input = MemSource::new(case.script.to_vec(alloc)?);
+            let mut out = MemSink::new(alloc);
+            let mut err = MemSink::new(alloc);
+            let mut world = MemWorld;
+            let status = run(
+                alloc,
+                words.as_slice(),
+                &mut world,
+                &mut input,
+                &mut out,
+                &mut err,
+            );
+            assert_eq!(rt; status, case.status);
+            assert_eq!(rt; out.bytes(), case.out);
+            assert_eq!(rt; err.bytes(), case.err);
+        }
+        Ok(())
+    }
+
+    #[test]
+    fn a_fault_is_told(rt: HostRuntime) -> Result<(), Fail> {
+        let alloc = rt.alloc();
+        let words = words_of(alloc, &["replay"])?;
+        let script = b"new 64 64 8 16\nw 0 1 41\nr 0 2\n";
+        for (read_fails, write_fails, out_wanted) in [
+            (1, 9, b"".as_slice()),
+            (9, 1, b"new 64\nok".as_slice()),
+        ] {
+            let mut input = MemSource::new(script.to_vec(alloc)?)
+                .in_pieces(10)
+                .failing_at(read_fails);
+            let mut out = MemSink::new(alloc).in_pieces(9).failing_at(write_fails);
+            let mut err = MemSink::new(alloc);
+            let mut world = MemWorld;
+            let status = run(
+                alloc,
+                words.as_slice(),
+                &mut world,
+                &mut input,
+                &mut out,
+                &mut err,
+            );
+            assert_eq!(rt; status, 1);
+            assert_eq!(rt; out.bytes(), out_wanted);
+            assert_eq!(rt; err.bytes(), b"fault\n".as_slice());
+        }
+        Ok(())
+    }
+
+    #[test]
+    fn a_failed_line_on_the_error_stream_changes_no_status(rt: HostRuntime) -> Result<(), Fail> {
+        let alloc = rt.alloc();
+        let words = words_of(alloc, &["replay"])?;
+        let mut input = MemSource::new(b"\n".to_vec(alloc)?);
+        let mut out = MemSink::new(alloc);
+        let mut err = MemSink::new(alloc).in_pieces(4).failing_at(1);
+        let mut world = MemWorld;
+        let status = run(
+            alloc,
+            words.as_slice(),
+            &mut world,
+            &mut input,
+            &mut out,
+            &mut err,
+        );
+        assert_eq!(rt; status, 3);
+        assert_eq!(rt; err.bytes(), b"line".as_slice());
+        Ok(())
+    }
+}

@@ -1,0 +1,69 @@
+ghost use Rattle.std.specs.Prelude.{◌≡◌, ◌≤◌};
+ghost use Rattle.lsvdctl.specs.Report.{status_of, line_of, IsTold};
+
+use arrayvec::ArrayString;
+use itoa::Buffer;
+use lsvd_fault::{Failed, Sink, write_all};
+use vol_replay::Reason;
+
+/// How a run of the program ended.
+#[derive(Clone, Copy, Debug, PartialEq, Eq)]
+pub enum Report {
+    /// The command is done.
+    Done,
+    /// A call to the outside failed.
+    Fault,
+    /// The words are no command line of the program.
+    Usage,
+    /// This line of the script, counted from 1, is bad.
+    BadLine { number: u64, reason: Reason },
+    /// Memory lacked.
+    Memory,
+}
+
+impl Report {
+    /// The exit status: 0 done, 1 a fault, 2 usage, 3 a refusal, 4 want of memory.
+    pub fn status(self) -> u8
+        ensures { result ≡ status_of self }
+    {
+        match self {
+            Report::Done => 0,
+            Report::Fault => 1,
+            Report::Usage => 2,
+            Report::BadLine { .. } => 3,
+            Report::Memory => 4,
+        }
+    }
+
+    /// Writes the line that tells it, which a run that is done does not have. Where a write fails, a
+    /// front of the line stands there, and nothing else is done about it.
+    pub fn tell<E: Sink>(self, err: &mut E)
+        ensures told { IsTold (E.contents err.old) (E.contents err.new) (E.faults err.old) (E.faults err.new) (line_of self) }
+        ensures kept { E.faults err.old ≤ E.faults err.new }
+    {
+        let _ = match self {
+            Report::Done => Ok(()),
+            Report::Fault => write_all(err, b"fault\n"),
+            Report::Usage => write_all(err, b"usage\n"),
+            Report::BadLine { number, reason } => tell_bad_line(err, number, reason),
+            Report::Memory => write_all(err, b"memory\n"),
+        };
+    }
+}
+
+/// The most bytes of a line that tells a bad line.
+const LINE_BYTES: usize = 64;
+
+// The line that tells a bad line, as one write.
+fn tell_bad_line<E: Sink>(err: &mut E, number: u64, reason: Reason) -> Result<(), Failed>
+    ensures told { IsTold (E.contents err.old) (E.contents err.new) (E.faults err.old) (E.faults err.new) (line_of (Report.BadLine number reason)) }
+    ensures kept { E.faults err.old ≤ E.faults err.new }
+{
+    let mut line = ArrayString::<LINE_BYTES>::new();
+    line.push_str("line ");
+    line.push_str(Buffer::new().format(number));
+    line.push_str(" reason ");
+    line.push_str(Buffer::new().format(reason.code()));
+    line.push_str("\n");
+    write_all(err, line.as_bytes())
+}
