@@ -1,12 +1,12 @@
 -- A window on an image, when an entry is applied to it.
-use Rattle.std.proofs.Common.{◌≡◌, ℕ, ◌+◌, ◌-◌, ◌*◌, ◌/◌, ◌%◌, ◌<◌, ◌≤◌, List, [], ◌∷◌, ◌++◌, get_or, true, length, take, drop, replicate, sym, ◌∙◌, ap, arith, length-drop}
+use Rattle.std.proofs.Common.{◌≡◌, ℕ, ◌+◌, ◌-◌, ◌*◌, ◌/◌, ◌%◌, ◌^◌, IsTrue, ◌<◌, ◌≤◌, List, [], ◌∷◌, ◌++◌, get_or, true, length, take, drop, replicate, sym, ◌∙◌, ap, arith, length-drop}
 use Rattle.std.proofs.lemmas.List.{length-take-le, length-replicate, take_all, take_more, take-replicate, drop-replicate}
 use Rattle.std.proofs.lemmas.List.Elements.{All-take}
 use Rattle.std.specs.List.{concat}
 use Rattle.lsvd_base.specs.declared.geometry.Geometry.{Geometry}
 use Rattle.lsvd_base.specs.declared.entry.Entry.{Entry}
 use Rattle.std.proofs.lemmas.Bool.Decides.{nat_tests}
-use Rattle.lsvd_base.specs.Limits.{may_transfer}
+use Rattle.lsvd_base.specs.Limits.{is_within_limits, may_transfer}
 use Rattle.lsvd_base.specs.Range.{is_in_range}
 use Rattle.lsvd_base.specs.declared.entry.Entry.TheVariants.{Write, Zero}
 use Rattle.lsvd_base.specs.Image.{Image, zero_sector, blank, cut_into_sectors, overwritten, after}
@@ -104,3 +104,7 @@ transfer_ends g lba sectors h = grind (arith, nat_tests)
 pub entry_in_range : (g : Geometry) (history : List Entry) (n : ℕ) (entry : Entry) → AllInRange g history → n < length history
     → entry ≡ get_or history n entry → is_in_range g entry ≡ true
 entry_in_range g history n entry h inside is = rw is (h n entry inside)
+
+-- how many sectors a volume within the limits has at most
+pub sectors_limit : (g : Geometry) → IsTrue (is_within_limits g) → g.sectors ≤ 2 ^ 31
+sectors_limit g h = grind (arith, nat_tests)

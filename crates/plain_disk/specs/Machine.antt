@@ -1,16 +1,16 @@
 -- The plain disk machine: its state, and what each event answers and leaves.
-use Rattle.std.specs.Prelude.{ℕ, ◌≡◌, ◌+◌, true, List, [], ◌∷◌, ◌++◌, length, take, drop, if◌then◌else◌}
-use Rattle.std.specs.List.{All, concat}
+use Rattle.std.specs.Prelude.{ℕ, ◌≡◌, ◌+◌, ◌/◌, Bool, true, ◌&&◌, nat_lt, IsTrue, List, [], ◌∷◌, ◌++◌, length, take, drop, if◌then◌else◌}
+use Rattle.std.specs.List.{All, concat, sum_by}
 use Rattle.lsvd_base.specs.declared.geometry.Geometry.{Geometry}
 use Rattle.lsvd_base.specs.declared.entry.Entry.{Entry}
 use Rattle.lsvd_base.specs.declared.entry.Entry.TheVariants as entries
-use Rattle.lsvd_base.specs.Limits.{may_transfer}
+use Rattle.lsvd_base.specs.Limits.{is_within_limits, may_transfer}
 use Rattle.lsvd_base.specs.Range.{is_in_range}
 use Rattle.lsvd_base.specs.Image.{Image, blank, after}
 use Rattle.plain_disk.specs.declared.event.Event.{Event}
-use Rattle.plain_disk.specs.declared.event.Event.TheVariants.{Write, Read}
+use Rattle.plain_disk.specs.declared.event.Event.TheVariants.{Write, Read, Zero, Flush}
 use Rattle.plain_disk.specs.declared.event.Reply.{Reply}
-use Rattle.plain_disk.specs.declared.event.Reply.TheVariants.{Entered, Data, Range}
+use Rattle.plain_disk.specs.declared.event.Reply.TheVariants.{Entered, Data, Flushed, BatchFull, EntriesFull, Range}
 
 -- a disk: its geometry, and the entries that it took since it was created
 pub record Disk : Type 0 where
@@ -37,14 +37,47 @@ with_entry disk entry = record disk { history = disk.history ++ entry ∷ [] }
 abbrev pub AllInRange : Geometry → List Entry → Type 0
 AllInRange geometry history = All (λ entry. is_in_range geometry entry ≡ true) history
 
--- what a new entry answers: the history's length with it
+-- the sectors of data that an entry carries: a zeroing carries none
+abbrev pub data_sectors : Entry → ℕ
+data_sectors (entries.Write lba body) = length body / 512
+data_sectors (entries.Zero lba sectors) = 0
+
+-- the entries that are in no object of the store; there are no objects yet, so they are the whole history
+abbrev pub unsealed : Disk → List Entry
+unsealed disk = disk.history
+
+-- the sectors of data that these entries carry
+abbrev pub unsealed_sectors : Disk → ℕ
+unsealed_sectors disk = sum_by data_sectors (unsealed disk)
+
+-- the most entries of a batch
+abbrev pub max_entries : ℕ
+max_entries = 16384
+
+-- the unsealed entries have fewer sectors of data than a batch
+abbrev pub has_room : Disk → Bool
+has_room disk = nat_lt (unsealed_sectors disk) disk.geometry.batch
+
+-- there are fewer of them than a batch may have
+abbrev pub has_place : Disk → Bool
+has_place disk = nat_lt (length (unsealed disk)) max_entries
+
+-- the disk takes the entry: it is in range, and the batch is not full
+abbrev pub takes : Disk → Entry → Bool
+takes disk entry = is_in_range disk.geometry entry && has_room disk && has_place disk
+
+-- what a new entry answers: the history's length with it, or why the disk does not take it
 abbrev pub entry_reply : Disk → Entry → Reply
 entry_reply disk entry =
-    if is_in_range disk.geometry entry then Entered (length disk.history + 1) else Range
+    if is_in_range disk.geometry entry then
+    (if has_room disk then
+    (if has_place disk then Entered (length disk.history + 1) else EntriesFull (length (unsealed disk)))
+    else BatchFull (unsealed_sectors disk))
+    else Range
 
--- what a new entry leaves: one that is in range is the next of the history
+-- what a new entry leaves: one that the disk takes is the next of the history
 abbrev pub after_entry : Disk → Entry → Disk
-after_entry disk entry = if is_in_range disk.geometry entry then with_entry disk entry else disk
+after_entry disk entry = if takes disk entry then with_entry disk entry else disk
 
 -- what a read answers: the sectors of the image
 abbrev pub read_reply : Disk → ℕ → ℕ → Reply
@@ -54,9 +87,19 @@ read_reply disk lba sectors =
 -- what an event answers
 abbrev pub reply_of : Disk → Event → Reply
 reply_of disk (Write lba body) = entry_reply disk (entries.Write lba body)
+reply_of disk (Zero lba sectors) = entry_reply disk (entries.Zero lba sectors)
 reply_of disk (Read lba sectors) = read_reply disk lba sectors
+reply_of disk Flush = Flushed (length disk.history)
 
--- what an event leaves: a write is entered, and a read changes nothing
+-- what an event leaves: a write or a zeroing is entered, and a read or a flush changes nothing
 abbrev pub disk_after : Disk → Event → Disk
 disk_after disk (Write lba body) = after_entry disk (entries.Write lba body)
+disk_after disk (Zero lba sectors) = after_entry disk (entries.Zero lba sectors)
 disk_after disk (Read lba sectors) = disk
+disk_after disk Flush = disk
+
+-- what a plain disk keeps: the limits of its geometry, entries in range, and the count of their sectors of data
+pub record IsKept (geometry : Geometry) (history : List Entry) (count : ℕ) : Type 0 where
+  pub limits : IsTrue (is_within_limits geometry)
+  pub in_range : AllInRange geometry history
+  pub counted : count ≡ sum_by data_sectors history

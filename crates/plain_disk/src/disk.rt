@@ -1,5 +1,6 @@
-ghost use Rattle.std.specs.Prelude.{◌≡◌, IfOk, OnOk, OnErr};
-ghost use Rattle.plain_disk.specs.Machine.{created, reply_of, disk_after, entry_reply, after_entry, read_reply};
+ghost use Rattle.std.specs.Prelude.{◌≡◌, IsTrue, IfOk, OnOk, OnErr};
+ghost use Rattle.lsvd_base.specs.Limits.{is_within_limits};
+ghost use Rattle.plain_disk.specs.Machine.{created, data_sectors, reply_of, disk_after, entry_reply, after_entry, read_reply};
 
 use crate::event::{Event, Reply};
 use crate::window::overlay;
@@ -7,32 +8,38 @@ use lsvd_base::{Body, Entry, Geometry, SECTOR_BYTES, in_range};
 use std::alloc::{AllocError, Global};
 use std::marker::Model;
 
+/// The most entries of a batch.
+pub const MAX_ENTRIES: u64 = 16_384;
+
 /// A disk that is the list of its entries. A read costs as much as the history is long.
 #[derive(Drop)]
 pub struct PlainDisk {
     geometry: Geometry,
     history: Vec<Entry>,
+    /// The sectors of data of the unsealed entries, counted here so that a write need not go over them.
+    data_sectors: u64,
 }
 
 impl Model for PlainDisk {
-    ghost use Rattle.std.specs.Prelude.{◌<◌, ◌^◌};
-    ghost use Rattle.plain_disk.specs.Machine.{Disk, AllInRange};
+    ghost use Rattle.plain_disk.specs.Machine.{Disk, IsKept};
 
     ghost Value = { Disk };
 
     ghost view = { λ d. record { geometry = d.geometry; history = d.history.items } };
 
-    ghost invariant = { λ d. AllInRange d.geometry d.history.items × (d.geometry.sectors < 2 ^ 64) };
+    ghost invariant = { λ d. IsKept d.geometry d.history.items d.data_sectors };
 }
 
 impl PlainDisk {
     /// A disk of this geometry that was just created: all of its sectors are zeros.
     pub fn new(alloc: Global, geometry: Geometry) -> PlainDisk
+        requires { IsTrue (is_within_limits geometry) }
         ensures { result ≡ created geometry }
     {
         PlainDisk {
             geometry,
             history: Vec::new(alloc),
+            data_sectors: 0,
         }
     }
 
@@ -52,10 +59,13 @@ impl PlainDisk {
         match event {
             Event::Write { lba, body } => self.enter(Entry::Write { lba, body }),
             Event::Read { lba, sectors } => self.read(lba, sectors),
+            Event::Zero { lba, sectors } => self.enter(Entry::Zero { lba, sectors }),
+            Event::Flush => Ok(Reply::Flushed(self.history.len() as u64)),
         }
     }
 
-    /// Takes the entry if it is in range. The one error is want of memory, after which the disk is as before.
+    /// Takes the entry if it is in range and the batch is not full. The one error is want of memory,
+    /// after which the disk is as before.
     fn enter(&mut self, entry: Entry) -> Result<Reply, AllocError>
         ensures reply { IfOk result (λ reply. reply ≡ entry_reply self.old entry) }
         ensures disk { OnOk result (self.new ≡ after_entry self.old entry) }
@@ -64,7 +74,18 @@ impl PlainDisk {
         if !in_range(&entry, &self.geometry) {
             return Ok(Reply::Range);
         }
+        if self.data_sectors >= self.geometry.batch {
+            return Ok(Reply::BatchFull {
+                sectors: self.data_sectors,
+            });
+        }
+        let entries = self.history.len() as u64;
+        if entries >= MAX_ENTRIES {
+            return Ok(Reply::EntriesFull { entries });
+        }
+        let added = data_sectors(&entry);
         self.history.push(entry)?;
+        self.data_sectors += added;
         Ok(Reply::Entered(self.history.len() as u64))
     }
 
@@ -83,6 +104,16 @@ impl PlainDisk {
             overlay(window.as_mut_slice(), lba, entry);
         }
         Ok(Reply::Data(Body::from_bytes(window)))
+    }
+}
+
+/// How many sectors of data the entry carries: a zeroing carries none.
+fn data_sectors(entry: &Entry) -> u64
+    ensures { result ≡ data_sectors entry.now }
+{
+    match entry {
+        Entry::Write { body, .. } => body.sectors(),
+        Entry::Zero { .. } => 0,
     }
 }
 
@@ -126,19 +157,40 @@ mod tests {
         match disk.step(Event::Read { lba, sectors })? {
             Reply::Data(body) => Ok(body.as_bytes() == want),
             Reply::Range => Ok(want.is_empty()),
-            Reply::Entered(_) => Ok(false),
+            _ => Ok(false),
         }
     }
 
+    /// Zeros so many sectors: the length that the disk answers, or nothing out of range.
+    fn zero(disk: &mut PlainDisk, lba: u64, sectors: u64) -> Result<Option<u64>, AllocError> {
+        match disk.step(Event::Zero { lba, sectors })? {
+            Reply::Entered(length) => Ok(Some(length)),
+            _ => Ok(None),
+        }
+    }
+
+    /// Zeros the first sector so many times, and says how many of these zeroings the disk took.
+    fn zero_many(disk: &mut PlainDisk, count: u64) -> Result<u64, AllocError> {
+        let mut taken = 0;
+        for turn in 0..count {
+            if zero(disk, 0, 1)?.is_some() {
+                taken = turn + 1;
+            }
+        }
+        Ok(taken)
+    }
+
+    const SMALL: Geometry = Geometry {
+        sectors: 64,
+        max_write: 8,
+        batch: 16,
+        log: 64,
+    };
+
     #[test]
-    fn the_last_write_of_a_sector_is_read(rt: HostRuntime) -> Result<(), Fail> {
-        let geometry = Geometry {
-            sectors: 64,
-            max_write: 8,
-            batch: 16,
-            log: 64,
-        };
+    fn the_last_change_of_a_sector_is_read(rt: HostRuntime) -> Result<(), Fail> {
         let alloc = rt.alloc();
+        let geometry = Geometry { batch: 64, ..SMALL };
         let mut disk = PlainDisk::new(alloc, geometry);
         for (lba, sectors, byte, want) in [
             (0, 1, b'A', Some(1)),
@@ -156,7 +208,7 @@ mod tests {
                 "a write at {lba}"
             );
         }
-        let reads_of: [(u64, u64, &[u8]); 7] = [
+        let written: [(u64, u64, &[u8]); 7] = [
             (0, 2, b"A\0"),
             (9, 8, b"\0EGFFFF\0"),
             (11, 2, b"GF"),
@@ -165,13 +217,86 @@ mod tests {
             (0, 0, b""),
             (63, 2, b""),
         ];
-        for (lba, sectors, bytes) in reads_of {
+        for (lba, sectors, bytes) in written {
             let want = sectors_of(alloc, bytes)?;
             assert!(rt;
                 reads(&mut disk, lba, sectors, want.as_slice())?,
                 "a read at {lba}"
             );
         }
+        for (lba, sectors, want) in [
+            (13, 2, Some(6)),
+            (63, 2, None),
+            (5, 0, None),
+            (60, 1, Some(7)),
+        ] {
+            assert_eq!(rt; zero(&mut disk, lba, sectors)?, want, "a zeroing at {lba}");
+        }
+        let zeroed: [(u64, u64, &[u8]); 2] = [(9, 8, b"\0EGF\0\0F\0"), (57, 7, b"HHH\0HHH")];
+        for (lba, sectors, bytes) in zeroed {
+            let want = sectors_of(alloc, bytes)?;
+            assert!(rt;
+                reads(&mut disk, lba, sectors, want.as_slice())?,
+                "a read at {lba}"
+            );
+        }
+        Ok(())
+    }
+
+    #[test]
+    fn a_zeroing_may_be_longer_than_a_write(rt: HostRuntime) -> Result<(), Fail> {
+        let alloc = rt.alloc();
+        let mut disk = PlainDisk::new(alloc, SMALL);
+        assert_eq!(rt; write(alloc, &mut disk, 6, 2, b'A')?, Some(1));
+        assert_eq!(rt; zero(&mut disk, 7, 57)?, Some(2));
+        let want = sectors_of(alloc, b"A\0")?;
+        assert!(rt; reads(&mut disk, 6, 2, want.as_slice())?);
+        Ok(())
+    }
+
+    #[test]
+    fn a_flush_answers_the_length(rt: HostRuntime) -> Result<(), Fail> {
+        let alloc = rt.alloc();
+        let mut disk = PlainDisk::new(alloc, SMALL);
+        assert!(rt; matches!(disk.step(Event::Flush)?, Reply::Flushed(0)));
+        assert_eq!(rt; write(alloc, &mut disk, 0, 1, b'A')?, Some(1));
+        assert_eq!(rt; zero(&mut disk, 0, 1)?, Some(2));
+        assert!(rt; matches!(disk.step(Event::Flush)?, Reply::Flushed(2)));
+        Ok(())
+    }
+
+    #[test]
+    fn a_batch_is_full_of_sectors(rt: HostRuntime) -> Result<(), Fail> {
+        let alloc = rt.alloc();
+        let mut disk = PlainDisk::new(alloc, SMALL);
+        assert_eq!(rt; write(alloc, &mut disk, 0, 8, b'A')?, Some(1));
+        assert_eq!(rt; write(alloc, &mut disk, 8, 8, b'B')?, Some(2));
+        let body = Body::filled(alloc, 8, b'C')?;
+        let third = disk.step(Event::Write { lba: 0, body })?;
+        assert!(rt; matches!(third, Reply::BatchFull { sectors: 16 }));
+        let zeroing = disk.step(Event::Zero { lba: 0, sectors: 1 })?;
+        assert!(rt; matches!(zeroing, Reply::BatchFull { sectors: 16 }));
+        let outside = disk.step(Event::Zero {
+            lba: 63,
+            sectors: 2,
+        })?;
+        assert!(rt; matches!(outside, Reply::Range));
+        let want = sectors_of(alloc, b"AB")?;
+        assert!(rt; reads(&mut disk, 7, 2, want.as_slice())?);
+        assert!(rt; matches!(disk.step(Event::Flush)?, Reply::Flushed(2)));
+        Ok(())
+    }
+
+    #[test]
+    fn a_batch_is_full_of_entries(rt: HostRuntime) -> Result<(), Fail> {
+        let geometry = Geometry {
+            batch: 65_536,
+            ..SMALL
+        };
+        let mut disk = PlainDisk::new(rt.alloc(), geometry);
+        assert_eq!(rt; zero_many(&mut disk, MAX_ENTRIES + 1)?, 16_384);
+        let zeroing = disk.step(Event::Zero { lba: 0, sectors: 1 })?;
+        assert!(rt; matches!(zeroing, Reply::EntriesFull { entries: 16_384 }));
         Ok(())
     }
 }

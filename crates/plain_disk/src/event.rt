@@ -7,6 +7,10 @@ pub enum Event {
     Write { lba: u64, body: Body },
     /// Reads so many sectors from `lba` on.
     Read { lba: u64, sectors: u64 },
+    /// Puts zeros at so many sectors from `lba` on.
+    Zero { lba: u64, sectors: u64 },
+    /// Makes each entry so far durable.
+    Flush,
 }
 
 /// What a disk answers.
@@ -16,6 +20,12 @@ pub enum Reply {
     Entered(u64),
     /// The data that was read.
     Data(Body),
+    /// Each entry so far is durable; the history has this length.
+    Flushed(u64),
+    /// The unsealed entries have so many sectors of data, at least those of a batch.
+    BatchFull { sectors: u64 },
+    /// There are so many unsealed entries, the most of a batch.
+    EntriesFull { entries: u64 },
     /// The disk does not take a request for these sectors.
     Range,
 }

@@ -8,5 +8,5 @@ mod disk;
 mod event;
 mod window;
 
-pub use disk::PlainDisk;
+pub use disk::{MAX_ENTRIES, PlainDisk};
 pub use event::{Event, Reply};

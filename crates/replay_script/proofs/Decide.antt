@@ -1,5 +1,5 @@
 -- Which command a line spells is decided, and it is one.
-use Rattle.std.proofs.Common.{◌≡◌, ℕ, ◌+◌, ◌*◌, ◌^◌, ◌<◌, ◌⊎◌, inl, inr, Option, Some, None, Bool, true, false, List, [], ◌∷◌, length, codes, sym, ◌∙◌, ap, subst, arith}
+use Rattle.std.proofs.Common.{◌≡◌, ℕ, ◌+◌, ◌*◌, ◌^◌, ◌<◌, ◌⊎◌, inl, inr, Option, Some, None, Bool, true, false, List, [], ◌∷◌, length, codes, refl, sym, ◌∙◌, ap, subst, arith}
 use Rattle.std.specs.Prelude.{IsTrue, nat_le, ◌&&◌}
 use Rattle.std.specs.Bool.{then_some}
 use Rattle.std.specs.Option.{IfNone, MatchOption}
@@ -11,7 +11,7 @@ use Rattle.lsvd_base.specs.Limits.{is_within_limits}
 use Rattle.lsvd_base.specs.declared.geometry.Geometry.{Geometry}
 use Rattle.replay_script.specs.Grammar.{Spells, spelling, Fits, SizesFit, words_of}
 use Rattle.replay_script.specs.declared.command.Command.{Command}
-use Rattle.replay_script.specs.declared.command.Command.TheVariants.{New, Write, Read}
+use Rattle.replay_script.specs.declared.command.Command.TheVariants.{New, Write, Zero, Read, Flush}
 use Rattle.replay_script.proofs.Numbers.{decided, decide_number, decide_byte, hexadecimal_injective}
 
 -- the limits of a volume keep each size below 2^64
@@ -41,24 +41,53 @@ no_new_outside words g e fits outside h e' fits_h =
     let same = same_geometry g h (sym e ∙ e') fits fits_h in
     outside (subst (λ (x : Geometry). IsTrue (is_within_limits x)) (sym same) fits_h)
 
+-- the first byte of the first word
+first_byte : List (List ℕ) → ℕ
+first_byte ((byte ∷ bytes) ∷ words) = byte
+first_byte _ = 0
+
+-- a zeroing is not spelled as a read
+zero_is_no_read : (lba sectors lba' sectors' : ℕ) → spelling (Zero lba sectors) ≡ spelling (Read lba' sectors') → ⊥
+unfolding first_byte
+zero_is_no_read lba sectors lba' sectors' e = let bytes : 122 ≡ 114 = ap first_byte e in omega (arith, bytes)
+
 -- words spell one command
 pub one_spelling : (a b : Command) → spelling a ≡ spelling b → Fits a → Fits b → a ≡ b
 one_spelling (New g) (New h) e fits_g fits_h = ap New (same_geometry g h e (geometry_fits g fits_g) fits_h)
-one_spelling (New g) (Write lba sectors byte) e fits_a fits_b = cc
-one_spelling (New g) (Read lba sectors) e fits_a fits_b = cc
-one_spelling (Write lba sectors byte) (New g) e fits_a fits_b = cc
+one_spelling (New g) (Write lba' sectors' byte') e fits_a fits_b = cc
+one_spelling (New g) (Zero lba' sectors') e fits_a fits_b = cc
+one_spelling (New g) (Read lba' sectors') e fits_a fits_b = cc
+one_spelling (New g) Flush e fits_a fits_b = cc
+one_spelling (Write lba sectors byte) (New h) e fits_a fits_b = cc
 one_spelling (Write lba sectors byte) (Write lba' sectors' byte') e fits_a fits_b =
     let same_lba = decimal_injective lba lba' fits_a.0 fits_b.0 (cc) in
     let same_sectors = decimal_injective sectors sectors' fits_a.1 fits_b.1 (cc) in
     let same_byte = hexadecimal_injective byte byte' fits_a.2 fits_b.2 (cc) in
     cc
+one_spelling (Write lba sectors byte) (Zero lba' sectors') e fits_a fits_b = cc
 one_spelling (Write lba sectors byte) (Read lba' sectors') e fits_a fits_b = cc
-one_spelling (Read lba sectors) (New g) e fits_a fits_b = cc
-one_spelling (Read lba sectors) (Write lba' sectors' byte) e fits_a fits_b = cc
+one_spelling (Write lba sectors byte) Flush e fits_a fits_b = cc
+one_spelling (Zero lba sectors) (New h) e fits_a fits_b = cc
+one_spelling (Zero lba sectors) (Write lba' sectors' byte') e fits_a fits_b = cc
+one_spelling (Zero lba sectors) (Zero lba' sectors') e fits_a fits_b =
+    let same_lba = decimal_injective lba lba' fits_a.0 fits_b.0 (cc) in
+    let same_sectors = decimal_injective sectors sectors' fits_a.1 fits_b.1 (cc) in
+    cc
+one_spelling (Zero lba sectors) (Read lba' sectors') e fits_a fits_b = absurd (zero_is_no_read lba sectors lba' sectors' e)
+one_spelling (Zero lba sectors) Flush e fits_a fits_b = cc
+one_spelling (Read lba sectors) (New h) e fits_a fits_b = cc
+one_spelling (Read lba sectors) (Write lba' sectors' byte') e fits_a fits_b = cc
+one_spelling (Read lba sectors) (Zero lba' sectors') e fits_a fits_b = absurd (zero_is_no_read lba' sectors' lba sectors (sym e))
 one_spelling (Read lba sectors) (Read lba' sectors') e fits_a fits_b =
     let same_lba = decimal_injective lba lba' fits_a.0 fits_b.0 (cc) in
     let same_sectors = decimal_injective sectors sectors' fits_a.1 fits_b.1 (cc) in
     cc
+one_spelling (Read lba sectors) Flush e fits_a fits_b = cc
+one_spelling Flush (New h) e fits_a fits_b = cc
+one_spelling Flush (Write lba' sectors' byte') e fits_a fits_b = cc
+one_spelling Flush (Zero lba' sectors') e fits_a fits_b = cc
+one_spelling Flush (Read lba' sectors') e fits_a fits_b = cc
+one_spelling Flush Flush e fits_a fits_b = refl
 
 -- a line spells one command
 pub one_command : (line : List ℕ) (a b : Command) → Spells line a → Spells line b → a ≡ b
@@ -116,6 +145,23 @@ decide_write (name ∷ a ∷ b ∷ c ∷ []) =
     ]
 decide_write _ = inr (λ lba sectors byte e fits. omega (arith, ap length e))
 
+-- whether words spell the command `z` is decided
+pub decide_zero : (words : List (List ℕ)) → ((command : Command) × (words ≡ spelling command) × Fits command) ⊎ ((lba sectors : ℕ) → words ≡ spelling (Zero lba sectors) → Fits (Zero lba sectors) → ⊥)
+decide_zero (name ∷ a ∷ b ∷ []) =
+    elim (decided (bytes_eq name (codes "z")) (bytes_eq-Decides name (codes "z"))) [
+      | inr other ↦ inr (λ lba sectors e fits. other (cc))
+      | inl is_zero ↦
+          elim (decide_number a) [
+            | inr other ↦ inr (λ lba sectors e fits. other lba fits.0 (cc))
+            | inl lba ↦
+                elim (decide_number b) [
+                  | inr other ↦ inr (λ lba sectors e fits. other sectors fits.1 (cc))
+                  | inl sectors ↦ inl (Zero lba.0 sectors.0, cc (is_zero, lba.2, sectors.2), (lba.1, sectors.1))
+                ]
+          ]
+    ]
+decide_zero _ = inr (λ lba sectors e fits. omega (arith, ap length e))
+
 -- whether words spell the command `r` is decided
 pub decide_read : (words : List (List ℕ)) → ((command : Command) × (words ≡ spelling command) × Fits command) ⊎ ((lba sectors : ℕ) → words ≡ spelling (Read lba sectors) → Fits (Read lba sectors) → ⊥)
 decide_read (name ∷ a ∷ b ∷ []) =
@@ -132,6 +178,15 @@ decide_read (name ∷ a ∷ b ∷ []) =
           ]
     ]
 decide_read _ = inr (λ lba sectors e fits. omega (arith, ap length e))
+
+-- whether words spell the command `f` is decided
+pub decide_flush : (words : List (List ℕ)) → (words ≡ spelling Flush) ⊎ (words ≡ spelling Flush → ⊥)
+decide_flush (name ∷ []) =
+    elim (decided (bytes_eq name (codes "f")) (bytes_eq-Decides name (codes "f"))) [
+      | inr other ↦ inr (λ e. other (cc))
+      | inl is_flush ↦ inl (cc (is_flush))
+    ]
+decide_flush _ = inr (λ e. omega (arith, ap length e))
 
 -- what `then_some` gives where the geometry may be outside the limits
 pub new_none : (words : List (List ℕ)) (g : Geometry) (inside : Bool) (found : Option Command) → found ≡ then_some inside (New g) → inside ≡ is_within_limits g → words ≡ spelling (New g) → SizesFit g → IfNone found ((h : Geometry) → words ≡ spelling (New h) → Fits (New h) → ⊥)
@@ -150,11 +205,21 @@ pub IfNone-weaker : {A M N : Type 0} (found : Option A) → IfNone found M → (
 IfNone-weaker None nothing f = f nothing
 IfNone-weaker (Some x) nothing f = tt
 
--- words that spell none of the three commands spell none
-pub no_command : (words : List (List ℕ)) → ((g : Geometry) → words ≡ spelling (New g) → Fits (New g) → ⊥) → ((lba sectors byte : ℕ) → words ≡ spelling (Write lba sectors byte) → Fits (Write lba sectors byte) → ⊥) → ((lba sectors : ℕ) → words ≡ spelling (Read lba sectors) → Fits (Read lba sectors) → ⊥) → (command : Command) → words ≡ spelling command → Fits command → ⊥
-no_command words no_new no_write no_read (New g) e fits = no_new g e fits
-no_command words no_new no_write no_read (Write lba sectors byte) e fits = no_write lba sectors byte e fits
-no_command words no_new no_write no_read (Read lba sectors) e fits = no_read lba sectors e fits
+-- the words spell none of the commands, one by one
+pub record SpellNone (words : List (List ℕ)) : Type 0 where
+  pub no_new : (g : Geometry) → words ≡ spelling (New g) → Fits (New g) → ⊥
+  pub no_write : (lba sectors byte : ℕ) → words ≡ spelling (Write lba sectors byte) → Fits (Write lba sectors byte) → ⊥
+  pub no_zero : (lba sectors : ℕ) → words ≡ spelling (Zero lba sectors) → Fits (Zero lba sectors) → ⊥
+  pub no_read : (lba sectors : ℕ) → words ≡ spelling (Read lba sectors) → Fits (Read lba sectors) → ⊥
+  pub no_flush : words ≡ spelling Flush → ⊥
+
+-- then they spell none
+pub no_command : (words : List (List ℕ)) → SpellNone words → (command : Command) → words ≡ spelling command → Fits command → ⊥
+no_command words none (New g) e fits = none.no_new g e fits
+no_command words none (Write lba sectors byte) e fits = none.no_write lba sectors byte e fits
+no_command words none (Zero lba sectors) e fits = none.no_zero lba sectors e fits
+no_command words none (Read lba sectors) e fits = none.no_read lba sectors e fits
+no_command words none Flush e fits = none.no_flush e
 
 -- whether a line spells a command is decided
 pub decide_line : (line : List ℕ) → ((command : Command) × Spells line command) ⊎ ((command : Command) → Spells line command → ⊥)
@@ -165,9 +230,19 @@ decide_line line =
           elim (decide_write (words_of line)) [
             | inl found ↦ inl (found.0, record { words = found.1; fits = found.2 })
             | inr no_write ↦
-                elim (decide_read (words_of line)) [
+                elim (decide_zero (words_of line)) [
                   | inl found ↦ inl (found.0, record { words = found.1; fits = found.2 })
-                  | inr no_read ↦ inr (λ command spells. no_command (words_of line) no_new no_write no_read command spells.words spells.fits)
+                  | inr no_zero ↦
+                      elim (decide_read (words_of line)) [
+                        | inl found ↦ inl (found.0, record { words = found.1; fits = found.2 })
+                        | inr no_read ↦
+                            elim (decide_flush (words_of line)) [
+                              | inl found ↦ inl (Flush, record { words = found; fits = tt })
+                              | inr no_flush ↦
+                                  let none : SpellNone (words_of line) = record { no_new = no_new; no_write = no_write; no_zero = no_zero; no_read = no_read; no_flush = no_flush } in
+                                  inr (λ command spells. no_command (words_of line) none command spells.words spells.fits)
+                            ]
+                      ]
                 ]
           ]
     ]

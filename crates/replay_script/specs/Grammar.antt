@@ -5,7 +5,7 @@ use Rattle.std.specs.List.{slice_split}
 use Rattle.lsvd_base.specs.Limits.{is_within_limits}
 use Rattle.lsvd_base.specs.declared.geometry.Geometry.{Geometry}
 use Rattle.replay_script.specs.declared.command.Command.{Command}
-use Rattle.replay_script.specs.declared.command.Command.TheVariants.{New, Write, Read}
+use Rattle.replay_script.specs.declared.command.Command.TheVariants.{New, Write, Zero, Read, Flush}
 
 -- the parts between newlines; an empty last part is no line, so that the last newline may be absent
 abbrev pub without_empty_last : List (List ℕ) → List (List ℕ)
@@ -28,7 +28,9 @@ hexadecimal byte = digit_char (byte / 16) ∷ digit_char (byte % 16) ∷ []
 abbrev pub spelling : Command → List (List ℕ)
 spelling (New g) = codes "new" ∷ decimal g.sectors ∷ decimal g.log ∷ decimal g.max_write ∷ decimal g.batch ∷ []
 spelling (Write lba sectors byte) = codes "w" ∷ decimal lba ∷ decimal sectors ∷ hexadecimal byte ∷ []
+spelling (Zero lba sectors) = codes "z" ∷ decimal lba ∷ decimal sectors ∷ []
 spelling (Read lba sectors) = codes "r" ∷ decimal lba ∷ decimal sectors ∷ []
+spelling Flush = codes "f" ∷ []
 
 -- each size of a geometry is below 2^64
 abbrev pub SizesFit : Geometry → Type 0
@@ -38,7 +40,9 @@ SizesFit g = (g.sectors < 2 ^ 64) × (g.log < 2 ^ 64) × (g.max_write < 2 ^ 64) 
 abbrev pub Fits : Command → Type 0
 Fits (New g) = IsTrue (is_within_limits g)
 Fits (Write lba sectors byte) = (lba < 2 ^ 64) × (sectors < 2 ^ 64) × (byte < 256)
+Fits (Zero lba sectors) = (lba < 2 ^ 64) × (sectors < 2 ^ 64)
 Fits (Read lba sectors) = (lba < 2 ^ 64) × (sectors < 2 ^ 64)
+Fits Flush = Unit {0}
 
 -- a line is a command
 pub record Spells (line : List ℕ) (command : Command) : Type 0 where

@@ -13,8 +13,12 @@ pub enum Command {
     New(Geometry),
     /// `w LBA N XX`: writes N sectors of the byte XX from LBA on.
     Write { lba: u64, sectors: u64, byte: u8 },
+    /// `z LBA N`: zeroes N sectors from LBA on.
+    Zero { lba: u64, sectors: u64 },
     /// `r LBA N`: reads N sectors from LBA on.
     Read { lba: u64, sectors: u64 },
+    /// `f`: flushes.
+    Flush,
 }
 
 /// Reads a line, without its newline. None is for a line that spells no command.
@@ -38,7 +42,9 @@ fn command_from(words: &[&[u8]]) -> Option<Command>
 {
     new_from(words)
         .or_else(|| write_from(words))
+        .or_else(|| zero_from(words))
         .or_else(|| read_from(words))
+        .or_else(|| flush_from(words))
 }
 
 /// The command `new` that the words spell, if they spell one.
@@ -83,6 +89,20 @@ fn write_from(words: &[&[u8]]) -> Option<Command>
     })
 }
 
+/// The command `z` that the words spell, if they spell one.
+fn zero_from(words: &[&[u8]]) -> Option<Command>
+    ensures found { IfSome result (λ command. (map (λ word. word.now) words.now ≡ spelling command) × Fits command) }
+    ensures none { IfNone result ((lba sectors : ℕ) → map (λ word. word.now) words.now ≡ spelling (Command.Zero lba sectors) → Fits (Command.Zero lba sectors) → ⊥) }
+{
+    let [b"z", lba, sectors] = words else {
+        return None;
+    };
+    Some(Command::Zero {
+        lba: number_of(lba)?,
+        sectors: number_of(sectors)?,
+    })
+}
+
 /// The command `r` that the words spell, if they spell one.
 fn read_from(words: &[&[u8]]) -> Option<Command>
     ensures found { IfSome result (λ command. (map (λ word. word.now) words.now ≡ spelling command) × Fits command) }
@@ -95,6 +115,17 @@ fn read_from(words: &[&[u8]]) -> Option<Command>
         lba: number_of(lba)?,
         sectors: number_of(sectors)?,
     })
+}
+
+/// The command `f`, if the words spell it.
+fn flush_from(words: &[&[u8]]) -> Option<Command>
+    ensures found { IfSome result (λ command. (map (λ word. word.now) words.now ≡ spelling command) × Fits command) }
+    ensures none { IfNone result (map (λ word. word.now) words.now ≡ spelling Command.Flush → ⊥) }
+{
+    let [b"f"] = words else {
+        return None;
+    };
+    Some(Command::Flush)
 }
 
 #[cfg(test)]
@@ -112,7 +143,7 @@ mod tests {
     #[test]
     fn lines_spell_commands(rt: HostRuntime) -> Result<(), Fail> {
         let most = u64::MAX;
-        let table: [(&[u8], Option<Command>); 22] = [
+        let table: [(&[u8], Option<Command>); 27] = [
             (b"new 1024 18 8 1", Some(Command::New(SMALL))),
             (
                 b"w 0 8 0f",
@@ -129,6 +160,17 @@ mod tests {
                     sectors: 10,
                 }),
             ),
+            (
+                b"z 7 57",
+                Some(Command::Zero {
+                    lba: 7,
+                    sectors: 57,
+                }),
+            ),
+            (b"f", Some(Command::Flush)),
+            (b"f 1", None),
+            (b"f ", None),
+            (b"z 7", None),
             (b"", None),
             (b" r 0 8", None),
             (b"r  0 8", None),

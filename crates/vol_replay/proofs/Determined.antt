@@ -5,9 +5,9 @@ use Rattle.plain_disk.specs.Machine.{Disk, reply_of}
 use Rattle.plain_disk.specs.declared.event.Event.{Event}
 use Rattle.plain_disk.specs.declared.event.Event.TheVariants as events
 use Rattle.plain_disk.specs.declared.event.Reply.{Reply}
-use Rattle.plain_disk.specs.declared.event.Reply.TheVariants.{Entered, Data, Range}
+use Rattle.plain_disk.specs.declared.event.Reply.TheVariants.{Entered, Flushed, Data, Range, BatchFull, EntriesFull}
 use Rattle.replay_script.specs.declared.command.Command.{Command}
-use Rattle.replay_script.specs.declared.command.Command.TheVariants.{New, Write, Read}
+use Rattle.replay_script.specs.declared.command.Command.TheVariants.{New, Write, Zero, Read, Flush}
 use Rattle.replay_script.specs.Grammar.{lines_of}
 use Rattle.replay_script.proofs.Decide.{one_command}
 use Rattle.replay_script.proofs.Runs.{one_run_text}
@@ -18,7 +18,10 @@ use Rattle.vol_replay.specs.Transcript.{State, TellsReply, Steps, Answers, IsAns
 one_telling : (reply : Reply) (a b : List ℕ) → TellsReply reply a → TellsReply reply b → a ≡ b
 one_telling (Entered count) a b s t = s ∙ sym t
 one_telling (Data bytes) a b s t = one_run_text bytes a b s t
+one_telling (Flushed count) a b s t = s ∙ sym t
 one_telling Range a b s t = s ∙ sym t
+one_telling (BatchFull sectors) a b s t = s ∙ sym t
+one_telling (EntriesFull entries) a b s t = s ∙ sym t
 
 -- one text and one state
 abbrev AreSame : List ℕ → List ℕ → State → State → Type 0
@@ -31,9 +34,13 @@ one_step disk event a b p q s t = (one_telling (reply_of disk event) a b s.0 t.0
 one_answer : (state : State) (command : Command) (a b : List ℕ) (p q : State) → Answers state command a p → Answers state command b q → AreSame a b p q
 one_answer None (New g) a b p q s t = (s.0 ∙ sym t.0, s.1 ∙ sym t.1)
 one_answer None (Write lba sectors byte) a b p q s t = absurd s
+one_answer None (Zero lba sectors) a b p q s t = absurd s
 one_answer None (Read lba sectors) a b p q s t = absurd s
+one_answer None Flush a b p q s t = absurd s
 one_answer (Some disk) (New g) a b p q s t = absurd s
 one_answer (Some disk) (Write lba sectors byte) a b p q s t = one_step disk (events.Write lba (replicate (512 * sectors) byte)) a b p q s t
+one_answer (Some disk) (Zero lba sectors) a b p q s t = one_step disk (events.Zero lba sectors) a b p q s t
+one_answer (Some disk) Flush a b p q s t = one_step disk events.Flush a b p q s t
 one_answer (Some disk) (Read lba sectors) a b p q s t = one_step disk (events.Read lba sectors) a b p q s t
 
 -- a line is answered in one way

@@ -6,9 +6,9 @@ use Rattle.plain_disk.specs.Machine.{Disk, created, reply_of, disk_after}
 use Rattle.plain_disk.specs.declared.event.Event.{Event}
 use Rattle.plain_disk.specs.declared.event.Event.TheVariants as events
 use Rattle.plain_disk.specs.declared.event.Reply.{Reply}
-use Rattle.plain_disk.specs.declared.event.Reply.TheVariants.{Entered, Data, Range}
+use Rattle.plain_disk.specs.declared.event.Reply.TheVariants.{Entered, Flushed, Data, Range, BatchFull, EntriesFull}
 use Rattle.replay_script.specs.declared.command.Command.{Command}
-use Rattle.replay_script.specs.declared.command.Command.TheVariants.{New, Write, Read}
+use Rattle.replay_script.specs.declared.command.Command.TheVariants.{New, Write, Zero, Read, Flush}
 use Rattle.replay_script.specs.Grammar.{lines_of, Spells}
 use Rattle.replay_script.proofs.Decide.{decide_line, one_command}
 use Rattle.replay_script.proofs.Runs.{some_run_text}
@@ -21,7 +21,10 @@ use Rattle.vol_replay.specs.Transcript.{State, TellsReply, Steps, Answers, IsUna
 some_telling : (reply : Reply) → (text : List ℕ) × TellsReply reply text
 some_telling (Entered count) = (codes "ok " ++ decimal count, refl)
 some_telling (Data bytes) = some_run_text bytes
+some_telling (Flushed count) = (codes "ok " ++ decimal count, refl)
 some_telling Range = (codes "range", refl)
+some_telling (BatchFull sectors) = (codes "again batch " ++ decimal sectors, refl)
+some_telling (EntriesFull entries) = (codes "again entries " ++ decimal entries, refl)
 
 abbrev HasAnswer : State → Command → Type 0
 HasAnswer state command = (text : List ℕ) × (next : State) × Answers state command text next
@@ -33,10 +36,14 @@ some_step disk event = let told = some_telling (reply_of disk event) in (told.0,
 some_answer : (state : State) (command : Command) → HasAnswer state command ⊎ IsUnanswered state command
 some_answer None (New g) = inl (codes "new " ++ decimal g.sectors, Some (created g), (refl, refl))
 some_answer None (Write lba sectors byte) = inr (λ text next h. h)
+some_answer None (Zero lba sectors) = inr (λ text next h. h)
 some_answer None (Read lba sectors) = inr (λ text next h. h)
+some_answer None Flush = inr (λ text next h. h)
 some_answer (Some disk) (New g) = inr (λ text next h. h)
 some_answer (Some disk) (Write lba sectors byte) = inl (some_step disk (events.Write lba (replicate (512 * sectors) byte)))
+some_answer (Some disk) (Zero lba sectors) = inl (some_step disk (events.Zero lba sectors))
 some_answer (Some disk) (Read lba sectors) = inl (some_step disk (events.Read lba sectors))
+some_answer (Some disk) Flush = inl (some_step disk events.Flush)
 
 -- a line that spells a command which is not answered is bad
 pub unanswered_line : (state : State) (line : List ℕ) (command : Command) → Spells line command → IsUnanswered state command → IsNoCommand state line

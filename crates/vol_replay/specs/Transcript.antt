@@ -4,9 +4,9 @@ use Rattle.plain_disk.specs.Machine.{Disk, created, reply_of, disk_after}
 use Rattle.plain_disk.specs.declared.event.Event.{Event}
 use Rattle.plain_disk.specs.declared.event.Event.TheVariants as events
 use Rattle.plain_disk.specs.declared.event.Reply.{Reply}
-use Rattle.plain_disk.specs.declared.event.Reply.TheVariants.{Entered, Data, Range}
+use Rattle.plain_disk.specs.declared.event.Reply.TheVariants.{Entered, Flushed, Data, Range, BatchFull, EntriesFull}
 use Rattle.replay_script.specs.declared.command.Command.{Command}
-use Rattle.replay_script.specs.declared.command.Command.TheVariants.{New, Write, Read}
+use Rattle.replay_script.specs.declared.command.Command.TheVariants.{New, Write, Zero, Read, Flush}
 use Rattle.replay_script.specs.Grammar.{lines_of, Spells}
 use Rattle.replay_script.specs.RunText.{IsRunText}
 use Rattle.vol_replay.specs.declared.outcome.Outcome.{Outcome}
@@ -21,7 +21,10 @@ State = Option Disk
 abbrev pub TellsReply : Reply → List ℕ → Type 0
 TellsReply (Entered count) text = text ≡ codes "ok " ++ decimal count
 TellsReply (Data bytes) text = IsRunText bytes text
+TellsReply (Flushed count) text = text ≡ codes "ok " ++ decimal count
 TellsReply Range text = text ≡ codes "range"
+TellsReply (BatchFull sectors) text = text ≡ codes "again batch " ++ decimal sectors
+TellsReply (EntriesFull entries) text = text ≡ codes "again entries " ++ decimal entries
 
 -- the disk takes the event, tells its reply by this text, and is the next one then
 abbrev pub Steps : Disk → Event → List ℕ → State → Type 0
@@ -32,10 +35,14 @@ Steps disk event text next = TellsReply (reply_of disk event) text × (next ≡ 
 abbrev pub Answers : State → Command → List ℕ → State → Type 0
 Answers None (New g) text next = (text ≡ codes "new " ++ decimal g.sectors) × (next ≡ Some (created g))
 Answers None (Write lba sectors byte) text next = ⊥
+Answers None (Zero lba sectors) text next = ⊥
 Answers None (Read lba sectors) text next = ⊥
+Answers None Flush text next = ⊥
 Answers (Some disk) (New g) text next = ⊥
 Answers (Some disk) (Write lba sectors byte) text next = Steps disk (events.Write lba (replicate (512 * sectors) byte)) text next
+Answers (Some disk) (Zero lba sectors) text next = Steps disk (events.Zero lba sectors) text next
 Answers (Some disk) (Read lba sectors) text next = Steps disk (events.Read lba sectors) text next
+Answers (Some disk) Flush text next = Steps disk events.Flush text next
 
 -- the line spells no command that this state answers
 abbrev pub IsNoCommand : State → List ℕ → Type 0

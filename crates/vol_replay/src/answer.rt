@@ -1,6 +1,8 @@
-ghost use Rattle.std.specs.Prelude.{◌≡◌, ℕ, List, [], ◌∷◌, ◌++◌, IsNone, IfOk, IfSome, IfNone, OnOk, IfErr, Some};
+ghost use Rattle.std.specs.Prelude.{◌≡◌, ℕ, List, [], ◌∷◌, ◌++◌, IsNone, IfOk, IfSome, IfNone, OnOk, IfErr, Some, IsTrue, decimal};
 ghost use Rattle.vol_replay.specs.Transcript.{TellsReply, Answers, IsUnanswered, IsAnswered};
 ghost use Rattle.std.specs.Bool.{OnTrue, OnFalse};
+ghost use Rattle.lsvd_base.specs.Limits.{is_within_limits};
+ghost use Rattle.replay_script.specs.Grammar.{Fits};
 ghost use Rattle.vol_replay.specs.Answer.{IsRefused};
 ghost use Rattle.vol_replay.specs.declared.answer.Refusal.TheVariants as refusals;
 
@@ -26,17 +28,24 @@ impl From<AllocError> for Refusal {
     }
 }
 
+// Appends words and a count.
+fn push_counted(answers: &mut Vec<u8>, words: &[u8], count: u64) -> Result<(), AllocError>
+    ensures { OnOk result (answers.new.items ≡ answers.old.items ++ (words.now ++ decimal count)) }
+{
+    answers.extend_from_slice(words)?;
+    push_decimal(answers, count)
+}
+
 // Appends the text that tells a reply.
 fn push_text(answers: &mut Vec<u8>, reply: &Reply) -> Result<(), AllocError>
     ensures { OnOk result ((text : List ℕ) × TellsReply reply.now text × (answers.new.items ≡ answers.old.items ++ text)) }
 {
     match reply {
-        Reply::Entered(count) => {
-            answers.extend_from_slice(b"ok ")?;
-            push_decimal(answers, *count)
-        }
+        Reply::Entered(count) | Reply::Flushed(count) => push_counted(answers, b"ok ", *count),
         Reply::Data(body) => push_run_text(answers, body.as_bytes()),
         Reply::Range => answers.extend_from_slice(b"range"),
+        Reply::BatchFull { sectors } => push_counted(answers, b"again batch ", *sectors),
+        Reply::EntriesFull { entries } => push_counted(answers, b"again entries ", *entries),
     }
 }
 
@@ -57,12 +66,12 @@ fn create(
     geometry: Geometry,
     answers: &mut Vec<u8>,
 ) -> Result<(), AllocError>
-    requires { IsNone rig.old }
+    requires none { IsNone rig.old }
+    requires limits { IsTrue (is_within_limits geometry) }
     ensures { OnOk result ((text : List ℕ) × Answers rig.old (Command.New geometry) text rig.new
         × (answers.new.items ≡ answers.old.items ++ (text ++ 10 ∷ []))) }
 {
-    answers.extend_from_slice(b"new ")?;
-    push_decimal(answers, geometry.sectors)?;
+    push_counted(answers, b"new ", geometry.sectors)?;
     answers.push(b'\n')?;
     *rig = Some(Rig::new(alloc, geometry));
     Ok(())
@@ -76,7 +85,9 @@ fn step(alloc: Global, rig: &mut Rig, command: Command) -> Result<Option<Reply>,
     match command {
         Command::New(_) => Ok(None),
         Command::Write { lba, sectors, byte } => Ok(Some(rig.write(alloc, lba, sectors, byte)?)),
+        Command::Zero { lba, sectors } => Ok(Some(rig.zero(lba, sectors)?)),
         Command::Read { lba, sectors } => Ok(Some(rig.read(lba, sectors)?)),
+        Command::Flush => Ok(Some(rig.flush()?)),
     }
 }
 
@@ -87,6 +98,7 @@ fn answer_command(
     command: Command,
     answers: &mut Vec<u8>,
 ) -> Result<bool, AllocError>
+    requires { Fits command }
     ensures answered { IfOk result (λ answered. OnTrue answered ((text : List ℕ) × Answers rig.old command text rig.new
         × (answers.new.items ≡ answers.old.items ++ (text ++ 10 ∷ [])))) }
     ensures unanswered { IfOk result (λ answered. OnFalse answered (IsUnanswered rig.old command × (answers.new.items ≡ answers.old.items))) }

@@ -1,4 +1,5 @@
-ghost use Rattle.std.specs.Prelude.{◌≡◌, ◌*◌, IfOk, OnOk, OnErr, replicate};
+ghost use Rattle.std.specs.Prelude.{◌≡◌, ◌*◌, IfOk, OnOk, IsTrue, replicate};
+ghost use Rattle.lsvd_base.specs.Limits.{is_within_limits};
 ghost use Rattle.plain_disk.specs.Machine.{created, reply_of, disk_after};
 ghost use Rattle.plain_disk.specs.declared.event.Event.TheVariants as events;
 
@@ -24,6 +25,7 @@ impl Model for Rig {
 impl Rig {
     /// A rig with a volume that was just created.
     pub(crate) fn new(alloc: Global, geometry: Geometry) -> Rig
+        requires { IsTrue (is_within_limits geometry) }
         ensures { result ≡ created geometry }
     {
         Rig {
@@ -47,6 +49,22 @@ impl Rig {
         }
         let body = Body::filled(alloc, sectors, byte)?;
         self.disk.step(Event::Write { lba, body })
+    }
+
+    /// Zeroes so many sectors.
+    pub(crate) fn zero(&mut self, lba: u64, sectors: u64) -> Result<Reply, AllocError>
+        ensures reply { IfOk result (λ reply. reply ≡ reply_of self.old (events.Zero lba sectors)) }
+        ensures disk { OnOk result (self.new ≡ disk_after self.old (events.Zero lba sectors)) }
+    {
+        self.disk.step(Event::Zero { lba, sectors })
+    }
+
+    /// Flushes.
+    pub(crate) fn flush(&mut self) -> Result<Reply, AllocError>
+        ensures reply { IfOk result (λ reply. reply ≡ reply_of self.old events.Flush) }
+        ensures disk { OnOk result (self.new ≡ self.old) }
+    {
+        self.disk.step(Event::Flush)
     }
 
     /// Reads so many sectors.

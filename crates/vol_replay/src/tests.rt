@@ -42,8 +42,23 @@ const WRITTEN: &[u8] = b"new 64 64 8 16\nw 0 1 41\nr 0 2\n";
 
 #[test]
 fn answers_each_line(rt: HostRuntime) -> Result<(), Fail> {
-    let cases: [(&[u8], &[u8], Ending); 4] = [
+    let cases: [(&[u8], &[u8], Ending); 7] = [
         (b"", b"", Ending::NoLines),
+        (
+            b"new 64 64 8 16\nw 0 8 41\nz 7 57\nr 0 8\nr 0 9\nz 63 2\n",
+            b"new 64\nok 1\nok 2\n41x3584 00x512\nrange\nrange\n",
+            Ending::Done,
+        ),
+        (
+            b"new 64 64 8 16\nf\nz 0 64\nf\nw 0 8 41\nw 0 8 41\nz 0 1\nf\n",
+            b"new 64\nok 0\nok 1\nok 1\nok 2\nok 3\nagain batch 16\nok 3\n",
+            Ending::Done,
+        ),
+        (
+            b"new 64 64 8 16\nw 0 8 41\nw 8 8 42\nw 16 8 43\nw 63 2 43\nr 15 2\n",
+            b"new 64\nok 1\nok 2\nagain batch 16\nrange\n42x512 00x512\n",
+            Ending::Done,
+        ),
         (WRITTEN, b"new 64\nok 1\n41x512 00x512\n", Ending::Done),
         (
             b"new 64 64 8 16\nw 0 1 41\nr 0 2",

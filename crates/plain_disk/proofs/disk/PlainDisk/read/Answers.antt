@@ -2,7 +2,7 @@ use Rattle.std.proofs.Common.{◌≡◌, ◌+◌, ◌*◌, ◌<◌, ◌≤◌, �
 use Rattle.std.proofs.lemmas.List.{take_at}
 use Rattle.lsvd_base.specs.Image.{blank, after}
 use Rattle.plain_disk.specs.Machine.{bytes_at}
-use Rattle.plain_disk.proofs.Overlaid.{bytes_at-blank, transfer_ends, EndsBy-more, EndsBy-in_range, entry_in_range, one_more}
+use Rattle.plain_disk.proofs.Overlaid.{bytes_at-blank, transfer_ends, EndsBy-more, EndsBy-in_range, entry_in_range, one_more, sectors_limit}
 use Rattle.plain_disk.proofs.disk.PlainDisk.read.Goals as goal
 
 pub loop-entry-init : goal.loop-entry-init
@@ -21,7 +21,8 @@ overlay-requires-clause-ends c =
     let n = c.loop-entry.entry-index in
     let inside : n < length history = rw (← c.deref-entry-items.ensures.value) c.loop-entry-test.true in
     let is : entry ≡ get_or history n entry = rw (← c.deref-entry-items.ensures.value) c.entry-item.is in
-    EndsBy-more g.sectors _ entry (EndsBy-in_range g entry (entry_in_range g history n entry c.self.invariant.0 inside is)) (omega arith)
+    EndsBy-more g.sectors _ entry (EndsBy-in_range g entry (entry_in_range g history n entry c.self.invariant.in_range inside is))
+    (omega (arith, sectors_limit g c.self.invariant.limits))
 
 pub loop-entry-preserved : goal.loop-entry-preserved
 loop-entry-preserved c =
@@ -39,4 +40,4 @@ loop-entry-preserved c =
     let whole : length new ≡ c.loop-entry.window.len = omega arith in
     rw (← c.self.view_is)
     (take_at new (drop (length new) c.loop-entry.window.items) c.loop-entry.window.len whole
-    ∙ one_more g history n c.args.lba c.args.sectors entry old new c.self.invariant.0 inside is ends shows c.overlay.ensures)
+    ∙ one_more g history n c.args.lba c.args.sectors entry old new c.self.invariant.in_range inside is ends shows c.overlay.ensures)
