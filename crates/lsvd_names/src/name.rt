@@ -1,0 +1,182 @@
+ghost use Rattle.std.specs.Prelude.{◌≡◌, ℕ, List, ◌++◌, [], IfOk, IfSome, IfNone};
+ghost use Rattle.std.specs.String.{string_bytes};
+ghost use Rattle.lsvd_names.specs.Spelling.{IsName, IsNumbered, MayHaveNumber, ending, spelling, word};
+
+use crate::digits::number_of;
+use crate::volume::uuid_of;
+use std::alloc::{AllocError, Global};
+use uuid::Uuid;
+
+/// What an object of the store is.
+#[derive(Clone, Copy, Debug, PartialEq, Eq, PartialOrd, Ord, Hash)]
+pub enum Kind {
+    /// The super object of a volume, which has one.
+    Super,
+    /// An epoch of the volume: each mount without its cache begins one.
+    Epoch,
+    /// A numbered object of the volume's stream: data, a copy, or a checkpoint.
+    Object,
+    /// A hold on the checkpoint of this number, which keeps it and what it names from removal.
+    Hold,
+}
+
+/// The name of an object of the store.
+#[derive(Clone, Copy, Debug, PartialEq, Eq, PartialOrd, Ord, Hash)]
+pub struct ObjName {
+    /// The volume that the object is part of.
+    pub uuid: Uuid,
+    /// What the object is.
+    pub kind: Kind,
+    /// Which of its kind it is. A super has no number, and 0 stands here.
+    pub number: u64,
+}
+
+impl ObjName {
+    /// Spells the name. A super has the number 0 (a condition). The one error is want of memory.
+    pub fn print(&self, alloc: Global) -> Result<String, AllocError>
+        requires { MayHaveNumber self.now.kind self.now.number }
+        ensures { IfOk result (λ text. string_bytes text ≡ spelling self.now) }
+    {
+        let ObjName { uuid, kind, number } = *self;
+        match kind {
+            Kind::Super => format!(in alloc; "{uuid}.super"),
+            Kind::Epoch => format!(in alloc; "{uuid}.epoch.{number:016x}"),
+            Kind::Object => format!(in alloc; "{uuid}.obj.{number:016x}"),
+            Kind::Hold => format!(in alloc; "{uuid}.hold.{number:016x}"),
+        }
+    }
+
+    /// Reads a name. None is for a text that spells no name.
+    pub fn parse(text: &str) -> Option<ObjName>
+        ensures found { IfSome result (λ name. IsName name × (text.now ≡ spelling name)) }
+        ensures none { IfNone result ((name : ObjName) → IsName name → text.now ≡ spelling name → ⊥) }
+    {
+        let (uuid, ending) = text.split_once('.')?;
+        let (kind, number) = kind_and_number(ending)?;
+        Some(ObjName {
+            uuid: uuid_of(uuid)?,
+            kind,
+            number,
+        })
+    }
+}
+
+/// The kind and the number that stand after the uuid and a dot.
+fn kind_and_number(text: &str) -> Option<(Kind, u64)>
+    ensures found { IfSome result (λ found. MayHaveNumber found.0 found.1 × (text.now ≡ ending found.0 found.1)) }
+    ensures none { IfNone result ((kind : Kind) (number : ℕ) → text.now ≡ ending kind number → ⊥) }
+{
+    if text == "super" {
+        return Some((Kind::Super, 0));
+    }
+    let (word, digits) = text.split_once('.')?;
+    Some((kind_of(word)?, number_of(digits.as_bytes())?))
+}
+
+/// The kind with a number that has this word. None is where there is none.
+fn kind_of(text: &str) -> Option<Kind>
+    ensures found { IfSome result (λ kind. IsNumbered kind × (text.now ≡ word kind)) }
+    ensures none { IfNone result ((kind : Kind) → IsNumbered kind → text.now ≡ word kind → ⊥) }
+{
+    match text {
+        "epoch" => Some(Kind::Epoch),
+        "obj" => Some(Kind::Object),
+        "hold" => Some(Kind::Hold),
+        _ => None,
+    }
+}
+
+/// A law: two names with one spelling are one name.
+pub fn a_name_has_one_spelling()
+    ensures { (a b : ObjName) → IsName a → IsName b → spelling a ≡ spelling b → a ≡ b }
+{}
+
+/// A law: no spelling of a name is a proper beginning of another, of its kind or of any.
+pub fn no_spelling_begins_another()
+    ensures { (a b : ObjName) (rest : List ℕ) → spelling b ≡ spelling a ++ rest → rest ≡ [] }
+{}
+
+#[cfg(test)]
+mod tests {
+    use super::*;
+    use std::test::Fail;
+
+    const FIRST: [u8; 16] = [0, 0, 0, 0, 0, 0, 0x40, 0, 0x80, 0, 0, 0, 0, 0, 0, 1];
+
+    const OTHER: [u8; 16] = [
+        0x67, 0xe5, 0x50, 0x44, 0x10, 0xb1, 0x42, 0x6f, 0x92, 0x47, 0xbb, 0x68, 0x0e, 0x5f, 0xe0,
+        0xc8,
+    ];
+
+    #[test]
+    fn each_name_is_read_and_spelled(rt: HostRuntime) -> Result<(), Fail> {
+        for (text, bytes, kind, number) in [
+            (
+                "00000000-0000-4000-8000-000000000001.super",
+                FIRST,
+                Kind::Super,
+                0,
+            ),
+            (
+                "00000000-0000-4000-8000-000000000001.epoch.0000000000000000",
+                FIRST,
+                Kind::Epoch,
+                0,
+            ),
+            (
+                "00000000-0000-4000-8000-000000000001.obj.0000000000000002",
+                FIRST,
+                Kind::Object,
+                2,
+            ),
+            (
+                "67e55044-10b1-426f-9247-bb680e5fe0c8.obj.0123456789abcdef",
+                OTHER,
+                Kind::Object,
+                0x0123_4567_89ab_cdef,
+            ),
+            (
+                "67e55044-10b1-426f-9247-bb680e5fe0c8.hold.ffffffffffffffff",
+                OTHER,
+                Kind::Hold,
+                u64::MAX,
+            ),
+        ] {
+            let name = ObjName::parse(text).ok_or("refused")?;
+            let uuid = Uuid::from_bytes(bytes);
+            assert_eq!(rt; name, ObjName { uuid, kind, number });
+            assert_eq!(rt; name.print(rt.alloc())?.as_str(), text);
+        }
+        Ok(())
+    }
+
+    #[test]
+    fn other_texts_are_refused(rt: HostRuntime) {
+        for text in [
+            "",
+            "00000000-0000-4000-8000-000000000001",
+            "00000000-0000-4000-8000-000000000001.",
+            "00000000-0000-4000-8000-000000000001.super.0000000000000000",
+            "00000000-0000-4000-8000-000000000001.super\n",
+            "00000000-0000-4000-8000-000000000001super",
+            "00000000-0000-4000-8000-000000000001.obj",
+            "00000000-0000-4000-8000-000000000001.obj.",
+            "00000000-0000-4000-8000-000000000001.obj0000000000000002",
+            "00000000-0000-4000-8000-000000000001.obj.000000000000002",
+            "00000000-0000-4000-8000-000000000001.obj.00000000000000002",
+            "00000000-0000-4000-8000-000000000001.obj.+000000000000002",
+            "00000000-0000-4000-8000-000000000001.obj.000000000000000A",
+            "00000000-0000-4000-8000-000000000001.obj.000000000000000g",
+            "00000000-0000-4000-8000-000000000001.obj.0000000000000002\n",
+            "00000000-0000-4000-8000-000000000001.object.0000000000000002",
+            "00000000-0000-4000-8000-000000000001.OBJ.0000000000000002",
+            "67E55044-10B1-426F-9247-BB680E5FE0C8.super",
+            "67e55044-10b1-426f-9247-bb680e5fe0c8 .super",
+            "67e5504410b1426f9247bb680e5fe0c8.super",
+            "{67e55044-10b1-426f-9247-bb680e5fe0c8}.super",
+            "urn:uuid:67e55044-10b1-426f-9247-bb680e5fe0c8.super",
+        ] {
+            assert_eq!(rt; ObjName::parse(text), None);
+        }
+    }
+}
