@@ -2,7 +2,7 @@
 //!
 //! Its contract: a call answers `Failed` only where the count of faults rose in it, and where an end tells
 //! its bytes, what was read and written is exactly what its list of bytes lost and gained.
-//! It stands on the standard library alone.
+//! It stands on the kit's `thiserror`.
 #![tactic(auto)]
 
 mod adapter;
