@@ -1,17 +1,18 @@
 -- Which command a line spells is decided, and it is one.
-use Rattle.std.proofs.Common.{◌≡◌, ℕ, ◌+◌, ◌*◌, ◌^◌, ◌<◌, ◌⊎◌, inl, inr, Option, Some, None, Bool, true, false, List, [], ◌∷◌, length, codes, refl, sym, ◌∙◌, ap, subst, arith}
-use Rattle.std.specs.Prelude.{IsTrue, nat_le, ◌&&◌}
+use Rattle.std.proofs.Common.{◌≡◌, ℕ, ◌+◌, ◌*◌, ◌^◌, ◌<◌, ◌==◌, ◌⊎◌, inl, inr, Option, Some, None, Bool, true, false, cond, List, [], ◌∷◌, length, codes, refl, sym, ◌∙◌, ap, subst, arith}
+use Rattle.std.specs.Prelude.{IsTrue, IfErr, nat_le, ok_or, decimal, ◌&&◌}
 use Rattle.std.specs.Bool.{then_some}
-use Rattle.std.specs.Option.{IfNone, MatchOption}
+use Rattle.std.specs.Option.{IfNone}
 use Rattle.std.specs.Str.{bytes_eq}
-use Rattle.std.proofs.lemmas.Bool.Decides.{nat_tests}
+use Rattle.std.proofs.lemmas.Bool.Decides.{nat_tests, Decides-eqb}
 use Rattle.std.proofs.lemmas.Fmt.{decimal_injective}
 use Rattle.std.proofs.lemmas.Slice.Eq.{bytes_eq-Decides}
 use Rattle.lsvd_base.specs.Limits.{is_within_limits}
 use Rattle.lsvd_base.specs.declared.geometry.Geometry.{Geometry}
-use Rattle.replay_script.specs.Grammar.{Spells, spelling, Fits, SizesFit, words_of}
+use Rattle.replay_script.specs.Grammar.{Spells, spelling, Fits, SizesFit, words_of, first_word, BeginsAs, CountsAs, IsUnknown, HasWrongWordCount, IsMisspelt, SpellNone, AreRefusedAs}
 use Rattle.replay_script.specs.declared.command.Command.{Command}
 use Rattle.replay_script.specs.declared.command.Command.TheVariants.{New, Write, Zero, Read, Flush}
+use Rattle.replay_script.specs.declared.error.LineError.TheVariants.{WordCount, Form}
 use Rattle.replay_script.proofs.Numbers.{decided, decide_number, decide_byte, hexadecimal_injective}
 
 -- the limits of a volume keep each size below 2^64
@@ -188,38 +189,81 @@ decide_flush (name ∷ []) =
     ]
 decide_flush _ = inr (λ e. omega (arith, ap length e))
 
--- what `then_some` gives where the geometry may be outside the limits
-pub new_none : (words : List (List ℕ)) (g : Geometry) (inside : Bool) (found : Option Command) → found ≡ then_some inside (New g) → inside ≡ is_within_limits g → words ≡ spelling (New g) → SizesFit g → IfNone found ((h : Geometry) → words ≡ spelling (New h) → Fits (New h) → ⊥)
-new_none words g true found is_found is_inside e fits = rw is_found tt
-new_none words g false found is_found is_inside e fits = rw is_found (no_new_outside words g e fits (λ inside. let same = is_inside ∙ inside in cc))
+-- then they spell no command
+no_new : (words : List (List ℕ)) (g : Geometry) → words ≡ spelling (New g) → SizesFit g → (IsTrue (is_within_limits g) → ⊥) → SpellNone words
+no_new words g e fits outside (New h) (e', fits_h) = no_new_outside words g e fits outside h e' fits_h
+no_new words g e fits outside (Write lba sectors byte) (e', fits') = cc
+no_new words g e fits outside (Zero lba sectors) (e', fits') = cc
+no_new words g e fits outside (Read lba sectors) (e', fits') = cc
+no_new words g e fits outside Flush (e', fits') = cc
 
--- a search that goes on where the first came to nothing finds nothing only where neither does
-pub or_else_none : {A P : Type 0} (M N : Type 0) (first found : Option A) → IfNone first M → MatchOption first P (λ x. found ≡ Some x) → (P → IfNone found N) → IfNone found (M × N)
-or_else_none M N None None nothing then next = (nothing, next then)
-or_else_none M N None (Some x) nothing then next = tt
-or_else_none M N (Some x) None nothing then next = cc
-or_else_none M N (Some x) (Some y) nothing then next = tt
+-- what `then_some` gives where the geometry of these words may be outside the limits
+pub new_none : (a b c d : List ℕ) (g : Geometry) (inside : Bool) (found : Option Command) → a ≡ decimal g.sectors → b ≡ decimal g.log → c ≡ decimal g.max_write → d ≡ decimal g.batch → SizesFit g → inside ≡ is_within_limits g → found ≡ then_some inside (New g) → IfNone found (SpellNone (codes "new" ∷ a ∷ b ∷ c ∷ d ∷ []))
+new_none a b c d g true found e1 e2 e3 e4 fits is_inside is_found = rw is_found tt
+new_none a b c d g false found e1 e2 e3 e4 fits is_inside is_found =
+    rw is_found (no_new _ g (cc) fits (λ inside. let same = is_inside ∙ inside in cc))
 
--- what holds of a search that found nothing, weakened
-pub IfNone-weaker : {A M N : Type 0} (found : Option A) → IfNone found M → (M → N) → IfNone found N
-IfNone-weaker None nothing f = f nothing
-IfNone-weaker (Some x) nothing f = tt
+-- the words of the command that has this first word, of which its first byte is enough; 0 for none
+words_after : List ℕ → ℕ
+words_after (byte ∷ bytes) = cond (byte == 110) 5 (cond (byte == 119) 4 (cond (byte == 102) 1 3))
+words_after [] = 0
 
--- the words spell none of the commands, one by one
-pub record SpellNone (words : List (List ℕ)) : Type 0 where
-  pub no_new : (g : Geometry) → words ≡ spelling (New g) → Fits (New g) → ⊥
-  pub no_write : (lba sectors byte : ℕ) → words ≡ spelling (Write lba sectors byte) → Fits (Write lba sectors byte) → ⊥
-  pub no_zero : (lba sectors : ℕ) → words ≡ spelling (Zero lba sectors) → Fits (Zero lba sectors) → ⊥
-  pub no_read : (lba sectors : ℕ) → words ≡ spelling (Read lba sectors) → Fits (Read lba sectors) → ⊥
-  pub no_flush : words ≡ spelling Flush → ⊥
+-- a command has as many words as its first word has
+count_by_name : (command : Command) → length (spelling command) ≡ words_after (first_word (spelling command))
+unfolding words_after
+count_by_name (New g) = refl
+count_by_name (Write lba sectors byte) = refl
+count_by_name (Zero lba sectors) = refl
+count_by_name (Read lba sectors) = refl
+count_by_name Flush = refl
 
--- then they spell none
-pub no_command : (words : List (List ℕ)) → SpellNone words → (command : Command) → words ≡ spelling command → Fits command → ⊥
-no_command words none (New g) e fits = none.no_new g e fits
-no_command words none (Write lba sectors byte) e fits = none.no_write lba sectors byte e fits
-no_command words none (Zero lba sectors) e fits = none.no_zero lba sectors e fits
-no_command words none (Read lba sectors) e fits = none.no_read lba sectors e fits
-no_command words none Flush e fits = none.no_flush e
+-- commands with the same first word have as many words
+same_count : (a b : Command) → first_word (spelling a) ≡ first_word (spelling b) → length (spelling a) ≡ length (spelling b)
+same_count a b e = count_by_name a ∙ ap words_after e ∙ sym (count_by_name b)
+
+-- a line that begins as a command and has another number of words has a wrong one
+miscounted_line : (line : List ℕ) (command : Command) → BeginsAs line command → ¬ CountsAs line command → HasWrongWordCount line
+miscounted_line line command begins other_count = record {
+  command = command;
+  known = begins;
+  miscounted = λ other begins' counts. other_count (counts ∙ same_count other command (sym begins' ∙ begins));
+}
+
+-- the same of its words
+pub miscounted : (words : List (List ℕ)) (command : Command) → first_word words ≡ first_word (spelling command) → ¬ (length words ≡ length (spelling command)) → AreRefusedAs words WordCount
+miscounted words command begins other_count line e =
+    miscounted_line line command (ap first_word e ∙ begins) (λ counts. other_count (ap length (sym e) ∙ counts))
+
+-- words with the first word of a command, as many as it has, that spell none are not in their form
+misspelt : (words : List (List ℕ)) (command : Command) → first_word words ≡ first_word (spelling command) → length words ≡ length (spelling command) → SpellNone words → AreRefusedAs words Form
+misspelt words command begins counts none line e = record {
+  command = command;
+  known = ap first_word e ∙ begins;
+  counted = ap length e ∙ counts;
+  unspelled = λ other spells. none other (sym e ∙ spells.words, spells.fits);
+}
+
+-- the same where a search of the command found none
+pub misspelt_if_none : (words spelled : List (List ℕ)) (command : Command) (found : Option Command) → words ≡ spelled → first_word spelled ≡ first_word (spelling command) → length spelled ≡ length (spelling command) → IfNone found (SpellNone spelled) → IfErr (ok_or found Form) (AreRefusedAs words)
+misspelt_if_none words spelled command None e begins counts none =
+    misspelt words command (ap first_word e ∙ begins) (ap length e ∙ counts) (λ other spells. none other (sym e ∙ spells.0, spells.1))
+misspelt_if_none words spelled command (Some found) e begins counts none = tt
+
+-- no command begins with another word than these five
+no_name : (word : List ℕ) → ¬ (word ≡ codes "new") → ¬ (word ≡ codes "w") → ¬ (word ≡ codes "z") → ¬ (word ≡ codes "r") → ¬ (word ≡ codes "f") → (command : Command) → ¬ (word ≡ first_word (spelling command))
+no_name word no_new no_write no_zero no_read no_flush (New g) = no_new
+no_name word no_new no_write no_zero no_read no_flush (Write lba sectors byte) = no_write
+no_name word no_new no_write no_zero no_read no_flush (Zero lba sectors) = no_zero
+no_name word no_new no_write no_zero no_read no_flush (Read lba sectors) = no_read
+no_name word no_new no_write no_zero no_read no_flush Flush = no_flush
+
+-- words that spell none of the commands, one by one, spell none
+no_command : (words : List (List ℕ)) → ((g : Geometry) → words ≡ spelling (New g) → Fits (New g) → ⊥) → ((lba sectors byte : ℕ) → words ≡ spelling (Write lba sectors byte) → Fits (Write lba sectors byte) → ⊥) → ((lba sectors : ℕ) → words ≡ spelling (Zero lba sectors) → Fits (Zero lba sectors) → ⊥) → ((lba sectors : ℕ) → words ≡ spelling (Read lba sectors) → Fits (Read lba sectors) → ⊥) → (words ≡ spelling Flush → ⊥) → (command : Command) → words ≡ spelling command → Fits command → ⊥
+no_command words no_new no_write no_zero no_read no_flush (New g) e fits = no_new g e fits
+no_command words no_new no_write no_zero no_read no_flush (Write lba sectors byte) e fits = no_write lba sectors byte e fits
+no_command words no_new no_write no_zero no_read no_flush (Zero lba sectors) e fits = no_zero lba sectors e fits
+no_command words no_new no_write no_zero no_read no_flush (Read lba sectors) e fits = no_read lba sectors e fits
+no_command words no_new no_write no_zero no_read no_flush Flush e fits = no_flush e
 
 -- whether a line spells a command is decided
 pub decide_line : (line : List ℕ) → ((command : Command) × Spells line command) ⊎ ((command : Command) → Spells line command → ⊥)
@@ -239,10 +283,78 @@ decide_line line =
                             elim (decide_flush (words_of line)) [
                               | inl found ↦ inl (Flush, record { words = found; fits = tt })
                               | inr no_flush ↦
-                                  let none : SpellNone (words_of line) = record { no_new = no_new; no_write = no_write; no_zero = no_zero; no_read = no_read; no_flush = no_flush } in
-                                  inr (λ command spells. no_command (words_of line) none command spells.words spells.fits)
+                                  inr (λ command spells. no_command (words_of line) no_new no_write no_zero no_read no_flush command spells.words spells.fits)
                             ]
                       ]
                 ]
           ]
+    ]
+
+-- ---- why a line spells no command: for one reason, and always for some
+
+-- a line that is refused spells no command
+pub unknown_unspelled : (line : List ℕ) → IsUnknown line → (command : Command) → ¬ Spells line command
+unknown_unspelled line unknown command spells = unknown command (ap first_word spells.words)
+
+pub miscounted_unspelled : (line : List ℕ) → HasWrongWordCount line → (command : Command) → ¬ Spells line command
+miscounted_unspelled line wrong command spells = wrong.miscounted command (ap first_word spells.words) (ap length spells.words)
+
+pub misspelt_unspelled : (line : List ℕ) → IsMisspelt line → (command : Command) → ¬ Spells line command
+misspelt_unspelled line wrong = wrong.unspelled
+
+-- a line is refused for one reason
+pub unknown_or_miscounted : (line : List ℕ) → IsUnknown line → HasWrongWordCount line → ⊥
+unknown_or_miscounted line unknown wrong = unknown wrong.command wrong.known
+
+pub unknown_or_misspelt : (line : List ℕ) → IsUnknown line → IsMisspelt line → ⊥
+unknown_or_misspelt line unknown wrong = unknown wrong.command wrong.known
+
+pub miscounted_or_misspelt : (line : List ℕ) → HasWrongWordCount line → IsMisspelt line → ⊥
+miscounted_or_misspelt line wrong misspelt = wrong.miscounted misspelt.command misspelt.known misspelt.counted
+
+-- whether some command begins with a word is decided
+decide_name : (word : List ℕ) → ((command : Command) × (word ≡ first_word (spelling command))) ⊎ ((command : Command) → ¬ (word ≡ first_word (spelling command)))
+decide_name word =
+    elim (decided (bytes_eq word (codes "new")) (bytes_eq-Decides word (codes "new"))) [
+      | inl is_new ↦ inl (New (record { sectors = 0; max_write = 0; batch = 0; log = 0 }), is_new)
+      | inr no_new ↦
+          elim (decided (bytes_eq word (codes "w")) (bytes_eq-Decides word (codes "w"))) [
+            | inl is_write ↦ inl (Write 0 0 0, is_write)
+            | inr no_write ↦
+                elim (decided (bytes_eq word (codes "z")) (bytes_eq-Decides word (codes "z"))) [
+                  | inl is_zero ↦ inl (Zero 0 0, is_zero)
+                  | inr no_zero ↦
+                      elim (decided (bytes_eq word (codes "r")) (bytes_eq-Decides word (codes "r"))) [
+                        | inl is_read ↦ inl (Read 0 0, is_read)
+                        | inr no_read ↦
+                            elim (decided (bytes_eq word (codes "f")) (bytes_eq-Decides word (codes "f"))) [
+                              | inl is_flush ↦ inl (Flush, is_flush)
+                              | inr no_flush ↦ inr (no_name word no_new no_write no_zero no_read no_flush)
+                            ]
+                      ]
+                ]
+          ]
+    ]
+
+-- whether a line that begins as a command and spells none has as many words is decided
+judge_named : (line : List ℕ) (command : Command) → BeginsAs line command → ((other : Command) → ¬ Spells line other) → HasWrongWordCount line ⊎ IsMisspelt line
+judge_named line command begins none =
+    elim (decided (length (words_of line) == length (spelling command)) (Decides-eqb _ _)) [
+      | inl counts ↦ inr (record { command = command; known = begins; counted = counts; unspelled = none })
+      | inr other_count ↦ inl (miscounted_line line command begins other_count)
+    ]
+
+judge_unspelled : (line : List ℕ) → ((command : Command) → ¬ Spells line command) → IsUnknown line ⊎ (HasWrongWordCount line ⊎ IsMisspelt line)
+judge_unspelled line none =
+    elim (decide_name (first_word (words_of line))) [
+      | inl named ↦ inr (judge_named line named.0 named.1 none)
+      | inr unknown ↦ inl unknown
+    ]
+
+-- each line spells a command or is refused
+pub judge_line : (line : List ℕ) → ((command : Command) × Spells line command) ⊎ (IsUnknown line ⊎ (HasWrongWordCount line ⊎ IsMisspelt line))
+judge_line line =
+    elim (decide_line line) [
+      | inl found ↦ inl found
+      | inr none ↦ inr (judge_unspelled line none)
     ]

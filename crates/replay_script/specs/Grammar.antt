@@ -6,6 +6,8 @@ use Rattle.lsvd_base.specs.Limits.{is_within_limits}
 use Rattle.lsvd_base.specs.declared.geometry.Geometry.{Geometry}
 use Rattle.replay_script.specs.declared.command.Command.{Command}
 use Rattle.replay_script.specs.declared.command.Command.TheVariants.{New, Write, Zero, Read, Flush}
+use Rattle.replay_script.specs.declared.error.LineError.{LineError}
+use Rattle.replay_script.specs.declared.error.LineError.TheVariants.{UnknownCommand, WordCount, Form, OutOfMemory}
 
 -- the parts between newlines; an empty last part is no line, so that the last newline may be absent
 abbrev pub without_empty_last : List (List ℕ) → List (List ℕ)
@@ -48,3 +50,54 @@ Fits Flush = Unit {0}
 pub record Spells (line : List ℕ) (command : Command) : Type 0 where
   pub words : words_of line ≡ spelling command
   pub fits : Fits command
+
+-- the first word of a line, or of what spells a command
+abbrev pub first_word : List (List ℕ) → List ℕ
+first_word [] = []
+first_word (word ∷ words) = word
+
+-- the line begins with the command's first word
+abbrev pub BeginsAs : List ℕ → Command → Type 0
+BeginsAs line command = first_word (words_of line) ≡ first_word (spelling command)
+
+-- the line has as many words as the command
+abbrev pub CountsAs : List ℕ → Command → Type 0
+CountsAs line command = length (words_of line) ≡ length (spelling command)
+
+-- no command begins with the line's first word
+abbrev pub IsUnknown : List ℕ → Type 0
+IsUnknown line = (command : Command) → ¬ BeginsAs line command
+
+-- some command begins with the line's first word, and none of those has as many words
+pub record HasWrongWordCount (line : List ℕ) : Type 0 where
+  pub command : Command
+  pub known : BeginsAs line command
+  pub miscounted : (other : Command) → BeginsAs line other → ¬ CountsAs line other
+
+-- some command begins with the line's first word and has as many words, but the line spells none
+pub record IsMisspelt (line : List ℕ) : Type 0 where
+  pub command : Command
+  pub known : BeginsAs line command
+  pub counted : CountsAs line command
+  pub unspelled : (other : Command) → ¬ Spells line other
+
+-- why the line spells no command; where memory lacked, nothing is said
+abbrev pub IsRefusedAs : List ℕ → LineError → Type 0
+IsRefusedAs line UnknownCommand = IsUnknown line
+IsRefusedAs line WordCount = HasWrongWordCount line
+IsRefusedAs line Form = IsMisspelt line
+IsRefusedAs line OutOfMemory = Unit {0}
+
+-- ---- the same of words, for the private clauses
+
+-- a line of these words spells the command
+abbrev pub Spell : List (List ℕ) → Command → Type 0
+Spell words command = (words ≡ spelling command) × Fits command
+
+-- a line of these words spells no command
+abbrev pub SpellNone : List (List ℕ) → Type 0
+SpellNone words = (command : Command) → ¬ Spell words command
+
+-- a line of these words is refused so
+abbrev pub AreRefusedAs : List (List ℕ) → LineError → Type 0
+AreRefusedAs words error = (line : List ℕ) → words_of line ≡ words → IsRefusedAs line error

@@ -1,10 +1,10 @@
-ghost use Rattle.std.specs.Prelude.{IfOk, IfSome, IfNone, ◌≡◌, ℕ, List, map};
-ghost use Rattle.lsvd_base.specs.declared.geometry.Geometry.{Geometry};
-ghost use Rattle.replay_script.specs.Grammar.{Spells, spelling, Fits, SizesFit};
+ghost use Rattle.std.specs.Prelude.{IfOk, IfErr, IfSome, IfNone, ◌≡◌, ℕ, List, [], ◌∷◌, map, codes};
+ghost use Rattle.replay_script.specs.Grammar.{Spells, IsRefusedAs, Spell, SpellNone, AreRefusedAs};
 
+use crate::error::LineError;
 use crate::number::{byte_of, number_of};
 use lsvd_base::Geometry;
-use std::alloc::{AllocError, Global};
+use std::alloc::Global;
 
 /// What a line of a script asks for.
 #[derive(Clone, Copy, Debug, PartialEq, Eq)]
@@ -21,13 +21,14 @@ pub enum Command {
     Flush,
 }
 
-/// Reads a line, without its newline. None is for a line that spells no command.
-pub fn command_of(alloc: Global, line: &[u8]) -> Result<Option<Command>, AllocError>
-    ensures found { IfOk result (λ found. IfSome found (Spells line.now)) }
-    ensures none { IfOk result (λ found. IfNone found ((command : Command) → Spells line.now command → ⊥)) }
+/// Reads a line, without its newline, as the command that it spells. Where it spells none, the error is the
+/// first of `UnknownCommand`, `WordCount` and `Form` that applies; `OutOfMemory` may come for each line.
+pub fn command_of(alloc: Global, line: &[u8]) -> Result<Command, LineError>
+    ensures found { IfOk result (Spells line.now) }
+    ensures refused { IfErr result (IsRefusedAs line.now) }
 {
     let words: Vec<&[u8]> = line.split(|b| *b == b' ').collect(alloc)?;
-    Ok(command_from(&words))
+    command_from(&words)
 }
 
 /// A law: a line spells at most one command.
@@ -35,53 +36,65 @@ pub fn a_line_spells_one_command()
     ensures { (line : List ℕ) (a b : Command) → Spells line a → Spells line b → a ≡ b }
 {}
 
-/// The command that the words spell, or None where they spell none.
-fn command_from(words: &[&[u8]]) -> Option<Command>
-    ensures found { IfSome result (λ command. (map (λ word. word.now) words.now ≡ spelling command) × Fits command) }
-    ensures none { IfNone result ((command : Command) → map (λ word. word.now) words.now ≡ spelling command → Fits command → ⊥) }
+/// The command that the words spell, or why they spell none.
+fn command_from(words: &[&[u8]]) -> Result<Command, LineError>
+    ensures found { IfOk result (Spell (map (λ word. word.now) words.now)) }
+    ensures refused { IfErr result (AreRefusedAs (map (λ word. word.now) words.now)) }
 {
-    new_from(words)
-        .or_else(|| write_from(words))
-        .or_else(|| zero_from(words))
-        .or_else(|| read_from(words))
-        .or_else(|| flush_from(words))
+    match words {
+        [b"new", sizes @ ..] => new_from(sizes),
+        [b"w", request @ ..] => write_from(request),
+        [b"z", range @ ..] => zero_from(range),
+        [b"r", range @ ..] => read_from(range),
+        [b"f"] => Ok(Command::Flush),
+        [b"f", ..] => Err(LineError::WordCount),
+        _ => Err(LineError::UnknownCommand),
+    }
 }
 
-/// The command `new` that the words spell, if they spell one.
-fn new_from(words: &[&[u8]]) -> Option<Command>
-    ensures found { IfSome result (λ command. (map (λ word. word.now) words.now ≡ spelling command) × Fits command) }
-    ensures none { IfNone result ((g : Geometry) → map (λ word. word.now) words.now ≡ spelling (Command.New g) → Fits (Command.New g) → ⊥) }
+/// The command `new` with these words after its name.
+fn new_from(sizes: &[&[u8]]) -> Result<Command, LineError>
+    ensures found { IfOk result (Spell (codes "new" ∷ map (λ word. word.now) sizes.now)) }
+    ensures refused { IfErr result (AreRefusedAs (codes "new" ∷ map (λ word. word.now) sizes.now)) }
 {
-    let geometry = sizes_from(words)?;
+    let [sectors, log, max_write, batch] = sizes else {
+        return Err(LineError::WordCount);
+    };
+    new_of(sectors, log, max_write, batch).ok_or(LineError::Form)
+}
+
+/// The command `new` of these sizes, if each is a number and they are within the limits of a volume.
+fn new_of(sectors: &[u8], log: &[u8], max_write: &[u8], batch: &[u8]) -> Option<Command>
+    ensures found { IfSome result (Spell (codes "new" ∷ sectors.now ∷ log.now ∷ max_write.now ∷ batch.now ∷ [])) }
+    ensures none { IfNone result (SpellNone (codes "new" ∷ sectors.now ∷ log.now ∷ max_write.now ∷ batch.now ∷ [])) }
+{
+    let geometry = Geometry {
+        sectors: number_of(sectors)?,
+        log: number_of(log)?,
+        max_write: number_of(max_write)?,
+        batch: number_of(batch)?,
+    };
     geometry
         .is_within_limits()
         .then_some(Command::New(geometry))
 }
 
-/// The sizes that the words of a command `new` spell, within the limits of a volume or not.
-fn sizes_from(words: &[&[u8]]) -> Option<Geometry>
-    ensures found { IfSome result (λ g. (map (λ word. word.now) words.now ≡ spelling (Command.New g)) × SizesFit g) }
-    ensures none { IfNone result ((g : Geometry) → map (λ word. word.now) words.now ≡ spelling (Command.New g) → SizesFit g → ⊥) }
+/// The command `w` with these words after its name.
+fn write_from(request: &[&[u8]]) -> Result<Command, LineError>
+    ensures found { IfOk result (Spell (codes "w" ∷ map (λ word. word.now) request.now)) }
+    ensures refused { IfErr result (AreRefusedAs (codes "w" ∷ map (λ word. word.now) request.now)) }
 {
-    let [b"new", sectors, log, max_write, batch] = words else {
-        return None;
+    let [lba, sectors, byte] = request else {
+        return Err(LineError::WordCount);
     };
-    Some(Geometry {
-        sectors: number_of(sectors)?,
-        log: number_of(log)?,
-        max_write: number_of(max_write)?,
-        batch: number_of(batch)?,
-    })
+    write_of(lba, sectors, byte).ok_or(LineError::Form)
 }
 
-/// The command `w` that the words spell, if they spell one.
-fn write_from(words: &[&[u8]]) -> Option<Command>
-    ensures found { IfSome result (λ command. (map (λ word. word.now) words.now ≡ spelling command) × Fits command) }
-    ensures none { IfNone result ((lba sectors byte : ℕ) → map (λ word. word.now) words.now ≡ spelling (Command.Write lba sectors byte) → Fits (Command.Write lba sectors byte) → ⊥) }
+/// The command `w` of these words, if they are two numbers and a byte.
+fn write_of(lba: &[u8], sectors: &[u8], byte: &[u8]) -> Option<Command>
+    ensures found { IfSome result (Spell (codes "w" ∷ lba.now ∷ sectors.now ∷ byte.now ∷ [])) }
+    ensures none { IfNone result (SpellNone (codes "w" ∷ lba.now ∷ sectors.now ∷ byte.now ∷ [])) }
 {
-    let [b"w", lba, sectors, byte] = words else {
-        return None;
-    };
     Some(Command::Write {
         lba: number_of(lba)?,
         sectors: number_of(sectors)?,
@@ -89,49 +102,53 @@ fn write_from(words: &[&[u8]]) -> Option<Command>
     })
 }
 
-/// The command `z` that the words spell, if they spell one.
-fn zero_from(words: &[&[u8]]) -> Option<Command>
-    ensures found { IfSome result (λ command. (map (λ word. word.now) words.now ≡ spelling command) × Fits command) }
-    ensures none { IfNone result ((lba sectors : ℕ) → map (λ word. word.now) words.now ≡ spelling (Command.Zero lba sectors) → Fits (Command.Zero lba sectors) → ⊥) }
+/// The command `z` with these words after its name.
+fn zero_from(range: &[&[u8]]) -> Result<Command, LineError>
+    ensures found { IfOk result (Spell (codes "z" ∷ map (λ word. word.now) range.now)) }
+    ensures refused { IfErr result (AreRefusedAs (codes "z" ∷ map (λ word. word.now) range.now)) }
 {
-    let [b"z", lba, sectors] = words else {
-        return None;
+    let [lba, sectors] = range else {
+        return Err(LineError::WordCount);
     };
+    zero_of(lba, sectors).ok_or(LineError::Form)
+}
+
+/// The command `z` of these words, if they are two numbers.
+fn zero_of(lba: &[u8], sectors: &[u8]) -> Option<Command>
+    ensures found { IfSome result (Spell (codes "z" ∷ lba.now ∷ sectors.now ∷ [])) }
+    ensures none { IfNone result (SpellNone (codes "z" ∷ lba.now ∷ sectors.now ∷ [])) }
+{
     Some(Command::Zero {
         lba: number_of(lba)?,
         sectors: number_of(sectors)?,
     })
 }
 
-/// The command `r` that the words spell, if they spell one.
-fn read_from(words: &[&[u8]]) -> Option<Command>
-    ensures found { IfSome result (λ command. (map (λ word. word.now) words.now ≡ spelling command) × Fits command) }
-    ensures none { IfNone result ((lba sectors : ℕ) → map (λ word. word.now) words.now ≡ spelling (Command.Read lba sectors) → Fits (Command.Read lba sectors) → ⊥) }
+/// The command `r` with these words after its name.
+fn read_from(range: &[&[u8]]) -> Result<Command, LineError>
+    ensures found { IfOk result (Spell (codes "r" ∷ map (λ word. word.now) range.now)) }
+    ensures refused { IfErr result (AreRefusedAs (codes "r" ∷ map (λ word. word.now) range.now)) }
 {
-    let [b"r", lba, sectors] = words else {
-        return None;
+    let [lba, sectors] = range else {
+        return Err(LineError::WordCount);
     };
+    read_of(lba, sectors).ok_or(LineError::Form)
+}
+
+/// The command `r` of these words, if they are two numbers.
+fn read_of(lba: &[u8], sectors: &[u8]) -> Option<Command>
+    ensures found { IfSome result (Spell (codes "r" ∷ lba.now ∷ sectors.now ∷ [])) }
+    ensures none { IfNone result (SpellNone (codes "r" ∷ lba.now ∷ sectors.now ∷ [])) }
+{
     Some(Command::Read {
         lba: number_of(lba)?,
         sectors: number_of(sectors)?,
     })
 }
 
-/// The command `f`, if the words spell it.
-fn flush_from(words: &[&[u8]]) -> Option<Command>
-    ensures found { IfSome result (λ command. (map (λ word. word.now) words.now ≡ spelling command) × Fits command) }
-    ensures none { IfNone result (map (λ word. word.now) words.now ≡ spelling Command.Flush → ⊥) }
-{
-    let [b"f"] = words else {
-        return None;
-    };
-    Some(Command::Flush)
-}
-
 #[cfg(test)]
 mod tests {
     use super::*;
-    use std::test::Fail;
 
     const SMALL: Geometry = Geometry {
         sectors: 1024,
@@ -141,59 +158,86 @@ mod tests {
     };
 
     #[test]
-    fn lines_spell_commands(rt: HostRuntime) -> Result<(), Fail> {
+    fn lines_spell_commands(rt: HostRuntime) {
         let most = u64::MAX;
-        let table: [(&[u8], Option<Command>); 27] = [
-            (b"new 1024 18 8 1", Some(Command::New(SMALL))),
+        let table: [(&[u8], Command); 5] = [
+            (b"new 1024 18 8 1", Command::New(SMALL)),
             (
                 b"w 0 8 0f",
-                Some(Command::Write {
+                Command::Write {
                     lba: 0,
                     sectors: 8,
                     byte: 15,
-                }),
+                },
             ),
             (
                 b"r 18446744073709551615 10",
-                Some(Command::Read {
+                Command::Read {
                     lba: most,
                     sectors: 10,
-                }),
+                },
             ),
             (
                 b"z 7 57",
-                Some(Command::Zero {
+                Command::Zero {
                     lba: 7,
                     sectors: 57,
-                }),
+                },
             ),
-            (b"f", Some(Command::Flush)),
-            (b"f 1", None),
-            (b"f ", None),
-            (b"z 7", None),
-            (b"", None),
-            (b" r 0 8", None),
-            (b"r  0 8", None),
-            (b"r 0 8 ", None),
-            (b"r +1 8", None),
-            (b"r 01 8", None),
-            (b"r 1a 8", None),
-            (b"r 18446744073709551616 8", None),
-            (b"w 0 8 0F", None),
-            (b"w 0 8 f", None),
-            (b"w 0 8 0ff", None),
-            (b"r 0 8\r", None),
-            (b"R 0 8", None),
-            (b"trim 0 8", None),
-            (b"r 0", None),
-            (b"w 0 8", None),
-            (b"r 0 8 00", None),
-            (b"new 7 18 8 1", None),
-            (b"new 1024 17 8 1", None),
+            (b"f", Command::Flush),
         ];
         for (line, command) in table {
-            assert_eq!(rt; command_of(rt.alloc(), line)?, command);
+            assert_eq!(rt; command_of(rt.alloc(), line), Ok(command));
         }
-        Ok(())
+    }
+
+    #[test]
+    fn the_first_reason_is_told(rt: HostRuntime) {
+        let table: [(&[u8], LineError); 39] = [
+            (b"", LineError::UnknownCommand),
+            (b" ", LineError::UnknownCommand),
+            (b" r 0 8", LineError::UnknownCommand),
+            (b"\tr 0 8", LineError::UnknownCommand),
+            (b"f\r", LineError::UnknownCommand),
+            (b"R 0 8", LineError::UnknownCommand),
+            (b"rr 0 8", LineError::UnknownCommand),
+            (b"ne 1024 18 8 1", LineError::UnknownCommand),
+            (b"trim 0 8", LineError::UnknownCommand),
+            (b"d 2", LineError::UnknownCommand),
+            // It has the words of no command, and a word in no form.
+            (b"R +1 8 0F 0 0", LineError::UnknownCommand),
+            (b"f ", LineError::WordCount),
+            (b"f 1", LineError::WordCount),
+            (b"z 7", LineError::WordCount),
+            (b"r", LineError::WordCount),
+            (b"r 0 8 ", LineError::WordCount),
+            (b"r  0 8", LineError::WordCount),
+            (b"r 0 8 00", LineError::WordCount),
+            (b"w 0 8", LineError::WordCount),
+            (b"w 0 8 0f 0f", LineError::WordCount),
+            (b"new", LineError::WordCount),
+            (b"new 1024 18 8", LineError::WordCount),
+            (b"new 1024 18 8 1 1", LineError::WordCount),
+            // A word is in no form, too.
+            (b"w 01 0F", LineError::WordCount),
+            (b"new 7 x 8", LineError::WordCount),
+            (b"r  8", LineError::Form),
+            (b"r +1 8", LineError::Form),
+            (b"r -1 8", LineError::Form),
+            (b"r 01 8", LineError::Form),
+            (b"r 1a 8", LineError::Form),
+            (b"r 0 8\r", LineError::Form),
+            (b"z 0\t7 57", LineError::Form),
+            (b"r 18446744073709551616 8", LineError::Form),
+            (b"w 0 8 ", LineError::Form),
+            (b"w 0 8 0F", LineError::Form),
+            (b"w 0 8 f", LineError::Form),
+            (b"w 0 8 0ff", LineError::Form),
+            (b"new 7 18 8 1", LineError::Form),
+            (b"new 1024 17 8 1", LineError::Form),
+        ];
+        for (line, error) in table {
+            assert_eq!(rt; command_of(rt.alloc(), line), Err(error));
+        }
     }
 }

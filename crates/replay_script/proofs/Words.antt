@@ -1,0 +1,26 @@
+-- The words of a line that are taken apart by a pattern.
+use Rattle.std.proofs.Common.{◌≡◌, ◌<◌, ◌≤◌, List, [], ◌∷◌, length, map, get_or, refl, arith}
+
+-- two items, mapped
+pub two_items : {A B : Type 0} (f : A → B) (items : List A) (default : A) → 2 ≤ length items → length items < 3 → map f items ≡ f (get_or items 0 default) ∷ f (get_or items 1 default) ∷ []
+two_items f [] default least most = absurd (omega arith)
+two_items f (a ∷ []) default least most = absurd (omega arith)
+two_items f (a ∷ b ∷ []) default least most = refl
+two_items f (a ∷ b ∷ c ∷ items) default least most = absurd (omega arith)
+
+-- three items, mapped
+pub three_items : {A B : Type 0} (f : A → B) (items : List A) (default : A) → 3 ≤ length items → length items < 4 → map f items ≡ f (get_or items 0 default) ∷ f (get_or items 1 default) ∷ f (get_or items 2 default) ∷ []
+three_items f [] default least most = absurd (omega arith)
+three_items f (a ∷ []) default least most = absurd (omega arith)
+three_items f (a ∷ b ∷ []) default least most = absurd (omega arith)
+three_items f (a ∷ b ∷ c ∷ []) default least most = refl
+three_items f (a ∷ b ∷ c ∷ d ∷ items) default least most = absurd (omega arith)
+
+-- four items, mapped
+pub four_items : {A B : Type 0} (f : A → B) (items : List A) (default : A) → 4 ≤ length items → length items < 5 → map f items ≡ f (get_or items 0 default) ∷ f (get_or items 1 default) ∷ f (get_or items 2 default) ∷ f (get_or items 3 default) ∷ []
+four_items f [] default least most = absurd (omega arith)
+four_items f (a ∷ []) default least most = absurd (omega arith)
+four_items f (a ∷ b ∷ []) default least most = absurd (omega arith)
+four_items f (a ∷ b ∷ c ∷ []) default least most = absurd (omega arith)
+four_items f (a ∷ b ∷ c ∷ d ∷ []) default least most = refl
+four_items f (a ∷ b ∷ c ∷ d ∷ e ∷ items) default least most = absurd (omega arith)
