@@ -106,7 +106,7 @@ mod tests {
         err: &'static [u8],
     }
 
-    const CASES: [Case; 8] = [
+    const CASES: [Case; 12] = [
         Case {
             words: &["replay"],
             script: b"new 64 64 8 16\nw 0 1 41\nr 0 2\n",
@@ -134,6 +134,34 @@ mod tests {
             status: 3,
             out: b"new 64\nok 1\n",
             err: b"line 3 reason 1\n",
+        },
+        Case {
+            words: &["replay"],
+            script: b"new 64 64 8\n",
+            status: 3,
+            out: b"",
+            err: b"line 1 reason 2\n",
+        },
+        Case {
+            words: &["replay"],
+            script: b"new 64 64 8 16\nr 0 01\n",
+            status: 3,
+            out: b"new 64\n",
+            err: b"line 2 reason 3\n",
+        },
+        Case {
+            words: &["replay"],
+            script: b"r 0 1\nnew 64 64 8 16\n",
+            status: 3,
+            out: b"",
+            err: b"line 1 reason 4\n",
+        },
+        Case {
+            words: &["replay"],
+            script: &[b'r'; 65_537],
+            status: 3,
+            out: b"",
+            err: b"line 1 reason 6\n",
         },
         Case {
             words: &[],

@@ -1,5 +1,5 @@
 -- A script has one transcript.
-use Rattle.std.proofs.Common.{◌≡◌, ℕ, ◌+◌, ◌*◌, List, [], ◌∷◌, ◌++◌, replicate, sym, ◌∙◌, subst, inl, inr, arith}
+use Rattle.std.proofs.Common.{◌≡◌, ℕ, ◌+◌, ◌*◌, List, [], ◌∷◌, ◌++◌, replicate, refl, sym, ◌∙◌, ap, subst, inl, inr, arith}
 use Rattle.std.specs.Prelude.{Some, None}
 use Rattle.plain_disk.specs.Machine.{Disk, reply_of}
 use Rattle.plain_disk.specs.declared.event.Event.{Event}
@@ -9,10 +9,13 @@ use Rattle.plain_disk.specs.declared.event.Reply.TheVariants.{Entered, Flushed, 
 use Rattle.replay_script.specs.declared.command.Command.{Command}
 use Rattle.replay_script.specs.declared.command.Command.TheVariants.{New, Write, Zero, Read, Flush}
 use Rattle.replay_script.specs.Grammar.{lines_of}
-use Rattle.replay_script.proofs.Decide.{one_command}
+use Rattle.replay_script.proofs.Decide.{one_command, unknown_unspelled, miscounted_unspelled, misspelt_unspelled, unknown_or_miscounted, unknown_or_misspelt, miscounted_or_misspelt}
 use Rattle.replay_script.proofs.Runs.{one_run_text}
 use Rattle.vol_replay.specs.declared.outcome.Outcome.{Outcome}
-use Rattle.vol_replay.specs.Transcript.{State, TellsReply, Steps, Answers, IsAnswered, StopsAt, Transcript, IsTranscript}
+use Rattle.vol_replay.specs.declared.outcome.Outcome.TheVariants.{BadLine}
+use Rattle.vol_replay.specs.declared.outcome.Reason.{Reason}
+use Rattle.vol_replay.specs.declared.outcome.Reason.TheVariants.{UnknownCommand, WordCount, Form, NotAllowed, TooLong}
+use Rattle.vol_replay.specs.Transcript.{State, TellsReply, Steps, Answers, IsAnswered, IsBad, StopsAt, Transcript, IsTranscript}
 
 -- a reply is told by one text
 one_telling : (reply : Reply) (a b : List ℕ) → TellsReply reply a → TellsReply reply b → a ≡ b
@@ -50,16 +53,49 @@ one_answered state line a b p q s t =
     one_answer state s.command a b p q s.answered (subst P (one_command line t.command s.command t.spelled s.spelled) t.answered)
 
 -- a line that is answered is not bad
+answered_not_bad : (state : State) (line answer : List ℕ) (next : State) (reason : Reason) → IsAnswered state line answer next → IsBad state line reason → ⊥
+answered_not_bad state line answer next UnknownCommand s bad = unknown_unspelled line bad.1 s.command s.spelled
+answered_not_bad state line answer next WordCount s bad = miscounted_unspelled line bad.1 s.command s.spelled
+answered_not_bad state line answer next Form s bad = misspelt_unspelled line bad.1 s.command s.spelled
+answered_not_bad state line answer next NotAllowed s (short, (command, spelled, unanswered)) =
+    let P : Command → Type 0 = λ c. Answers state c answer next in
+    unanswered answer next (subst P (one_command line s.command command s.spelled spelled) s.answered)
+answered_not_bad state line answer next TooLong s long = omega (arith, s.short, long)
+
 answered_or_bad : (number : ℕ) (state : State) (line answer : List ℕ) (next : State) (outcome : Outcome) → IsAnswered state line answer next → StopsAt number state line outcome → ⊥
-answered_or_bad number state line answer next outcome s (inl long) = omega (arith, s.short, long.0)
-answered_or_bad number state line answer next outcome s (inr bad) = bad.1 s.command answer next s.spelled s.answered
+answered_or_bad number state line answer next outcome s (reason, bad, told) = answered_not_bad state line answer next reason s bad
 
 -- a line is bad for one reason
+one_reason : (state : State) (line : List ℕ) (a b : Reason) → IsBad state line a → IsBad state line b → a ≡ b
+one_reason state line UnknownCommand UnknownCommand p q = refl
+one_reason state line UnknownCommand WordCount p q = absurd (unknown_or_miscounted line p.1 q.1)
+one_reason state line UnknownCommand Form p q = absurd (unknown_or_misspelt line p.1 q.1)
+one_reason state line UnknownCommand NotAllowed p q = absurd (unknown_unspelled line p.1 q.1.0 q.1.1)
+one_reason state line UnknownCommand TooLong p q = absurd (omega arith)
+one_reason state line WordCount UnknownCommand p q = absurd (unknown_or_miscounted line q.1 p.1)
+one_reason state line WordCount WordCount p q = refl
+one_reason state line WordCount Form p q = absurd (miscounted_or_misspelt line p.1 q.1)
+one_reason state line WordCount NotAllowed p q = absurd (miscounted_unspelled line p.1 q.1.0 q.1.1)
+one_reason state line WordCount TooLong p q = absurd (omega arith)
+one_reason state line Form UnknownCommand p q = absurd (unknown_or_misspelt line q.1 p.1)
+one_reason state line Form WordCount p q = absurd (miscounted_or_misspelt line q.1 p.1)
+one_reason state line Form Form p q = refl
+one_reason state line Form NotAllowed p q = absurd (misspelt_unspelled line p.1 q.1.0 q.1.1)
+one_reason state line Form TooLong p q = absurd (omega arith)
+one_reason state line NotAllowed UnknownCommand p q = absurd (unknown_unspelled line q.1 p.1.0 p.1.1)
+one_reason state line NotAllowed WordCount p q = absurd (miscounted_unspelled line q.1 p.1.0 p.1.1)
+one_reason state line NotAllowed Form p q = absurd (misspelt_unspelled line q.1 p.1.0 p.1.1)
+one_reason state line NotAllowed NotAllowed p q = refl
+one_reason state line NotAllowed TooLong p q = absurd (omega arith)
+one_reason state line TooLong UnknownCommand p q = absurd (omega arith)
+one_reason state line TooLong WordCount p q = absurd (omega arith)
+one_reason state line TooLong Form p q = absurd (omega arith)
+one_reason state line TooLong NotAllowed p q = absurd (omega arith)
+one_reason state line TooLong TooLong p q = refl
+
 one_stop : (number : ℕ) (state : State) (line : List ℕ) (x y : Outcome) → StopsAt number state line x → StopsAt number state line y → x ≡ y
-one_stop number state line x y (inl s) (inl t) = s.1 ∙ sym t.1
-one_stop number state line x y (inl s) (inr t) = absurd (omega (arith, s.0, t.0))
-one_stop number state line x y (inr s) (inl t) = absurd (omega (arith, s.0, t.0))
-one_stop number state line x y (inr s) (inr t) = s.2 ∙ sym t.2
+one_stop number state line x y (a, bad, told) (b, also, told_also) =
+    told ∙ ap (BadLine number) (one_reason state line a b bad also) ∙ sym told_also
 
 -- the lines have one transcript from each state on
 abbrev HaveOne : List (List ℕ) → Type 0

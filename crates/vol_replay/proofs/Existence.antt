@@ -1,5 +1,5 @@
 -- Each script has a transcript.
-use Rattle.std.proofs.Common.{ℕ, ◌+◌, ◌*◌, ◌<◌, ◌≤◌, ◌^◌, ◌⊎◌, List, [], ◌∷◌, ◌++◌, length, replicate, refl, subst, inl, inr}
+use Rattle.std.proofs.Common.{ℕ, ◌+◌, ◌*◌, ◌<◌, ◌≤◌, ◌^◌, ◌⊎◌, List, [], ◌∷◌, ◌++◌, length, replicate, refl, inl, inr}
 use Rattle.std.specs.Prelude.{Some, None, codes, decimal}
 use Rattle.std.proofs.lemmas.Bool.{cases_lt}
 use Rattle.plain_disk.specs.Machine.{Disk, created, reply_of, disk_after}
@@ -9,13 +9,14 @@ use Rattle.plain_disk.specs.declared.event.Reply.{Reply}
 use Rattle.plain_disk.specs.declared.event.Reply.TheVariants.{Entered, Flushed, Data, Range, BatchFull, EntriesFull}
 use Rattle.replay_script.specs.declared.command.Command.{Command}
 use Rattle.replay_script.specs.declared.command.Command.TheVariants.{New, Write, Zero, Read, Flush}
-use Rattle.replay_script.specs.Grammar.{lines_of, Spells}
-use Rattle.replay_script.proofs.Decide.{decide_line, one_command}
+use Rattle.replay_script.specs.Grammar.{lines_of, Spells, IsUnknown, HasWrongWordCount, IsMisspelt}
+use Rattle.replay_script.proofs.Decide.{judge_line}
 use Rattle.replay_script.proofs.Runs.{some_run_text}
 use Rattle.vol_replay.specs.declared.outcome.Outcome.{Outcome}
 use Rattle.vol_replay.specs.declared.outcome.Outcome.TheVariants.{Done, BadLine}
-use Rattle.vol_replay.specs.declared.outcome.Reason.TheVariants.{NotACommand, TooLong}
-use Rattle.vol_replay.specs.Transcript.{State, TellsReply, Steps, Answers, IsUnanswered, IsAnswered, IsNoCommand, StopsAt, Transcript, IsTranscript, IsFrontOfTranscript, line_after}
+use Rattle.vol_replay.specs.declared.outcome.Reason.{Reason}
+use Rattle.vol_replay.specs.declared.outcome.Reason.TheVariants.{UnknownCommand, WordCount, Form, NotAllowed, TooLong}
+use Rattle.vol_replay.specs.Transcript.{State, TellsReply, Steps, Answers, IsUnanswered, IsAnswered, IsBad, StopsAt, Transcript, IsTranscript, IsFrontOfTranscript, line_after}
 
 -- each reply has a text
 some_telling : (reply : Reply) → (text : List ℕ) × TellsReply reply text
@@ -45,32 +46,27 @@ some_answer (Some disk) (Zero lba sectors) = inl (some_step disk (events.Zero lb
 some_answer (Some disk) (Read lba sectors) = inl (some_step disk (events.Read lba sectors))
 some_answer (Some disk) Flush = inl (some_step disk events.Flush)
 
--- a line that spells a command which is not answered is bad
-pub unanswered_line : (state : State) (line : List ℕ) (command : Command) → Spells line command → IsUnanswered state command → IsNoCommand state line
-unanswered_line state line command spelled none other text next also answered =
-    let P : Command → Type 0 = λ c. Answers state c text next in
-    none text next (subst P (one_command line other command also spelled) answered)
-
--- a line that spells no command is bad
-pub unspelled_line : (state : State) (line : List ℕ) → ((command : Command) → Spells line command → ⊥) → IsNoCommand state line
-unspelled_line state line none command text next spelled answered = none command spelled
-
 -- a line is answered or bad
 data LineFate (number : ℕ) (state : State) (line : List ℕ) : Type 0 where
   goes : (answer : List ℕ) (next : State) → IsAnswered state line answer next → LineFate number state line
   stops : (outcome : Outcome) → StopsAt number state line outcome → LineFate number state line
 
+fate_bad : (number : ℕ) (state : State) (line : List ℕ) (reason : Reason) → IsBad state line reason → LineFate number state line
+fate_bad number state line reason bad = stops (BadLine number reason) (reason, bad, refl)
+
 fate_spelled : (number : ℕ) (state : State) (line : List ℕ) (command : Command) → length line ≤ 65536 → Spells line command → HasAnswer state command ⊎ IsUnanswered state command → LineFate number state line
 fate_spelled number state line command short spelled (inl a) = goes a.0 a.1 (record { short = short; command = command; spelled = spelled; answered = a.2 })
-fate_spelled number state line command short spelled (inr none) = stops (BadLine number NotACommand) (inr (short, unanswered_line state line command spelled none, refl))
+fate_spelled number state line command short spelled (inr none) = fate_bad number state line NotAllowed (short, (command, spelled, none))
 
-fate_short : (number : ℕ) (state : State) (line : List ℕ) → length line ≤ 65536 → ((command : Command) × Spells line command) ⊎ ((command : Command) → Spells line command → ⊥) → LineFate number state line
+fate_short : (number : ℕ) (state : State) (line : List ℕ) → length line ≤ 65536 → ((command : Command) × Spells line command) ⊎ (IsUnknown line ⊎ (HasWrongWordCount line ⊎ IsMisspelt line)) → LineFate number state line
 fate_short number state line short (inl c) = fate_spelled number state line c.0 short c.1 (some_answer state c.0)
-fate_short number state line short (inr none) = stops (BadLine number NotACommand) (inr (short, unspelled_line state line none, refl))
+fate_short number state line short (inr (inl unknown)) = fate_bad number state line UnknownCommand (short, unknown)
+fate_short number state line short (inr (inr (inl miscounted))) = fate_bad number state line WordCount (short, miscounted)
+fate_short number state line short (inr (inr (inr misspelt))) = fate_bad number state line Form (short, misspelt)
 
 fate : (number : ℕ) (state : State) (line : List ℕ) → (65536 < length line) ⊎ (length line ≤ 65536) → LineFate number state line
-fate number state line (inl long) = stops (BadLine number TooLong) (inl (long, refl))
-fate number state line (inr short) = fate_short number state line short (decide_line line)
+fate number state line (inl long) = fate_bad number state line TooLong long
+fate number state line (inr short) = fate_short number state line short (judge_line line)
 
 abbrev SomeTranscript : ℕ → State → List (List ℕ) → Type 0
 SomeTranscript number state lines = (text : List ℕ) × (outcome : Outcome) × Transcript number state lines text outcome

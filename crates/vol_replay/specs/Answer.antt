@@ -1,15 +1,25 @@
 -- What the steps of a replay do to the answers that are still to be written.
 use Rattle.std.specs.Prelude.{◌≡◌, ℕ, ◌≤◌, ◌⊎◌, Option, List, ◌++◌, length, take}
 use Rattle.std.specs.Io.KnownBytes.{Appends}
+use Rattle.replay_script.specs.declared.error.LineError.{LineError}
+use Rattle.replay_script.specs.declared.error.LineError.TheVariants as line_errors
 use Rattle.vol_replay.specs.declared.answer.Refusal.{Refusal}
 use Rattle.vol_replay.specs.declared.answer.Refusal.TheVariants.{Bad, OutOfMemory}
 use Rattle.vol_replay.specs.declared.outcome.Outcome.{Outcome}
 use Rattle.vol_replay.specs.declared.outcome.Outcome.TheVariants as outcomes
-use Rattle.vol_replay.specs.Transcript.{State, StopsAt}
+use Rattle.vol_replay.specs.declared.outcome.Reason.TheVariants.{UnknownCommand, WordCount, Form}
+use Rattle.vol_replay.specs.Transcript.{State, IsBad}
+
+-- how the error that a line gives is told
+abbrev pub refusal_of : LineError → Refusal
+refusal_of line_errors.UnknownCommand = Bad UnknownCommand
+refusal_of line_errors.WordCount = Bad WordCount
+refusal_of line_errors.Form = Bad Form
+refusal_of line_errors.OutOfMemory = OutOfMemory
 
 -- a line was not answered: a bad one left the answers as they were
 abbrev pub IsRefused : State → List ℕ → List ℕ → List ℕ → Refusal → Type 0
-IsRefused state line old new (Bad reason) = (new ≡ old) × ((number : ℕ) → StopsAt number state line (outcomes.BadLine number reason))
+IsRefused state line old new (Bad reason) = (new ≡ old) × IsBad state line reason
 IsRefused state line old new OutOfMemory = Unit {0}
 
 -- the sink took a front of these bytes

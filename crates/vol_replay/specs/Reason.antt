@@ -1,9 +1,12 @@
 -- The numbers that are told for bad lines.
 use Rattle.std.specs.Prelude.{ℕ}
 use Rattle.vol_replay.specs.declared.outcome.Reason.{Reason}
-use Rattle.vol_replay.specs.declared.outcome.Reason.TheVariants.{NotACommand, TooLong}
+use Rattle.vol_replay.specs.declared.outcome.Reason.TheVariants.{UnknownCommand, WordCount, Form, NotAllowed, TooLong}
 
 -- the number of a reason
 abbrev pub code_of : Reason → ℕ
-code_of NotACommand = 1
+code_of UnknownCommand = 1
+code_of WordCount = 2
+code_of Form = 3
+code_of NotAllowed = 4
 code_of TooLong = 6

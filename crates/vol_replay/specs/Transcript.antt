@@ -7,11 +7,12 @@ use Rattle.plain_disk.specs.declared.event.Reply.{Reply}
 use Rattle.plain_disk.specs.declared.event.Reply.TheVariants.{Entered, Flushed, Data, Range, BatchFull, EntriesFull}
 use Rattle.replay_script.specs.declared.command.Command.{Command}
 use Rattle.replay_script.specs.declared.command.Command.TheVariants.{New, Write, Zero, Read, Flush}
-use Rattle.replay_script.specs.Grammar.{lines_of, Spells}
+use Rattle.replay_script.specs.Grammar.{lines_of, Spells, IsUnknown, HasWrongWordCount, IsMisspelt}
 use Rattle.replay_script.specs.RunText.{IsRunText}
 use Rattle.vol_replay.specs.declared.outcome.Outcome.{Outcome}
 use Rattle.vol_replay.specs.declared.outcome.Outcome.TheVariants.{Done, BadLine, ReadFault, WriteFault, OutOfMemory}
-use Rattle.vol_replay.specs.declared.outcome.Reason.TheVariants.{NotACommand, TooLong}
+use Rattle.vol_replay.specs.declared.outcome.Reason.{Reason}
+use Rattle.vol_replay.specs.declared.outcome.Reason.TheVariants.{UnknownCommand, WordCount, Form, NotAllowed, TooLong}
 
 -- where a replay stands: there is no disk before the line `new`
 abbrev pub State : Type 0
@@ -44,19 +45,25 @@ Answers (Some disk) (Zero lba sectors) text next = Steps disk (events.Zero lba s
 Answers (Some disk) (Read lba sectors) text next = Steps disk (events.Read lba sectors) text next
 Answers (Some disk) Flush text next = Steps disk events.Flush text next
 
--- the line spells no command that this state answers
-abbrev pub IsNoCommand : State → List ℕ → Type 0
-IsNoCommand state line = (command : Command) (text : List ℕ) (next : State) → Spells line command → Answers state command text next → ⊥
-
--- the line of this number is bad, and that is the outcome; its length is tested first
-abbrev pub StopsAt : ℕ → State → List ℕ → Outcome → Type 0
-StopsAt number state line outcome =
-    ((65536 < length line) × (outcome ≡ BadLine number TooLong))
-    ⊎ ((length line ≤ 65536) × IsNoCommand state line × (outcome ≡ BadLine number NotACommand))
-
 -- this state does not answer the command
 abbrev pub IsUnanswered : State → Command → Type 0
 IsUnanswered state command = (text : List ℕ) (next : State) → Answers state command text next → ⊥
+
+-- the line spells a command that this state does not answer
+abbrev pub IsMisplaced : State → List ℕ → Type 0
+IsMisplaced state line = (command : Command) × Spells line command × IsUnanswered state command
+
+-- the line is bad for this reason
+abbrev pub IsBad : State → List ℕ → Reason → Type 0
+IsBad state line UnknownCommand = (length line ≤ 65536) × IsUnknown line
+IsBad state line WordCount = (length line ≤ 65536) × HasWrongWordCount line
+IsBad state line Form = (length line ≤ 65536) × IsMisspelt line
+IsBad state line NotAllowed = (length line ≤ 65536) × IsMisplaced state line
+IsBad state line TooLong = 65536 < length line
+
+-- the line of this number is bad, and that is the outcome
+abbrev pub StopsAt : ℕ → State → List ℕ → Outcome → Type 0
+StopsAt number state line outcome = (reason : Reason) × IsBad state line reason × (outcome ≡ BadLine number reason)
 
 -- a line that is answered: its command, the answer, and the state after it
 pub record IsAnswered (state : State) (line answer : List ℕ) (next : State) : Type 0 where

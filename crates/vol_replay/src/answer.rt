@@ -3,14 +3,14 @@ ghost use Rattle.vol_replay.specs.Transcript.{TellsReply, Answers, IsUnanswered,
 ghost use Rattle.std.specs.Bool.{OnTrue, OnFalse};
 ghost use Rattle.lsvd_base.specs.Limits.{is_within_limits};
 ghost use Rattle.replay_script.specs.Grammar.{Fits};
-ghost use Rattle.vol_replay.specs.Answer.{IsRefused};
+ghost use Rattle.vol_replay.specs.Answer.{IsRefused, refusal_of};
 ghost use Rattle.vol_replay.specs.declared.answer.Refusal.TheVariants as refusals;
 
 use crate::outcome::Reason;
 use crate::rig::Rig;
 use lsvd_base::Geometry;
 use plain_disk::Reply;
-use replay_script::{Command, LINE_LIMIT, command_of, push_decimal, push_run_text};
+use replay_script::{Command, LINE_LIMIT, LineError, command_of, push_decimal, push_run_text};
 use std::alloc::{AllocError, Global};
 
 /// Why a line was not answered.
@@ -25,6 +25,19 @@ impl From<AllocError> for Refusal {
 
     fn from(_: AllocError) -> Refusal {
         Refusal::OutOfMemory
+    }
+}
+
+impl From<LineError> for Refusal {
+    ghost from_gives = { λ error e. e ≡ refusal_of error };
+
+    fn from(error: LineError) -> Refusal {
+        match error {
+            LineError::UnknownCommand => Refusal::Bad(Reason::UnknownCommand),
+            LineError::WordCount => Refusal::Bad(Reason::WordCount),
+            LineError::Form => Refusal::Bad(Reason::Form),
+            LineError::OutOfMemory => Refusal::OutOfMemory,
+        }
     }
 }
 
@@ -135,12 +148,10 @@ pub(crate) fn answer_line(
     if line.len() > LINE_LIMIT {
         return Err(Refusal::Bad(Reason::TooLong));
     }
-    let Some(command) = command_of(alloc, line)? else {
-        return Err(Refusal::Bad(Reason::NotACommand));
-    };
+    let command = command_of(alloc, line)?;
     if answer_command(alloc, rig, command, answers)? {
         Ok(())
     } else {
-        Err(Refusal::Bad(Reason::NotACommand))
+        Err(Refusal::Bad(Reason::NotAllowed))
     }
 }

@@ -3,11 +3,18 @@ ghost use Rattle.vol_replay.specs.Reason.{code_of};
 
 use crate::rig::Rig;
 
-/// Why a line of a script is bad.
+/// Why a line of a script is bad: of the reasons that apply, `TooLong` if it does, and else the first in
+/// this order.
 #[derive(Clone, Copy, Debug, PartialEq, Eq)]
 pub enum Reason {
-    /// It spells no command that is allowed where it stands.
-    NotACommand,
+    /// Its first word is no command's.
+    UnknownCommand,
+    /// It has another number of words than its command.
+    WordCount,
+    /// A word is not a number or a byte in its form, or the sizes of `new` are outside the limits of a volume.
+    Form,
+    /// Its command is not allowed where it stands: `new` comes first, and only there.
+    NotAllowed,
     /// It is longer than a line may be, or the script passes its limit in it.
     TooLong,
 }
@@ -18,7 +25,10 @@ impl Reason {
         ensures { result ≡ code_of self }
     {
         match self {
-            Reason::NotACommand => 1,
+            Reason::UnknownCommand => 1,
+            Reason::WordCount => 2,
+            Reason::Form => 3,
+            Reason::NotAllowed => 4,
             Reason::TooLong => 6,
         }
     }

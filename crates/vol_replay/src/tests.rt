@@ -111,46 +111,63 @@ fn requests_out_of_range_are_answered(rt: HostRuntime) -> Result<(), Fail> {
 }
 
 #[test]
-fn a_bad_second_line_keeps_the_first_answer(rt: HostRuntime) -> Result<(), Fail> {
-    let lines: [&[u8]; 12] = [
-        b"",
-        b"new 64 64 8 16",
-        b"w  0 1 41",
-        b"w 0 1 41 ",
-        b"w 0 1 41\r",
-        b"w 0 1 4F",
-        b"w 0 1 4",
-        b"w 0 1",
-        b"r 00 1",
-        b"r 18446744073709551616 1",
-        b"trim 0 1",
-        &[0xff; 65_536],
+fn a_bad_line_keeps_the_answers_before_it(rt: HostRuntime) -> Result<(), Fail> {
+    let table: [(&[u8], Reason); 23] = [
+        (b"", Reason::UnknownCommand),
+        (b" w 0 1 41", Reason::UnknownCommand),
+        (b"f\r", Reason::UnknownCommand),
+        (b"trim 0 1", Reason::UnknownCommand),
+        (b"d 2", Reason::UnknownCommand),
+        (&[0xff; 65_536], Reason::UnknownCommand),
+        (b"w 0 1", Reason::WordCount),
+        (b"w  0 1 41", Reason::WordCount),
+        (b"w 0 1 41 ", Reason::WordCount),
+        (b"f f", Reason::WordCount),
+        (b"r 00", Reason::WordCount),
+        // It is not allowed here, too.
+        (b"new 64 64 8", Reason::WordCount),
+        (b"w 0 1 41\r", Reason::Form),
+        (b"w 0 1 4F", Reason::Form),
+        (b"w 0 1 4", Reason::Form),
+        (b"w 0 1 ", Reason::Form),
+        (b"r 00 1", Reason::Form),
+        (b"r 18446744073709551616 1", Reason::Form),
+        // It is not allowed here, too.
+        (b"new 7 64 8 16", Reason::Form),
+        (b"new 64 64 8 16", Reason::NotAllowed),
+        (b"new 128 64 8 16", Reason::NotAllowed),
+        (&[0xff; 65_537], Reason::TooLong),
+        (&[b' '; 65_537], Reason::TooLong),
     ];
-    for line in lines {
+    for (line, reason) in table {
         let script = with_line(rt.alloc(), line)?;
-        let ending = Ending::Bad(2, Reason::NotACommand);
-        assert_replays(&rt, rt.alloc(), script, b"new 64\n", ending);
+        assert_replays(&rt, rt.alloc(), script, b"new 64\n", Ending::Bad(2, reason));
     }
-    let script = with_line(rt.alloc(), &[0xff; 65_537])?;
-    let ending = Ending::Bad(2, Reason::TooLong);
-    assert_replays(&rt, rt.alloc(), script, b"new 64\n", ending);
     Ok(())
 }
 
 #[test]
 fn a_bad_first_line_is_answered_by_nothing(rt: HostRuntime) -> Result<(), Fail> {
-    let scripts: [&[u8]; 6] = [
-        b"\n",
-        b"w 0 1 41\n",
-        b"r 0 1\nnew 64 64 8 16\n",
-        b" new 64 64 8 16\n",
-        b"new 7 64 8 16\n",
-        b"new 64 17 8 16\n",
+    let table: [(&[u8], Reason); 13] = [
+        (b"\n", Reason::UnknownCommand),
+        (b" new 64 64 8 16\n", Reason::UnknownCommand),
+        (b"d 2\nnew 64 64 8 16\n", Reason::UnknownCommand),
+        (b"new 64 64 8\n", Reason::WordCount),
+        // It is not allowed here, too.
+        (b"r 0\nnew 64 64 8 16\n", Reason::WordCount),
+        (b"new 7 64 8 16\n", Reason::Form),
+        (b"new 64 17 8 16\n", Reason::Form),
+        // It is not allowed here, too.
+        (b"w 0 1 4F\n", Reason::Form),
+        (b"w 0 1 41\n", Reason::NotAllowed),
+        (b"z 0 1", Reason::NotAllowed),
+        (b"r 0 1\nnew 64 64 8 16\n", Reason::NotAllowed),
+        (b"f\n", Reason::NotAllowed),
+        (&[b'f'; 65_537], Reason::TooLong),
     ];
-    for script in scripts {
+    for (script, reason) in table {
         let script = Vec::from_slice(rt.alloc(), script)?;
-        let ending = Ending::Bad(1, Reason::NotACommand);
-        assert_replays(&rt, rt.alloc(), script, b"", ending);
+        assert_replays(&rt, rt.alloc(), script, b"", Ending::Bad(1, reason));
     }
     Ok(())
 }
@@ -173,9 +190,9 @@ fn long_script(
 
 #[test]
 fn nothing_is_run_of_a_script_past_its_limit(rt: HostRuntime) -> Result<(), Fail> {
-    // The first has 2^24 bytes, and the others have one more.
+    // The first has 2^24 bytes, and the others have one more; the first line of all but the last is bad.
     let cases: [(&[u8], u64, &[u8], Ending); 4] = [
-        (b"", 256, b"", Ending::Bad(1, Reason::NotACommand)),
+        (b"", 256, b"", Ending::Bad(1, Reason::UnknownCommand)),
         (b"", 256, b"r", Ending::Bad(257, Reason::TooLong)),
         (b"", 256, b"\n", Ending::Bad(257, Reason::TooLong)),
         (

@@ -1,4 +1,4 @@
-use Rattle.std.proofs.Common.{arith, sym}
+use Rattle.std.proofs.Common.{arith, refl, sym}
 use Rattle.vol_replay.proofs.Progress.{run_more, written_stopped, written_so_far, written_broken, written_done}
 use Rattle.vol_replay.proofs.Results.{at_error, at_success, is_nothing}
 use Rattle.vol_replay.proofs.run.run_lines.Goals as goal
@@ -8,7 +8,7 @@ returns-in-Err-Bad-clause-transcript g c =
     let refused = rw c.in-Err-Bad.field-0-is at c.in-Err-Bad.ensures.refused in
     let handed = rw (c.in-Err-Bad.reason-is, c.as_slice.ensures.value, refused.0) at c.hand_over.ensures.handed in
     written_stopped _ _ _ _ _ _ _ c.split_line.result.1.now c.loop-rest.number c.in-Err-Bad.reason c.loop-rest.rig c.hand_over.result
-    c.requires c.loop-rest.invariant.run c.split_line.ensures.line (refused.1 c.loop-rest.number) handed
+    c.requires c.loop-rest.invariant.run c.split_line.ensures.line (c.in-Err-Bad.reason, refused.1, refl) handed
 
 pub returns-in-Err-OutOfMemory-clause-transcript : goal.returns-in-Err-OutOfMemory-clause-transcript
 returns-in-Err-OutOfMemory-clause-transcript g c =
