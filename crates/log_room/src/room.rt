@@ -1,0 +1,202 @@
+ghost use Rattle.std.specs.Prelude.{◌≡◌, ◌+◌, ◌^◌, ◌<◌, ◌≤◌};
+ghost use Rattle.log_room.specs.Room.{IsRoom, room_of, empty_log, record_sectors, pad_before, need, free, position, after_record, after_release};
+
+use lsvd_base::{Entry, SECTOR_BYTES};
+use std::marker::Model;
+
+/// The room of a circular log, in sectors.
+///
+/// A record is not split: where it does not fit between the head and the log's end, a pad takes those
+/// sectors, and the record stands at the log's beginning.
+#[derive(Clone, Copy, Debug, PartialEq, Eq)]
+pub struct LogRoom {
+    log: u64,
+    head: u64,
+    used: u64,
+}
+
+impl Model for LogRoom {
+    ghost use Rattle.log_room.specs.Room.{Room, IsRoom, room_of};
+
+    ghost Value = { Room };
+
+    ghost view = { λ r. room_of r.log r.head r.used };
+
+    ghost invariant = { λ r. IsRoom (room_of r.log r.head r.used) };
+
+    ghost inverse = { λ r. record { log = r.log; head = r.head; used = r.used } };
+}
+
+impl LogRoom {
+    /// A log of so many sectors, at most 2^31, with nothing in it and its head at 0.
+    pub fn new(log: u64) -> LogRoom
+        requires some { 0 < log }
+        requires limit { log ≤ 2 ^ 31 }
+        ensures { result ≡ empty_log log }
+    {
+        LogRoom::at(log, 0, 0)
+    }
+
+    /// A log of so many sectors, at most 2^31, with its head below its end and so many sectors in use.
+    pub fn at(log: u64, head: u64, used: u64) -> LogRoom
+        requires limit { log ≤ 2 ^ 31 }
+        requires head { head < log }
+        requires used { used ≤ log }
+        ensures { result ≡ room_of log head used }
+    {
+        LogRoom { log, head, used }
+    }
+
+    /// The sector at which the next record stands, if it fits before the log's end.
+    pub fn head(&self) -> u64
+        ensures head { result ≡ self.now.head }
+        ensures kept { IsRoom self.now }
+    {
+        self.head
+    }
+
+    /// How many sectors are in use, pads included.
+    pub fn used(&self) -> u64
+        ensures used { result ≡ self.now.used }
+        ensures kept { IsRoom self.now }
+    {
+        self.used
+    }
+
+    /// How many sectors are not in use.
+    pub fn free(&self) -> u64
+        ensures free { result ≡ free self.now }
+        ensures kept { IsRoom self.now }
+    {
+        self.log - self.used
+    }
+
+    /// The sectors of the pad before a record of so many sectors: 0 where it fits before the log's end.
+    pub fn pad_before(&self, sectors: u64) -> u64
+        ensures { result ≡ pad_before self.now sectors }
+    {
+        let to_end = self.log - self.head;
+        if sectors <= to_end { 0 } else { to_end }
+    }
+
+    /// The sectors that a record of so many sectors takes, with the pad before it.
+    pub fn need(&self, sectors: u64) -> u64
+        requires { sectors < 2 ^ 63 }
+        ensures { result ≡ need self.now sectors }
+    {
+        self.pad_before(sectors) + sectors
+    }
+
+    /// The sector at which a record of so many sectors will stand.
+    pub fn position(&self, sectors: u64) -> u64
+        ensures { result ≡ position self.now sectors }
+    {
+        if self.pad_before(sectors) == 0 {
+            self.head
+        } else {
+            0
+        }
+    }
+
+    /// Puts a record of so many sectors, and the pad that it needs, at the head. There is room for both (a
+    /// condition).
+    pub fn enter(&mut self, sectors: u64)
+        requires { need self.old sectors ≤ free self.old }
+        ensures { self.new ≡ after_record self.old sectors }
+    {
+        let end = self.position(sectors) + sectors;
+        self.used += self.need(sectors);
+        self.head = if end == self.log { 0 } else { end };
+    }
+
+    /// Moves the tail on by so many sectors that were in use (a condition), which are free from then on.
+    pub fn release(&mut self, sectors: u64)
+        requires { sectors ≤ self.old.used }
+        ensures { self.new ≡ after_release self.old sectors }
+    {
+        self.used -= sectors;
+    }
+}
+
+/// How many sectors the entry's record has: a header, and the data of a write.
+pub fn record_sectors(entry: &Entry) -> u64
+    ensures sectors { result ≡ record_sectors entry.now }
+    ensures small { result < 2 ^ 63 }
+{
+    match entry {
+        Entry::Write { body, .. } => 1 + body.as_bytes().len() as u64 / SECTOR_BYTES,
+        Entry::Zero { .. } => 1,
+    }
+}
+
+#[cfg(test)]
+mod tests {
+    use super::*;
+    use lsvd_base::Body;
+    use std::test::Fail;
+
+    #[test]
+    fn a_record_stands_before_the_end_or_at_the_beginning(rt: HostRuntime) {
+        for (log, head, used, sectors, pad, position, after) in [
+            // The least log: a record in it, one up to its end, and a full log with its head back at 0.
+            (18, 0, 0, 9, 0, 0, Some((9, 9))),
+            (18, 9, 9, 9, 0, 9, Some((0, 18))),
+            (18, 0, 18, 1, 0, 0, None),
+            // A pad of one sector: the record does not fit behind it, or does once the tail has moved.
+            (18, 17, 17, 2, 1, 0, None),
+            (18, 17, 15, 2, 1, 0, Some((2, 18))),
+            (18, 17, 16, 1, 0, 17, Some((0, 17))),
+            // A long pad, and one that leaves a sector too few.
+            (64, 56, 10, 9, 8, 0, Some((9, 27))),
+            (64, 55, 10, 9, 0, 55, Some((0, 19))),
+            (18, 10, 2, 9, 8, 0, None),
+            (
+                0x8000_0000,
+                0x7fff_ffff,
+                1,
+                65_537,
+                1,
+                0,
+                Some((65_537, 65_539)),
+            ),
+        ] {
+            assert!(rt; log <= 0x8000_0000 && head < log && used <= log && sectors < 100_000);
+            let mut room = LogRoom::at(log, head, used);
+            assert_eq!(rt; room.pad_before(sectors), pad);
+            assert_eq!(rt; room.position(sectors), position);
+            let fits = room.need(sectors) <= room.free();
+            assert_eq!(rt; fits, after.is_some());
+            if fits {
+                room.enter(sectors);
+                assert_eq!(rt; Some((room.head(), room.used())), after);
+            }
+        }
+    }
+
+    #[test]
+    fn a_log_fills_and_is_released(rt: HostRuntime) {
+        let mut room = LogRoom::new(18);
+        for _ in 0..2 {
+            assert!(rt; room.need(9) <= room.free());
+            room.enter(9);
+        }
+        assert_eq!(rt; room, LogRoom::at(18, 0, 18));
+        assert!(rt; 9 <= room.used());
+        room.release(9);
+        assert_eq!(rt; (room.head(), room.used(), room.free()), (0, 9, 9));
+    }
+
+    #[test]
+    fn a_record_has_a_header_and_the_data(rt: HostRuntime) -> Result<(), Fail> {
+        let body = Body::filled(rt.alloc(), 3, 7)?;
+        assert_eq!(rt; record_sectors(&Entry::Write { lba: 5, body }), 4);
+        assert_eq!(rt;
+            record_sectors(&Entry::Zero {
+                lba: 5,
+                sectors: 900
+            }),
+            1
+        );
+        Ok(())
+    }
+}
