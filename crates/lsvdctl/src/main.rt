@@ -1,14 +1,16 @@
 //! The program `lsvdctl`.
 //!
-//! Its contract is that of `run`: what it writes and how it ends, for each command line and input. It stands
-//! on `vol_replay` and `lsvd_fault`.
+//! Its contract is that of `run`: what it writes and how it ends, for each command line and input. Words that ask for
+//! help are answered before, by `answer_help`. It stands on `command_line`, `vol_replay` and `lsvd_fault`.
 #![tactic(auto)]
 
+mod help;
 mod program;
 mod report;
 mod world;
 
-use lsvd_fault::{ReadSource, WriteSink};
+use help::answer_help;
+use lsvd_fault::{ReadSource, Sink, WriteSink};
 use program::run;
 use report::Report;
 use std::env;
@@ -21,21 +23,28 @@ fn main(rt: HostRuntime) -> ExitCode {
     let mut out = WriteSink::new(rt.stdout());
     let mut err = WriteSink::new(rt.stderr());
     let mut world = RealWorld::new();
-    let status = match words(&rt) {
-        Ok(words) => run(
-            rt.alloc(),
-            words.as_slice(),
-            &mut world,
-            &mut input,
-            &mut out,
-            &mut err,
-        ),
-        Err(report) => {
-            report.tell(&mut err);
-            report.status()
-        }
+    let words = match words(&rt) {
+        Ok(words) => words,
+        Err(report) => return ended(report, &mut err),
     };
+    if let Some(report) = answer_help(rt.alloc(), words.as_slice(), &mut out) {
+        return ended(report, &mut err);
+    }
+    let status = run(
+        rt.alloc(),
+        words.as_slice(),
+        &mut world,
+        &mut input,
+        &mut out,
+        &mut err,
+    );
     ExitCode::from(status)
+}
+
+// Tells how the program ended without a run of it.
+fn ended<E: Sink>(report: Report, err: &mut E) -> ExitCode {
+    report.tell(err);
+    ExitCode::from(report.status())
 }
 
 // The words after the program's name. One that is not UTF-8 is no word of a command line.

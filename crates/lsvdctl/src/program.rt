@@ -1,11 +1,13 @@
-ghost use Rattle.std.specs.Prelude.{◌≡◌, ◌≢◌, ◌⊎◌, ◌↔◌, List, ℕ, [], ◌∷◌, map, codes, string_bytes, IsTrue, IfSome};
+ghost use Rattle.std.specs.Prelude.{◌≡◌, ◌≢◌, ◌⊎◌, List, ℕ, [], ◌∷◌, map, codes, string_bytes, IfSome};
 ghost use Rattle.std.specs.Io.KnownBytes.{Appends, IsAtEnd};
+ghost use Rattle.command_line.specs.CommandLine.{IsFaulty};
 ghost use Rattle.lsvd_fault.specs.Faults.{HasRisen};
 ghost use Rattle.lsvdctl.specs.Report.{status_of, line_of, IsTold};
 ghost use Rattle.lsvdctl.specs.Run.{IsReported, report_of};
 
 use crate::report::Report;
 use crate::world::World;
+use command_line::{CommandLineError, Request, request_of};
 use lsvd_fault::{Sink, Source};
 use std::alloc::Global;
 use vol_replay::{Outcome, replay};
@@ -13,7 +15,7 @@ use vol_replay::{Outcome, replay};
 /// Runs the program on the words after its name, and answers its exit status.
 ///
 /// `replay` reads a script from `input` and writes its transcript to `out`; a line on `err` tells each end
-/// but a good one.
+/// but a good one. Words that ask for help are faulty here: `answer_help` is asked first.
 pub fn run<W: World>(
     alloc: Global,
     words: &[String],
@@ -32,11 +34,16 @@ pub fn run<W: World>(
     // The input was read to its end.
     ensures end { result ≡ 0 → IsAtEnd (W.In.remaining input.new) }
 
-    // 2 is for words other than `replay`, and for nothing else.
-    ensures usage { (result ≡ 2) ↔ (map string_bytes words.now ≢ codes "replay" ∷ []) }
+    // 2 is for faulty words alone, so never for the one word `replay`.
+    ensures usage { result ≡ 2 → IsFaulty (map string_bytes words.now) }
+    ensures replay { map string_bytes words.now ≡ codes "replay" ∷ [] → result ≢ 2 }
 
     // Then nothing was read or written.
     ensures untouched { result ≡ 2 → (input.new ≡ input.old) × (out.new ≡ out.old) }
+
+    // Faulty words end with 2, or with 4 where memory lacked to judge them, and nothing is run of them.
+    ensures faulty { IsFaulty (map string_bytes words.now)
+        → ((result ≡ 2) ⊎ (result ≡ 4)) × (input.new ≡ input.old) × (out.new ≡ out.old) }
 
     // 1 is only for a fault that was counted.
     ensures fault { result ≡ 1 → HasRisen (W.In.faults input.old) (W.In.faults input.new) ⊎ HasRisen (W.Out.faults out.old) (W.Out.faults out.new) }
@@ -56,24 +63,17 @@ fn execute<I: Source, O: Sink>(
     ensures output { IfSome (I.remaining input.old) (λ script. (text : List ℕ)
         × Appends (O.contents out.old) (O.contents out.new) text × IsReported script text result) }
     ensures end { result ≡ Report.Done → IsAtEnd (I.remaining input.new) }
-    ensures usage { (result ≡ Report.Usage) ↔ (map string_bytes words.now ≢ codes "replay" ∷ []) }
+    ensures usage { result ≡ Report.Usage → IsFaulty (map string_bytes words.now) }
+    ensures replay { map string_bytes words.now ≡ codes "replay" ∷ [] → result ≢ Report.Usage }
+    ensures faulty { IsFaulty (map string_bytes words.now)
+        → ((result ≡ Report.Usage) ⊎ (result ≡ Report.Memory)) × (input.new ≡ input.old) × (out.new ≡ out.old) }
     ensures untouched { result ≡ Report.Usage → (input.new ≡ input.old) × (out.new ≡ out.old) }
     ensures fault { result ≡ Report.Fault → HasRisen (I.faults input.old) (I.faults input.new) ⊎ HasRisen (O.faults out.old) (O.faults out.new) }
 {
-    if is_replay(words) {
-        report_of(replay(alloc, input, out))
-    } else {
-        Report::Usage
-    }
-}
-
-// Whether the words are the one word `replay`.
-fn is_replay(words: &[String]) -> bool
-    ensures { IsTrue result ↔ (map string_bytes words.now ≡ codes "replay" ∷ []) }
-{
-    match words {
-        [word] => word.as_str() == "replay",
-        _ => false,
+    match request_of(alloc, words) {
+        Ok(Request::Replay) => report_of(replay(alloc, input, out)),
+        Err(CommandLineError::Usage) => Report::Usage,
+        Err(CommandLineError::OutOfMemory) => Report::Memory,
     }
 }
 

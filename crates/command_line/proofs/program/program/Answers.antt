@@ -1,0 +1,13 @@
+use Rattle.std.proofs.Common.{rules, ◌≡◌, ◌∙◌, ap₂}
+use Rattle.std.proofs.lemmas.Result.{IfOk-weaker}
+use Rattle.clap.specs.Words.{app_of}
+use Rattle.clap.specs.Simple.{with_subcommand}
+use Rattle.command_line.specs.Program.{bare, lsvdctl}
+use Rattle.command_line.proofs.program.program.Goals as goal
+
+pub returns : goal.returns
+unfolding lsvdctl
+returns c =
+    let above : app_of c.disable_help_subcommand.result ≡ bare = search rules in
+    IfOk-weaker c.subcommand.result _ _ (λ program added. added.shape c.replay_command.ensures.local
+    ∙ ap₂ with_subcommand above c.replay_command.ensures.shape) c.subcommand.ensures

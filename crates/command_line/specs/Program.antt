@@ -1,0 +1,24 @@
+-- The commands of the program, as clap reads them.
+use Rattle.std.specs.Prelude.{[], codes, true}
+use Rattle.clap.specs.Simple.{App, Shape, new_shape, with_subcommand}
+
+-- `replay` has no options
+abbrev pub replay : Shape
+replay = new_shape (codes "replay")
+
+-- The program asks for one of its commands. It has a version, and no command `help`. Its own name is not
+-- among the words.
+abbrev pub bare : App
+bare = record {
+  top = record (new_shape (codes "lsvdctl")) {
+    has_version = true;
+    no_binary_name = true;
+    subcommand_required = true;
+    disable_help_subcommand = true;
+  };
+  subs = [];
+}
+
+-- the program with all its commands
+unfoldable pub lsvdctl : App
+lsvdctl = with_subcommand bare replay

@@ -1,0 +1,44 @@
+ghost use Rattle.std.specs.Prelude.{◌≡◌, List, ℕ, map, string_bytes, IfOk, false};
+ghost use Rattle.clap.specs.Words.{FailsBy, app_of, shape_of, subcommand_name_of};
+ghost use Rattle.clap.specs.declared.builder.command.Command.TheViews.{out-Command};
+ghost use Rattle.command_line.specs.Program.{lsvdctl, replay};
+ghost use Rattle.command_line.specs.CommandLine.{command_in, faults_of};
+
+use clap::{ArgMatches, Command, Error};
+use std::alloc::{AllocError, Global};
+
+/// The program's name.
+const NAME: &str = "lsvdctl";
+
+/// The version that `--version` tells.
+const VERSION: &str = "0.1.0";
+
+/// What clap makes of the words after the program's name.
+pub(crate) fn matches_of(alloc: Global, words: &[String]) -> Result<ArgMatches<'_>, Error>
+    ensures kinds { FailsBy (faults_of (map string_bytes words.now)) result }
+    ensures command { IfOk result (λ matches. subcommand_name_of matches ≡ command_in (map string_bytes words.now)) }
+{
+    program(alloc)?.try_get_matches_from(words)
+}
+
+// The program, with each of its commands.
+fn program<'a>(alloc: Global) -> Result<Command<'a>, AllocError>
+    ensures { IfOk result (λ program. app_of program ≡ lsvdctl) }
+{
+    Command::new(alloc, NAME)
+        .bin_name(NAME)?
+        .version(VERSION)
+        .about("A log-structured virtual disk")
+        .no_binary_name(true)
+        .subcommand_required(true)
+        .disable_help_subcommand(true)
+        .subcommand(replay_command(alloc))
+}
+
+// `replay`, which has no options.
+fn replay_command<'a>(alloc: Global) -> Command<'a>
+    ensures shape { shape_of result ≡ replay }
+    ensures local { (out-Command result).has_globals ≡ false }
+{
+    Command::new(alloc, "replay").about("Replay the script on standard input")
+}
