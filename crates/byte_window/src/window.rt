@@ -1,0 +1,41 @@
+ghost use Rattle.std.specs.Prelude.{ℕ, ◌≡◌, ◌+◌, ◌-◌, ◌^◌, ◌<◌, length, min};
+ghost use Rattle.byte_window.specs.Window.{Splices};
+
+/// Copies that part of a piece which a window shows. The window shows the bytes from `from` on, and the piece is put
+/// among them at `at`.
+pub fn paste(window: &mut [u8], from: u64, at: u64, piece: &[u8])
+    requires { at + length piece.now < 2 ^ 64 }
+    ensures { Splices from at piece.now window.old window.new }
+{
+    let end_of_piece = at + piece.len() as u64;
+    let start = (at.saturating_sub(from) as usize).min(window.len());
+    let end = (end_of_piece.saturating_sub(from) as usize).min(window.len());
+    if start < end {
+        let skipped = from.saturating_sub(at) as usize;
+        window[start..end].copy_from_slice(&piece[skipped..skipped + (end - start)]);
+    }
+}
+
+#[cfg(test)]
+mod tests {
+    use super::*;
+
+    #[test]
+    fn a_piece_takes_its_place(rt: HostRuntime) {
+        let table: [(u64, u64, &[u8], [u8; 4]); 8] = [
+            (10, 10, b"abcd", *b"abcd"),
+            (10, 8, b"abcdefgh", *b"cdef"),
+            (10, 8, b"abc", *b"c..."),
+            (10, 11, b"ab", *b".ab."),
+            (10, 12, b"abc", *b"..ab"),
+            (10, 14, b"abc", *b"...."),
+            (10, 7, b"abc", *b"...."),
+            (10, 11, b"", *b"...."),
+        ];
+        for (from, at, piece, wanted) in table {
+            let mut window = *b"....";
+            paste(&mut window, from, at, piece);
+            assert_eq!(rt; window, wanted, "{at}");
+        }
+    }
+}

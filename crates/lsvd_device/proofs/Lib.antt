@@ -1,0 +1,4 @@
+mod Fused
+mod Moments
+mod Replayed
+pub mod Together

@@ -1,0 +1,22 @@
+-- What a fuse makes of a disk.
+use Rattle.std.specs.Prelude.{ℕ, ◌+◌, ◌-◌, ◌^◌, Option, Some, None, min}
+use Rattle.lsvd_device.specs.Calls.{Fuse, Budget}
+use Rattle.lsvd_device.specs.Device.{DiskState}
+
+-- the fuse that fails first
+abbrev pub tighter : Fuse → Fuse → Fuse
+tighter None fuse = fuse
+tighter (Some left) None = Some left
+tighter (Some left) (Some other) = Some (min left other)
+
+abbrev pub with_fuse : Fuse → Option Budget → Option Budget
+with_fuse fuse None = None
+with_fuse fuse (Some budget) = Some (record budget { fuse = tighter fuse budget.fuse })
+
+-- a count that stands at the greatest number of its type
+abbrev pub counted_with : ℕ → ℕ → ℕ
+counted_with count more = min (count + more) (2 ^ 64 - 1)
+
+-- a disk with a fuse before it, which has failed so many calls
+abbrev pub fused : Fuse → ℕ → DiskState → DiskState
+fused fuse failed disk = record disk { faults = counted_with disk.faults failed; budget = with_fuse fuse disk.budget }

@@ -1,0 +1,5 @@
+pub mod Medium
+pub mod Calls
+pub mod Device
+pub mod Memory
+pub mod Fuse

@@ -1,0 +1,129 @@
+ghost use Rattle.std.specs.Prelude.{◌≡◌, ℕ, ◌-◌, ◌<◌, ◌≤◌, ◌⊎◌, ◌^◌, Some, None, OnOk, OnErr, IsSome};
+ghost use Rattle.lsvd_fault.specs.Faults.{HasRisen};
+ghost use Rattle.lsvd_device.specs.Calls.{Fuse, lowered};
+ghost use Rattle.lsvd_device.specs.Device.{IsDisk};
+ghost use Rattle.lsvd_device.specs.Fuse.{fused};
+
+use crate::disk::Disk;
+use lsvd_fault::Failed;
+use std::marker::Model;
+
+/// A disk with a fuse before it: so many calls are passed on, and each later one fails without being made.
+#[derive(Drop)]
+pub struct FuseDisk<D: Disk> {
+    disk: D,
+    /// The calls that are still passed on; None is for no limit.
+    left: Option<u64>,
+    /// The calls that the fuse failed.
+    failed: u64,
+}
+
+impl<D: Disk> Model for FuseDisk<D> {
+    ghost use Rattle.lsvd_device.specs.Device.{DiskState, IsDisk};
+    ghost use Rattle.lsvd_device.specs.Fuse.{fused};
+
+    ghost Value = { DiskState };
+
+    ghost view = { λ f. fused f.left f.failed (D.state f.disk) };
+
+    ghost invariant = { λ f. IsDisk (D.state f.disk) };
+}
+
+impl<D: Disk> FuseDisk<D> {
+    /// The disk with a fuse that passes so many calls, or all where there is no limit. The disk is one (a condition,
+    /// which its `len` tells).
+    pub fn new(disk: D, fuse: Option<u64>) -> FuseDisk<D>
+        requires { IsDisk (D.state disk) }
+        ensures { result ≡ fused fuse 0 (D.state disk) }
+    {
+        FuseDisk {
+            disk,
+            left: fuse,
+            failed: 0,
+        }
+    }
+
+    /// Gives the disk behind the fuse back.
+    pub fn into_disk(self) -> D
+        ensures { (fuse : Fuse) × (failed : ℕ) × (self ≡ fused fuse failed (D.state result)) }
+    {
+        self.disk
+    }
+}
+
+impl<D: Disk> Disk for FuseDisk<D> {
+    ghost state = { λ d. d };
+
+    fn len(&self) -> u64 {
+        self.disk.len()
+    }
+
+    fn read(&mut self, at: u64, buf: &mut [u8]) -> Result<(), Failed> {
+        pass(&mut self.left, &mut self.failed)?;
+        self.disk.read(at, buf)
+    }
+
+    fn write(&mut self, at: u64, piece: &[u8]) -> Result<(), Failed> {
+        pass(&mut self.left, &mut self.failed)?;
+        self.disk.write(at, piece)
+    }
+
+    fn sync(&mut self) -> Result<(), Failed> {
+        pass(&mut self.left, &mut self.failed)?;
+        self.disk.sync()
+    }
+
+    fn faults(&self) -> u64 {
+        self.disk.faults().saturating_add(self.failed)
+    }
+}
+
+// Passes a call on, which burns the fuse by one; none is left where it fails.
+fn pass(left: &mut Option<u64>, failed: &mut u64) -> Result<(), Failed>
+    ensures ok { OnOk result ((left.old ≡ Some 0 → ⊥) × (left.new ≡ lowered left.old 1) × (failed.new ≡ failed.old)) }
+    ensures err { OnErr result ((left.old ≡ Some 0) × (left.new ≡ Some 0) × HasRisen failed.old failed.new × (failed.old ≤ failed.new)) }
+{
+    match left {
+        None => Ok(()),
+        Some(0) => {
+            *failed = failed.saturating_add(1);
+            Err(Failed)
+        }
+        Some(calls) => {
+            *calls -= 1;
+            Ok(())
+        }
+    }
+}
+
+#[cfg(test)]
+mod tests {
+    use super::*;
+    use crate::memory::MemDisk;
+    use std::test::Fail;
+
+    #[test]
+    fn a_fuse_passes_so_many_calls(rt: HostRuntime) -> Result<(), Fail> {
+        let alloc = rt.alloc();
+        for (fuse, wanted, faults) in [
+            (Some(0), *b"\0\0\0\0", 3),
+            (Some(1), *b"ab\0\0", 2),
+            (Some(2), *b"ab\0\0", 1),
+            (Some(3), *b"abcd", 0),
+            (None, *b"abcd", 0),
+        ] {
+            let inner = MemDisk::new(alloc, 4)?;
+            assert_eq!(rt; inner.len(), 4);
+            let mut disk = FuseDisk::new(inner, fuse);
+            let _ = disk.write(0, b"ab");
+            let _ = disk.sync();
+            let _ = disk.write(2, b"cd");
+            assert_eq!(rt; disk.faults(), faults);
+            let mut inner = disk.into_disk();
+            let mut held = [0xff; 4];
+            inner.read(0, &mut held)?;
+            assert_eq!(rt; held, wanted);
+        }
+        Ok(())
+    }
+}

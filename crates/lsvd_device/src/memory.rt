@@ -1,0 +1,292 @@
+ghost use Rattle.std.specs.Prelude.{◌≡◌, ◌+◌, ◌-◌, ◌<◌, ◌≤◌, ◌∷◌, ◌++◌, [], None, Some, IfOk, OnOk, OnErr, IsOk, IfSome, length, replicate, take, drop, vec_capacity, ◌^◌, List, ℕ};
+ghost use Rattle.lsvd_fault.specs.Faults.{HasRisen};
+ghost use Rattle.lsvd_device.specs.Medium.{durable, overwritten};
+ghost use Rattle.lsvd_device.specs.Calls.{fuse_of};
+ghost use Rattle.lsvd_device.specs.Device.{DiskState};
+ghost use Rattle.lsvd_device.specs.Memory.{HasRoom, IsFrontOf, LiesInside, LieInside, bytes_written, contents_from};
+
+use crate::change::Change;
+use crate::disk::Disk;
+use byte_window::paste;
+use lsvd_fault::Failed;
+use std::alloc::{AllocError, Global};
+use std::marker::Model;
+
+/// A disk in memory, which keeps its changes in order. It fails only where it has no memory for a change.
+///
+/// It takes memory for what is written to it and, where the writes go on from its beginning, for that once more, so
+/// that a read need not go over the changes.
+#[derive(Drop)]
+pub struct MemDisk {
+    size: u64,
+    /// The first bytes, as a read gives them.
+    front: Vec<u8>,
+    changes: Vec<Change>,
+    /// The data of the changes, one behind the other.
+    written: Vec<u8>,
+    faults: u64,
+}
+
+impl Model for MemDisk {
+    ghost use Rattle.std.specs.Prelude.{◌-◌, None, Some, length, vec_capacity};
+    ghost use Rattle.lsvd_device.specs.Device.{DiskState, IsDisk};
+    ghost use Rattle.lsvd_device.specs.Memory.{moments_of, IsKept};
+
+    ghost Value = { DiskState };
+
+    ghost view = { λ d. record {
+      size = d.size;
+      moments = moments_of d.size d.changes.items d.written.items;
+      faults = d.faults;
+      budget = Some (record {
+        fuse = None;
+        calls = vec_capacity d.changes - length d.changes.items;
+        bytes = vec_capacity d.written - length d.written.items;
+      });
+    } };
+
+    ghost invariant = { λ d. IsKept d.size d.changes.items d.written.items d.front.items };
+}
+
+/// The first bytes of a disk that was made, for which memory is taken at once.
+const FRONT_BYTES: u64 = 4_096;
+
+impl MemDisk {
+    /// A disk of so many bytes, all of them zeros. The one error is want of memory.
+    pub fn new(alloc: Global, len: u64) -> Result<MemDisk, AllocError>
+        ensures size { IfOk result (λ disk. disk.size ≡ len) }
+        ensures moments { IfOk result (λ disk. disk.moments ≡ durable (replicate len 0) ∷ []) }
+        ensures faults { IfOk result (λ disk. disk.faults ≡ 0) }
+        ensures fuse { IfOk result (λ disk. fuse_of disk.budget ≡ Some None) }
+    {
+        Ok(MemDisk {
+            size: len,
+            front: vec![in alloc; 0; len.min(FRONT_BYTES) as usize]?,
+            changes: Vec::new(alloc),
+            written: Vec::new(alloc),
+            faults: 0,
+        })
+    }
+}
+
+impl MemDisk {
+    /// Makes room for so many more writes and syncs, and for so many bytes of writes, so that none of them fails.
+    /// The one error is want of memory. What the disk holds, and its count, are as before.
+    pub fn reserve(&mut self, calls: u64, bytes: u64) -> Result<(), AllocError>
+        ensures room { OnOk result (HasRoom calls bytes self.new.budget) }
+        ensures fuse { fuse_of self.new.budget ≡ fuse_of self.old.budget }
+        ensures rest { self.new ≡ record self.old { budget = self.new.budget } }
+    {
+        self.changes.reserve(calls as usize)?;
+        self.written.reserve(bytes as usize)
+    }
+}
+
+impl Disk for MemDisk {
+    ghost state = { λ d. d };
+
+    fn len(&self) -> u64 {
+        self.size
+    }
+
+    fn read(&mut self, at: u64, buf: &mut [u8]) -> Result<(), Failed> {
+        read_kept(&self.front, &self.changes, &self.written, at, buf);
+        Ok(())
+    }
+
+    fn write(&mut self, at: u64, piece: &[u8]) -> Result<(), Failed> {
+        if keep_write(&mut self.changes, &mut self.written, at, piece).is_err() {
+            return Err(counted(&mut self.faults));
+        }
+        put_in_front(&mut self.front, at as usize, piece);
+        Ok(())
+    }
+
+    fn sync(&mut self) -> Result<(), Failed> {
+        if self.changes.push(Change::Sync).is_err() {
+            return Err(counted(&mut self.faults));
+        }
+        Ok(())
+    }
+
+    fn faults(&self) -> u64 {
+        self.faults
+    }
+}
+
+// Keeps a write; where memory lacks, it keeps nothing.
+fn keep_write(
+    changes: &mut Vec<Change>,
+    written: &mut Vec<u8>,
+    at: u64,
+    piece: &[u8],
+) -> Result<(), AllocError>
+    ensures ok { OnOk result ((changes.new.items ≡ changes.old.items ++ Change.Write at (length piece.now) ∷ [])
+        × (written.new.items ≡ written.old.items ++ piece.now)) }
+    ensures err { OnErr result ((changes.new.items ≡ changes.old.items) × (written.new.items ≡ written.old.items)) }
+    ensures capacity { (vec_capacity changes.old ≤ vec_capacity changes.new) × (vec_capacity written.old ≤ vec_capacity written.new) }
+    ensures succeeds { length changes.old.items < vec_capacity changes.old → length written.old.items + length piece.now ≤ vec_capacity written.old → IsOk result }
+{
+    changes.reserve(1)?;
+    written.extend_from_slice(piece)?;
+    let count = piece.len();
+    changes.push(Change::Write { at, count })?;
+    Ok(())
+}
+
+// Counts a fault.
+fn counted(faults: &mut u64) -> Failed
+    ensures risen { HasRisen faults.old faults.new }
+    ensures kept { faults.old ≤ faults.new }
+{
+    *faults = faults.saturating_add(1);
+    Failed
+}
+
+// Puts a piece in place of the bytes from `at` on, as far as the front has them or ends there. Where memory lacks for
+// a longer front it ends before the piece.
+fn put_in_front(front: &mut Vec<u8>, at: usize, piece: &[u8])
+    requires { at + length piece.now < 2 ^ 64 }
+    ensures { (bytes : List ℕ) → at + length piece.now ≤ length bytes → IsFrontOf bytes front.old.items → IsFrontOf (overwritten at piece.now bytes) front.new.items }
+{
+    if at + piece.len() <= front.len() {
+        put_inside(front, at, piece);
+    } else if at <= front.len() {
+        front.truncate(at);
+        let _ = front.extend_from_slice(piece);
+    }
+}
+
+// Puts a piece in place of the bytes from `at` on.
+fn put_inside(bytes: &mut Vec<u8>, at: usize, piece: &[u8])
+    requires { at + length piece.now ≤ length bytes.old.items }
+    ensures { bytes.new.items ≡ overwritten at piece.now bytes.old.items }
+{
+    bytes[at..at + piece.len()].copy_from_slice(piece);
+}
+
+// Reads the bytes from `at` on: from the front where it has them, and else by the changes.
+fn read_kept(front: &[u8], changes: &[Change], written: &[u8], at: u64, buf: &mut [u8])
+    requires counted { bytes_written changes.now ≡ length written.now }
+    requires ends { LieInside (2 ^ 64 - 1) changes.now }
+    requires range { at + length buf.old < 2 ^ 64 }
+    ensures { (size : ℕ) → at + length buf.old ≤ size → LieInside size changes.now → IsFrontOf (contents_from (replicate size 0) changes.now written.now) front.now
+        → buf.new ≡ take (length buf.old) (drop at (contents_from (replicate size 0) changes.now written.now)) }
+{
+    let (from, end) = (at as usize, at as usize + buf.len());
+    if end <= front.len() {
+        buf.copy_from_slice(&front[from..end]);
+        return;
+    }
+    replay(changes, written, at, buf);
+}
+
+// Makes the bytes from `at` on of zeros and of these changes, in order.
+fn replay(changes: &[Change], written: &[u8], at: u64, buf: &mut [u8])
+    requires counted { bytes_written changes.now ≡ length written.now }
+    requires ends { LieInside (2 ^ 64 - 1) changes.now }
+    ensures { (size : ℕ) → at + length buf.old ≤ size → LieInside size changes.now
+        → buf.new ≡ take (length buf.old) (drop at (contents_from (replicate size 0) changes.now written.now)) }
+{
+    buf.fill(0);
+    let mut from = 0;
+    for change in changes {
+        from += put_change(*change, &written[from..], at, buf);
+    }
+}
+
+// Makes the bytes from `at` on of what they were and of a change, and answers how many bytes the change wrote, which
+// are the first of `written`.
+fn put_change(change: Change, written: &[u8], at: u64, buf: &mut [u8]) -> usize
+    requires fits { bytes_written (change ∷ []) ≤ length written.now }
+    requires ends { LiesInside (2 ^ 64 - 1) change }
+    ensures count { result ≡ bytes_written (change ∷ []) }
+    ensures shown { (bytes : List ℕ) → at + length buf.old ≤ length bytes → LiesInside (length bytes) change → buf.old ≡ take (length buf.old) (drop at bytes)
+        → buf.new ≡ take (length buf.old) (drop at (contents_from bytes (change ∷ []) written.now)) }
+{
+    match change {
+        Change::Write { at: place, count } => {
+            paste(buf, at, place, &written[..count]);
+            count
+        }
+        Change::Sync => 0,
+    }
+}
+
+#[cfg(test)]
+mod tests {
+    use super::*;
+    use std::test::Fail;
+
+    // The bytes of the whole disk.
+    fn contents(alloc: Global, disk: &mut MemDisk) -> Result<Vec<u8>, Fail> {
+        let mut bytes = vec![in alloc; 0xff; disk.len() as usize]?;
+        disk.read(0, bytes.as_mut_slice())?;
+        Ok(bytes)
+    }
+
+    #[test]
+    fn the_last_write_of_a_byte_is_read(rt: HostRuntime) -> Result<(), Fail> {
+        let alloc = rt.alloc();
+        let mut disk = MemDisk::new(alloc, 8)?;
+        disk.reserve(6, 13)?;
+        let steps: [(u64, &[u8], &[u8]); 6] = [
+            (0, b"", b"\0\0\0\0\0\0\0\0"),
+            (6, b"yz", b"\0\0\0\0\0\0yz"),
+            (0, b"abcde", b"abcde\0yz"),
+            (2, b"CDEF", b"abCDEFyz"),
+            (7, b"Z", b"abCDEFyZ"),
+            (5, b"f", b"abCDEfyZ"),
+        ];
+        for (at, piece, wanted) in steps {
+            let count = piece.len() as u64;
+            assert!(rt; count <= disk.len() && at <= disk.len() - count);
+            disk.write(at, piece)?;
+            disk.sync()?;
+            let held = contents(alloc, &mut disk)?;
+            assert_eq!(rt; held.as_slice(), wanted);
+        }
+        let mut part = [0; 3];
+        assert_eq!(rt; disk.len(), 8);
+        disk.read(4, &mut part)?;
+        assert_eq!(rt; &part, b"Efy");
+        assert_eq!(rt; disk.faults(), 0);
+        Ok(())
+    }
+
+    // The six bytes from a place on.
+    fn six_bytes(disk: &mut MemDisk, at: u64) -> Result<[u8; 6], Fail> {
+        let size = disk.len();
+        if size < 6 || size - 6 < at {
+            return Err("past the end")?;
+        }
+        let mut part = [0xff; 6];
+        disk.read(at, &mut part)?;
+        Ok(part)
+    }
+
+    #[test]
+    fn a_long_disk_takes_memory_for_what_is_written(rt: HostRuntime) -> Result<(), Fail> {
+        let alloc = rt.alloc();
+        let mut disk = MemDisk::new(alloc, 1 << 40)?;
+        for (at, piece) in [
+            (8_000, *b"abcd"),
+            (8_002, *b"efgh"),
+            (4_094, *b"ijkl"),
+            ((1 << 40) - 4, *b"mnop"),
+        ] {
+            assert!(rt; 4 <= disk.len() && at <= disk.len() - 4);
+            disk.write(at, &piece)?;
+        }
+        for (at, wanted) in [
+            (7_998, *b"\0\0abef"),
+            (8_002, *b"efgh\0\0"),
+            (4_092, *b"\0\0ijkl"),
+            (4_093, *b"\0ijkl\0"),
+            ((1 << 40) - 6, *b"\0\0mnop"),
+        ] {
+            assert_eq!(rt; six_bytes(&mut disk, at)?, wanted, "{at}");
+        }
+        Ok(())
+    }
+}
