@@ -1,0 +1,4 @@
+mod Places
+mod Records
+mod Appended
+mod Reading

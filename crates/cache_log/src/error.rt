@@ -1,0 +1,61 @@
+ghost use Rattle.std.specs.Prelude.{◌≡◌};
+ghost use Rattle.cache_log.specs.declared.error.AppendError.TheVariants as append_errors;
+ghost use Rattle.cache_log.specs.declared.error.ReadError.TheVariants as read_errors;
+
+use lsvd_fault::Failed;
+use std::alloc::{AllocError, AllocFailed};
+use thiserror::Error;
+
+/// Why an entry was not appended.
+#[derive(Clone, Copy, Debug, PartialEq, Eq, Error)]
+pub enum AppendError {
+    /// The record, with the pad before it, needs more sectors than are free.
+    #[error("{need} sectors are needed, and {free} are free")]
+    NoRoom { need: u64, free: u64 },
+    /// A call of the device failed, and was counted by it.
+    #[error("the device failed")]
+    DeviceFault,
+}
+
+impl From<Failed> for AppendError {
+    ghost from_gives = { λ _ e. e ≡ append_errors.DeviceFault };
+
+    fn from(_: Failed) -> AppendError {
+        AppendError::DeviceFault
+    }
+}
+
+/// Why entries were not read.
+#[derive(Clone, Copy, Debug, PartialEq, Eq, Error)]
+pub enum ReadError {
+    /// A call of the device failed, and was counted by it.
+    #[error("the device failed")]
+    DeviceFault,
+    /// Memory lacked.
+    #[error("want of memory")]
+    OutOfMemory,
+}
+
+impl From<Failed> for ReadError {
+    ghost from_gives = { λ _ e. e ≡ read_errors.DeviceFault };
+
+    fn from(_: Failed) -> ReadError {
+        ReadError::DeviceFault
+    }
+}
+
+impl From<AllocError> for ReadError {
+    ghost from_gives = { λ _ e. e ≡ read_errors.OutOfMemory };
+
+    fn from(_: AllocError) -> ReadError {
+        ReadError::OutOfMemory
+    }
+}
+
+impl<T: Drop> From<AllocFailed<T>> for ReadError {
+    ghost from_gives = { λ _ e. e ≡ read_errors.OutOfMemory };
+
+    fn from(_: AllocFailed<T>) -> ReadError {
+        ReadError::OutOfMemory
+    }
+}
