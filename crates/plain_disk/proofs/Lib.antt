@@ -1,2 +1,2 @@
-pub mod Windows
+pub mod Zeros
 pub mod Overlaid

@@ -12,7 +12,8 @@ use Rattle.lsvd_base.specs.declared.entry.Entry.TheVariants.{Write, Zero}
 use Rattle.lsvd_base.specs.Image.{Image, zero_sector, blank, cut_into_sectors, overwritten, after}
 use Rattle.lsvd_base.proofs.ImageLemmas.{AllOfLength, concat-window, length-concat, concat-overwritten, All-overwritten, concat-cut, length-cut, All-cut, concat-zeros, All-zeros, IsOfLength, IsImage, IsImage-after, IsImage-blank, after-push, Write-ends, Zero-ends}
 use Rattle.plain_disk.specs.Machine.{bytes_at, AllInRange}
-use Rattle.plain_disk.specs.Window.{Splices, Overlays, spliced}
+use Rattle.byte_window.specs.Window.{Splices, spliced}
+use Rattle.plain_disk.specs.Window.{Overlays}
 use Rattle.lsvd_base.specs.Laws.{EndsBy}
 
 -- how many bytes stand there

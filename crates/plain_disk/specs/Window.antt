@@ -1,21 +1,10 @@
 -- What a window shows of an image, and what an entry makes of it.
-use Rattle.std.specs.Prelude.{ℕ, ◌≡◌, ◌+◌, ◌≤◌, List, ◌++◌, length, take, drop}
+use Rattle.std.specs.Prelude.{ℕ, ◌≡◌, ◌+◌, ◌≤◌, List, length}
 use Rattle.std.specs.List.{All}
 use Rattle.lsvd_base.specs.declared.entry.Entry.{Entry}
 use Rattle.lsvd_base.specs.Image.{Image, apply}
 use Rattle.lsvd_base.specs.Laws.{EndsBy}
 use Rattle.plain_disk.specs.Machine.{bytes_at}
-
--- the bytes with a piece put at one of them
-abbrev pub spliced : ℕ → List ℕ → List ℕ → List ℕ
-spliced at piece bytes = take at bytes ++ piece ++ drop (at + length piece) bytes
-
--- where a window shows the bytes from one on, it is changed as those bytes are by a piece that is put at another
-abbrev pub Splices : ℕ → ℕ → List ℕ → List ℕ → List ℕ → Type 0
-Splices from at piece old new =
-    (bytes : List ℕ) → from + length old ≤ length bytes → at + length piece ≤ length bytes
-    → old ≡ take (length old) (drop from bytes)
-    → new ≡ take (length old) (drop from (spliced at piece bytes))
 
 -- where a window shows the sectors of an image from lba on, it is changed as those sectors are by the entry
 abbrev pub Overlays : ℕ → Entry → List ℕ → List ℕ → Type 0

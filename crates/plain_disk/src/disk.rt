@@ -1,15 +1,13 @@
 ghost use Rattle.std.specs.Prelude.{◌≡◌, IsTrue, IfOk, OnOk, OnErr};
 ghost use Rattle.lsvd_base.specs.Limits.{is_within_limits};
-ghost use Rattle.plain_disk.specs.Machine.{created, data_sectors, reply_of, disk_after, entry_reply, after_entry, read_reply};
+ghost use Rattle.plain_disk.specs.Machine.{created, reply_of, disk_after, entry_reply, after_entry, read_reply};
 
 use crate::event::{Event, Reply};
-use crate::window::overlay;
-use lsvd_base::{Body, Entry, Geometry, SECTOR_BYTES, in_range};
+use crate::history::{batch_refusal, data_sectors, read_history};
+use log_room::{LogRoom, record_sectors};
+use lsvd_base::{Entry, Geometry};
 use std::alloc::{AllocError, Global};
 use std::marker::Model;
-
-/// The most entries of a batch.
-pub const MAX_ENTRIES: u64 = 16_384;
 
 /// A disk that is the list of its entries. A read costs as much as the history is long.
 #[derive(Drop)]
@@ -18,6 +16,7 @@ pub struct PlainDisk {
     history: Vec<Entry>,
     /// The sectors of data of the unsealed entries, counted here so that a write need not go over them.
     data_sectors: u64,
+    room: LogRoom,
 }
 
 impl Model for PlainDisk {
@@ -25,7 +24,7 @@ impl Model for PlainDisk {
 
     ghost Value = { Disk };
 
-    ghost view = { λ d. record { geometry = d.geometry; history = d.history.items } };
+    ghost view = { λ d. record { geometry = d.geometry; history = d.history.items; room = d.room } };
 
     ghost invariant = { λ d. IsKept d.geometry d.history.items d.data_sectors };
 }
@@ -40,6 +39,7 @@ impl PlainDisk {
             geometry,
             history: Vec::new(alloc),
             data_sectors: 0,
+            room: LogRoom::new(geometry.log),
         }
     }
 
@@ -71,21 +71,19 @@ impl PlainDisk {
         ensures disk { OnOk result (self.new ≡ after_entry self.old entry) }
         ensures err { OnErr result (self.new ≡ self.old) }
     {
-        if !in_range(&entry, &self.geometry) {
-            return Ok(Reply::Range);
+        let count = self.history.len() as u64;
+        if let Some(reply) = batch_refusal(&self.geometry, self.data_sectors, count, &entry) {
+            return Ok(reply);
         }
-        if self.data_sectors >= self.geometry.batch {
-            return Ok(Reply::BatchFull {
-                sectors: self.data_sectors,
-            });
-        }
-        let entries = self.history.len() as u64;
-        if entries >= MAX_ENTRIES {
-            return Ok(Reply::EntriesFull { entries });
+        let sectors = record_sectors(&entry);
+        let (need, free) = (self.room.need(sectors), self.room.free());
+        if free < need {
+            return Ok(Reply::NoRoom { need, free });
         }
         let added = data_sectors(&entry);
         self.history.push(entry)?;
         self.data_sectors += added;
+        self.room.enter(sectors);
         Ok(Reply::Entered(self.history.len() as u64))
     }
 
@@ -93,33 +91,16 @@ impl PlainDisk {
     fn read(&self, lba: u64, sectors: u64) -> Result<Reply, AllocError>
         ensures { IfOk result (λ reply. reply ≡ read_reply self.now lba sectors) }
     {
-        if !self.geometry.may_transfer(lba, sectors) {
-            return Ok(Reply::Range);
-        }
-        let Some(count) = sectors.checked_mul(SECTOR_BYTES) else {
-            return Err(AllocError);
-        };
-        let mut window = vec![in *self.history.allocator(); 0; count as usize]?;
-        for entry in &self.history {
-            overlay(window.as_mut_slice(), lba, entry);
-        }
-        Ok(Reply::Data(Body::from_bytes(window)))
-    }
-}
-
-/// How many sectors of data the entry carries: a zeroing carries none.
-fn data_sectors(entry: &Entry) -> u64
-    ensures { result ≡ data_sectors entry.now }
-{
-    match entry {
-        Entry::Write { body, .. } => body.sectors(),
-        Entry::Zero { .. } => 0,
+        let alloc = *self.history.allocator();
+        read_history(alloc, &self.geometry, &self.history, lba, sectors)
     }
 }
 
 #[cfg(test)]
 mod tests {
     use super::*;
+    use crate::history::MAX_ENTRIES;
+    use lsvd_base::Body;
     use std::test::Fail;
 
     /// Sectors that each hold one of the bytes.
@@ -291,12 +272,43 @@ mod tests {
     fn a_batch_is_full_of_entries(rt: HostRuntime) -> Result<(), Fail> {
         let geometry = Geometry {
             batch: 65_536,
+            log: 20_000,
             ..SMALL
         };
         let mut disk = PlainDisk::new(rt.alloc(), geometry);
         assert_eq!(rt; zero_many(&mut disk, MAX_ENTRIES + 1)?, 16_384);
         let zeroing = disk.step(Event::Zero { lba: 0, sectors: 1 })?;
         assert!(rt; matches!(zeroing, Reply::EntriesFull { entries: 16_384 }));
+        Ok(())
+    }
+
+    // What a disk answers to zeroings of its first sector and, after them, to one write of so many.
+    fn room_refused(reply: &Reply) -> Option<(u64, u64)> {
+        match reply {
+            Reply::NoRoom { need, free } => Some((*need, *free)),
+            _ => None,
+        }
+    }
+
+    #[test]
+    fn a_log_has_room_for_so_many_records(rt: HostRuntime) -> Result<(), Fail> {
+        let alloc = rt.alloc();
+        for (log, zeroings, sectors, want) in [
+            (18, 0, 8, None),
+            (18, 9, 8, None),
+            (18, 10, 8, Some((17, 8))),
+            (18, 17, 1, Some((3, 1))),
+            (18, 18, 1, Some((2, 0))),
+            (20, 18, 1, None),
+            (20, 19, 1, Some((3, 1))),
+        ] {
+            let geometry = Geometry { log, ..SMALL };
+            let mut disk = PlainDisk::new(alloc, geometry);
+            assert_eq!(rt; zero_many(&mut disk, zeroings)?, zeroings);
+            let body = Body::filled(alloc, sectors, b'A')?;
+            let reply = disk.step(Event::Write { lba: 0, body })?;
+            assert_eq!(rt; room_refused(&reply), want, "{log} {zeroings} {sectors}");
+        }
         Ok(())
     }
 }

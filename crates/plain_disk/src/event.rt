@@ -26,6 +26,9 @@ pub enum Reply {
     BatchFull { sectors: u64 },
     /// There are so many unsealed entries, the most of a batch.
     EntriesFull { entries: u64 },
+    /// The log has no room: the record of the entry, with the pad before it, needs so many sectors, and so many
+    /// are free.
+    NoRoom { need: u64, free: u64 },
     /// The disk does not take a request for these sectors.
     Range,
 }

@@ -1,6 +1,7 @@
 ghost use Rattle.std.specs.Prelude.{ℕ, ◌≡◌, ◌+◌, ◌-◌, ◌*◌, ◌%◌, ◌^◌, ◌<◌, ◌≤◌, length, min, replicate};
 ghost use Rattle.lsvd_base.specs.Laws.{EndsBy};
-ghost use Rattle.plain_disk.specs.Window.{Overlays, Splices};
+ghost use Rattle.byte_window.specs.Window.{Splices};
+ghost use Rattle.plain_disk.specs.Window.{Overlays};
 
 use lsvd_base::{Entry, SECTOR_BYTES};
 

@@ -5,7 +5,7 @@ use Rattle.plain_disk.specs.Machine.{Disk, reply_of}
 use Rattle.plain_disk.specs.declared.event.Event.{Event}
 use Rattle.plain_disk.specs.declared.event.Event.TheVariants as events
 use Rattle.plain_disk.specs.declared.event.Reply.{Reply}
-use Rattle.plain_disk.specs.declared.event.Reply.TheVariants.{Entered, Flushed, Data, Range, BatchFull, EntriesFull}
+use Rattle.plain_disk.specs.declared.event.Reply.TheVariants.{Entered, Flushed, Data, Range, BatchFull, EntriesFull, NoRoom}
 use Rattle.replay_script.specs.declared.command.Command.{Command}
 use Rattle.replay_script.specs.declared.command.Command.TheVariants.{New, Write, Zero, Read, Flush}
 use Rattle.replay_script.specs.Grammar.{lines_of}
@@ -25,6 +25,7 @@ one_telling (Flushed count) a b s t = s ∙ sym t
 one_telling Range a b s t = s ∙ sym t
 one_telling (BatchFull sectors) a b s t = s ∙ sym t
 one_telling (EntriesFull entries) a b s t = s ∙ sym t
+one_telling (NoRoom lacking left) a b s t = s ∙ sym t
 
 -- one text and one state
 abbrev AreSame : List ℕ → List ℕ → State → State → Type 0

@@ -1,12 +1,13 @@
 -- Each script has a transcript.
-use Rattle.std.proofs.Common.{ℕ, ◌+◌, ◌*◌, ◌<◌, ◌≤◌, ◌^◌, ◌⊎◌, List, [], ◌∷◌, ◌++◌, length, replicate, refl, inl, inr}
-use Rattle.std.specs.Prelude.{Some, None, codes, decimal}
+use Rattle.std.proofs.Common.{◌≡◌, ℕ, ◌+◌, ◌*◌, ◌<◌, ◌≤◌, ◌^◌, ◌⊎◌, List, [], ◌∷◌, ◌++◌, length, replicate, refl, ap, inl, inr}
+use Rattle.std.specs.Prelude.{Some, None, IsNone, codes, decimal}
 use Rattle.std.proofs.lemmas.Bool.{cases_lt}
+use Rattle.lsvd_base.specs.declared.geometry.Geometry.{Geometry}
 use Rattle.plain_disk.specs.Machine.{Disk, created, reply_of, disk_after}
 use Rattle.plain_disk.specs.declared.event.Event.{Event}
 use Rattle.plain_disk.specs.declared.event.Event.TheVariants as events
 use Rattle.plain_disk.specs.declared.event.Reply.{Reply}
-use Rattle.plain_disk.specs.declared.event.Reply.TheVariants.{Entered, Flushed, Data, Range, BatchFull, EntriesFull}
+use Rattle.plain_disk.specs.declared.event.Reply.TheVariants.{Entered, Flushed, Data, Range, BatchFull, EntriesFull, NoRoom}
 use Rattle.replay_script.specs.declared.command.Command.{Command}
 use Rattle.replay_script.specs.declared.command.Command.TheVariants.{New, Write, Zero, Read, Flush}
 use Rattle.replay_script.specs.Grammar.{lines_of, Spells, IsUnknown, HasWrongWordCount, IsMisspelt}
@@ -26,6 +27,7 @@ some_telling (Flushed count) = (codes "ok " ++ decimal count, refl)
 some_telling Range = (codes "range", refl)
 some_telling (BatchFull sectors) = (codes "again batch " ++ decimal sectors, refl)
 some_telling (EntriesFull entries) = (codes "again entries " ++ decimal entries, refl)
+some_telling (NoRoom lacking left) = (codes "again room " ++ decimal lacking ++ codes " " ++ decimal left, refl)
 
 abbrev HasAnswer : State → Command → Type 0
 HasAnswer state command = (text : List ℕ) × (next : State) × Answers state command text next
@@ -112,3 +114,8 @@ transcript_by_length script (inr short) = let t = some_transcript (lines_of scri
 -- each script has a transcript
 pub transcript_of : (script : List ℕ) → (text : List ℕ) × (outcome : Outcome) × IsTranscript script text outcome
 transcript_of script = transcript_by_length script (cases_lt (2 ^ 24) (length script))
+
+-- the line `new` is answered where there is no disk yet
+pub new_answered : (state : State) (g : Geometry) (disk : Disk) → IsNone state → disk ≡ created g → Answers state (New g) (codes "new " ++ decimal g.sectors) (Some disk)
+new_answered None g disk none is = (refl, ap Some is)
+new_answered (Some old) g disk none is = cc

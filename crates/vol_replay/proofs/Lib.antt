@@ -2,3 +2,4 @@ pub mod Determined
 pub mod Existence
 pub mod Progress
 pub mod Results
+mod Volumes

@@ -1,3 +1,4 @@
 pub mod Answer
 pub mod Reason
 pub mod Transcript
+pub mod Volume

@@ -4,7 +4,7 @@ use Rattle.plain_disk.specs.Machine.{Disk, created, reply_of, disk_after}
 use Rattle.plain_disk.specs.declared.event.Event.{Event}
 use Rattle.plain_disk.specs.declared.event.Event.TheVariants as events
 use Rattle.plain_disk.specs.declared.event.Reply.{Reply}
-use Rattle.plain_disk.specs.declared.event.Reply.TheVariants.{Entered, Flushed, Data, Range, BatchFull, EntriesFull}
+use Rattle.plain_disk.specs.declared.event.Reply.TheVariants.{Entered, Flushed, Data, Range, BatchFull, EntriesFull, NoRoom}
 use Rattle.replay_script.specs.declared.command.Command.{Command}
 use Rattle.replay_script.specs.declared.command.Command.TheVariants.{New, Write, Zero, Read, Flush}
 use Rattle.replay_script.specs.Grammar.{lines_of, Spells, IsUnknown, HasWrongWordCount, IsMisspelt}
@@ -26,6 +26,7 @@ TellsReply (Flushed count) text = text ≡ codes "ok " ++ decimal count
 TellsReply Range text = text ≡ codes "range"
 TellsReply (BatchFull sectors) text = text ≡ codes "again batch " ++ decimal sectors
 TellsReply (EntriesFull entries) text = text ≡ codes "again entries " ++ decimal entries
+TellsReply (NoRoom lacking left) text = text ≡ codes "again room " ++ decimal lacking ++ codes " " ++ decimal left
 
 -- the disk takes the event, tells its reply by this text, and is the next one then
 abbrev pub Steps : Disk → Event → List ℕ → State → Type 0

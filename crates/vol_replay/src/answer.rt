@@ -1,4 +1,4 @@
-ghost use Rattle.std.specs.Prelude.{◌≡◌, ℕ, List, [], ◌∷◌, ◌++◌, IsNone, IfOk, IfSome, IfNone, OnOk, IfErr, Some, IsTrue, decimal};
+ghost use Rattle.std.specs.Prelude.{◌≡◌, ℕ, List, [], ◌∷◌, ◌++◌, IsNone, IfOk, IfSome, IfNone, OnOk, IfErr, Some, IsTrue, codes, decimal};
 ghost use Rattle.vol_replay.specs.Transcript.{TellsReply, Answers, IsUnanswered, IsAnswered};
 ghost use Rattle.std.specs.Bool.{OnTrue, OnFalse};
 ghost use Rattle.lsvd_base.specs.Limits.{is_within_limits};
@@ -49,6 +49,14 @@ fn push_counted(answers: &mut Vec<u8>, words: &[u8], count: u64) -> Result<(), A
     push_decimal(answers, count)
 }
 
+// Appends the text that tells what an entry needs of the log and what is free there.
+fn push_room(answers: &mut Vec<u8>, need: u64, free: u64) -> Result<(), AllocError>
+    ensures { OnOk result (answers.new.items ≡ answers.old.items ++ (codes "again room " ++ decimal need ++ codes " " ++ decimal free)) }
+{
+    push_counted(answers, b"again room ", need)?;
+    push_counted(answers, b" ", free)
+}
+
 // Appends the text that tells a reply.
 fn push_text(answers: &mut Vec<u8>, reply: &Reply) -> Result<(), AllocError>
     ensures { OnOk result ((text : List ℕ) × TellsReply reply.now text × (answers.new.items ≡ answers.old.items ++ text)) }
@@ -59,6 +67,7 @@ fn push_text(answers: &mut Vec<u8>, reply: &Reply) -> Result<(), AllocError>
         Reply::Range => answers.extend_from_slice(b"range"),
         Reply::BatchFull { sectors } => push_counted(answers, b"again batch ", *sectors),
         Reply::EntriesFull { entries } => push_counted(answers, b"again entries ", *entries),
+        Reply::NoRoom { need, free } => push_room(answers, *need, *free),
     }
 }
 
@@ -86,7 +95,7 @@ fn create(
 {
     push_counted(answers, b"new ", geometry.sectors)?;
     answers.push(b'\n')?;
-    *rig = Some(Rig::new(alloc, geometry));
+    *rig = Some(Rig::new(alloc, geometry)?);
     Ok(())
 }
 
@@ -99,7 +108,7 @@ fn step(alloc: Global, rig: &mut Rig, command: Command) -> Result<Option<Reply>,
         Command::New(_) => Ok(None),
         Command::Write { lba, sectors, byte } => Ok(Some(rig.write(alloc, lba, sectors, byte)?)),
         Command::Zero { lba, sectors } => Ok(Some(rig.zero(lba, sectors)?)),
-        Command::Read { lba, sectors } => Ok(Some(rig.read(lba, sectors)?)),
+        Command::Read { lba, sectors } => Ok(Some(rig.read(alloc, lba, sectors)?)),
         Command::Flush => Ok(Some(rig.flush()?)),
     }
 }

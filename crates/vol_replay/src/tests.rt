@@ -42,7 +42,7 @@ const WRITTEN: &[u8] = b"new 64 64 8 16\nw 0 1 41\nr 0 2\n";
 
 #[test]
 fn answers_each_line(rt: HostRuntime) -> Result<(), Fail> {
-    let cases: [(&[u8], &[u8], Ending); 7] = [
+    let cases: [(&[u8], &[u8], Ending); 10] = [
         (b"", b"", Ending::NoLines),
         (
             b"new 64 64 8 16\nw 0 8 41\nz 7 57\nr 0 8\nr 0 9\nz 63 2\n",
@@ -57,6 +57,23 @@ fn answers_each_line(rt: HostRuntime) -> Result<(), Fail> {
         (
             b"new 64 64 8 16\nw 0 8 41\nw 8 8 42\nw 16 8 43\nw 63 2 43\nr 15 2\n",
             b"new 64\nok 1\nok 2\nagain batch 16\nrange\n42x512 00x512\n",
+            Ending::Done,
+        ),
+        // Seven records of 9 sectors take 63 of 64: the eighth needs a pad of 1, and a zeroing takes the last.
+        (
+            b"new 64 64 8 64\nw 0 8 41\nw 0 8 42\nw 0 8 43\nw 0 8 44\nw 0 8 45\nw 0 8 46\nw 0 8 47\nw 0 8 48\nz 0 1\nz 0 1\nw 0 8 49\nf\nr 0 2\n",
+            b"new 64\nok 1\nok 2\nok 3\nok 4\nok 5\nok 6\nok 7\nagain room 10 1\nok 8\nagain room 1 0\nagain room 9 0\nok 8\n00x512 47x512\n",
+            Ending::Done,
+        ),
+        // The least log: two records fit exactly.
+        (
+            b"new 8 18 8 64\nw 0 8 41\nw 0 8 42\nz 0 1\nw 0 8 43\nr 7 1\n",
+            b"new 8\nok 1\nok 2\nagain room 1 0\nagain room 9 0\n42x512\n",
+            Ending::Done,
+        ),
+        (
+            b"new 8 20 8 64\nw 0 8 41\nw 0 8 42\nw 0 8 43\nz 0 1\nw 0 1 44\nz 1 1\nz 2 1\nr 0 4\n",
+            b"new 8\nok 1\nok 2\nagain room 11 2\nok 3\nagain room 3 1\nok 4\nagain room 1 0\n00x1024 42x1024\n",
             Ending::Done,
         ),
         (WRITTEN, b"new 64\nok 1\n41x512 00x512\n", Ending::Done),

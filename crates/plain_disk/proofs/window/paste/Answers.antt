@@ -1,5 +1,5 @@
 use Rattle.std.proofs.Common.{arith, ◌*◌, ◌∙◌}
-use Rattle.plain_disk.proofs.Windows.{splice_seen, splice_unseen, part_same}
+use Rattle.byte_window.proofs.Windows.{splice_seen, splice_unseen, part_same}
 use Rattle.plain_disk.proofs.window.paste.Goals as goal
 
 pub returns-then-start-end : goal.returns-then-start-end

@@ -1,0 +1,68 @@
+ghost use Rattle.std.specs.Prelude.{◌≡◌, IsTrue, IfOk};
+ghost use Rattle.lsvd_base.specs.Limits.{is_within_limits};
+ghost use Rattle.plain_disk.specs.Machine.{AllInRange, batch_refusal, data_sectors, history_reply};
+
+use crate::event::Reply;
+use crate::window::overlay;
+use lsvd_base::{Body, Entry, Geometry, SECTOR_BYTES, in_range};
+use std::alloc::{AllocError, Global};
+
+/// The most entries of a batch.
+pub const MAX_ENTRIES: u64 = 16_384;
+
+/// What a volume of this geometry that took these entries answers to a read of so many sectors from `lba` on. The
+/// one error is want of memory. A read costs as much as the history is long.
+pub fn read_history(
+    alloc: Global,
+    geometry: &Geometry,
+    history: &[Entry],
+    lba: u64,
+    sectors: u64,
+) -> Result<Reply, AllocError>
+    requires limits { IsTrue (is_within_limits geometry.now) }
+    requires in_range { AllInRange geometry.now history.now }
+    ensures { IfOk result (λ reply. reply ≡ history_reply geometry.now history.now lba sectors) }
+{
+    if !geometry.may_transfer(lba, sectors) {
+        return Ok(Reply::Range);
+    }
+    let Some(count) = sectors.checked_mul(SECTOR_BYTES) else {
+        return Err(AllocError);
+    };
+    let mut window = vec![in alloc; 0; count as usize]?;
+    for entry in history {
+        overlay(window.as_mut_slice(), lba, entry);
+    }
+    Ok(Reply::Data(Body::from_bytes(window)))
+}
+
+/// Why a batch that has so many sectors of data and so many entries takes no further entry. None is for one that
+/// it takes.
+pub fn batch_refusal(
+    geometry: &Geometry,
+    sectors: u64,
+    entries: u64,
+    entry: &Entry,
+) -> Option<Reply>
+    ensures { result ≡ batch_refusal geometry.now sectors entries entry.now }
+{
+    if !in_range(entry, geometry) {
+        Some(Reply::Range)
+    } else if sectors >= geometry.batch {
+        Some(Reply::BatchFull { sectors })
+    } else if entries >= MAX_ENTRIES {
+        Some(Reply::EntriesFull { entries })
+    } else {
+        None
+    }
+}
+
+/// How many sectors of data the entry carries: a zeroing carries none.
+pub fn data_sectors(entry: &Entry) -> u64
+    ensures { result ≡ data_sectors entry.now }
+{
+    match entry {
+        Entry::Write { body, .. } => body.sectors(),
+        Entry::Zero { .. } => 0,
+    }
+}
