@@ -1,0 +1,9 @@
+mod Outcomes
+mod LastingLemmas
+mod Passing
+mod SlotStates
+mod Steps
+mod Readings
+mod Kept
+mod Composed
+mod Formatted

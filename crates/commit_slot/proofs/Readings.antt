@@ -1,0 +1,144 @@
+-- What a device reads as whenever it stops.
+use Rattle.std.proofs.Common.{◌≡◌, ℕ, ◌+◌, ◌%◌, ◌<◌, ◌≤◌, ◌≢◌, ◌⊎◌, List, get_or, drop, sym, ◌∙◌, ap, subst, inl, inr, arith}
+use Rattle.std.proofs.lemmas.List.{get_or-take, get_or-drop}
+use Rattle.std.proofs.lemmas.Bool.{cases_eq}
+use Rattle.lsvd_bytes.specs.Places.{bytes_at}
+use Rattle.lsvd_device.specs.Medium.{Medium, MayLeave}
+use Rattle.lsvd_device.specs.Device.{HasSize}
+use Rattle.commit_body.specs.declared.body.CommitBody.{CommitBody}
+use Rattle.commit_body.specs.Body.{IsBody}
+use Rattle.commit_slot.specs.Lasting.{Lasts}
+use Rattle.commit_slot.specs.Slots.{body_at, gate_at, IsOpenSlot, Reads}
+use Rattle.commit_slot.specs.Commits.{IsOpen, IsClosed, IsOlder, IsSettled, IsSettledIn, IsHalfMade, IsHalfMadeIn}
+use Rattle.commit_slot.proofs.LastingLemmas.{lasts_left}
+use Rattle.commit_slot.proofs.SlotStates.{AreThree, three, LiesIn, body_lies, gate_lies, same_number}
+
+-- one byte from a place on
+one_byte : (at : ℕ) (bytes : List ℕ) → get_or (bytes_at at 1 bytes) 0 0 ≡ get_or bytes at 0
+one_byte at bytes = get_or-take 1 (drop at bytes) 0 0 (omega arith) ∙ get_or-drop at bytes 0 0 ∙ ap (λ n. get_or bytes n 0) (let e : at + 0 ≡ at = omega arith in e)
+
+-- a slot is one of the three
+data IsOneOf (last next third slot : ℕ) : Type 0 where
+  is_last : slot ≡ last → IsOneOf last next third slot
+  is_next : slot ≡ next → IsOneOf last next third slot
+  is_third : slot ≡ third → IsOneOf last next third slot
+
+-- what each of the three slots has, in bytes that a stop leaves
+pub record HasSettled (log last next third number : ℕ) (body : CommitBody) (bytes : List ℕ) : Type 0 where
+  pub is_open : IsOpenSlot log bytes last body number
+  pub closed : IsClosed (bytes_at (gate_at next) 1 bytes)
+  pub older : IsOlder log third number (bytes_at (body_at third) 512 bytes)
+
+-- a slot that is closed is not open
+not_open : (log slot n : ℕ) (bytes : List ℕ) (b : CommitBody) → IsClosed (bytes_at (gate_at slot) 1 bytes) → IsOpenSlot log bytes slot b n → ⊥
+not_open log slot n bytes b closed is_open = closed (one_byte (gate_at slot) bytes ∙ is_open.gate)
+
+-- the slot of a body is below three
+slot_below : (log slot n : ℕ) (bytes : List ℕ) (b : CommitBody) → IsOpenSlot log bytes slot b n → slot < 3
+slot_below log slot n bytes b is_open = (let e = is_open.sector.in_slot in omega (arith, e))
+
+which : (last next third slot : ℕ) → AreThree last next third → slot < 3 → IsOneOf last next third slot
+which last next third slot slots below =
+    elim (cases_eq slot last) [
+      | inl e ↦ is_last e
+      | inr other ↦ elim (cases_eq slot next) [
+        | inl e ↦ is_next e
+        | inr neither ↦ is_third (let a = slots.last' in let b = slots.next' in let c = slots.third' in omega (arith, a, b, c, below, other, neither, slots.first, slots.second, slots.both))
+      ]
+    ]
+
+settled_newest : (log last next third number : ℕ) (body : CommitBody) (bytes : List ℕ) → AreThree last next third → HasSettled log last next third number body bytes
+    → (slot : ℕ) (b : CommitBody) (n : ℕ) → IsOpenSlot log bytes slot b n → n ≤ number
+settled_newest log last next third number body bytes slots has slot b n is_open =
+    let P : ℕ → Type 0 = λ s. IsOpenSlot log bytes s b n in
+    elim (which last next third slot slots (slot_below log slot n bytes b is_open)) [
+      | is_last e ↦ (let own = same_number _ log last last number n body b has.is_open.sector (subst P e is_open).sector in omega (arith, own.1))
+      | is_next e ↦ absurd (not_open log next n bytes b has.closed (subst P e is_open))
+      | is_third e ↦ (let less = has.older b n (subst P e is_open).sector in omega (arith, less))
+    ]
+
+-- what lasts in a slot, in bytes that a stop leaves
+left_there : (size slot at count : ℕ) (P : List ℕ → Type 0) (medium : Medium) (left : List ℕ) → HasSize size medium → 4096 ≤ size → slot < 3 → LiesIn slot at count
+    → Lasts at count P medium → MayLeave medium left → P (bytes_at at count left)
+left_there size slot at count P medium left has least below lies lasts may = lasts_left at count P medium left (let e = has.synced in omega (arith, e, least, below, lies.to)) lasts may
+
+pub settled_in : (size log last next third number : ℕ) (body : CommitBody) (medium : Medium) (left : List ℕ) → AreThree last next third → HasSize size medium → 4096 ≤ size
+    → IsSettledIn log last next third number body medium → MayLeave medium left → Reads log left body number
+settled_in size log last next third number body medium left slots has least settled may =
+    let all : HasSettled log last next third number body left = record {
+      is_open = record {
+        gate = sym (one_byte (gate_at last) left) ∙ left_there size last (gate_at last) 1 IsOpen medium left has least slots.last' (gate_lies last) settled.gate may;
+        sector = left_there size last (body_at last) 512 (λ bytes. IsBody bytes log last body number) medium left has least slots.last' (body_lies last) settled.sector may;
+      };
+      closed = left_there size next (gate_at next) 1 IsClosed medium left has least slots.next' (gate_lies next) settled.closed may;
+      older = left_there size third (body_at third) 512 (IsOlder log third number) medium left has least slots.third' (body_lies third) settled.older may;
+    } in
+    record { slot = last; is_open = all.is_open; newest = settled_newest log last next third number body left slots all }
+
+pub settled_reads : (size log number : ℕ) (body : CommitBody) (medium : Medium) (left : List ℕ) → HasSize size medium → 4096 ≤ size
+    → IsSettled log number body medium → MayLeave medium left → Reads log left body number
+settled_reads size log number body medium left has least settled may =
+    settled_in size log (number % 3) ((number + 1) % 3) ((number + 2) % 3) number body medium left (three number) has least settled may
+
+-- the last commit in an open slot, and the body of the next one
+record HasHalf (log last next third number : ℕ) (body more : CommitBody) (bytes : List ℕ) : Type 0 where
+  is_open : IsOpenSlot log bytes last body number
+  next_sector : IsBody (bytes_at (body_at next) 512 bytes) log next more (number + 1)
+  closed : IsClosed (bytes_at (gate_at third) 1 bytes)
+
+-- no commit is newer than the next one
+half_newest : (log last next third number : ℕ) (body more : CommitBody) (bytes : List ℕ) → AreThree last next third → HasHalf log last next third number body more bytes
+    → (slot : ℕ) (b : CommitBody) (n : ℕ) → IsOpenSlot log bytes slot b n → n ≤ number + 1
+half_newest log last next third number body more bytes slots has slot b n is_open =
+    let P : ℕ → Type 0 = λ s. IsOpenSlot log bytes s b n in
+    elim (which last next third slot slots (slot_below log slot n bytes b is_open)) [
+      | is_last e ↦ (let own = same_number _ log last last number n body b has.is_open.sector (subst P e is_open).sector in omega (arith, own.1))
+      | is_next e ↦ (let own = same_number _ log next next (number + 1) n more b has.next_sector (subst P e is_open).sector in omega (arith, own.1))
+      | is_third e ↦ absurd (not_open log third n bytes b has.closed (subst P e is_open))
+    ]
+
+-- nor than the last one, where the next slot is closed
+half_closed : (log last next third number : ℕ) (body more : CommitBody) (bytes : List ℕ) → AreThree last next third → HasHalf log last next third number body more bytes
+    → IsClosed (bytes_at (gate_at next) 1 bytes) → (slot : ℕ) (b : CommitBody) (n : ℕ) → IsOpenSlot log bytes slot b n → n ≤ number
+half_closed log last next third number body more bytes slots has gate slot b n is_open =
+    let P : ℕ → Type 0 = λ s. IsOpenSlot log bytes s b n in
+    elim (which last next third slot slots (slot_below log slot n bytes b is_open)) [
+      | is_last e ↦ (let own = same_number _ log last last number n body b has.is_open.sector (subst P e is_open).sector in omega (arith, own.1))
+      | is_next e ↦ absurd (not_open log next n bytes b gate (subst P e is_open))
+      | is_third e ↦ absurd (not_open log third n bytes b has.closed (subst P e is_open))
+    ]
+
+-- a byte is 1 or it is not
+one_or_other : (byte : ℕ) → (byte ≡ 1) ⊎ (byte ≢ 1)
+one_or_other byte = cases_eq byte 1
+
+half_in : (log last next third number : ℕ) (body more : CommitBody) (bytes : List ℕ) → AreThree last next third → HasHalf log last next third number body more bytes
+    → Reads log bytes body number ⊎ Reads log bytes more (number + 1)
+half_in log last next third number body more bytes slots has =
+    elim (one_or_other (get_or (bytes_at (gate_at next) 1 bytes) 0 0)) [
+      | inl one ↦
+          inr (record {
+            slot = next;
+            is_open = record { gate = sym (one_byte (gate_at next) bytes) ∙ one; sector = has.next_sector };
+            newest = half_newest log last next third number body more bytes slots has;
+          })
+      | inr other ↦ inl (record { slot = last; is_open = has.is_open; newest = half_closed log last next third number body more bytes slots has other })
+    ]
+
+half_left : (size log last next third number : ℕ) (body more : CommitBody) (medium : Medium) (left : List ℕ) → AreThree last next third → HasSize size medium → 4096 ≤ size
+    → IsHalfMadeIn log last next third number body more medium → MayLeave medium left → Reads log left body number ⊎ Reads log left more (number + 1)
+half_left size log last next third number body more medium left slots has least half may =
+    half_in log last next third number body more left slots (record {
+      is_open = record {
+        gate = sym (one_byte (gate_at last) left) ∙ left_there size last (gate_at last) 1 IsOpen medium left has least slots.last' (gate_lies last) half.gate may;
+        sector = left_there size last (body_at last) 512 (λ bytes. IsBody bytes log last body number) medium left has least slots.last' (body_lies last) half.sector may;
+      };
+      next_sector =
+          left_there size next (body_at next) 512 (λ bytes. IsBody bytes log next more (number + 1)) medium left has least slots.next' (body_lies next) half.next_sector may;
+      closed = left_there size third (gate_at third) 1 IsClosed medium left has least slots.third' (gate_lies third) half.closed may;
+    })
+
+pub half_reads : (size log number : ℕ) (body more : CommitBody) (medium : Medium) (left : List ℕ) → HasSize size medium → 4096 ≤ size
+    → IsHalfMade log number body more medium → MayLeave medium left → Reads log left body number ⊎ Reads log left more (number + 1)
+half_reads size log number body more medium left has least half may =
+    half_left size log (number % 3) ((number + 1) % 3) ((number + 2) % 3) number body more medium left (three number) has least half may

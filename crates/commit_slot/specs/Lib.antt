@@ -1,0 +1,4 @@
+pub mod Lasting
+pub mod Slots
+pub mod Commits
+pub mod Formatting
