@@ -7,3 +7,4 @@ mod Readings
 mod Kept
 mod Composed
 mod Formatted
+mod Newest

@@ -7,14 +7,11 @@ ghost use Rattle.commit_slot.specs.Formatting.{format_cost};
 
 use crate::formatting::format_slots;
 use crate::halves::{open_and_sync, write_body_and_close};
-use crate::slot::SECTOR_BYTES;
+use crate::slot::{LOG_START, SECTOR_BYTES};
 use commit_body::CommitBody;
 use lsvd_device::Disk;
 use lsvd_fault::Failed;
 use std::marker::Model;
-
-/// The byte of the device at which its log begins.
-const LOG_START: u64 = 4_096;
 
 /// The commits on a cache device.
 #[derive(Drop)]

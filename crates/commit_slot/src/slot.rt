@@ -13,6 +13,9 @@ pub(crate) const SLOTS_BYTES: usize = 3_072;
 /// The bytes of a sector.
 pub(crate) const SECTOR_BYTES: u64 = 512;
 
+/// The byte of the device at which its log begins.
+pub(crate) const LOG_START: u64 = 4_096;
+
 /// The gate of a slot that is open.
 pub(crate) const OPEN: u8 = 1;
 

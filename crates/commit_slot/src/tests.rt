@@ -1,5 +1,5 @@
 use super::*;
-use commit_body::{CommitBody, Mark, is_within, read_body};
+use commit_body::{CommitBody, Mark, is_within};
 use lsvd_device::{Disk, FuseDisk, MemDisk};
 use std::alloc::Global;
 use std::process::Abort;
@@ -64,18 +64,11 @@ fn piece<D: Disk, const N: usize>(rt: &impl Abort, disk: &mut D, at: u64) -> Res
     Ok(bytes)
 }
 
-/// The greatest number of an open slot.
+/// The number of the commit that the disk reads as.
 fn newest(rt: &impl Abort, disk: FuseDisk<MemDisk>) -> Result<Option<u64>, Fail> {
     let mut disk = disk.into_disk();
-    let mut newest = None;
-    for slot in 0..3 {
-        let sector: [u8; 512] = piece(rt, &mut disk, 1_024 * slot)?;
-        let gate: [u8; 1] = piece(rt, &mut disk, 1_024 * slot + 512)?;
-        if let ([1], Some((_, number))) = (gate, read_body(&sector, LOG, slot)) {
-            newest = newest.max(Some(number));
-        }
-    }
-    Ok(newest)
+    assert!(rt; 4_096 <= disk.len());
+    Ok(read_newest(&mut disk)?.map(|(_, number)| number))
 }
 
 #[test]
