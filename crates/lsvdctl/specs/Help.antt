@@ -8,9 +8,9 @@ use Rattle.lsvdctl.specs.declared.report.Report.TheVariants.{Done, Fault, Usage,
 
 -- what the output took, and its count of faults, where the answer ended so
 abbrev pub IsAnswered : List (List ℕ) → Report → Option (List ℕ) → Option (List ℕ) → ℕ → ℕ → Type 0
--- a text stands there
+-- some text was added
 IsAnswered words Done old new before now = AsksForHelp words × ((text : List ℕ) × Appends old new text)
--- a write failed, after a front of the text
+-- a write failed, after some text
 IsAnswered words Fault old new before now = AsksForHelp words × HasRisen before now × ((text : List ℕ) × Appends old new text)
 -- nothing was written
 IsAnswered words Memory old new before now = (new ≡ old) × (now ≡ before)
