@@ -1,10 +1,10 @@
 -- Calls of a disk with a fuse before it.
-use Rattle.std.proofs.Common.{◌≡◌, ℕ, ◌+◌, ◌-◌, ◌<◌, ◌≤◌, ◌⊎◌, ◌^◌, Bool, true, false, zero, suc, min, refl, sym, ◌∙◌, ap, subst, inl, inr, arith}
-use Rattle.std.specs.Prelude.{Option, Some, None, nat_le}
+use Rattle.std.proofs.Common.{◌≡◌, ℕ, ◌+◌, ◌-◌, ◌≤◌, ◌^◌, Bool, false, zero, suc, min, refl, sym, ◌∙◌, ap, inl, inr, arith}
+use Rattle.std.specs.Prelude.{Option, Some, None}
 use Rattle.std.proofs.Math.Path.{subst₂}
 use Rattle.std.proofs.lemmas.Bool.{cases_lt}
 use Rattle.lsvd_fault.specs.Faults.{HasRisen}
-use Rattle.lsvd_device.specs.Calls.{Fuse, Budget, Cost, passes, lowered, Takes, TakesWithin, PassesNone}
+use Rattle.lsvd_device.specs.Calls.{Fuse, Budget, Cost, passes, lowered, Takes, PassesNone}
 use Rattle.lsvd_device.specs.Device.{DiskState, MakesCalls, FailsAlone}
 use Rattle.lsvd_device.specs.Fuse.{tighter, with_fuse, counted_with, fused}
 

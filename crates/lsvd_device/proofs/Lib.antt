@@ -1,4 +1,6 @@
 mod Fused
 mod Moments
 mod Replayed
+pub mod Stopped
+pub mod Passed
 pub mod Together

@@ -1,13 +1,12 @@
 -- The bytes of a disk in memory, made of its changes.
-use Rattle.std.proofs.Common.{◌≡◌, ℕ, ◌+◌, ◌-◌, ◌<◌, ◌≤◌, List, [], ◌∷◌, ◌++◌, zero, suc, min, length, take, drop, replicate, get_or, refl, sym, ◌∙◌, ap, subst, arith}
-use Rattle.std.specs.List.{AllByRecursion}
+use Rattle.std.proofs.Common.{◌≡◌, ℕ, ◌+◌, ◌-◌, ◌<◌, ◌≤◌, List, [], ◌∷◌, ◌++◌, zero, suc, length, take, drop, replicate, get_or, refl, sym, ◌∙◌, ap, subst, arith}
 use Rattle.std.proofs.lemmas.List.{drop-drop, drop-take, take-take, take_all, take_more, length-take, length-replicate, drop-replicate, take-replicate}
 use Rattle.lsvd_device.specs.Medium.{Medium, durable, overwritten, after_write, after_sync}
-use Rattle.lsvd_device.specs.Device.{HoldsNow, moments_after}
+use Rattle.lsvd_device.specs.Device.{HoldsNow}
 use Rattle.lsvd_device.specs.Memory.{moments_from, moments_of, contents_from, bytes_written, LiesInside, LieInside, IsFrontOf, IsKept}
 use Rattle.lsvd_device.specs.declared.change.Change.{Change}
 use Rattle.lsvd_device.specs.declared.change.Change.TheVariants.{Write, Sync}
-use Rattle.lsvd_device.proofs.Moments.{length-overwritten, one_count}
+use Rattle.lsvd_device.proofs.Moments.{length-overwritten, one_count, written_some}
 
 -- the bytes after one change more
 pub contents_more : (changes : List Change) (bytes written : List ℕ) (change : Change)
@@ -55,15 +54,6 @@ pub one_inside : (changes : List Change) (k size : ℕ) (change : Change) → k 
 one_inside [] k size change less is all = absurd (omega (arith, less))
 one_inside (first ∷ changes) zero size change less is all = subst (LiesInside size) (sym is) all.0
 one_inside (first ∷ changes) (suc k) size change less is all = one_inside changes k size change (omega (arith, less)) is all.1
-
--- the bytes that some of the changes wrote are among those of all
-pub written_some : (changes : List Change) (k : ℕ) → bytes_written (take k changes) ≤ bytes_written changes
-written_some [] zero = omega arith
-written_some [] (suc k) = omega arith
-written_some (Write at n ∷ changes) zero = omega arith
-written_some (Write at n ∷ changes) (suc k) = (let e = written_some changes k in omega (arith, e))
-written_some (Sync ∷ changes) zero = omega arith
-written_some (Sync ∷ changes) (suc k) = written_some changes k
 
 -- zeros everywhere
 pub zeros_part : (n at size : ℕ) → at + n ≤ size → replicate {A = ℕ} n 0 ≡ take n (drop at (replicate size 0))
@@ -153,6 +143,6 @@ inside_longer (Write at n ∷ changes) size longer less all = ((let e = all.0 in
 inside_longer (Sync ∷ changes) size longer less all = (tt, inside_longer changes size longer less all.1)
 
 -- the front of what a disk keeps
-pub front_kept : (size : ℕ) (changes : List Change) (written held : List ℕ) → (kept : IsKept size changes written held) → IsFrontOf (contents_from (replicate size 0) changes written) held
-front_kept size changes written held kept =
+pub front_kept : (size synced : ℕ) (changes : List Change) (written held : List ℕ) → (kept : IsKept size synced changes written held) → IsFrontOf (contents_from (replicate size 0) changes written) held
+front_kept size synced changes written held kept =
     subst (λ xs. IsFrontOf xs held) (now_contents changes (durable (replicate size 0)) kept.now [] kept.past written kept.moments) kept.front

@@ -1,5 +1,5 @@
 -- What calls one after the other leave of a disk.
-use Rattle.std.proofs.Common.{◌≡◌, ℕ, ◌+◌, ◌-◌, ◌<◌, ◌≤◌, ◌⊎◌, Bool, true, false, refl, sym, ◌∙◌, ap, subst, inl, inr, arith}
+use Rattle.std.proofs.Common.{◌≡◌, ℕ, ◌+◌, ◌≤◌, Bool, true, false, refl, sym, ◌∙◌, ap, subst, inl, inr, arith}
 use Rattle.std.specs.Prelude.{Option, Some, None, nat_le}
 use Rattle.lsvd_fault.specs.Faults.{HasRisen}
 use Rattle.lsvd_device.specs.Calls.{Fuse, Budget, Cost, together, passes, lowered, Takes, TakesWithin}

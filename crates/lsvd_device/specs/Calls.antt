@@ -1,5 +1,5 @@
 -- How many calls a disk still passes, and what calls take of that.
-use Rattle.std.specs.Prelude.{◌≡◌, ℕ, ◌+◌, ◌-◌, ◌<◌, ◌≤◌, Option, Some, None, option_map, Bool, true, nat_le}
+use Rattle.std.specs.Prelude.{◌≡◌, ℕ, ◌+◌, ◌-◌, ◌≤◌, Option, Some, None, option_map, Bool, true, nat_le}
 
 -- the calls that a disk passes before it fails each one; none stands for no limit
 abbrev pub Fuse : Type 0

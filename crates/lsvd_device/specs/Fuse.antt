@@ -13,6 +13,11 @@ abbrev pub with_fuse : Fuse → Option Budget → Option Budget
 with_fuse fuse None = None
 with_fuse fuse (Some budget) = Some (record budget { fuse = tighter fuse budget.fuse })
 
+-- the budget with another fuse
+abbrev pub with_new_fuse : Fuse → Option Budget → Option Budget
+with_new_fuse fuse None = None
+with_new_fuse fuse (Some budget) = Some (record budget { fuse = fuse })
+
 -- a count that stands at the greatest number of its type
 abbrev pub counted_with : ℕ → ℕ → ℕ
 counted_with count more = min (count + more) (2 ^ 64 - 1)

@@ -2,4 +2,6 @@ pub mod Medium
 pub mod Calls
 pub mod Device
 pub mod Memory
+pub mod Sequence
 pub mod Fuse
+pub mod Stop

@@ -20,11 +20,10 @@ pub record Medium : Type 0 where
 abbrev pub LiesOutside : ℕ → Span → Type 0
 LiesOutside i span = (i < span.at) ⊎ (span.at + span.count ≤ i)
 
--- What a stop may leave of it: any bytes in each range written since the last sync that succeeded, and
+-- What a stop may leave of it: anything in each range written since the last sync that succeeded, and
 -- elsewhere what stood there at that sync.
 pub record MayLeave (medium : Medium) (left : List ℕ) : Type 0 where
   pub count : length left ≡ length medium.synced
-  pub bytes : All (λ byte. byte < 256) left
   pub elsewhere : (i : ℕ) → All (LiesOutside i) medium.pending → slice_index left i ≡ slice_index medium.synced i
 
 -- what it holds when nothing is pending

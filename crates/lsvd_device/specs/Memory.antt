@@ -3,7 +3,7 @@ use Rattle.std.specs.Prelude.{◌≡◌, ℕ, ◌+◌, ◌≤◌, Option, Some, 
 use Rattle.std.specs.List.{AllByRecursion}
 use Rattle.lsvd_device.specs.Medium.{Medium, durable, overwritten, after_write, after_sync}
 use Rattle.lsvd_device.specs.Calls.{Budget}
-use Rattle.lsvd_device.specs.Device.{HasSize, moments_after}
+use Rattle.lsvd_device.specs.Device.{HasSize, HoldsNow, moments_after}
 use Rattle.lsvd_device.specs.declared.change.Change.{Change}
 use Rattle.lsvd_device.specs.declared.change.Change.TheVariants.{Write, Sync}
 
@@ -43,8 +43,24 @@ pub record IsFrontOf (bytes front : List ℕ) : Type 0 where
   pub fits : length front ≤ length bytes
   pub same : front ≡ take (length front) bytes
 
+-- a change is a write
+abbrev pub IsWrite : Change → Type 0
+IsWrite (Write at count) = Unit {0}
+IsWrite Sync = ⊥
+
+-- nothing was written since the last sync
+pub record IsStill (medium : Medium) : Type 0 where
+  pub pending : medium.pending ≡ []
+  pub synced : medium.synced ≡ medium.bytes
+
+-- so many of the changes are those up to the last sync, and the others are writes
+pub record AreSyncedUpTo (size synced : ℕ) (changes : List Change) (written : List ℕ) : Type 0 where
+  pub inside : synced ≤ length changes
+  pub still : HoldsNow IsStill (moments_of size (take synced changes) (take (bytes_written (take synced changes)) written))
+  pub writes : AllByRecursion IsWrite (drop synced changes)
+
 -- what holds of the changes, their bytes, and the front of the bytes as they are now
-pub record IsKept (size : ℕ) (changes : List Change) (written held : List ℕ) : Type 0 where
+pub record IsKept (size synced : ℕ) (changes : List Change) (written held : List ℕ) : Type 0 where
   pub counted : bytes_written changes ≡ length written
   pub inside : LieInside size changes
   pub now : Medium
@@ -52,6 +68,7 @@ pub record IsKept (size : ℕ) (changes : List Change) (written held : List ℕ)
   pub moments : moments_of size changes written ≡ now ∷ past
   pub media : AllByRecursion (HasSize size) (now ∷ past)
   pub front : IsFrontOf now.bytes held
+  pub up_to : AreSyncedUpTo size synced changes written
 
 -- there is room for so many writes and syncs, and for so many bytes
 abbrev pub HasRoom : ℕ → ℕ → Option Budget → Type 0

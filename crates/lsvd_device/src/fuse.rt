@@ -1,11 +1,17 @@
-ghost use Rattle.std.specs.Prelude.{◌≡◌, ℕ, ◌-◌, ◌<◌, ◌≤◌, ◌⊎◌, ◌^◌, Some, None, OnOk, OnErr, IsSome};
+ghost use Rattle.std.specs.Prelude.{◌≡◌, ℕ, length, ◌-◌, ◌<◌, ◌≤◌, ◌⊎◌, ◌^◌, Some, None, IfOk, OnOk, OnErr, IsSome};
 ghost use Rattle.lsvd_fault.specs.Faults.{HasRisen};
-ghost use Rattle.lsvd_device.specs.Calls.{Fuse, lowered};
-ghost use Rattle.lsvd_device.specs.Device.{IsDisk};
-ghost use Rattle.lsvd_device.specs.Fuse.{fused};
+ghost use Rattle.lsvd_device.specs.Calls.{Fuse, fuse_of, lowered};
+ghost use Rattle.lsvd_device.specs.Device.{IsDisk, HoldsNow};
+ghost use Rattle.lsvd_device.specs.Fuse.{fused, with_new_fuse};
+ghost use Rattle.lsvd_device.specs.Medium.{MayLeave};
+ghost use Rattle.lsvd_device.specs.Stop.{left_in_order, IsStopped};
+ghost use Rattle.lsvd_device.specs.Memory.{HasRoom};
 
 use crate::disk::Disk;
+use crate::fate::Fate;
+use crate::memory::MemDisk;
 use lsvd_fault::Failed;
+use std::alloc::{AllocError, Global};
 use std::marker::Model;
 
 /// A disk with a fuse before it: so many calls are passed on, and each later one fails without being made.
@@ -48,6 +54,47 @@ impl<D: Disk> FuseDisk<D> {
         ensures { (fuse : Fuse) × (failed : ℕ) × (self ≡ fused fuse failed (D.state result)) }
     {
         self.disk
+    }
+}
+
+impl FuseDisk<MemDisk> {
+    /// Makes room on the disk in memory for so many more writes and syncs, and for so many bytes of writes, so that
+    /// none of them fails but by the fuse. The one error is want of memory. What the disk holds, and its count, are
+    /// as before.
+    pub fn reserve(&mut self, calls: u64, bytes: u64) -> Result<(), AllocError>
+        ensures room { OnOk result (HasRoom calls bytes self.new.budget) }
+        ensures fuse { fuse_of self.new.budget ≡ fuse_of self.old.budget }
+        ensures rest { self.new ≡ record self.old { budget = self.new.budget } }
+    {
+        self.disk.reserve(calls, bytes)
+    }
+
+    /// How many writes were made since the last sync.
+    pub fn pending(&self) -> usize
+        ensures { HoldsNow (λ now. result ≡ length now.pending) self.now.moments }
+    {
+        self.disk.pending()
+    }
+
+    /// The disk in memory after a stop of the machine, as its `stopped` gives it: each write that was not synced has met
+    /// its fate. The fates are as many as `pending` says (a condition). The one error is want of memory.
+    pub fn stopped(&self, alloc: Global, fates: &[Fate]) -> Result<MemDisk, AllocError>
+        requires { HoldsNow (λ now. length fates.now ≡ length now.pending) self.now.moments }
+        ensures size { IfOk result (λ disk. disk.size ≡ self.now.size) }
+        ensures left { IfOk result (λ disk. IsStopped fates.now self.now.moments disk.moments) }
+        ensures may_leave { OnOk result (HoldsNow (λ now. MayLeave now (left_in_order fates.now self.now.moments)) self.now.moments) }
+        ensures fuse { IfOk result (λ disk. fuse_of disk.budget ≡ Some None) }
+    {
+        self.disk.stopped(alloc, fates)
+    }
+
+    /// Makes the disk pass so many further calls, or all where there is no limit.
+    pub fn set_fuse(&mut self, fuse: Option<u64>)
+        ensures fuse { self.new.budget ≡ with_new_fuse fuse self.old.budget }
+        ensures rest { self.new ≡ record self.old { budget = self.new.budget } }
+    {
+        let _ = self.disk.pending();
+        self.left = fuse;
     }
 }
 
@@ -99,7 +146,6 @@ fn pass(left: &mut Option<u64>, failed: &mut u64) -> Result<(), Failed>
 #[cfg(test)]
 mod tests {
     use super::*;
-    use crate::memory::MemDisk;
     use std::test::Fail;
 
     #[test]

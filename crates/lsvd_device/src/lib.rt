@@ -6,9 +6,12 @@
 
 mod change;
 mod disk;
+mod fate;
 mod fuse;
 mod memory;
+mod stop;
 
 pub use disk::Disk;
+pub use fate::Fate;
 pub use fuse::FuseDisk;
 pub use memory::MemDisk;

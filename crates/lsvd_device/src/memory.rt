@@ -1,12 +1,15 @@
 ghost use Rattle.std.specs.Prelude.{◌≡◌, ◌+◌, ◌-◌, ◌<◌, ◌≤◌, ◌∷◌, ◌++◌, [], None, Some, IfOk, OnOk, OnErr, IsOk, IfSome, length, replicate, take, drop, vec_capacity, ◌^◌, List, ℕ};
 ghost use Rattle.lsvd_fault.specs.Faults.{HasRisen};
-ghost use Rattle.lsvd_device.specs.Medium.{durable, overwritten};
+ghost use Rattle.lsvd_device.specs.Medium.{MayLeave, durable, overwritten};
 ghost use Rattle.lsvd_device.specs.Calls.{fuse_of};
-ghost use Rattle.lsvd_device.specs.Device.{DiskState};
+ghost use Rattle.lsvd_device.specs.Device.{DiskState, HoldsNow};
+ghost use Rattle.lsvd_device.specs.Stop.{left_in_order, IsStopped};
 ghost use Rattle.lsvd_device.specs.Memory.{HasRoom, IsFrontOf, LiesInside, LieInside, bytes_written, contents_from};
 
 use crate::change::Change;
 use crate::disk::Disk;
+use crate::fate::Fate;
+use crate::stop::stop;
 use byte_window::paste;
 use lsvd_fault::Failed;
 use std::alloc::{AllocError, Global};
@@ -24,6 +27,8 @@ pub struct MemDisk {
     changes: Vec<Change>,
     /// The data of the changes, one behind the other.
     written: Vec<u8>,
+    /// How many of the changes are those up to the last sync.
+    synced: usize,
     faults: u64,
 }
 
@@ -45,7 +50,7 @@ impl Model for MemDisk {
       });
     } };
 
-    ghost invariant = { λ d. IsKept d.size d.changes.items d.written.items d.front.items };
+    ghost invariant = { λ d. IsKept d.size d.synced d.changes.items d.written.items d.front.items };
 }
 
 /// The first bytes of a disk that was made, for which memory is taken at once.
@@ -64,6 +69,7 @@ impl MemDisk {
             front: vec![in alloc; 0; len.min(FRONT_BYTES) as usize]?,
             changes: Vec::new(alloc),
             written: Vec::new(alloc),
+            synced: 0,
             faults: 0,
         })
     }
@@ -79,6 +85,34 @@ impl MemDisk {
     {
         self.changes.reserve(calls as usize)?;
         self.written.reserve(bytes as usize)
+    }
+
+    /// How many writes were made since the last sync. The disk has no fuse of its own.
+    pub fn pending(&self) -> usize
+        ensures count { HoldsNow (λ now. result ≡ length now.pending) self.now.moments }
+        ensures fuse { fuse_of self.now.budget ≡ Some None }
+    {
+        self.changes.len() - self.synced
+    }
+
+    /// The disk after a stop of the machine: each write that was not synced has met its fate, and nothing is pending.
+    /// The fates are in the order of the writes, and as many as `pending` says (a condition). The one error is want of
+    /// memory.
+    pub fn stopped(&self, alloc: Global, fates: &[Fate]) -> Result<MemDisk, AllocError>
+        requires { HoldsNow (λ now. length fates.now ≡ length now.pending) self.now.moments }
+        ensures size { IfOk result (λ disk. disk.size ≡ self.now.size) }
+        ensures left { IfOk result (λ disk. IsStopped fates.now self.now.moments disk.moments) }
+        ensures may_leave { OnOk result (HoldsNow (λ now. MayLeave now (left_in_order fates.now self.now.moments)) self.now.moments) }
+        ensures fuse { IfOk result (λ disk. fuse_of disk.budget ≡ Some None) }
+    {
+        stop(
+            alloc,
+            self.size,
+            &self.changes,
+            self.synced,
+            &self.written,
+            fates,
+        )
     }
 }
 
@@ -106,6 +140,7 @@ impl Disk for MemDisk {
         if self.changes.push(Change::Sync).is_err() {
             return Err(counted(&mut self.faults));
         }
+        self.synced = self.changes.len();
         Ok(())
     }
 

@@ -1,9 +1,9 @@
-use Rattle.std.proofs.Common.{rules, ◌≡◌, ◌+◌, ◌<◌, ◌≤◌, ◌^◌, ℕ, List, [], ◌∷◌, ◌-◌, length, take, drop, get_or, replicate, sym, ◌∙◌, ap, subst, arith}
+use Rattle.std.proofs.Common.{rules, ◌≡◌, ◌+◌, ◌<◌, ◌≤◌, ◌^◌, ℕ, List, [], ◌∷◌, ◌-◌, length, take, drop, get_or, replicate, ◌∙◌, ap, subst, arith}
 use Rattle.std.proofs.lemmas.List.{length-drop, take_rest, get_or_default}
 use Rattle.lsvd_device.specs.Memory.{bytes_written, LiesInside, contents_from}
 use Rattle.lsvd_device.specs.declared.change.Change.{Change}
 use Rattle.lsvd_device.specs.declared.change.Change.TheVariants.{Write}
-use Rattle.lsvd_device.proofs.Replayed.{IsAsFar, first_far, next_far, last_far, written_next, far_inside}
+use Rattle.lsvd_device.proofs.Replayed.{first_far, next_far, last_far, written_next, far_inside}
 use Rattle.lsvd_device.proofs.memory.replay.Goals as goal
 
 pub loop-change-init : goal.loop-change-init

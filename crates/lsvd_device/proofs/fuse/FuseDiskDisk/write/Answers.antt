@@ -1,9 +1,8 @@
-use Rattle.std.proofs.Common.{rules, ◌≡◌, ◌≤◌, ℕ, false, length, refl, sym, ap, subst}
+use Rattle.std.proofs.Common.{rules, ◌≡◌, ◌≤◌, false, length, refl}
 use Rattle.std.specs.Prelude.{Some, is_ok}
 use Rattle.lsvd_fault.specs.Faults.{HasRisen}
-use Rattle.lsvd_device.specs.Calls.{write_cost, lowered, PassesNone}
-use Rattle.lsvd_device.specs.Device.{DiskState, MakesCalls, FailsAlone}
-use Rattle.lsvd_device.specs.Fuse.{fused}
+use Rattle.lsvd_device.specs.Calls.{write_cost, lowered}
+use Rattle.lsvd_device.specs.Device.{DiskState}
 use Rattle.lsvd_device.proofs.Fused.{fused_passed, fused_stopped, fused_blown}
 use Rattle.lsvd_device.proofs.fuse.FuseDiskDisk.write.Goals as goal
 

@@ -1,0 +1,215 @@
+ghost use Rattle.std.specs.Prelude.{◌≡◌, ◌+◌, ◌≤◌, [], ◌∷◌, length, IfOk, OnOk, Some, None};
+ghost use Rattle.std.specs.List.{AllByRecursion};
+ghost use Rattle.lsvd_device.specs.Medium.{MayLeave, after_write, after_sync};
+ghost use Rattle.lsvd_device.specs.Calls.{fuse_of};
+ghost use Rattle.lsvd_device.specs.Device.{HoldsNow, moments_after};
+ghost use Rattle.lsvd_device.specs.Memory.{IsWrite, LiesInside, LieInside, bytes_written, moments_from, moments_of};
+ghost use Rattle.lsvd_device.specs.Stop.{put_by, change_by, left_in_order, IsStopped, Rewrites, LeavesBy, MayStop};
+
+use crate::change::Change;
+use crate::disk::Disk;
+use crate::fate::Fate;
+use crate::memory::MemDisk;
+use lsvd_fault::Failed;
+use std::alloc::{AllocError, Global};
+
+/// The disk that a stop leaves of these changes, of which so many are those up to the last sync, and each write behind
+/// them has met its fate. The one error is want of memory.
+pub(crate) fn stop(
+    alloc: Global,
+    size: u64,
+    changes: &[Change],
+    synced: usize,
+    written: &[u8],
+    fates: &[Fate],
+) -> Result<MemDisk, AllocError>
+    requires { MayStop size synced changes.now written.now fates.now }
+    ensures size { IfOk result (λ disk. disk.size ≡ size) }
+    ensures left { IfOk result (λ disk. IsStopped fates.now (moments_of size changes.now written.now) disk.moments) }
+    ensures may_leave { OnOk result (HoldsNow (λ now. MayLeave now (left_in_order fates.now (moments_of size changes.now written.now))) (moments_of size changes.now written.now)) }
+    ensures fuse { IfOk result (λ disk. fuse_of disk.budget ≡ Some None) }
+{
+    let mut disk = MemDisk::new(alloc, size)?;
+    let used = make_again(&mut disk, &changes[..synced], written)?;
+    make_by_fates(
+        alloc,
+        &mut disk,
+        &changes[synced..],
+        &written[used..],
+        fates,
+    )?;
+    sync(&mut disk)?;
+    let _ = disk.pending();
+    Ok(disk)
+}
+
+// Makes changes again on another disk, and answers how many bytes they wrote, which are the first of `written`.
+fn make_again(disk: &mut MemDisk, changes: &[Change], written: &[u8]) -> Result<usize, AllocError>
+    requires counted { bytes_written changes.now ≤ length written.now }
+    requires inside { LieInside disk.old.size changes.now }
+    ensures used { IfOk result (λ used. used ≡ bytes_written changes.now) }
+    ensures moments { OnOk result (disk.new.moments ≡ moments_from disk.old.moments changes.now written.now) }
+    ensures size { disk.new.size ≡ disk.old.size }
+{
+    let mut used = 0;
+    for change in changes {
+        used += make_change(disk, *change, &written[used..])?;
+    }
+    Ok(used)
+}
+
+// Makes a change again, and answers how many bytes it wrote.
+fn make_change(disk: &mut MemDisk, change: Change, written: &[u8]) -> Result<usize, AllocError>
+    requires fits { bytes_written (change ∷ []) ≤ length written.now }
+    requires inside { LiesInside disk.old.size change }
+    ensures count { IfOk result (λ count. count ≡ bytes_written (change ∷ [])) }
+    ensures moments { OnOk result (disk.new.moments ≡ moments_from disk.old.moments (change ∷ []) written.now) }
+    ensures size { disk.new.size ≡ disk.old.size }
+{
+    match change {
+        Change::Write { at, count } => {
+            put(disk, at, &written[..count])?;
+            Ok(count)
+        }
+        Change::Sync => {
+            sync(disk)?;
+            Ok(0)
+        }
+    }
+}
+
+// Lets each of these writes meet its fate on a disk that holds what stood at the last sync before them. Their bytes
+// are the first of `written`.
+fn make_by_fates(
+    alloc: Global,
+    disk: &mut MemDisk,
+    changes: &[Change],
+    written: &[u8],
+    fates: &[Fate],
+) -> Result<(), AllocError>
+    requires counted { bytes_written changes.now ≤ length written.now }
+    requires inside { LieInside disk.old.size changes.now }
+    requires writes { AllByRecursion IsWrite changes.now }
+    requires count { length fates.now ≡ length changes.now }
+    ensures left { OnOk result (LeavesBy disk.old.size fates.now changes.now written.now disk.old.moments disk.new.moments) }
+    ensures size { disk.new.size ≡ disk.old.size }
+{
+    let mut used = 0;
+    for index in 0..changes.len() {
+        used += make_by_fate(alloc, disk, changes[index], &written[used..], fates[index])?;
+    }
+    Ok(())
+}
+
+// Lets a write meet its fate, and answers how many bytes it has.
+fn make_by_fate(
+    alloc: Global,
+    disk: &mut MemDisk,
+    change: Change,
+    written: &[u8],
+    fate: Fate,
+) -> Result<usize, AllocError>
+    requires fits { bytes_written (change ∷ []) ≤ length written.now }
+    requires inside { LiesInside disk.old.size change }
+    requires write { IsWrite change }
+    ensures count { IfOk result (λ count. count ≡ bytes_written (change ∷ [])) }
+    ensures bytes { OnOk result (Rewrites (change_by fate change written.now) disk.old.moments disk.new.moments) }
+    ensures size { disk.new.size ≡ disk.old.size }
+{
+    match change {
+        Change::Write { at, count } => {
+            put_by(alloc, disk, at, &written[..count], fate)?;
+            Ok(count)
+        }
+        Change::Sync => Ok(0),
+    }
+}
+
+// Lets the write of a piece meet its fate.
+fn put_by(
+    alloc: Global,
+    disk: &mut MemDisk,
+    at: u64,
+    piece: &[u8],
+    fate: Fate,
+) -> Result<(), AllocError>
+    requires inside { at + length piece.now ≤ disk.old.size }
+    ensures bytes { OnOk result (Rewrites (put_by fate at piece.now) disk.old.moments disk.new.moments) }
+    ensures size { disk.new.size ≡ disk.old.size }
+{
+    match fate {
+        Fate::Kept => put(disk, at, piece),
+        Fate::Old => Ok(()),
+        Fate::Zeros => {
+            let zeros = vec![in alloc; 0; piece.len()]?;
+            put(disk, at, zeros.as_slice())
+        }
+        Fate::Torn => put(disk, at, &piece[..piece.len() / 2]),
+    }
+}
+
+// A write, which fails only for want of memory.
+fn put(disk: &mut MemDisk, at: u64, piece: &[u8]) -> Result<(), AllocError>
+    requires inside { at + length piece.now ≤ disk.old.size }
+    ensures moments { OnOk result (disk.new.moments ≡ moments_after (after_write at piece.now) disk.old.moments) }
+    ensures size { disk.new.size ≡ disk.old.size }
+{
+    match disk.write(at, piece) {
+        Ok(()) => Ok(()),
+        Err(Failed) => Err(AllocError),
+    }
+}
+
+// A sync, which fails only for want of memory.
+fn sync(disk: &mut MemDisk) -> Result<(), AllocError>
+    ensures moments { OnOk result (disk.new.moments ≡ moments_after after_sync disk.old.moments) }
+    ensures size { disk.new.size ≡ disk.old.size }
+{
+    match disk.sync() {
+        Ok(()) => Ok(()),
+        Err(Failed) => Err(AllocError),
+    }
+}
+
+#[cfg(test)]
+mod tests {
+    use super::*;
+    use std::process::Abort;
+    use std::test::Fail;
+
+    // A disk of eight bytes, with two writes that were synced and three that were not.
+    fn written(alloc: Global, rt: &impl Abort) -> Result<MemDisk, Fail> {
+        let mut disk = MemDisk::new(alloc, 8)?;
+        assert_eq!(rt; disk.len(), 8);
+        disk.write(0, b"abcd")?;
+        disk.write(2, b"ef")?;
+        disk.sync()?;
+        disk.write(0, b"ABC")?;
+        disk.write(2, b"DEF")?;
+        disk.write(7, b"H")?;
+        Ok(disk)
+    }
+
+    #[test]
+    fn each_write_meets_its_fate(rt: HostRuntime) -> Result<(), Fail> {
+        let alloc = rt.alloc();
+        let disk = written(alloc, &rt)?;
+        assert_eq!(rt; disk.pending(), 3);
+        for (fates, wanted) in [
+            ([Fate::Old, Fate::Old, Fate::Old], *b"abef\0\0\0\0"),
+            ([Fate::Kept, Fate::Kept, Fate::Kept], *b"ABDEF\0\0H"),
+            ([Fate::Kept, Fate::Old, Fate::Zeros], *b"ABCf\0\0\0\0"),
+            ([Fate::Old, Fate::Kept, Fate::Torn], *b"abDEF\0\0\0"),
+            ([Fate::Torn, Fate::Zeros, Fate::Kept], *b"Ab\0\0\0\0\0H"),
+            ([Fate::Zeros, Fate::Torn, Fate::Old], *b"\0\0Df\0\0\0\0"),
+        ] {
+            assert_eq!(rt; fates.len(), disk.pending());
+            let mut left = disk.stopped(alloc, &fates)?;
+            assert_eq!(rt; (left.len(), left.pending()), (8, 0));
+            let mut held = [0xff; 8];
+            left.read(0, &mut held)?;
+            assert_eq!(rt; held, wanted, "{fates:?}");
+        }
+        Ok(())
+    }
+}
