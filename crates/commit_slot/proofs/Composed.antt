@@ -1,13 +1,13 @@
 -- The calls of a commit, one after the other.
-use Rattle.std.proofs.Common.{◌≡◌, ℕ, ◌+◌, Bool, true, refl, sym, ◌∙◌, ap, subst, inl, inr}
-use Rattle.std.specs.Prelude.{Option, Some, None}
+use Rattle.std.proofs.Common.{◌≡◌, ℕ, ◌+◌, Bool, true, false, refl, sym, ◌∙◌, ap, subst, inl, inr}
+use Rattle.std.specs.Prelude.{Option, Some, None, Result, Ok, Err, OnErr, is_ok}
 use Rattle.lsvd_device.specs.Medium.{Medium}
 use Rattle.lsvd_device.specs.Calls.{together}
 use Rattle.lsvd_device.specs.Device.{DiskState, MakesCalls}
 use Rattle.lsvd_device.proofs.Together.{made_then}
 use Rattle.commit_body.specs.declared.body.CommitBody.{CommitBody}
 use Rattle.commit_slot.specs.Slots.{log_of}
-use Rattle.commit_slot.specs.Commits.{CommitsState, AreCommits, Leaves, LeavesSince, LeavesNow, IsSecondHalf, FailsSecondHalf, IsCommit, IsLast, IsLastOr, IsFinished, IsBegun, finished_number, finished_body, first_half_cost, second_half_cost, finish_cost, commit_cost}
+use Rattle.commit_slot.specs.Commits.{CommitsState, AreCommits, Leaves, LeavesSince, LeavesNow, IsSecondHalf, FailsSecondHalf, IsCommit, IsLast, IsLastOr, IsFinished, IsBegun, IsAsBefore, FailsIn, finished_number, finished_body, first_half_cost, second_half_cost, finish_cost, commit_cost}
 use Rattle.commit_slot.proofs.Passing.{passes_as, passes_on}
 use Rattle.commit_slot.proofs.Kept.{IsLeft, second_failed, second_failed_leaves, second_made, second_made_leaves, settled_now, half_now}
 
@@ -64,7 +64,7 @@ only_now commits is are =
 
 -- ---- one call after another
 
-leaves_as : (log : ℕ) (P Q : ℕ → CommitBody → Type 0) (medium : Medium) → ((n : ℕ) (b : CommitBody) → P n b → Q n b) → Leaves log P medium → Leaves log Q medium
+pub leaves_as : (log : ℕ) (P Q : ℕ → CommitBody → Type 0) (medium : Medium) → ((n : ℕ) (b : CommitBody) → P n b → Q n b) → Leaves log P medium → Leaves log Q medium
 leaves_as log P Q medium follows leaves = λ left may.
     let is = leaves left may in
     (is.0, is.1, follows is.0 is.1 is.2, is.3)
@@ -109,3 +109,25 @@ all_calls old middle behind new body is_made left first second third =
     let last : MakesCalls second_half_cost is_made behind.disk new.disk = (let P : Option CommitBody → Type 0 = λ u. MakesCalls (finish_cost u) is_made behind.disk new.disk in subst P left third) in
     made_then (finish_cost old.unfinished) (together first_half_cost second_half_cost) is_made old.disk middle.disk new.disk first
     (made_then first_half_cost second_half_cost is_made middle.disk behind.disk new.disk second last)
+
+-- ---- a commit that failed
+
+pub fails_to_begin : (body : CommitBody) (old middle new : CommitsState) → IsFinished old new → MakesCalls (finish_cost old.unfinished) true old.disk middle.disk
+    → MakesCalls first_half_cost false middle.disk new.disk → FailsIn body old new
+fails_to_begin body old middle new finished first second =
+    inr (inl (finished, (made_then (finish_cost old.unfinished) first_half_cost false old.disk middle.disk new.disk first second, middle.disk, first, second)))
+
+pub fails_to_end : {T E : Type 0} (result : Result T E) (body : CommitBody) (old middle next new : CommitsState) → IsFinished old middle → IsBegun body middle next
+    → MakesCalls (finish_cost old.unfinished) true old.disk middle.disk → MakesCalls first_half_cost true middle.disk next.disk → OnErr result (IsAsBefore next new)
+    → MakesCalls (finish_cost next.unfinished) (is_ok result) next.disk new.disk → OnErr result (FailsIn body old new)
+fails_to_end (Ok value) body old middle next new finished begun first second err third = tt
+fails_to_end (Err error) body old middle next new finished begun first second err third =
+    let at = begun_at old middle next body finished begun in
+    let is : IsBegun body old new = record { number' = err.number' ∙ at.0; body' = err.body' ∙ at.1; unfinished' = err.unfinished' ∙ at.2 } in
+    let both : MakesCalls (together (finish_cost old.unfinished) first_half_cost) true old.disk next.disk =
+    made_then (finish_cost old.unfinished) first_half_cost true old.disk middle.disk next.disk first second in
+    let last : MakesCalls second_half_cost false next.disk new.disk = (let P : Option CommitBody → Type 0 = λ u. MakesCalls (finish_cost u) false next.disk new.disk in subst P at.2 third) in
+    inr (inr (
+      is,
+      (made_then (together (finish_cost old.unfinished) first_half_cost) second_half_cost false old.disk next.disk new.disk both last, next.disk, both, last),
+    ))

@@ -1,21 +1,25 @@
 -- The calls of formatting.
-use Rattle.std.proofs.Common.{◌≡◌, ◌≢◌, ℕ, ◌+◌, ◌-◌, ◌<◌, ◌≤◌, List, [], ◌∷◌, length, take, replicate, get_or, refl, sym, ◌∙◌, ap, subst, inl, inr, arith}
-use Rattle.std.specs.Prelude.{codes}
+use Rattle.std.proofs.Common.{◌≡◌, ◌≢◌, ℕ, ◌+◌, ◌-◌, ◌<◌, ◌≤◌, List, [], ◌∷◌, ◌++◌, length, take, replicate, get_or, refl, sym, ◌∙◌, ap, subst, inl, inr, arith}
+use Rattle.std.specs.Prelude.{codes, true, false}
 use Rattle.std.proofs.lemmas.List.{length-replicate, take-replicate, drop-replicate}
 use Rattle.lsvd_bytes.specs.Places.{bytes_at}
 use Rattle.lsvd_device.specs.Medium.{Medium, after_write, after_sync, overwritten}
-use Rattle.lsvd_device.specs.Device.{DiskState, IsDisk, HasSize, HoldsNow, moments_after}
+use Rattle.lsvd_device.specs.Calls.{write_cost, sync_cost, together}
+use Rattle.lsvd_device.specs.Device.{DiskState, IsDisk, HasSize, HoldsNow, MakesCalls, moments_after}
+use Rattle.lsvd_device.specs.Sequence.{Call, Write, Sync, MakesThosePassed}
 use Rattle.commit_body.specs.declared.body.CommitBody.{CommitBody}
-use Rattle.commit_body.specs.Body.{IsBody}
+use Rattle.commit_body.specs.Body.{IsBody, body_bytes}
 use Rattle.commit_body.proofs.BodyLemmas.{magic-body}
 use Rattle.commit_slot.specs.Lasting.{Lasts}
 use Rattle.commit_slot.specs.Slots.{log_of, body_at, gate_at}
-use Rattle.commit_slot.specs.Commits.{IsOpen, IsClosed, IsOlder, IsSettled}
-use Rattle.commit_slot.specs.Formatting.{clear_bytes, IsNoCommit, IsClear, IsClearSlot, IsFirstWritten, WritesFirst, OpensFirst}
+use Rattle.commit_slot.specs.Commits.{IsOpen, IsClosed, IsOlder, IsSettled, first_half_cost}
+use Rattle.commit_slot.specs.Formatting.{clear_cost, clear_calls, first_body_calls, first_open_calls, format_calls, clear_bytes, IsNoCommit, IsClear, IsClearSlot, IsFirstWritten, WritesFirst, OpensFirst}
 use Rattle.commit_slot.proofs.LastingLemmas.{Apart, part_before, still_there}
 use Rattle.commit_slot.proofs.Passing.{after_step}
 use Rattle.commit_slot.proofs.SlotStates.{body_lies, gate_lies, written_keeps, written_there, sync_keeps, zero_is_closed, one_is_open}
 use Rattle.commit_slot.proofs.Steps.{media_of}
+use Rattle.lsvd_device.proofs.Passed.{Asks, passed_then, passed_failed}
+use Rattle.commit_slot.proofs.Performed.{costs_then, write_costs, sync_costs}
 
 -- ---- zeros
 
@@ -38,7 +42,7 @@ cleared at count bytes within fits =
     part_before at count 3072 new within ∙ ap (bytes_at at count) front ∙ clear_in at count within
 
 -- zeros are no body
-zeros_are_none : (slot : ℕ) (sector : List ℕ) → sector ≡ replicate 512 0 → IsNoCommit slot sector
+pub zeros_are_none : (slot : ℕ) (sector : List ℕ) → sector ≡ replicate 512 0 → IsNoCommit slot sector
 zeros_are_none slot sector is log n body also =
     let magic : take 8 sector ≡ codes "LSVDCMT1" = ap (take 8) also.bytes ∙ magic-body body n in
     let zeros : take 8 sector ≡ replicate 8 0 = ap (take 8) is ∙ take-replicate {X = ℕ} 8 512 0 (omega arith) in
@@ -197,3 +201,30 @@ formats body old middle behind new size size' clear writes opens =
     (let P : ℕ → Type 0 = λ n. HoldsNow (IsFirstWritten (log_of n) body) behind.moments in subst P (sym size') (writes clear)) in
     let Q : ℕ → Type 0 = λ n. HoldsNow (IsSettled (log_of n) 0 body) new.moments in
     subst Q (size' ∙ size) (opens body first)
+
+-- ---- what a fuse lets pass of formatting
+
+clear_costs : Asks clear_calls clear_cost
+clear_costs = costs_then (Write 0 clear_bytes ∷ []) (Sync ∷ []) (write_cost 3072) sync_cost (write_costs 0 clear_bytes 3072 length-clear) sync_costs
+
+first_costs : (body : CommitBody) → length (body_bytes body 0) ≡ 512 → Asks (first_body_calls body) first_half_cost
+first_costs body whole =
+    let w : Call = Write (body_at 0) (body_bytes body 0) in
+    let v : Call = Write (gate_at 1) (0 ∷ []) in
+    costs_then (w ∷ []) (v ∷ Sync ∷ []) (write_cost 512) (together (write_cost 1) sync_cost) (write_costs _ _ 512 whole)
+    (costs_then (v ∷ []) (Sync ∷ []) (write_cost 1) sync_cost (write_costs _ _ 1 refl) sync_costs)
+
+pub clear_failed : (body : CommitBody) (old new : DiskState) → MakesCalls clear_cost false old new → MakesThosePassed clear_calls old new → MakesThosePassed (format_calls body) old new
+clear_failed body old new calls first = passed_failed clear_calls (first_body_calls body ++ first_open_calls) clear_cost old new clear_costs calls first
+
+pub first_failed : (body : CommitBody) (old middle new : DiskState) → length (body_bytes body 0) ≡ 512 → MakesCalls clear_cost true old middle → MakesThosePassed clear_calls old middle
+    → MakesCalls first_half_cost false middle new → MakesThosePassed (first_body_calls body) middle new → MakesThosePassed (format_calls body) old new
+first_failed body old middle new whole calls first calls' second =
+    passed_then clear_calls (first_body_calls body ++ first_open_calls) clear_cost old middle new clear_costs calls first
+    (passed_failed (first_body_calls body) first_open_calls first_half_cost middle new (first_costs body whole) calls' second)
+
+pub all_formats : (body : CommitBody) (old middle next new : DiskState) → length (body_bytes body 0) ≡ 512 → MakesCalls clear_cost true old middle → MakesThosePassed clear_calls old middle
+    → MakesCalls first_half_cost true middle next → MakesThosePassed (first_body_calls body) middle next → MakesThosePassed first_open_calls next new → MakesThosePassed (format_calls body) old new
+all_formats body old middle next new whole calls first calls' second third =
+    passed_then clear_calls (first_body_calls body ++ first_open_calls) clear_cost old middle new clear_costs calls first
+    (passed_then (first_body_calls body) first_open_calls first_half_cost middle next new (first_costs body whole) calls' second third)

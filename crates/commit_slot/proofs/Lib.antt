@@ -1,6 +1,6 @@
 mod Outcomes
 mod LastingLemmas
-mod Passing
+pub mod Passing
 mod SlotStates
 mod Steps
 mod Readings
@@ -8,3 +8,10 @@ mod Kept
 mod Composed
 mod Formatted
 mod Newest
+mod Lent
+pub mod BehindLemmas
+mod Committing
+pub mod Performed
+mod NewestKept
+mod Mended
+mod Loaded

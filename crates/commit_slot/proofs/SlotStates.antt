@@ -107,6 +107,7 @@ gate_keeps_half log last next third number body more old new slots keeps half =
       gate = keeps (gate_at last) 1 _ (slots_apart next last (gate_at next) 1 (gate_at last) 1 backward (gate_lies next) (gate_lies last)) half.gate;
       next_sector = keeps (body_at next) 512 _ (body_before next) half.next_sector;
       closed = keeps (gate_at third) 1 _ (slots_apart next third (gate_at next) 1 (gate_at third) 1 slots.second (gate_lies next) (gate_lies third)) half.closed;
+      older = keeps (body_at third) 512 _ (slots_apart next third (gate_at next) 1 (body_at third) 512 slots.second (gate_lies next) (body_lies third)) half.older;
     }
 
 -- ---- syncs
@@ -193,6 +194,7 @@ sync_first size log last next third number body more piece medium slots least is
             sync_keeps size next (body_at next) 512 _ medium has least slots.next' (body_lies next)
             (let P : List ℕ → Type 0 = λ bytes. IsBody bytes log next more (number + 1) in subst P (sym closed.piece') is);
         closed = sync_keeps size third (gate_at third) 1 IsClosed medium has least slots.third' (gate_lies third) (zero_is_closed _ closed.gate);
+        older = settled.older;
       };
     }
 
@@ -221,7 +223,7 @@ pub same_number : (sector : List ℕ) (log slot other m n : ℕ) (a b : CommitBo
 same_number sector log slot other m n a b first second = determines_body a b m n first.numbers second.numbers (sym first.bytes ∙ second.bytes)
 
 -- the body of a commit is older than the next one
-own_is_older : (log slot number : ℕ) (body : CommitBody) (bytes : List ℕ) → IsBody bytes log slot body number → IsOlder log slot (number + 1) bytes
+pub own_is_older : (log slot number : ℕ) (body : CommitBody) (bytes : List ℕ) → IsBody bytes log slot body number → IsOlder log slot (number + 1) bytes
 own_is_older log slot number body bytes is other n also = (let e = (same_number bytes log slot slot number n body other is also).1 in omega (arith, e))
 
 pub sync_second : (size log last next third number : ℕ) (body more : CommitBody) (medium : Medium) → AreThree last next third → 4096 ≤ size
@@ -248,6 +250,7 @@ sync_made size log last next third number body more medium slots least has opene
         gate = sync_keeps size last (gate_at last) 1 _ medium has least slots.last' (gate_lies last) opened.half.gate.now;
         next_sector = settled.sector;
         closed = settled.closed;
+        older = sync_keeps size third (body_at third) 512 _ medium has least slots.third' (body_lies third) opened.half.older.now;
       };
       settled = settled;
     }

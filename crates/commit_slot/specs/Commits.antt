@@ -1,11 +1,12 @@
 -- What contracts see of the commits on a device, and what stands in the slots between their halves.
-use Rattle.std.specs.Prelude.{◌≡◌, ℕ, ◌+◌, ◌%◌, ◌^◌, ◌<◌, ◌≤◌, ◌≢◌, ◌⊎◌, Option, Some, None, IfSome, List, ◌++◌, slice_index}
+use Rattle.std.specs.Prelude.{◌≡◌, ℕ, ◌+◌, ◌%◌, ◌^◌, ◌<◌, ◌≤◌, ◌≢◌, ◌⊎◌, true, false, Option, Some, None, IfSome, List, ◌++◌, slice_index}
 use Rattle.std.specs.List.{AllByRecursion}
+use Rattle.lsvd_bytes.specs.Places.{bytes_at}
 use Rattle.lsvd_device.specs.Medium.{Medium, MayLeave}
-use Rattle.lsvd_device.specs.Calls.{Cost, write_cost, sync_cost, together}
-use Rattle.lsvd_device.specs.Device.{DiskState, IsDisk, HoldsNow}
+use Rattle.lsvd_device.specs.Calls.{Budget, Cost, write_cost, sync_cost, together}
+use Rattle.lsvd_device.specs.Device.{DiskState, IsDisk, HoldsNow, MakesCalls}
 use Rattle.commit_body.specs.declared.body.CommitBody.{CommitBody}
-use Rattle.commit_body.specs.Body.{IsBody}
+use Rattle.commit_body.specs.Body.{IsBody, MayStand}
 use Rattle.commit_slot.specs.Lasting.{Lasts}
 use Rattle.commit_slot.specs.Slots.{log_of, body_at, gate_at, Reads}
 
@@ -17,6 +18,10 @@ pub record CommitsState : Type 0 where
   -- the body of the next commit, where its first half was made and its second half failed
   pub unfinished : Option CommitBody
   pub disk : DiskState
+
+-- the same commits on a disk that passes other calls
+abbrev pub with_budget : Option Budget → CommitsState → CommitsState
+with_budget budget commits = record commits { disk = record commits.disk { budget = budget } }
 
 -- ---- what stands in the slots
 
@@ -42,12 +47,13 @@ abbrev pub IsSettled : (log number : ℕ) → CommitBody → Medium → Type 0
 IsSettled log number body medium = IsSettledIn log (number % 3) ((number + 1) % 3) ((number + 2) % 3) number body medium
 
 -- A commit stands in its slot, which is open, and the body of the next one in the next, whose gate is of any kind. The
--- slot behind that is closed.
+-- slot behind that is closed, and has no newer one.
 pub record IsHalfMadeIn (log last next third number : ℕ) (body : CommitBody) (more : CommitBody) (medium : Medium) : Type 0 where
   pub sector : Lasts (body_at last) 512 (λ bytes. IsBody bytes log last body number) medium
   pub gate : Lasts (gate_at last) 1 IsOpen medium
   pub next_sector : Lasts (body_at next) 512 (λ bytes. IsBody bytes log next more (number + 1)) medium
   pub closed : Lasts (gate_at third) 1 IsClosed medium
+  pub older : Lasts (body_at third) 512 (IsOlder log third number) medium
 
 abbrev pub IsHalfMade : (log number : ℕ) → CommitBody → CommitBody → Medium → Type 0
 IsHalfMade log number body more medium = IsHalfMadeIn log (number % 3) ((number + 1) % 3) ((number + 2) % 3) number body more medium
@@ -62,7 +68,8 @@ pub record AreCommits (number : ℕ) (body : CommitBody) (unfinished : Option Co
   pub stand : HoldsNow (Stands (log_of disk.size) number body unfinished) disk.moments
   pub is_disk : IsDisk disk
   pub size : 4096 ≤ disk.size
-  pub fits : IfSome unfinished (λ more. number + 1 < 2 ^ 64)
+  pub may_stand : MayStand body (log_of disk.size)
+  pub next : IfSome unfinished (λ more. (number + 1 < 2 ^ 64) × MayStand more (log_of disk.size))
 
 -- ---- what calls leave
 
@@ -72,9 +79,16 @@ pub record Passes (P : Medium → Type 0) (old new : List Medium) : Type 0 where
   pub moments : new ≡ since ++ old
   pub each : AllByRecursion P since
 
--- whatever a stop leaves then reads as a commit with P
+-- Bytes read as a commit, and the other slots are as between two commits: the gate of the next one is not 1, and the body
+-- of the slot behind that is none, or that of a commit before this one.
+pub record ReadsSettled (log : ℕ) (bytes : List ℕ) (body : CommitBody) (number : ℕ) : Type 0 where
+  pub reads : Reads log bytes body number
+  pub next : slice_index bytes (gate_at ((number + 1) % 3)) ≢ 1
+  pub third : IsOlder log ((number + 2) % 3) number (bytes_at (body_at ((number + 2) % 3)) 512 bytes)
+
+-- whatever a stop leaves then reads as a commit with P, and its other slots are as between two commits
 abbrev pub Leaves : ℕ → (ℕ → CommitBody → Type 0) → Medium → Type 0
-Leaves log P medium = (left : List ℕ) → MayLeave medium left → (number : ℕ) × (body : CommitBody) × P number body × Reads log left body number
+Leaves log P medium = (left : List ℕ) → MayLeave medium left → (number : ℕ) × (body : CommitBody) × P number body × ReadsSettled log left body number
 
 -- the first half of a commit: until its end a stop leaves the last commit, and then its second half may be made
 abbrev pub IsFirstHalf : (number : ℕ) → CommitBody → DiskState → DiskState → Type 0
@@ -169,6 +183,18 @@ IsMade body old new = IsAt (finished_number old.number old.unfinished + 1) body 
 -- A commit failed: nothing was made, or the second half that was left, or the first half of the next one too.
 abbrev pub FailsToCommit : CommitBody → CommitsState → CommitsState → Type 0
 FailsToCommit body old new = IsAsBefore old new ⊎ (IsFinished old new ⊎ IsBegun body old new)
+
+-- calls of which the first were all made, and one of the others failed
+abbrev pub FailsBegun : Cost → Cost → DiskState → DiskState → Type 0
+FailsBegun first second old new = MakesCalls (together first second) false old new × (middle : DiskState) × MakesCalls first true old middle × MakesCalls second false middle new
+
+-- A commit failed, and so many calls were made: the second half that was left failed; or that was made, and the first
+-- half of the next commit failed; or its first half was made, and its second half failed.
+abbrev pub FailsIn : CommitBody → CommitsState → CommitsState → Type 0
+FailsIn body old new =
+    (IsAsBefore old new × MakesCalls (finish_cost old.unfinished) false old.disk new.disk)
+    ⊎ ((IsFinished old new × FailsBegun (finish_cost old.unfinished) first_half_cost old.disk new.disk)
+    ⊎ (IsBegun body old new × FailsBegun (together (finish_cost old.unfinished) first_half_cost) second_half_cost old.disk new.disk))
 
 -- at each moment since then a stop leaves a commit with P
 abbrev pub LeavesSince : (ℕ → CommitBody → Type 0) → DiskState → DiskState → Type 0

@@ -1,10 +1,11 @@
 -- What stands in the slots while a device is formatted.
-use Rattle.std.specs.Prelude.{ℕ, ◌<◌, List, replicate}
+use Rattle.std.specs.Prelude.{ℕ, ◌<◌, List, [], ◌∷◌, ◌++◌, replicate}
 use Rattle.lsvd_device.specs.Medium.{Medium}
 use Rattle.lsvd_device.specs.Calls.{Cost, write_cost, sync_cost, together}
 use Rattle.lsvd_device.specs.Device.{DiskState, HoldsNow}
+use Rattle.lsvd_device.specs.Sequence.{Call, Write, Sync}
 use Rattle.commit_body.specs.declared.body.CommitBody.{CommitBody}
-use Rattle.commit_body.specs.Body.{IsBody}
+use Rattle.commit_body.specs.Body.{IsBody, body_bytes}
 use Rattle.commit_slot.specs.Lasting.{Lasts}
 use Rattle.commit_slot.specs.Slots.{log_of, body_at, gate_at}
 use Rattle.commit_slot.specs.Commits.{IsClosed, IsOlder, IsSettled, first_half_cost, second_half_cost}
@@ -45,3 +46,16 @@ clear_cost = together (write_cost 3072) sync_cost
 -- what formatting takes: seven calls
 abbrev pub format_cost : Cost
 format_cost = together clear_cost (together first_half_cost second_half_cost)
+
+-- the calls of each part, and of formatting
+abbrev pub clear_calls : List Call
+clear_calls = Write 0 clear_bytes ∷ Sync ∷ []
+
+abbrev pub first_body_calls : CommitBody → List Call
+first_body_calls body = Write (body_at 0) (body_bytes body 0) ∷ Write (gate_at 1) (0 ∷ []) ∷ Sync ∷ []
+
+abbrev pub first_open_calls : List Call
+first_open_calls = Write (gate_at 0) (1 ∷ []) ∷ Sync ∷ []
+
+abbrev pub format_calls : CommitBody → List Call
+format_calls body = clear_calls ++ (first_body_calls body ++ first_open_calls)

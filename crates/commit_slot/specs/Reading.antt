@@ -1,13 +1,18 @@
 -- What is read of the slots.
-use Rattle.std.specs.Prelude.{◌≡◌, ℕ, ◌≤◌, ◌⊎◌, Option, Some, None, List}
+use Rattle.std.specs.Prelude.{◌≡◌, ℕ, ◌≤◌, ◌⊎◌, Option, Some, None, IfSome, List}
 use Rattle.lsvd_device.specs.Calls.{Cost}
 use Rattle.commit_body.specs.declared.body.CommitBody.{CommitBody}
+use Rattle.commit_body.specs.Body.{MayStand}
 use Rattle.commit_slot.specs.Slots.{IsOpenSlot, Reads, ReadsNone}
 
 -- a slot has this commit, or none where it is not open
 abbrev pub SlotHas : (log : ℕ) → List ℕ → ℕ → Option (CommitBody × ℕ) → Type 0
 SlotHas log bytes slot None = (body : CommitBody) (number : ℕ) → IsOpenSlot log bytes slot body number → ⊥
 SlotHas log bytes slot (Some found) = IsOpenSlot log bytes slot found.0 found.1
+
+-- the body that was read, if one was, may stand for a log of so many sectors
+abbrev pub MayStandFor : (log : ℕ) → Option (CommitBody × ℕ) → Type 0
+MayStandFor log found = IfSome found (λ f. MayStand f.0 log)
 
 -- the device reads as this commit, or as none
 abbrev pub ReadsAs : (log : ℕ) → List ℕ → Option (CommitBody × ℕ) → Type 0

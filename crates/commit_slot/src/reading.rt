@@ -1,7 +1,7 @@
 ghost use Rattle.std.specs.Prelude.{◌≡◌, ◌<◌, ◌≤◌, IfOk, is_ok};
 ghost use Rattle.lsvd_device.specs.Device.{IsDisk, HoldsNow, MakesCalls};
 ghost use Rattle.commit_slot.specs.Slots.{log_of};
-ghost use Rattle.commit_slot.specs.Reading.{SlotHas, ReadsAs, IsNewer, slot_cost, reading_cost};
+ghost use Rattle.commit_slot.specs.Reading.{MayStandFor, SlotHas, ReadsAs, IsNewer, slot_cost, reading_cost};
 
 use crate::slot::{CLOSED, LOG_START, OPEN, SECTOR_BYTES, body_at, gate_at};
 use commit_body::{CommitBody, read_body};
@@ -14,6 +14,7 @@ use lsvd_fault::Failed;
 pub fn read_newest<D: Disk>(disk: &mut D) -> Result<Option<(CommitBody, u64)>, Failed>
     requires { 4096 ≤ (D.state disk.old).size }
     ensures newest { IfOk result (λ found. HoldsNow (λ now. ReadsAs (log_of (D.state disk.old).size) now.bytes found) (D.state disk.old).moments) }
+    ensures may_stand { IfOk result (λ found. MayStandFor (log_of (D.state disk.old).size) found) }
     ensures moments { (D.state disk.new).moments ≡ (D.state disk.old).moments }
     ensures calls { MakesCalls reading_cost (is_ok result) (D.state disk.old) (D.state disk.new) }
     ensures is_disk { IsDisk (D.state disk.new) }
@@ -34,6 +35,7 @@ fn read_slot<D: Disk>(
     requires size { 4096 ≤ (D.state disk.old).size }
     requires slot { slot < 3 }
     ensures found { IfOk result (λ found. HoldsNow (λ now. SlotHas log now.bytes slot found) (D.state disk.old).moments) }
+    ensures may_stand { IfOk result (λ found. MayStandFor log found) }
     ensures moments { (D.state disk.new).moments ≡ (D.state disk.old).moments }
     ensures calls { MakesCalls slot_cost (is_ok result) (D.state disk.old) (D.state disk.new) }
     ensures is_disk { IsDisk (D.state disk.new) }

@@ -1,5 +1,5 @@
 use super::*;
-use commit_body::{CommitBody, Mark, is_within};
+use commit_body::{CommitBody, Mark, is_within, write_body};
 use lsvd_device::{Disk, FuseDisk, MemDisk};
 use std::alloc::Global;
 use std::process::Abort;
@@ -122,5 +122,102 @@ fn a_formatted_device_has_these_bytes(rt: HostRuntime) -> Result<(), Fail> {
     assert_eq!(rt; gate, [1]);
     let behind: [u8; 2_559] = piece(&rt, &mut disk, 513)?;
     assert!(rt; behind.iter().all(|byte| *byte == 0));
+    Ok(())
+}
+
+/// The number of the commit that is loaded from a disk, and the disk then.
+fn loaded<D: Disk>(rt: &impl Abort, disk: D) -> (Result<u64, LoadError>, D) {
+    assert!(rt; 4_096 <= disk.len());
+    match Commits::load(disk) {
+        Ok(commits) => (Ok(commits.number()), commits.into_disk()),
+        Err((disk, error)) => (Err(error), disk),
+    }
+}
+
+#[test]
+fn commits_are_loaded_after_so_many_calls(rt: HostRuntime) -> Result<(), Fail> {
+    // The calls that pass before the stop, and the number that is loaded.
+    let cases: [(u64, Result<u64, LoadError>); 8] = [
+        (0, Err(LoadError::NoSlot)),
+        (5, Err(LoadError::NoSlot)),
+        (6, Ok(0)),
+        (10, Ok(0)),
+        (11, Ok(1)),
+        (15, Ok(1)),
+        (16, Ok(2)),
+        (17, Ok(2)),
+    ];
+    for (calls, wanted) in cases {
+        let disk = disk_of(rt.alloc(), Some(calls))?;
+        let disk = match format(&rt, disk) {
+            Err(disk) => disk,
+            Ok(mut commits) => {
+                for place in 1..3 {
+                    let _ = commit(&rt, &mut commits, place);
+                }
+                commits.into_disk()
+            }
+        };
+        let (number, disk) = loaded(&rt, disk.into_disk());
+        assert_eq!(rt; number, wanted, "{calls}");
+        // What was loaded is loaded again, and takes a commit more.
+        assert!(rt; 4_096 <= disk.len());
+        if let Ok(mut commits) = Commits::load(FuseDisk::new(disk, None)) {
+            assert!(rt; commit(&rt, &mut commits, 3));
+            assert_eq!(rt; Ok(commits.number().wrapping_sub(1)), wanted, "{calls}");
+        }
+    }
+    Ok(())
+}
+
+/// A disk in memory whose last commit has the number 2, and then this piece at this byte.
+fn changed(rt: &impl Abort, alloc: Global, at: u64, piece: &[u8]) -> Result<MemDisk, Fail> {
+    let Ok(mut commits) = format(rt, disk_of(alloc, None)?) else {
+        return Err("a call failed")?;
+    };
+    for place in 1..3 {
+        assert!(rt; commit(rt, &mut commits, place));
+    }
+    let mut disk = commits.into_disk().into_disk();
+    assert!(rt; at < 4_096 && piece.len() < 4_096 && at + piece.len() as u64 <= disk.len());
+    disk.write(at, piece)?;
+    Ok(disk)
+}
+
+#[test]
+fn an_open_slot_behind_the_newest_is_closed(rt: HostRuntime) -> Result<(), Fail> {
+    // The calls that pass, the number that is loaded, and the first slot's gate then.
+    let cases: [(u64, Result<u64, LoadError>, u8); 5] = [
+        (0, Err(LoadError::DeviceFault), 1),
+        (8, Err(LoadError::DeviceFault), 1),
+        (9, Err(LoadError::DeviceFault), 0),
+        (10, Err(LoadError::DeviceFault), 0),
+        (11, Ok(2), 0),
+    ];
+    for (calls, wanted, gate) in cases {
+        let disk = changed(&rt, rt.alloc(), 512, &[1])?;
+        let _ = disk.len();
+        let (number, disk) = loaded(&rt, FuseDisk::new(disk, Some(calls)));
+        assert_eq!(rt; number, wanted, "{calls}");
+        let mut disk = disk.into_disk();
+        let first: [u8; 1] = piece(&rt, &mut disk, 512)?;
+        let second: [u8; 1] = piece(&rt, &mut disk, 1_536)?;
+        let third: [u8; 1] = piece(&rt, &mut disk, 2_560)?;
+        assert_eq!(rt; (first, second, third), ([gate], [1], [1]), "{calls}");
+        assert_eq!(rt; loaded(&rt, disk).0, Ok(2));
+    }
+    Ok(())
+}
+
+#[test]
+fn a_newer_body_in_a_closed_slot_is_cleared(rt: HostRuntime) -> Result<(), Fail> {
+    // The slot of the commit 1, closed, with the body of a commit 4.
+    let mut slot = [0; 513];
+    write_body(&body_at(0), 4, &mut slot[..512]);
+    let disk = changed(&rt, rt.alloc(), 1_024, &slot)?;
+    let (number, mut disk) = loaded(&rt, disk);
+    assert_eq!(rt; number, Ok(2));
+    let held: [u8; 513] = piece(&rt, &mut disk, 1_024)?;
+    assert_eq!(rt; held, [0; 513]);
     Ok(())
 }

@@ -12,5 +12,5 @@ returns-in-Ok-clause-stands g c =
     let new : DiskState = g.D.Disk.state c.format_slots.new.disk in
     let holds : HoldsNow (IsSettled (log_of old.size) 0 c.args.body) new.moments = search rules in
     let left : IsLeft old new = record { size = c.format_slots.ensures.calls.size; is_disk = c.format_slots.ensures.is_disk } in
-    let are : AreCommits 0 c.args.body None new = are_commits 0 c.args.body None old new c.requires.size left tt holds in
+    let are : AreCommits 0 c.args.body None new = are_commits 0 c.args.body None old new c.requires.size left (record { may_stand = c.requires.may_stand; next = tt }) holds in
     settled_now 0 c.args.body (IsCommit 0 c.args.body) new (record { number' = refl; body' = refl }) are
