@@ -1,103 +1,144 @@
 -- Where records stand in a log, one behind the other, and which sectors are free.
-use Rattle.std.proofs.Common.{◌≡◌, ℕ, ◌+◌, ◌-◌, ◌<◌, ◌≤◌, ◌⊎◌, List, [], ◌∷◌, ◌++◌, sym, subst, inl, inr, arith}
+use Rattle.std.proofs.Common.{◌≡◌, ℕ, ◌+◌, ◌-◌, ◌<◌, ◌≤◌, ◌⊎◌, List, [], ◌∷◌, ◌++◌, zero, suc, take, refl, sym, ◌∙◌, ap, subst, inl, inr, arith, if◌then◌else◌, ◌==◌}
 use Rattle.std.proofs.lemmas.Bool.{cases_lt}
 use Rattle.log_room.specs.Room.{room_of, position, pad_before, need, after_record}
 use Rattle.cache_log.specs.declared.row.Row.{Row}
-use Rattle.cache_log.specs.Rows.{position_of, size_of, Follow, IsFurther}
+use Rattle.cache_log.specs.declared.row.Row.TheVariants.{Write, Zero}
+use Rattle.cache_log.specs.Rows.{position_of, size_of, StandsFrom, taken, next, Follow, behind_rows, IsFurther}
 
--- the sector behind a record that follows at a sector
-abbrev pub next_of : (log from size : ℕ) → ℕ
-next_of log from size = (after_record (room_of log from 0) size).head
+-- a record has a sector at least
+pub some_size : (row : Row) → 1 ≤ size_of row
+some_size (Write at lba sectors) = omega arith
+some_size (Zero at lba sectors) = omega arith
 
--- the sectors that it takes with its pad
-abbrev pub need_of : (log from size : ℕ) → ℕ
-need_of log from size = need (room_of log from 0) size
+-- what a row that stands at a sector takes
+pub taken_here : (log from : ℕ) (row : Row) → position_of row ≡ from → taken log from row ≡ size_of row
+taken_here log from row at = (let no : from ≤ position_of row = omega (arith, at) in grind (arith, no))
 
--- a record that stands where it follows
-pub record IsHere (log from size : ℕ) : Type 0 where
-  pub inside : from + size ≤ log
-  pub at : position (room_of log from 0) size ≡ from
-  pub pad : pad_before (room_of log from 0) size ≡ 0
+pub taken_round : (log from : ℕ) (row : Row) → position_of row < from → taken log from row ≡ (log - from) + size_of row
+taken_round log from row at = grind (arith, at)
 
--- a record that stands at the log's beginning, with a pad before it
-pub record IsRound (log from size : ℕ) : Type 0 where
-  pub outside : log < from + size
-  pub at : position (room_of log from 0) size ≡ 0
-  pub pad : pad_before (room_of log from 0) size ≡ log - from
+-- the sector behind a row
+pub next_inside : (log : ℕ) (row : Row) → position_of row + size_of row < log → next log row ≡ position_of row + size_of row
+next_inside log row less = grind (arith, less)
 
-pub spot : (log from size : ℕ) → IsHere log from size ⊎ IsRound log from size
-spot log from size =
-    elim (cases_lt log (from + size)) [
-      | inl more ↦ inr (record { outside = more; at = grind arith; pad = grind arith })
-      | inr inside ↦ inl (record { inside = inside; at = grind arith; pad = grind arith })
-    ]
+pub next_end : (log : ℕ) (row : Row) → position_of row + size_of row ≡ log → next log row ≡ 0
+next_end log row end = grind (arith, end)
 
 -- what a record takes brings its log as far as the sector behind it
-pub record IsStep (log from size : ℕ) : Type 0 where
-  pub inside : next_of log from size < log
-  pub further : IsFurther log from (need_of log from size) (next_of log from size)
+pub record IsStep (log from : ℕ) (row : Row) : Type 0 where
+  pub inside : next log row < log
+  pub further : IsFurther log from (taken log from row) (next log row)
+  pub fits : position_of row + size_of row ≤ log
+  pub some : 1 ≤ taken log from row
 
-here_step : (log from size : ℕ) → from < log → IsHere log from size → IsStep log from size
-here_step log from size inside here =
-    let takes : need_of log from size ≡ size = omega (arith, here.pad) in
-    elim (cases_lt (from + size) log) [
+pub step_of : (log from : ℕ) (row : Row) → from < log → taken log from row ≤ log → StandsFrom log from row → IsStep log from row
+step_of log from row inside enough (inl here) =
+    let some = some_size row in
+    let takes = taken_here log from row here.0 in
+    elim (cases_lt (position_of row + size_of row) log) [
       | inl less ↦
-          let next : next_of log from size ≡ from + size = grind (arith, here.at) in
-          record { inside = omega (arith, next, less); further = inl (omega (arith, next, takes)) }
+          let to = next_inside log row less in
+          record { inside = omega (arith, to, less); further = inl (omega (arith, to, takes, here.0)); fits = omega (arith, less); some = omega (arith, takes, some) }
       | inr end ↦
-          let next : next_of log from size ≡ 0 = grind (arith, here.at, here.inside) in
-          record { inside = omega (arith, next, inside); further = inr (let e = here.inside in omega (arith, next, takes, end, e)) }
+          let to = next_end log row (omega (arith, end, here.0, here.1)) in
+          record { inside = omega (arith, to, inside); further = inr (omega (arith, to, takes, end, here.0, here.1)); fits = omega (arith, here.0, here.1); some = omega (arith, takes, some) }
     ]
-
-round_step : (log from size : ℕ) → from < log → need_of log from size ≤ log → IsRound log from size → IsStep log from size
-round_step log from size inside enough round =
-    let takes : need_of log from size ≡ (log - from) + size = omega (arith, round.pad) in
-    let less : size < log = (let e = round.outside in omega (arith, takes, enough, inside, e)) in
-    let next : next_of log from size ≡ size = grind (arith, round.at) in
-    record { inside = omega (arith, next, less); further = inr (omega (arith, next, takes, inside)) }
-
-pub step_of : (log from size : ℕ) → from < log → need_of log from size ≤ log → IsStep log from size
-step_of log from size inside enough =
-    elim (spot log from size) [
-      | inl here ↦ here_step log from size inside here
-      | inr round ↦ round_step log from size inside enough round
-    ]
+step_of log from row inside enough (inr round) =
+    let some = some_size row in
+    let takes = taken_round log from row (omega (arith, round.0, round.1)) in
+    let less : position_of row + size_of row < log = omega (arith, takes, enough, inside, round.0) in
+    let to = next_inside log row less in
+    record { inside = omega (arith, to, less); further = inr (omega (arith, to, takes, inside, round.0)); fits = omega (arith, less); some = omega (arith, takes, some) }
 
 -- what is still to come behind a record
-pub further_on : (log from size used head : ℕ) → from < log → head < log → used ≤ log → need_of log from size ≤ used → IsFurther log from used head
-    → IsFurther log (next_of log from size) (used - need_of log from size) head
-further_on log from size used head inside behind most enough (inl ahead) =
-    let step = step_of log from size inside (omega (arith, enough, most)) in
+pub further_on : (log from used head : ℕ) (row : Row) → from < log → head < log → used ≤ log → taken log from row ≤ used → StandsFrom log from row → IsFurther log from used head
+    → IsFurther log (next log row) (used - taken log from row) head
+further_on log from used head row inside behind most enough stands (inl ahead) =
+    let step = step_of log from row inside (omega (arith, enough, most)) stands in
     elim (step.further) [
       | inl on ↦ inl (omega (arith, on, ahead, enough))
       | inr round ↦ absurd (let e = step.inside in omega (arith, round, ahead, enough, behind, e))
     ]
-further_on log from size used head inside behind most enough (inr ahead) =
-    let step = step_of log from size inside (omega (arith, enough, most)) in
+further_on log from used head row inside behind most enough stands (inr ahead) =
+    let step = step_of log from row inside (omega (arith, enough, most)) stands in
     elim (step.further) [
       | inl on ↦ inr (omega (arith, on, ahead, enough))
       | inr round ↦ inl (omega (arith, round, ahead, enough))
     ]
 
--- a record more behind the others
+-- ---- a record more, as a log's room has it
+
+-- a row that stands where a record goes from a sector on
+pub record IsPlaced (log from : ℕ) (row : Row) : Type 0 where
+  pub stands : StandsFrom log from row
+  pub takes : taken log from row ≡ need (room_of log from 0) (size_of row)
+  pub next' : next log row ≡ (after_record (room_of log from 0) (size_of row)).head
+  -- where a pad is, and how long it is
+  pub pad : position_of row < from → (0 < pad_before (room_of log from 0) (size_of row)) × (pad_before (room_of log from 0) (size_of row) ≡ log - from)
+
+pub placed : (log from : ℕ) (row : Row) → from < log → need (room_of log from 0) (size_of row) ≤ log → position_of row ≡ position (room_of log from 0) (size_of row) → IsPlaced log from row
+placed log from row inside enough at =
+    let some = some_size row in
+    elim (cases_lt log (from + size_of row)) [
+      | inl more ↦
+          let zero' : position (room_of log from 0) (size_of row) ≡ 0 = grind arith in
+          let pad : pad_before (room_of log from 0) (size_of row) ≡ log - from = grind arith in
+          let here : position_of row ≡ 0 = at ∙ zero' in
+          let ahead : 0 < from = omega (arith, pad, enough, more) in
+          let takes = taken_round log from row (omega (arith, here, ahead)) in
+          record {
+            stands = inr (here, ahead, omega (arith, pad, enough));
+            takes = omega (arith, takes, pad);
+            next' = ap (λ p. if p + size_of row == log then 0 else p + size_of row) at;
+            pad = λ _. (omega (arith, pad, inside), pad);
+          }
+      | inr fits ↦
+          let same : position (room_of log from 0) (size_of row) ≡ from = grind arith in
+          let none : pad_before (room_of log from 0) (size_of row) ≡ 0 = grind arith in
+          let here : position_of row ≡ from = at ∙ same in
+          let takes = taken_here log from row here in
+          record {
+            stands = inl (here, omega (arith, fits));
+            takes = omega (arith, takes, none);
+            next' = ap (λ p. if p + size_of row == log then 0 else p + size_of row) at;
+            pad = λ less. absurd (omega (arith, less, here));
+          }
+    ]
+
+-- a row more behind the others
 pub follow_more : (rows : List Row) (row : Row) (log from used head : ℕ) → from < log → head < log → used ≤ log → IsFurther log from used head → Follow log from used rows
-    → position_of row ≡ position (room_of log head 0) (size_of row)
-    → Follow log from (used + need_of log head (size_of row)) (rows ++ row ∷ [])
-follow_more [] row log from used head inside behind most (inl further) none at =
-    let same : from ≡ head = omega (arith, further, none) in
-    let P : ℕ → Type 0 = λ h. position_of row ≡ position (room_of log h 0) (size_of row) in
-    let Q : ℕ → Type 0 = λ h. need_of log from (size_of row) ≤ used + need_of log h (size_of row) in
-    let R : ℕ → Type 0 = λ h. (used + need_of log h (size_of row)) - need_of log from (size_of row) ≡ 0 in
-    (subst P (sym same) at, subst Q same (omega arith), subst R same (omega (arith, none)))
-follow_more [] row log from used head inside behind most (inr further) none at = absurd (omega (arith, further, none, inside))
-follow_more (first ∷ rows) row log from used head inside behind most further (here, enough, more) at =
-    let step = step_of log from (size_of first) inside (omega (arith, enough, most)) in
-    let n : ℕ = need_of log from (size_of first) in
-    let grown = follow_more rows row log (next_of log from (size_of first)) (used - n) head step.inside behind (omega (arith, most))
-    (further_on log from (size_of first) used head inside behind most enough further) more at in
-    let P : ℕ → Type 0 = λ u. Follow log (next_of log from (size_of first)) u (rows ++ row ∷ []) in
-    let sum : (used - n) + need_of log head (size_of row) ≡ (used + need_of log head (size_of row)) - n = omega (arith, enough) in
+    → StandsFrom log head row → Follow log from (used + taken log head row) (rows ++ row ∷ [])
+follow_more [] row log from used head inside behind most (inl further) none stands =
+    let same : head ≡ from = omega (arith, further, none) in
+    let P : ℕ → Type 0 = λ h. StandsFrom log h row in
+    let Q : ℕ → Type 0 = λ h. taken log h row ≤ used + taken log head row in
+    let R : ℕ → Type 0 = λ h. (used + taken log head row) - taken log h row ≡ 0 in
+    (subst P same stands, subst Q same (omega arith), subst R same (omega (arith, none)))
+follow_more [] row log from used head inside behind most (inr further) none stands = absurd (omega (arith, further, none, inside))
+follow_more (first ∷ rows) row log from used head inside behind most further (here, enough, more) stands =
+    let step = step_of log from first inside (omega (arith, enough, most)) here in
+    let n : ℕ = taken log from first in
+    let grown = follow_more rows row log (next log first) (used - n) head step.inside behind (omega (arith, most))
+    (further_on log from used head first inside behind most enough here further) more stands in
+    let P : ℕ → Type 0 = λ u. Follow log (next log first) u (rows ++ row ∷ []) in
+    let sum : (used - n) + taken log head row ≡ (used + taken log head row) - n = omega (arith, enough) in
     (here, omega (arith, enough), subst P sum grown)
+
+-- the sector behind the rows is the head
+pub behind_is : (rows : List Row) (log from used head : ℕ) → from < log → head < log → used ≤ log → IsFurther log from used head → Follow log from used rows → behind_rows log from rows ≡ head
+behind_is [] log from used head inside behind most (inl further) none = omega (arith, further, none)
+behind_is [] log from used head inside behind most (inr further) none = absurd (omega (arith, further, none, inside))
+behind_is (row ∷ rows) log from used head inside behind most further (here, enough, more) =
+    let step = step_of log from row inside (omega (arith, enough, most)) here in
+    behind_is rows log (next log row) (used - taken log from row) head step.inside behind (omega (arith, most)) (further_on log from used head row inside behind most enough here further) more
+
+-- and that of one row more is the one behind it
+pub behind_more : (rows : List Row) (row : Row) (log from : ℕ) → behind_rows log from (rows ++ row ∷ []) ≡ next log row
+behind_more [] row log from = refl
+behind_more (first ∷ rows) row log from = behind_more rows row log (next log first)
+
+-- ---- which sectors are free
 
 -- so many sectors from one on that are not in use, where a record or a pad may be written: at the head before the log's end, or
 -- at the log's beginning
@@ -109,16 +150,59 @@ abbrev pub Apart : (at count sector n : ℕ) → Type 0
 Apart at count sector n = (sector + n ≤ at) ⊎ (at + count ≤ sector)
 
 -- what is in use lies apart from what is free
-pub here_apart : (log from size used total head at count : ℕ) → from < log → total ≤ log → used ≤ total → size ≤ used → from + size ≤ log
+here_apart : (log from size used total head at count : ℕ) → from < log → total ≤ log → used ≤ total → size ≤ used → from + size ≤ log
     → IsFurther log from used head → AreFree log head total at count → Apart at count from size
 here_apart log from size used total head at count inside most less part fits (inl ahead) (inl free) = inl (omega (arith, ahead, free.0, part))
 here_apart log from size used total head at count inside most less part fits (inl ahead) (inr free) = inr (omega (arith, ahead, free.0, free.1, less))
 here_apart log from size used total head at count inside most less part fits (inr ahead) (inl free) = inr (omega (arith, ahead, free.0, free.1, free.2, less))
 here_apart log from size used total head at count inside most less part fits (inr ahead) (inr free) = absurd (omega (arith, ahead, free.1, less, inside))
 
-pub round_apart : (log from size used total head at count : ℕ) → from < log → head < log → total ≤ log → used ≤ total → (log - from) + size ≤ used
+round_apart : (log from size used total head at count : ℕ) → from < log → head < log → total ≤ log → used ≤ total → (log - from) + size ≤ used
     → IsFurther log from used head → AreFree log head total at count → Apart at count 0 size × Apart at count from 1
 round_apart log from size used total head at count inside behind most less part (inl ahead) free = absurd (omega (arith, ahead, part, behind, inside))
 round_apart log from size used total head at count inside behind most less part (inr ahead) (inl free) =
     (inl (omega (arith, ahead, part, free.0, inside)), inr (omega (arith, ahead, free.0, free.2, less)))
 round_apart log from size used total head at count inside behind most less part (inr ahead) (inr free) = absurd (omega (arith, ahead, free.1, less, inside))
+
+-- the sectors of a record, and the header of its pad
+pub record IsApart (log from : ℕ) (row : Row) (at count : ℕ) : Type 0 where
+  pub record' : Apart at count (position_of row) (size_of row)
+  pub pad : position_of row < from → Apart at count from 1
+
+is_apart : (log from : ℕ) (row : Row) (used total head at count : ℕ) → from < log → head < log → total ≤ log → used ≤ total → taken log from row ≤ used → StandsFrom log from row
+    → IsFurther log from used head → AreFree log head total at count → IsApart log from row at count
+is_apart log from row used total head at count inside behind most less part (inl here) further free =
+    let takes = taken_here log from row here.0 in
+    let P : ℕ → Type 0 = λ p. Apart at count p (size_of row) in
+    record {
+      record' = subst P (sym here.0) (here_apart log from (size_of row) used total head at count inside most less (omega (arith, takes, part)) here.1 further free);
+      pad = λ some. absurd (omega (arith, here.0, some));
+    }
+is_apart log from row used total head at count inside behind most less part (inr round) further free =
+    let takes = taken_round log from row (omega (arith, round.0, round.1)) in
+    let both = round_apart log from (size_of row) used total head at count inside behind most less (omega (arith, takes, part)) further free in
+    let P : ℕ → Type 0 = λ p. Apart at count p (size_of row) in
+    record { record' = subst P (sym round.0) both.0; pad = λ _. both.1 }
+
+-- all rows, with their pads, lie apart from so many sectors
+abbrev pub LieApart : (at count log from : ℕ) → List Row → Type 0
+LieApart at count log from [] = Unit {0}
+LieApart at count log from (row ∷ rows) = IsApart log from row at count × LieApart at count log (next log row) rows
+
+-- what is free is none of the sectors of rows
+pub lie_apart : (rows : List Row) (log from used total head at count : ℕ) → from < log → head < log → total ≤ log → used ≤ total → IsFurther log from used head
+    → AreFree log head total at count → Follow log from used rows → LieApart at count log from rows
+lie_apart [] log from used total head at count inside behind most less further free follow = tt
+lie_apart (row ∷ rows) log from used total head at count inside behind most less further free (here, enough, more) =
+    let step = step_of log from row inside (omega (arith, enough, less, most)) here in (
+      is_apart log from row used total head at count inside behind most less enough here further free,
+      lie_apart rows log (next log row) (used - taken log from row) total head at count step.inside behind most (omega (arith, less))
+          (further_on log from used head row inside behind (omega (arith, less, most)) enough here further) free more,
+    )
+
+-- and none of those of the first so many
+pub first_apart : (rows : List Row) (k at count log from : ℕ) → LieApart at count log from rows → LieApart at count log from (take k rows)
+first_apart [] zero at count log from apart = tt
+first_apart [] (suc k) at count log from apart = tt
+first_apart (row ∷ rows) zero at count log from apart = tt
+first_apart (row ∷ rows) (suc k) at count log from apart = (apart.0, first_apart rows k at count log (next log row) apart.1)

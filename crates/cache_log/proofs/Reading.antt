@@ -1,37 +1,26 @@
 -- What reads of a log find.
-use Rattle.std.proofs.Common.{◌≡◌, ℕ, ◌+◌, ◌-◌, ◌*◌, ◌^◌, ◌<◌, ◌≤◌, List, [], ◌∷◌, ◌++◌, zero, suc, get_or, length, take, drop, map, refl, sym, ◌∙◌, ap, subst, inl, inr, arith}
-use Rattle.std.specs.Prelude.{IfSome, Result, Ok, Err, OnOk, IfOk}
+use Rattle.std.proofs.Common.{◌≡◌, ℕ, ◌+◌, ◌-◌, ◌*◌, ◌/◌, ◌^◌, ◌<◌, ◌≤◌, List, [], ◌∷◌, ◌++◌, zero, suc, get_or, length, take, drop, map, refl, sym, ◌∙◌, ap, subst, inl, inr, arith}
+use Rattle.std.specs.Prelude.{Some, IfSome, Result, Ok, Err, OnOk, IfOk}
 use Rattle.std.proofs.Math.Path.{subst₂}
-use Rattle.std.specs.List.{AllByRecursion}
-use Rattle.std.proofs.lemmas.List.{drop-drop, take-take, drop-take, take_more, take_all, get_or-drop, length-drop, map-append, drop-map}
+use Rattle.std.specs.List.{AllByRecursion, slice_get}
+use Rattle.std.proofs.lemmas.List.{drop-drop, take-take, drop-take, take_more, take_all, get_or-drop, length-drop, length-take-le, map-append, drop-map}
 use Rattle.lsvd_base.specs.declared.entry.Entry.{Entry}
 use Rattle.lsvd_bytes.specs.Places.{bytes_at}
-use Rattle.lsvd_fault.specs.Faults.{HasRisen}
 use Rattle.lsvd_device.specs.Medium.{Medium}
-use Rattle.lsvd_device.specs.Device.{DiskState, HoldsNow}
-use Rattle.log_room.specs.Room.{room_of, position}
+use Rattle.lsvd_device.specs.Device.{DiskState, HasSize, HoldsNow}
 use Rattle.log_record.specs.Grammar.{data_of}
 use Rattle.cache_log.specs.declared.row.Row.{Row}
 use Rattle.cache_log.specs.declared.row.Row.TheVariants.{Write, Zero}
-use Rattle.cache_log.specs.Rows.{byte_of, position_of, size_of, entry_of, AreDataOf, Follow}
-use Rattle.cache_log.specs.Log.{LogState, entries_in, AreData, AgreesWith, IsReadFrom, IsRead, LiesInside, LieInside}
-use Rattle.cache_log.proofs.Places.{next_of, need_of, spot, step_of}
-
--- a record that follows at a sector ends by the log's end
-row_inside : (row : Row) (log from used : ℕ) → from < log → used ≤ log → position_of row ≡ position (room_of log from 0) (size_of row) → need_of log from (size_of row) ≤ used
-    → position_of row + size_of row ≤ log
-row_inside row log from used inside most at enough =
-    elim (spot log from (size_of row)) [
-      | inl here ↦ (let e = here.at in let f = here.inside in omega (arith, at, e, f))
-      | inr round ↦ (let e = round.at in let f = round.pad in omega (arith, at, e, f, enough, most))
-    ]
+use Rattle.cache_log.specs.Rows.{byte_of, position_of, size_of, entry_of, AreDataOf, taken, next, Follow}
+use Rattle.cache_log.specs.Log.{LogState, row_of, entries_in, AreData, AgreesWith, IsReadFrom, LiesInside, LieInside}
+use Rattle.cache_log.proofs.Places.{step_of}
 
 -- each record of a log ends by the log's end
 pub rows_inside : (rows : List Row) (log from used : ℕ) → from < log → used ≤ log → Follow log from used rows → AllByRecursion (λ row. position_of row + size_of row ≤ log) rows
 rows_inside [] log from used inside most follow = tt
-rows_inside (row ∷ rows) log from used inside most (at, enough, more) =
-    let step = step_of log from (size_of row) inside (omega (arith, enough, most)) in
-    (row_inside row log from used inside most at enough, rows_inside rows log (next_of log from (size_of row)) (used - need_of log from (size_of row)) step.inside (omega (arith, most)) more)
+rows_inside (row ∷ rows) log from used inside most (stands, enough, more) =
+    let step = step_of log from row inside (omega (arith, enough, most)) stands in
+    (step.fits, rows_inside rows log (next log row) (used - taken log from row) step.inside (omega (arith, most)) more)
 
 -- the data of a record lie inside the log
 data_of_inside : (row : Row) (log sector count : ℕ) → position_of row + size_of row ≤ log → AreDataOf row sector count → 512 * sector + count ≤ 512 * log
@@ -68,15 +57,15 @@ is_read_in rows [] buf sector read = tt
 is_read_in rows (now ∷ past) buf sector read = agrees rows now.bytes buf sector read
 
 -- what was read of a log's device
-pub is_read : (log : LogState) (buf : List ℕ) (sector : ℕ) → log.entries ≡ entries_in log.rows log.disk.moments
-    → HoldsNow (λ now. buf ≡ take (length buf) (drop (byte_of sector) now.bytes)) log.disk.moments → IsReadFrom log sector buf
+pub is_read : (log : LogState) (buf : List ℕ) (sector : ℕ) → log.entries ≡ entries_in log.rows log.commits.disk.moments
+    → HoldsNow (λ now. buf ≡ take (length buf) (drop (byte_of sector) now.bytes)) log.commits.disk.moments → IsReadFrom log sector buf
 is_read log buf sector is read =
-    subst (λ list. IfSome list (λ list. AgreesWith log.rows list sector buf)) (sym is) (is_read_in log.rows log.disk.moments buf sector read)
+    subst (λ list. IfSome list (λ list. AgreesWith log.rows list sector buf)) (sym is) (is_read_in log.rows log.commits.disk.moments buf sector read)
 
-pub is_read_on_ok : {T E : Type 0} (r : Result T E) (log : LogState) (before buf : List ℕ) (sector at : ℕ) → at ≡ byte_of sector → length before ≡ length buf → log.entries ≡ entries_in log.rows log.disk.moments
-    → OnOk r (HoldsNow (λ now. buf ≡ take (length before) (drop at now.bytes)) log.disk.moments) → OnOk r (IsReadFrom log sector buf)
+pub is_read_on_ok : {T E : Type 0} (r : Result T E) (log : LogState) (before buf : List ℕ) (sector at : ℕ) → at ≡ byte_of sector → length before ≡ length buf → log.entries ≡ entries_in log.rows log.commits.disk.moments
+    → OnOk r (HoldsNow (λ now. buf ≡ take (length before) (drop at now.bytes)) log.commits.disk.moments) → OnOk r (IsReadFrom log sector buf)
 is_read_on_ok (Ok x) log before buf sector at place same is read =
-    is_read log buf sector is (subst₂ (λ n p. HoldsNow (λ now. buf ≡ take n (drop p now.bytes)) log.disk.moments) same place read)
+    is_read log buf sector is (subst₂ (λ n p. HoldsNow (λ now. buf ≡ take n (drop p now.bytes)) log.commits.disk.moments) same place read)
 is_read_on_ok (Err e) log before buf sector at place same is read = tt
 
 -- ---- entries one by one
@@ -122,25 +111,10 @@ row_lies (first ∷ rows) (suc index) row disk inside is all = row_lies rows ind
 pub lies_in_same : (row : Row) (old new : DiskState) → new.size ≡ old.size → LiesInside row old → LiesInside row new
 lies_in_same row old new same lies = (lies.0, omega (arith, same, lies.1))
 
-pub read_none : (disk : DiskState) → IsRead disk disk
-read_none disk = record { size = refl; moments = refl; counted = omega arith; disk = λ d. d }
-
-pub read_both : (old middle new : DiskState) → IsRead old middle → IsRead middle new → IsRead old new
-read_both old middle new a b = record {
-  size = b.size ∙ a.size;
-  moments = b.moments ∙ a.moments;
-  counted = omega (arith, a.counted, b.counted);
-  disk = λ d. b.disk (a.disk d);
-}
-
 -- all rows of a log lie inside its disk
 pub log_lies : (rows : List Row) (log : ℕ) (disk : DiskState) → log ≤ 2 ^ 31 → byte_of log ≤ disk.size → AllByRecursion (λ row. position_of row + size_of row ≤ log) rows → LieInside rows disk
 log_lies [] log disk limit fits inside = tt
 log_lies (row ∷ rows) log disk limit fits inside = ((omega (arith, inside.0, limit), omega (arith, inside.0, fits)), log_lies rows log disk limit fits inside.1)
-
-pub risen_on : (old middle new : DiskState) → IsRead old middle → HasRisen middle.faults new.faults → HasRisen old.faults new.faults
-risen_on old middle new read (inl less) = inl (omega (arith, read.counted, less))
-risen_on old middle new read (inr most) = inr most
 
 -- what is read from a seq on, of a log whose device tells what it holds
 entries_behind : (rows : List Row) (skipped : ℕ) (list : List Entry) (moments : List Medium) → HoldsNow (λ now. list ≡ map (entry_of now.bytes) (drop skipped rows)) moments
@@ -153,3 +127,35 @@ pub entries_on_ok : {L E : Type 0} (items : L → List Entry) (r : Result L E) (
     → IfOk r (λ list. IfSome (entries_in rows moments) (λ all. items list ≡ drop skipped all))
 entries_on_ok items (Ok list) rows skipped moments read = entries_behind rows skipped (items list) moments read
 entries_on_ok items (Err e) rows skipped moments read = tt
+
+-- ---- the row of an entry
+
+row_entry : (row : Row) (bytes : List ℕ) → byte_of (position_of row + size_of row) ≤ length bytes → row ≡ row_of (position_of row) (entry_of bytes row)
+row_entry (Write at lba n) bytes fits =
+    let many : length (bytes_at (byte_of (at + 1)) (512 * n) bytes) ≡ 512 * n =
+    length-take-le (512 * n) (drop (byte_of (at + 1)) bytes) (let e = length-drop (byte_of (at + 1)) bytes in omega (arith, e, fits)) in
+    let count : n ≡ length (bytes_at (byte_of (at + 1)) (512 * n) bytes) / 512 = omega (arith, many) in
+    ap (Write at lba) count
+row_entry (Zero at lba n) bytes fits = refl
+
+row_matches : (rows : List Row) (index log : ℕ) (row : Row) (entry : Entry) (bytes : List ℕ) → AllByRecursion (λ r. position_of r + size_of r ≤ log) rows → byte_of log ≤ length bytes
+    → index < length rows → row ≡ get_or rows index row → slice_get (map (entry_of bytes) rows) index ≡ Some entry → row ≡ row_of (position_of row) entry
+row_matches [] index log row entry bytes inside fits less is has = absurd (omega (arith, less))
+row_matches (first ∷ rows) zero log row entry bytes inside fits less is has =
+    let same : entry_of bytes first ≡ entry = cc in
+    let i = inside.0 in
+    let all : first ≡ row_of (position_of first) (entry_of bytes first) = row_entry first bytes (omega (arith, i, fits)) in
+    is ∙ all ∙ ap (λ r. row_of (position_of r) (entry_of bytes first)) (sym is) ∙ ap (row_of (position_of row)) same
+row_matches (first ∷ rows) (suc index) log row entry bytes inside fits less is has = row_matches rows index log row entry bytes inside.1 fits (omega (arith, less)) is has
+
+pub row_inside : (rows : List Row) (index log : ℕ) (row : Row) → AllByRecursion (λ r. position_of r + size_of r ≤ log) rows → index < length rows → row ≡ get_or rows index row → position_of row + size_of row ≤ log
+row_inside [] index log row inside less is = absurd (omega (arith, less))
+row_inside (first ∷ rows) zero log row inside less is = subst (λ r. position_of r + size_of r ≤ log) (sym is) inside.0
+row_inside (first ∷ rows) (suc index) log row inside less is = row_inside rows index log row inside.1 (omega (arith, less)) is
+
+pub matches_now : (rows : List Row) (index log size : ℕ) (row : Row) (moments : List Medium) → AllByRecursion (λ r. position_of r + size_of r ≤ log) rows → byte_of log ≤ size
+    → AllByRecursion (HasSize size) moments → index < length rows → row ≡ get_or rows index row
+    → IfSome (entries_in rows moments) (λ list. (entry : Entry) → slice_get list index ≡ Some entry → row ≡ row_of (position_of row) entry)
+matches_now rows index log size row [] inside fits media less is = tt
+matches_now rows index log size row (now ∷ past) inside fits media less is = λ entry has.
+    row_matches rows index log row entry now.bytes inside (let e = media.0.bytes in omega (arith, e, fits)) less is has

@@ -1,17 +1,16 @@
 -- What writes leave of the records of a log.
-use Rattle.std.proofs.Common.{◌≡◌, ℕ, ◌+◌, ◌-◌, ◌*◌, ◌<◌, ◌≤◌, List, [], ◌∷◌, ◌++◌, length, take, drop, map, refl, sym, ◌∙◌, ap, subst, inl, inr, arith}
+use Rattle.std.proofs.Common.{◌≡◌, ℕ, ◌+◌, ◌-◌, ◌*◌, ◌≤◌, List, [], ◌∷◌, ◌++◌, zero, suc, length, take, drop, map, refl, sym, ◌∙◌, ap, subst, inl, inr, arith}
 use Rattle.std.proofs.lemmas.List.{take-append-drop, take-append-le, drop-append-le, length-take-le, length-drop}
 use Rattle.std.proofs.Math.Seq.{drop-append-add}
 use Rattle.lsvd_base.specs.declared.entry.Entry.TheVariants as entries
 use Rattle.lsvd_bytes.specs.Places.{bytes_at}
 use Rattle.lsvd_bytes.proofs.PlaceLemmas.{keeps_other_bytes}
 use Rattle.lsvd_device.specs.Medium.{Medium, overwritten, IsTorn}
-use Rattle.log_room.specs.Room.{room_of, position, pad_before}
 use Rattle.log_record.specs.Grammar.{record_of}
 use Rattle.cache_log.specs.declared.row.Row.{Row}
 use Rattle.cache_log.specs.declared.row.Row.TheVariants.{Write, Zero}
-use Rattle.cache_log.specs.Rows.{byte_of, log_sectors, position_of, size_of, entry_of, Follow, IsFurther, HasPad, HaveRecords}
-use Rattle.cache_log.proofs.Places.{next_of, need_of, spot, step_of, further_on, AreFree, Apart, here_apart, round_apart}
+use Rattle.cache_log.specs.Rows.{byte_of, log_sectors, position_of, size_of, entry_of, next, behind_rows, HasPad, HaveRecords}
+use Rattle.cache_log.proofs.Places.{Apart, LieApart}
 
 -- all sectors of the log apart from some are as before
 abbrev pub Keeps : (at count : ℕ) → (old new : List ℕ) → Type 0
@@ -57,11 +56,6 @@ keeps_torn at count bytes old new whole inside torn = λ sector n apart.
           ∙ sym (part_behind (byte_of sector) (512 * n) (byte_of at + bytes) old.bytes (omega (arith, behind, whole)) inside)
     ]
 
--- two changes one after the other
-pub keeps_both : (log head used at count on more : ℕ) (old middle new : List ℕ) → ((sector n : ℕ) → Apart at count sector n → Apart on more sector n)
-    → Keeps at count old middle → Keeps on more middle new → Keeps at count old new
-keeps_both log head used at count on more old middle new both first second = λ sector n apart. second sector n (both sector n apart) ∙ first sector n apart
-
 -- an entry whose record lies apart from a change is as before
 entry_kept : (row : Row) (at count : ℕ) (old new : List ℕ) → Keeps at count old new → Apart at count (position_of row) (size_of row) → entry_of new row ≡ entry_of old row
 entry_kept (Write on lba sectors) at count old new keeps apart =
@@ -71,72 +65,52 @@ entry_kept (Write on lba sectors) at count old new keeps apart =
     ]))
 entry_kept (Zero on lba sectors) at count old new keeps apart = refl
 
--- the sectors of a record, and the header of its pad
-record AreApart (log from size at count : ℕ) : Type 0 where
-  record' : Apart at count (position (room_of log from 0) size) size
-  pad : 0 < pad_before (room_of log from 0) size → Apart at count from 1
-
-are_apart : (log from size used total head at count : ℕ) → from < log → head < log → total ≤ log → used ≤ total → need_of log from size ≤ used
-    → IsFurther log from used head → AreFree log head total at count → AreApart log from size at count
-are_apart log from size used total head at count inside behind most less part further free =
-    elim (spot log from size) [
-      | inl here ↦ record {
-        record' = (let P : ℕ → Type 0 = λ p. Apart at count p size in
-            subst P (sym here.at) (here_apart log from size used total head at count inside most less (let e = here.pad in omega (arith, e, part)) here.inside further free));
-        pad = λ some. absurd (let e = here.pad in omega (arith, e, some));
-      }
-      | inr round ↦
-          let both = round_apart log from size used total head at count inside behind most less (let e = round.pad in omega (arith, e, part)) further free in
-          record {
-            record' = (let P : ℕ → Type 0 = λ p. Apart at count p size in subst P (sym round.at) both.0);
-            pad = λ some. both.1;
-          }
-    ]
-
--- what is left of records after a change of what is free
+-- what is left of records after a change of other sectors
 pub record AreKept (log from seq : ℕ) (rows : List Row) (old new : List ℕ) : Type 0 where
   pub records : HaveRecords log from seq rows new
   pub entries : map (entry_of new) rows ≡ map (entry_of old) rows
 
-pub keeps_records : (rows : List Row) (log from used total head at count seq : ℕ) (old new : List ℕ) → from < log → head < log → total ≤ log → used ≤ total
-    → IsFurther log from used head → AreFree log head total at count → Keeps at count old new → Follow log from used rows → HaveRecords log from seq rows old
+pub entries_kept : (rows : List Row) (log from at count : ℕ) (old new : List ℕ) → Keeps at count old new → LieApart at count log from rows → map (entry_of new) rows ≡ map (entry_of old) rows
+entries_kept [] log from at count old new keeps apart = refl
+entries_kept (row ∷ rows) log from at count old new keeps (here, more) =
+    ap (λ entry. entry ∷ map (entry_of new) rows) (entry_kept row at count old new keeps here.record')
+    ∙ ap (λ list. entry_of old row ∷ list) (entries_kept rows log (next log row) at count old new keeps more)
+
+records_kept : (rows : List Row) (log from at count seq : ℕ) (old new : List ℕ) → Keeps at count old new → LieApart at count log from rows → HaveRecords log from seq rows old
+    → HaveRecords log from seq rows new
+records_kept [] log from at count seq old new keeps apart have = tt
+records_kept (row ∷ rows) log from at count seq old new keeps (here, more) (pad, bytes, have) = (
+  (λ some. keeps from 1 (here.pad some) ∙ pad some),
+  keeps (position_of row) (size_of row) here.record' ∙ bytes ∙ ap (λ entry. record_of entry seq) (sym (entry_kept row at count old new keeps here.record')),
+  records_kept rows log (next log row) at count (seq + 1) old new keeps more have,
+)
+
+-- records that lie apart from a change are kept
+pub keeps_records : (rows : List Row) (log from at count seq : ℕ) (old new : List ℕ) → Keeps at count old new → LieApart at count log from rows → HaveRecords log from seq rows old
     → AreKept log from seq rows old new
-keeps_records [] log from used total head at count seq old new inside behind most less further free keeps follow have = record { records = tt; entries = refl }
-keeps_records (row ∷ rows) log from used total head at count seq old new inside behind most less further free keeps (here, enough, more) (pad, bytes, have) =
-    let size : ℕ = size_of row in
-    let step = step_of log from size inside (omega (arith, enough, less, most)) in
-    let apart = are_apart log from size used total head at count inside behind most less enough further free in
-    let lies : Apart at count (position_of row) size = (let P : ℕ → Type 0 = λ p. Apart at count p size in subst P (sym here) apart.record') in
-    let same : entry_of new row ≡ entry_of old row = entry_kept row at count old new keeps lies in
-    let rest = keeps_records rows log (next_of log from size) (used - need_of log from size) total head at count (seq + 1) old new step.inside behind most (omega (arith, less))
-    (further_on log from size used head inside behind (omega (arith, less, most)) enough further) free keeps more have in
-    record {
-      records = (
-        (λ some. keeps from 1 (apart.pad some) ∙ pad some),
-        keeps (position_of row) size lies ∙ bytes ∙ ap (λ entry. record_of entry seq) (sym same),
-        rest.records,
-      );
-      entries = ap (λ entry. entry ∷ map (entry_of new) rows) same ∙ ap (λ list. entry_of old row ∷ list) rest.entries;
-    }
+keeps_records rows log from at count seq old new keeps apart have = record {
+  records = records_kept rows log from at count seq old new keeps apart have;
+  entries = entries_kept rows log from at count old new keeps apart;
+}
 
 -- the records with one more behind them
-pub have_more : (rows : List Row) (row : Row) (log from used head seq : ℕ) (bytes : List ℕ) → from < log → head < log → used ≤ log → IsFurther log from used head → Follow log from used rows
-    → HaveRecords log from seq rows bytes → HasPad log head (seq + length rows) (size_of row) bytes
+pub have_more : (rows : List Row) (row : Row) (log from head seq : ℕ) (bytes : List ℕ) → behind_rows log from rows ≡ head
+    → HaveRecords log from seq rows bytes → HasPad log head (seq + length rows) row bytes
     → log_sectors (position_of row) (size_of row) bytes ≡ record_of (entry_of bytes row) (seq + length rows)
     → HaveRecords log from seq (rows ++ row ∷ []) bytes
-have_more [] row log from used head seq bytes inside behind most (inl further) none have pad at =
-    let same : head ≡ from = omega (arith, further, none) in
-    let zero : seq + length {A = Row} [] ≡ seq = omega arith in
-    let P : ℕ → Type 0 = λ h. HasPad log h seq (size_of row) bytes in
-    let Q : ℕ → Type 0 = λ n. HasPad log head n (size_of row) bytes in
-    (subst P same (subst Q zero pad), at ∙ ap (record_of (entry_of bytes row)) zero, tt)
-have_more [] row log from used head seq bytes inside behind most (inr further) none have pad at = absurd (omega (arith, further, none, inside))
-have_more (first ∷ rows) row log from used head seq bytes inside behind most further (here, enough, more) (before, record', have) pad at =
-    let step = step_of log from (size_of first) inside (omega (arith, enough, most)) in
-    let next : seq + length (first ∷ rows) ≡ (seq + 1) + length rows = omega arith in
-    let P : ℕ → Type 0 = λ n. HasPad log head n (size_of row) bytes in (
-      before,
-      record',
-      have_more rows row log (next_of log from (size_of first)) (used - need_of log from (size_of first)) head (seq + 1) bytes step.inside behind (omega (arith, most))
-          (further_on log from (size_of first) used head inside behind most enough further) more have (subst P next pad) (at ∙ ap (record_of (entry_of bytes row)) next),
-    )
+have_more [] row log from head seq bytes behind have pad at =
+    let none : seq + length {A = Row} [] ≡ seq = omega arith in
+    let P : ℕ → Type 0 = λ h. HasPad log h seq row bytes in
+    let Q : ℕ → Type 0 = λ n. HasPad log head n row bytes in
+    (subst P (sym behind) (subst Q none pad), at ∙ ap (record_of (entry_of bytes row)) none, tt)
+have_more (first ∷ rows) row log from head seq bytes behind (before, record', have) pad at =
+    let more : seq + length (first ∷ rows) ≡ (seq + 1) + length rows = omega arith in
+    let P : ℕ → Type 0 = λ n. HasPad log head n row bytes in
+    (before, record', have_more rows row log (next log first) head (seq + 1) bytes behind have (subst P more pad) (at ∙ ap (record_of (entry_of bytes row)) more))
+
+-- the first so many of the records
+pub have_first : (rows : List Row) (k log from seq : ℕ) (bytes : List ℕ) → HaveRecords log from seq rows bytes → HaveRecords log from seq (take k rows) bytes
+have_first [] zero log from seq bytes have = tt
+have_first [] (suc k) log from seq bytes have = tt
+have_first (row ∷ rows) zero log from seq bytes have = tt
+have_first (row ∷ rows) (suc k) log from seq bytes (pad, bytes', have) = (pad, bytes', have_first rows k log (next log row) (seq + 1) bytes have)

@@ -1,2 +1,5 @@
 pub mod Rows
 pub mod Log
+pub mod Opening
+pub mod Committed
+pub mod Laws

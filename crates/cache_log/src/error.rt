@@ -1,7 +1,9 @@
 ghost use Rattle.std.specs.Prelude.{◌≡◌};
 ghost use Rattle.cache_log.specs.declared.error.AppendError.TheVariants as append_errors;
 ghost use Rattle.cache_log.specs.declared.error.ReadError.TheVariants as read_errors;
+ghost use Rattle.cache_log.specs.declared.error.OpenError.TheVariants as open_errors;
 
+use log_record::Reason;
 use lsvd_fault::Failed;
 use std::alloc::{AllocError, AllocFailed};
 use thiserror::Error;
@@ -57,5 +59,35 @@ impl<T: Drop> From<AllocFailed<T>> for ReadError {
 
     fn from(_: AllocFailed<T>) -> ReadError {
         ReadError::OutOfMemory
+    }
+}
+
+/// Why a log was not opened.
+#[derive(Clone, Copy, Debug, PartialEq, Eq, Error)]
+pub enum OpenError {
+    /// The record with this seq, or the pad before it, is none: the first test that its header fails.
+    #[error("bad record {seq}: {reason}")]
+    BadRecord { seq: u64, reason: Reason },
+    /// A call of the device failed, and was counted by it.
+    #[error("the device failed")]
+    DeviceFault,
+    /// Memory lacked.
+    #[error("want of memory")]
+    OutOfMemory,
+}
+
+impl From<Failed> for OpenError {
+    ghost from_gives = { λ _ e. e ≡ open_errors.DeviceFault };
+
+    fn from(_: Failed) -> OpenError {
+        OpenError::DeviceFault
+    }
+}
+
+impl<T: Drop> From<AllocFailed<T>> for OpenError {
+    ghost from_gives = { λ _ e. e ≡ open_errors.OutOfMemory };
+
+    fn from(_: AllocFailed<T>) -> OpenError {
+        OpenError::OutOfMemory
     }
 }

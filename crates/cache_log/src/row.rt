@@ -1,4 +1,5 @@
-ghost use Rattle.std.specs.Prelude.{◌≡◌};
+ghost use Rattle.std.specs.Prelude.{◌≡◌, ◌+◌, ◌-◌, ◌^◌, ◌<◌, ◌≤◌};
+ghost use Rattle.cache_log.specs.Rows.{position_of, size_of, taken, next};
 ghost use Rattle.cache_log.specs.Log.{row_of};
 
 use lsvd_base::Entry;
@@ -30,5 +31,49 @@ impl Row {
                 sectors: *sectors,
             },
         }
+    }
+
+    /// The sector of the log at which the record stands.
+    fn position(&self) -> u64
+        ensures { result ≡ position_of self.now }
+    {
+        match self {
+            Row::Write { at, .. } | Row::Zero { at, .. } => *at,
+        }
+    }
+
+    /// The sectors of the log that the record takes.
+    fn size(&self) -> u64
+        requires { size_of self.now ≤ 2 ^ 31 }
+        ensures { result ≡ size_of self.now }
+    {
+        match self {
+            Row::Write { sectors, .. } => 1 + *sectors,
+            Row::Zero { .. } => 1,
+        }
+    }
+
+    /// The sectors of a log of so many that the record takes from a sector on, with the pad before it.
+    pub(crate) fn taken(&self, log: u64, from: u64) -> u64
+        requires log { log ≤ 2 ^ 31 }
+        requires from { from < log }
+        requires size { size_of self.now ≤ log }
+        ensures { result ≡ taken log from self.now }
+    {
+        if self.position() < from {
+            log - from + self.size()
+        } else {
+            self.size()
+        }
+    }
+
+    /// The sector of a log of so many behind the record: the log's end is its beginning.
+    pub(crate) fn next(&self, log: u64) -> u64
+        requires log { log ≤ 2 ^ 31 }
+        requires inside { position_of self.now + size_of self.now ≤ log }
+        ensures { result ≡ next log self.now }
+    {
+        let end = self.position() + self.size();
+        if end == log { 0 } else { end }
     }
 }

@@ -2,12 +2,25 @@ ghost use Rattle.std.specs.Prelude.{◌≡◌, ◌<◌, ◌≤◌, ◌++◌, ◌
 ghost use Rattle.cache_log.specs.Log.{row_of, AreData};
 
 use super::*;
-use crate::log::emptied;
-use lsvd_base::{Body, Entry};
-use lsvd_device::{Disk, MemDisk};
+use commit_body::{CommitBody, Mark, is_within};
+use commit_slot::Commits;
+use log_record::Reason;
+use lsvd_base::{Body, Entry, Geometry};
+use lsvd_device::{Disk, Fate, FuseDisk, MemDisk};
 use std::alloc::{AllocError, Global};
 use std::process::Abort;
 use std::test::Fail;
+
+/// The volume of the logs of 64 sectors.
+const GEOMETRY: Geometry = Geometry {
+    sectors: 64,
+    max_write: 8,
+    batch: 16,
+    log: 64,
+};
+
+/// The uuid of the volumes.
+const UUID: [u8; 16] = [0, 0, 0, 0, 0, 0, 0x40, 0, 0x80, 0, 0, 0, 0, 0, 0, 1];
 
 /// The numbers of a header: those of a write of a sector at the lba 0 with the seq 0, of a zeroing of 3 sectors
 /// from the lba 5 on with the seq 1, and of a pad with 3 sectors behind it and the seq 20.
@@ -26,15 +39,64 @@ const PAD: [u8; 36] = [
     0, 0, 0, 0, 0, 0, 0, 0, 0, 0, 0, 0, 3,
 ];
 
+/// A disk in memory for a log of so many sectors, which has room to be formatted.
+fn disk_of(alloc: Global, sectors: u64) -> Result<MemDisk, Fail>
+    requires { sectors ≤ 1000 }
+{
+    let mut disk = MemDisk::new(alloc, 4_096 + 512 * sectors)?;
+    disk.reserve(20, 8_192)?;
+    Ok(disk)
+}
+
 /// A log of so many sectors with no entry, on a disk in memory of which 100 calls and 64 KB of writes pass.
 fn log_of(alloc: Global, sectors: u64) -> Result<CacheLog<MemDisk>, Fail>
     requires some { 0 < sectors }
     requires most { sectors ≤ 1000 }
     ensures rows { IfOk result (λ log. log.rows ≡ []) }
 {
-    let mut log = CacheLog::new(alloc, MemDisk::new(alloc, 4_096 + 512 * sectors)?);
+    let disk = disk_of(alloc, sectors)?;
+    if disk.len() < 4_096 + 512 || 4_096 + 512 * 1_000 < disk.len() {
+        return Err("another size")?;
+    }
+    let mut log = CacheLog::format(alloc, disk, UUID, 0).map_err(|(_, failed)| failed)?;
     log.reserve_calls(100, 65_536)?;
     Ok(log)
+}
+
+/// Opens the log of 64 sectors on a device.
+fn open(alloc: Global, disk: MemDisk) -> Result<Result<CacheLog<MemDisk>, OpenError>, Fail> {
+    if disk.len() < 4_096 {
+        return Err("a short disk")?;
+    }
+    let commits = Commits::load(disk).map_err(|(_, error)| error)?;
+    if commits.log() != GEOMETRY.log || !GEOMETRY.is_within_limits() {
+        return Err("another log")?;
+    }
+    match CacheLog::open(alloc, commits, &GEOMETRY) {
+        Ok(mut log) => {
+            log.reserve_calls(100, 65_536)?;
+            Ok(Ok(log))
+        }
+        Err((_, error)) => Ok(Err(error)),
+    }
+}
+
+/// The device of a log of 64 sectors whose entries before this seq are none of it, with its head at this sector.
+fn emptied(alloc: Global, position: u64, seq: u64) -> Result<MemDisk, Fail> {
+    let mark = Mark { position, seq };
+    let body = CommitBody {
+        uuid: UUID,
+        epoch: 0,
+        tail: mark,
+        head: mark,
+    };
+    let disk = disk_of(alloc, 64)?;
+    if disk.len() != 4_096 + 64 * 512 || !is_within(&body, 64) {
+        return Err("another place")?;
+    }
+    let mut commits = Commits::format(disk, body).map_err(|(_, failed)| failed)?;
+    commits.reserve(20, 8_192)?;
+    Ok(commits.into_disk())
 }
 
 /// A write of so many sectors at this lba, or a zeroing of 3 where they are none.
@@ -55,6 +117,27 @@ fn append(log: &mut CacheLog<MemDisk>, entry: &Entry) -> Result<Result<u64, Appe
         return Err("the last seq")?;
     }
     Ok(log.append(entry))
+}
+
+/// Commits the log's entries.
+fn commit(log: &mut CacheLog<MemDisk>) -> Result<(), Fail> {
+    log.reserve_calls(100, 65_536)?;
+    if 100 < log.number() {
+        return Err("the last commit")?;
+    }
+    Ok(log.commit()?)
+}
+
+/// What the log's entries are.
+fn entries(
+    alloc: Global,
+    log: &mut CacheLog<MemDisk>,
+) -> Result<Vec<(u64, u64, Option<u8>)>, Fail> {
+    let mut entries = Vec::new(alloc);
+    for entry in log.entries_from(alloc, 0)?.iter() {
+        entries.push(told(entry))?;
+    }
+    Ok(entries)
 }
 
 /// Where the records of such entries stand, one behind the other.
@@ -144,12 +227,13 @@ fn records_stand_on_the_device(rt: HostRuntime) -> Result<(), Fail> {
         let at = append(&mut log, &entry_of(alloc, lba, sectors)?)??;
         assert_eq!(rt; at, wanted);
     }
-    let mut wanted = vec![in alloc; 0; 4_096 + 18 * 512]?;
-    wanted[4_096..4_132].copy_from_slice(&WRITE);
-    wanted[4_608..5_120].fill(0x41);
-    wanted[5_120..5_156].copy_from_slice(&ZERO);
+    let mut wanted = vec![in alloc; 0; 18 * 512]?;
+    wanted[..36].copy_from_slice(&WRITE);
+    wanted[512..1_024].fill(0x41);
+    wanted[1_024..1_060].copy_from_slice(&ZERO);
     let held = contents(alloc, log)?;
-    assert_eq!(rt; held.as_slice(), wanted.as_slice());
+    assert_eq!(rt; held.len(), 4_096 + 18 * 512);
+    assert_eq!(rt; &held[4_096..], wanted.as_slice());
     Ok(())
 }
 
@@ -160,7 +244,7 @@ fn entries_are_read_again(rt: HostRuntime) -> Result<(), Fail> {
     for (lba, sectors) in [(7, 2), (9, 0), (11, 1)] {
         append(&mut log, &entry_of(alloc, lba, sectors)?)??;
     }
-    log.sync()?;
+    commit(&mut log)?;
     let all = [(7, 2, Some(0x41)), (9, 3, None), (11, 1, Some(0x41))];
     for (seq, skipped) in [(0, 0), (1, 1), (2, 2), (3, 3), (4, 3), (u64::MAX, 3)] {
         let mut entries = Vec::new(alloc);
@@ -212,8 +296,7 @@ fn data_are_read_where_they_stand(rt: HostRuntime) -> Result<(), Fail> {
 #[test]
 fn a_pad_is_written_before_the_log_begins_again(rt: HostRuntime) -> Result<(), Fail> {
     let alloc = rt.alloc();
-    let mut log = emptied(alloc, MemDisk::new(alloc, 4_096 + 64 * 512)?, 60, 20);
-    log.reserve_calls(100, 65_536)?;
+    let mut log = open(alloc, emptied(alloc, 60, 20)?)??;
     let positions = positions(alloc, &mut log, &[8, 8, 8, 8, 8, 8])?;
     assert_eq!(rt; positions.as_slice(), [0, 9, 18, 27, 36, 45].as_slice());
     let answer = append(&mut log, &entry_of(alloc, 0, 8)?)?;
@@ -232,6 +315,303 @@ fn a_pad_is_written_before_the_log_begins_again(rt: HostRuntime) -> Result<(), F
 }
 
 #[test]
+fn a_committed_log_is_opened_again(rt: HostRuntime) -> Result<(), Fail> {
+    let alloc = rt.alloc();
+    // Where the head of the empty log is, the data sectors of the entries (0: a zeroing), where the next record of
+    // a sector stands then, and the error where there is no room for it.
+    let full = Err(AppendError::NoRoom { need: 1, free: 0 });
+    let cases: [(u64, &[u64], Result<u64, AppendError>); 5] = [
+        (37, &[], Ok(37)),
+        (63, &[0], Ok(0)),
+        (60, &[8, 8, 8, 8, 8, 8], Ok(54)),
+        (0, &[8, 8, 8, 8, 8, 8, 8, 0], full),
+        (10, &[8, 8, 8, 8, 8, 8, 8, 0], full),
+    ];
+    for (head, sectors, wanted) in cases {
+        let mut log = open(alloc, emptied(alloc, head, 20)?)??;
+        let _ = positions(alloc, &mut log, sectors)?;
+        commit(&mut log)?;
+        let before = entries(alloc, &mut log)?;
+        assert_eq!(rt; before.len(), sectors.len());
+        let mut again = open(alloc, log.into_disk())??;
+        assert_eq!(rt; entries(alloc, &mut again)?.as_slice(), before.as_slice());
+        assert_eq!(rt; again.next_seq(), 20 + sectors.len() as u64);
+        assert_eq!(rt;
+            append(&mut again, &Entry::Zero { lba: 1, sectors: 2 })?,
+            wanted
+        );
+    }
+    Ok(())
+}
+
+#[test]
+fn an_entry_that_was_not_committed_is_not_opened(rt: HostRuntime) -> Result<(), Fail> {
+    let alloc = rt.alloc();
+    let mut log = open(alloc, emptied(alloc, 0, 0)?)??;
+    append(&mut log, &entry_of(alloc, 7, 1)?)??;
+    commit(&mut log)?;
+    append(&mut log, &entry_of(alloc, 9, 0)?)??;
+    let mut again = open(alloc, log.into_disk())??;
+    assert_eq!(rt;
+        entries(alloc, &mut again)?.as_slice(),
+        [(7, 1, Some(0x41))].as_slice()
+    );
+    // Its record is written over.
+    assert_eq!(rt; append(&mut again, &entry_of(alloc, 11, 1)?)?, Ok(2));
+    Ok(())
+}
+
+/// What opening answers when a byte of the log is another.
+fn opened_with(alloc: Global, disk: MemDisk, at: u64, byte: u8) -> Result<Option<OpenError>, Fail> {
+    let mut disk = disk;
+    disk.reserve(2, 512)?;
+    if disk.len() <= 4_096 || disk.len() - 4_096 <= at {
+        return Err("past the end")?;
+    }
+    disk.write(4_096 + at, &[byte])?;
+    Ok(open(alloc, disk)?.err())
+}
+
+#[test]
+fn a_bad_record_is_told(rt: HostRuntime) -> Result<(), Fail> {
+    let alloc = rt.alloc();
+    // Where the head of the empty log is, a byte of the log and what it becomes, and the record that is bad then.
+    for (head, at, byte, seq, reason) in [
+        (0, 0, 0, 20, Some(Reason::Magic)),
+        (0, 11, 4, 20, Some(Reason::Kind)),
+        (0, 19, 21, 20, Some(Reason::Seq)),
+        (0, 27, 64, 20, Some(Reason::Range)),
+        (0, 36, 1, 20, Some(Reason::Zeros)),
+        // A write that is taken for a zeroing: the next record is sought in its data.
+        (0, 11, 2, 21, Some(Reason::Magic)),
+        // The data of a write, and a sector behind the head, are any bytes.
+        (0, 512, 1, 20, None),
+        (0, 5_120, 1, 20, None),
+        // The second record, and the last one, which would end before the head.
+        (0, 9 * 512 + 19, 0, 21, Some(Reason::Seq)),
+        (0, 9 * 512 + 11, 1, 21, Some(Reason::Place)),
+        // A pad, the record behind it, and a pad that is no longer one.
+        (60, 60 * 512 + 35, 2, 20, Some(Reason::Range)),
+        (60, 11, 3, 20, Some(Reason::Range)),
+        (60, 60 * 512 + 11, 2, 21, Some(Reason::Magic)),
+    ] {
+        let mut log = open(alloc, emptied(alloc, head, 20)?)??;
+        let _ = positions(alloc, &mut log, &[8, 0])?;
+        commit(&mut log)?;
+        let wanted = reason.map(|reason| OpenError::BadRecord { seq, reason });
+        assert_eq!(rt; opened_with(alloc, log.into_disk(), at, byte)?, wanted);
+    }
+    Ok(())
+}
+
+/// The log of 64 sectors of a device, on a disk with a fuse, of which 100 calls and 64 KB of writes pass.
+fn open_fused(alloc: Global, disk: MemDisk) -> Result<CacheLog<FuseDisk<MemDisk>>, Fail> {
+    let disk = FuseDisk::new(disk, None);
+    if disk.len() < 4_096 {
+        return Err("a short disk")?;
+    }
+    let commits = Commits::load(disk).map_err(|(_, error)| error)?;
+    if commits.log() != GEOMETRY.log || !GEOMETRY.is_within_limits() {
+        return Err("another log")?;
+    }
+    let mut log = CacheLog::open(alloc, commits, &GEOMETRY).map_err(|(_, error)| error)?;
+    log.reserve_calls(100, 65_536)?;
+    Ok(log)
+}
+
+/// A log of 64 sectors with one zeroing that is not committed, on a disk with a fuse.
+fn fused(rt: &impl Abort, alloc: Global) -> Result<CacheLog<FuseDisk<MemDisk>>, Fail> {
+    let mut log = open_fused(alloc, emptied(alloc, 0, 0)?)?;
+    let entry = Entry::Zero { lba: 1, sectors: 2 };
+    log.reserve(&entry)?;
+    assert!(rt; log.next_seq() == 0);
+    assert!(rt; log.append(&entry).is_ok());
+    assert_eq!(rt; log.pending(), 1);
+    Ok(log)
+}
+
+/// How many entries a log has that is opened again, of which the second commit was broken off by a fuse.
+fn broken_off(rt: &impl Abort, alloc: Global, calls: u64) -> Result<(bool, usize), Fail> {
+    let mut log = fused(rt, alloc)?;
+    log.set_fuse(Some(calls));
+    assert!(rt; log.number() < 100);
+    let is_made = log.commit().is_ok();
+    let mut again = open(alloc, log.into_disk().into_disk())??;
+    Ok((is_made, entries(alloc, &mut again)?.len()))
+}
+
+#[test]
+fn each_fate_of_a_record_leaves_what_was_committed(rt: HostRuntime) -> Result<(), Fail> {
+    let alloc = rt.alloc();
+    for fate in [Fate::Kept, Fate::Old, Fate::Zeros, Fate::Torn] {
+        let log = fused(&rt, alloc)?;
+        assert!(rt; log.pending() == 1);
+        let mut left = open(alloc, log.stopped(alloc, &[fate])?)??;
+        assert_eq!(rt; entries(alloc, &mut left)?.len(), 0);
+    }
+    let mut log = fused(&rt, alloc)?;
+    assert!(rt; log.number() < 100);
+    log.commit()?;
+    assert!(rt; log.pending() == 0);
+    let mut left = open(alloc, log.stopped(alloc, &[])?)??;
+    assert_eq!(rt; entries(alloc, &mut left)?.len(), 1);
+    Ok(())
+}
+
+#[test]
+fn a_commit_that_is_broken_off_leaves_either_log(rt: HostRuntime) -> Result<(), Fail> {
+    let alloc = rt.alloc();
+    for (calls, wanted) in [
+        (0, (false, 0)),
+        (3, (false, 0)),
+        (4, (false, 1)),
+        (5, (true, 1)),
+    ] {
+        assert_eq!(rt; broken_off(&rt, alloc, calls)?, wanted);
+    }
+    Ok(())
+}
+
+/// What is asked of a log that is stopped: a write of so many sectors, or a zeroing where they are none; or a commit.
+#[derive(Clone, Copy)]
+enum Step {
+    Append(u64),
+    Commit,
+}
+
+/// The first record fits just before the end of the log, and the second one stands behind a pad, at its beginning.
+const STEPS: [Step; 6] = [
+    Step::Append(0),
+    Step::Append(8),
+    Step::Commit,
+    Step::Append(1),
+    Step::Append(0),
+    Step::Commit,
+];
+
+/// The entries of the steps.
+const STEPPED: [(u64, u64, Option<u8>); 4] = [
+    (0, 3, None),
+    (0, 8, Some(0x41)),
+    (0, 1, Some(0x41)),
+    (0, 3, None),
+];
+
+/// The entries of the steps that are kept, where so many of their calls passed, and the last of the writes that were
+/// not synced is kept or not.
+fn kept_after(calls: u64, keeps_last: bool) -> &'static [(u64, u64, Option<u8>)] {
+    match calls {
+        0..=6 => &[],
+        7 if !keeps_last => &[],
+        7..=13 => &STEPPED[..2],
+        14 if !keeps_last => &STEPPED[..2],
+        _ => &STEPPED,
+    }
+}
+
+/// Makes the steps up to the first that the device fails.
+fn make_steps(
+    rt: &impl Abort,
+    alloc: Global,
+    log: &mut CacheLog<FuseDisk<MemDisk>>,
+) -> Result<(), Fail> {
+    for step in STEPS {
+        let is_made = match step {
+            Step::Append(sectors) => {
+                let entry = entry_of(alloc, 0, sectors)?;
+                log.reserve(&entry)?;
+                assert!(rt; log.next_seq() < 100);
+                log.append(&entry).is_ok()
+            }
+            Step::Commit => {
+                assert!(rt; log.number() < 100);
+                log.commit().is_ok()
+            }
+        };
+        if !is_made {
+            break;
+        }
+    }
+    Ok(())
+}
+
+/// The fates of so many writes by the digits of a number to the base 4.
+fn fates_of(alloc: Global, pending: usize, number: usize) -> Result<Vec<Fate>, AllocError> {
+    let mut fates = Vec::new(alloc);
+    let mut rest = number;
+    for _ in 0..pending {
+        fates.push(match rest % 4 {
+            0 => Fate::Kept,
+            1 => Fate::Old,
+            2 => Fate::Zeros,
+            _ => Fate::Torn,
+        })?;
+        rest /= 4;
+    }
+    Ok(fates)
+}
+
+/// A device that was stopped in the steps, and what became of each write that was not synced.
+#[derive(Drop)]
+struct Stopped {
+    disk: MemDisk,
+    fates: Vec<Fate>,
+}
+
+/// Opens the log of a device, makes the steps while so many of their calls pass, and stops the machine.
+fn stop_in_steps(
+    rt: &impl Abort,
+    alloc: Global,
+    disk: MemDisk,
+    calls: u64,
+    number: usize,
+) -> Result<Stopped, Fail> {
+    let mut log = open_fused(alloc, disk)?;
+    log.set_fuse(Some(calls));
+    make_steps(rt, alloc, &mut log)?;
+    let fates = fates_of(alloc, log.pending(), number)?;
+    assert!(rt; fates.len() == log.pending());
+    let disk = log.stopped(alloc, &fates)?;
+    Ok(Stopped { disk, fates })
+}
+
+/// Stops a log in the steps, twice in a row, and asserts what is there each time: how many writes were not synced at
+/// the first stop.
+fn assert_kept(rt: &impl Abort, alloc: Global, calls: u64, number: usize) -> Result<usize, Fail> {
+    let mut disk = emptied(alloc, 60, 5)?;
+    let mut wanted = Vec::new(alloc);
+    let mut pending = None;
+    for _ in 0..2 {
+        // After a first stop that kept something no pad is needed.
+        let no_pad = u64::from(!wanted.is_empty());
+        let stopped = stop_in_steps(rt, alloc, disk, calls, number)?;
+        let keeps_last = stopped.fates.last() == Some(&Fate::Kept);
+        let kept = kept_after(calls.saturating_add(no_pad), keeps_last);
+        wanted.extend_from_slice(kept)?;
+        pending = pending.or(Some(stopped.fates.len()));
+        let mut log = open(alloc, stopped.disk)??;
+        assert_eq!(rt; entries(alloc, &mut log)?, wanted, "{calls} {number}");
+        disk = log.into_disk();
+    }
+    Ok(pending.unwrap_or(0))
+}
+
+#[test]
+fn a_stop_anywhere_leaves_what_was_committed(rt: HostRuntime) -> Result<(), Fail> {
+    for calls in 0..17 {
+        // Five writes at most are not synced.
+        for number in 0..1_024 {
+            let pending = assert_kept(&rt, rt.alloc(), calls, number)?;
+            assert!(rt; pending <= 5);
+            if number + 1 == 1 << (2 * pending) {
+                break;
+            }
+        }
+    }
+    Ok(())
+}
+
+#[test]
 fn an_error_is_told(rt: HostRuntime) -> Result<(), Fail> {
     let alloc = rt.alloc();
     for (error, wanted) in [
@@ -240,6 +620,19 @@ fn an_error_is_told(rt: HostRuntime) -> Result<(), Fail> {
             "10 sectors are needed, and 1 are free",
         ),
         (AppendError::DeviceFault, "the device failed"),
+    ] {
+        assert_eq!(rt; format!(in alloc; "{error}")?.as_str(), wanted);
+    }
+    for (error, wanted) in [
+        (
+            OpenError::BadRecord {
+                seq: 7,
+                reason: Reason::Zeros,
+            },
+            "bad record 7: bytes behind the header",
+        ),
+        (OpenError::DeviceFault, "the device failed"),
+        (OpenError::OutOfMemory, "want of memory"),
     ] {
         assert_eq!(rt; format!(in alloc; "{error}")?.as_str(), wanted);
     }

@@ -1,11 +1,12 @@
-ghost use Rattle.std.specs.Prelude.{◌≡◌, ◌+◌, ◌*◌, ◌-◌, ◌^◌, ◌<◌, ◌≤◌, OnOk, OnErr, IfOk, IsErrOf, map, drop};
-ghost use Rattle.lsvd_fault.specs.Faults.{HasRisen};
-ghost use Rattle.lsvd_device.specs.Device.{HoldsNow};
-ghost use Rattle.cache_log.specs.Log.{IsPadded, FailsToPad, IsRead, LiesInside, LieInside};
+ghost use Rattle.std.specs.Prelude.{◌≡◌, ◌+◌, ◌*◌, ◌-◌, ◌^◌, ◌<◌, ◌≤◌, OnOk, OnErr, IfOk, IfErr, map, drop, length, true};
+ghost use Rattle.lsvd_device.specs.Device.{HoldsNow, IsDisk};
+ghost use Rattle.cache_log.specs.Log.{IsPadded, FailsToPad, IsWrittenAt, IsNotWrittenAt, LiesInside, LieInside};
+ghost use Rattle.cache_log.specs.Opening.{AreReadOnly, is_read_without_fault};
 ghost use Rattle.cache_log.specs.Rows.{byte_of, entry_of};
 
 use crate::error::ReadError;
 use crate::row::Row;
+use commit_slot::Commits;
 use log_record::encode_pad;
 use log_room::LogRoom;
 use lsvd_base::{Body, Entry, SECTOR_BYTES};
@@ -25,17 +26,31 @@ pub(crate) fn byte_of(sector: u64) -> u64
     LOG_START + SECTOR_BYTES * sector
 }
 
+/// Writes a piece at a sector of the log.
+pub(crate) fn write_at<D: Disk>(
+    commits: &mut Commits<D>,
+    sector: u64,
+    piece: &[u8],
+) -> Result<(), Failed>
+    requires sector { sector ≤ 2 ^ 31 }
+    requires inside { byte_of sector + length piece.now ≤ commits.old.disk.size }
+    ensures ok { OnOk result (IsWrittenAt (byte_of sector) piece.now commits.old commits.new) }
+    ensures err { OnErr result (IsNotWrittenAt (byte_of sector) piece.now commits.old commits.new) }
+{
+    commits.write(byte_of(sector), piece)
+}
+
 /// Writes the header of the pad that the next record, of so many sectors, needs before it; the sectors behind it
 /// keep what they have. Nothing is written where it needs none.
 pub(crate) fn write_pad_before<D: Disk>(
-    disk: &mut D,
+    commits: &mut Commits<D>,
     room: &LogRoom,
     sectors: u64,
     seq: u64,
 ) -> Result<(), Failed>
-    requires inside { byte_of room.now.log ≤ (D.state disk.old).size }
-    ensures ok { OnOk result (IsPadded room.now sectors seq (D.state disk.old) (D.state disk.new)) }
-    ensures err { OnErr result (FailsToPad room.now sectors (D.state disk.old) (D.state disk.new)) }
+    requires inside { byte_of room.now.log ≤ commits.old.disk.size }
+    ensures ok { OnOk result (IsPadded room.now sectors seq commits.old commits.new) }
+    ensures err { OnErr result (FailsToPad room.now sectors seq commits.old commits.new) }
 {
     let (head, pad) = (room.head(), room.pad_before(sectors));
     if pad == 0 {
@@ -43,39 +58,45 @@ pub(crate) fn write_pad_before<D: Disk>(
     }
     let mut header = [0; SECTOR_BYTES as usize];
     encode_pad(pad - 1, seq, &mut header);
-    disk.write(byte_of(head), &header)
+    write_at(commits, head, &header)
 }
 
 /// Reads the entries whose records stand at these rows' sectors, but for the first ones.
 pub(crate) fn read_entries<D: Disk>(
     alloc: Global,
-    disk: &mut D,
+    commits: &mut Commits<D>,
     rows: &VecDeque<Row>,
     skipped: usize,
 ) -> Result<Vec<Entry>, ReadError>
-    requires { LieInside rows.now.items (D.state disk.old) }
-    ensures entries { IfOk result (λ list. HoldsNow (λ now. list.items ≡ map (entry_of now.bytes) (drop skipped rows.now.items)) (D.state disk.old).moments) }
-    ensures read { IsRead (D.state disk.old) (D.state disk.new) }
-    ensures cause { IsErrOf result ReadError.DeviceFault → HasRisen (D.state disk.old).faults (D.state disk.new).faults }
+    requires inside { LieInside rows.now.items commits.old.disk }
+    requires disk { IsDisk commits.old.disk }
+    ensures entries { IfOk result (λ list. HoldsNow (λ now. list.items ≡ map (entry_of now.bytes) (drop skipped rows.now.items)) commits.old.disk.moments) }
+    ensures read { OnOk result (AreReadOnly true commits.old commits.new) }
+    ensures err { IfErr result (λ e. AreReadOnly (is_read_without_fault e) commits.old commits.new) }
 {
     let mut entries = Vec::new(alloc);
     for index in skipped..rows.len() {
-        entries.push(read_entry(alloc, disk, rows[index])?)?;
+        entries.push(read_entry(alloc, commits, rows[index])?)?;
     }
     Ok(entries)
 }
 
 /// Reads the entry whose record stands at a row's sectors.
-fn read_entry<D: Disk>(alloc: Global, disk: &mut D, row: Row) -> Result<Entry, ReadError>
-    requires { LiesInside row (D.state disk.old) }
-    ensures entry { IfOk result (λ entry. HoldsNow (λ now. entry ≡ entry_of now.bytes row) (D.state disk.old).moments) }
-    ensures read { IsRead (D.state disk.old) (D.state disk.new) }
-    ensures cause { IsErrOf result ReadError.DeviceFault → HasRisen (D.state disk.old).faults (D.state disk.new).faults }
+fn read_entry<D: Disk>(
+    alloc: Global,
+    commits: &mut Commits<D>,
+    row: Row,
+) -> Result<Entry, ReadError>
+    requires inside { LiesInside row commits.old.disk }
+    requires disk { IsDisk commits.old.disk }
+    ensures entry { IfOk result (λ entry. HoldsNow (λ now. entry ≡ entry_of now.bytes row) commits.old.disk.moments) }
+    ensures read { OnOk result (AreReadOnly true commits.old commits.new) }
+    ensures err { IfErr result (λ e. AreReadOnly (is_read_without_fault e) commits.old commits.new) }
 {
     match row {
         Row::Write { at, lba, sectors } => {
             let mut bytes = vec![in alloc; 0; (SECTOR_BYTES * sectors) as usize]?;
-            disk.read(byte_of(at + 1), bytes.as_mut_slice())?;
+            commits.read(byte_of(at + 1), bytes.as_mut_slice())?;
             let body = Body::from_bytes(bytes);
             Ok(Entry::Write { lba, body })
         }

@@ -25,7 +25,7 @@ pub returns-clause-read : goal.returns-clause-read
 returns-clause-read g c =
     let same : length c.args.buf.now ≡ length c.read.new.buf = search rules in
     let log : LogState = c.args.self.now in
-    let entries' : log.entries ≡ entries_in log.rows log.disk.moments = rw (← c.self.view_is) refl in
-    let read : OnOk c.read.result (HoldsNow (λ now. c.read.new.buf ≡ take (length c.args.buf.now) (drop c.byte_of.result now.bytes)) log.disk.moments) =
+    let entries' : log.entries ≡ entries_in log.rows log.commits.disk.moments = rw (← c.self.view_is) refl in
+    let read : OnOk c.read.result (HoldsNow (λ now. c.read.new.buf ≡ take (length c.args.buf.now) (drop c.byte_of.result now.bytes)) log.commits.disk.moments) =
     rw (← c.self.view_is) c.read.ensures.bytes in
     is_read_on_ok c.read.result log c.args.buf.now c.read.new.buf c.args.sector c.byte_of.result c.byte_of.ensures same entries' read

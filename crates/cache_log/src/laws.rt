@@ -1,0 +1,11 @@
+ghost use Rattle.cache_log.specs.Laws.{HaveOneList, AreReadAgain};
+
+/// A law: bytes have at most one list of records from a commit's tail up to its head.
+pub fn bytes_have_one_list_of_records()
+    ensures { HaveOneList }
+{}
+
+/// A law: where the records of entries stand that a volume takes, they are read, and no others.
+pub fn records_are_read_again()
+    ensures { AreReadAgain }
+{}
