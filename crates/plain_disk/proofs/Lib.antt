@@ -1,2 +1,5 @@
 pub mod Zeros
 pub mod Overlaid
+pub mod Followed
+pub mod Held
+pub mod Kept

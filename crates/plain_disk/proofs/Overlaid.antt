@@ -2,7 +2,7 @@
 use Rattle.std.proofs.Common.{◌≡◌, ℕ, ◌+◌, ◌-◌, ◌*◌, ◌/◌, ◌%◌, ◌^◌, IsTrue, ◌<◌, ◌≤◌, List, [], ◌∷◌, ◌++◌, get_or, true, length, take, drop, replicate, sym, ◌∙◌, ap, arith, length-drop}
 use Rattle.std.proofs.lemmas.List.{length-take-le, length-replicate, take_all, take_more, take-replicate, drop-replicate}
 use Rattle.std.proofs.lemmas.List.Elements.{All-take}
-use Rattle.std.specs.List.{concat}
+use Rattle.std.specs.List.{All, concat}
 use Rattle.lsvd_base.specs.declared.geometry.Geometry.{Geometry}
 use Rattle.lsvd_base.specs.declared.entry.Entry.{Entry}
 use Rattle.std.proofs.lemmas.Bool.Decides.{nat_tests}
@@ -109,3 +109,8 @@ entry_in_range g history n entry h inside is = rw is (h n entry inside)
 -- how many sectors a volume within the limits has at most
 pub sectors_limit : (g : Geometry) → IsTrue (is_within_limits g) → g.sectors ≤ 2 ^ 31
 sectors_limit g h = grind (arith, nat_tests)
+
+-- the entries of a history in range end below the greatest number of 64 bits, as `last_writers` asks
+pub history_ends : (g : Geometry) (history : List Entry) → IsTrue (is_within_limits g) → AllInRange g history → All (EndsBy (2 ^ 64 - 1)) history
+history_ends g history limits range = λ k d inside.
+    EndsBy-more g.sectors (2 ^ 64 - 1) (get_or history k d) (EndsBy-in_range g (get_or history k d) (range k d inside)) (omega (arith, sectors_limit g limits))

@@ -1,2 +1,5 @@
 pub mod Window
+pub mod Writers
 pub mod Machine
+pub mod Plain
+pub mod Laws

@@ -1,9 +1,11 @@
-ghost use Rattle.std.specs.Prelude.{◌≡◌, IsTrue, IfOk, OnOk, OnErr};
+ghost use Rattle.std.specs.Prelude.{◌≡◌, ◌≤◌, IsTrue, IfOk, OnOk, OnErr, None, is_some};
 ghost use Rattle.lsvd_base.specs.Limits.{is_within_limits};
-ghost use Rattle.plain_disk.specs.Machine.{created, reply_of, disk_after, entry_reply, after_entry, read_reply};
+ghost use Rattle.plain_disk.specs.Machine.{created, reply_of, disk_after, entry_reply, after_entry, entry_calls, read_reply, after_read, flush_reply, after_flush, stopping_after, kept_mark, cut_to, mounted};
 
+use crate::device::{PlainDevice, PlainMark};
 use crate::event::{Event, Reply};
-use crate::history::{batch_refusal, data_sectors, read_history};
+use crate::history::{batch_refusal, data_sectors, read_history, sum_data_sectors};
+use crate::writers::{last_writers, run_count};
 use log_room::{LogRoom, record_sectors};
 use lsvd_base::{Entry, Geometry};
 use std::alloc::{AllocError, Global};
@@ -17,16 +19,18 @@ pub struct PlainDisk {
     /// The sectors of data of the unsealed entries, counted here so that a write need not go over them.
     data_sectors: u64,
     room: LogRoom,
+    device: PlainDevice,
 }
 
 impl Model for PlainDisk {
-    ghost use Rattle.plain_disk.specs.Machine.{Disk, IsKept};
+    ghost use Rattle.plain_disk.specs.Machine.{Disk};
+    ghost use Rattle.plain_disk.specs.Plain.{IsPlainDisk};
 
     ghost Value = { Disk };
 
-    ghost view = { λ d. record { geometry = d.geometry; history = d.history.items; room = d.room } };
+    ghost view = { λ d. record { geometry = d.geometry; history = d.history.items; room = d.room; device = d.device } };
 
-    ghost invariant = { λ d. IsKept d.geometry d.history.items d.data_sectors };
+    ghost invariant = { λ d. IsPlainDisk d.geometry d.history.items d.data_sectors d.device };
 }
 
 impl PlainDisk {
@@ -35,11 +39,13 @@ impl PlainDisk {
         requires { IsTrue (is_within_limits geometry) }
         ensures { result ≡ created geometry }
     {
+        let room = LogRoom::new(geometry.log);
         PlainDisk {
             geometry,
             history: Vec::new(alloc),
             data_sectors: 0,
-            room: LogRoom::new(geometry.log),
+            room,
+            device: PlainDevice::settled(PlainMark { count: 0, room }),
         }
     }
 
@@ -60,12 +66,49 @@ impl PlainDisk {
             Event::Write { lba, body } => self.enter(Entry::Write { lba, body }),
             Event::Read { lba, sectors } => self.read(lba, sectors),
             Event::Zero { lba, sectors } => self.enter(Entry::Zero { lba, sectors }),
-            Event::Flush => Ok(Reply::Flushed(self.history.len() as u64)),
+            Event::Flush => Ok(self.flush()),
         }
     }
 
-    /// Takes the entry if it is in range and the batch is not full. The one error is want of memory,
-    /// after which the disk is as before.
+    /// Whether its device was told to stop since the last crash.
+    pub fn is_stopping(&self) -> bool
+        ensures { result ≡ is_some self.now.device.fuse }
+    {
+        self.device.is_stopping()
+    }
+
+    /// How many writes its device passed since the last sync.
+    pub fn pending(&self) -> u128
+        ensures { result ≡ self.now.device.pending }
+    {
+        self.device.pending()
+    }
+
+    /// Lets the device pass so many calls more, and fail each later one until a crash. It was not told so since
+    /// the last crash (a condition, which `is_stopping` tells).
+    pub fn stop_after(&mut self, calls: u64)
+        requires { self.old.device.fuse ≡ None }
+        ensures { self.new ≡ stopping_after calls self.old }
+    {
+        self.device.stop_after(calls);
+    }
+
+    /// Stops the machine, where the last write that was not synced is kept or not, and mounts the disk again: how
+    /// many entries are kept.
+    pub fn crash(&mut self, keeps_last: bool) -> u64
+        ensures kept { result ≡ (kept_mark keeps_last self.old.device).count }
+        ensures disk { self.new ≡ mounted keeps_last self.old }
+    {
+        let mark = self.device.kept_mark(keeps_last);
+        self.history.truncate(mark.count as usize);
+        self.data_sectors = sum_data_sectors(&self.history);
+        self.room = mark.room;
+        self.device = PlainDevice::settled(mark);
+        mark.count
+    }
+
+    /// Takes the entry if it is in range, the batch is not full, the log has room, and the device passes its calls.
+    /// The one error is want of memory, after which the disk is as before.
     fn enter(&mut self, entry: Entry) -> Result<Reply, AllocError>
         ensures reply { IfOk result (λ reply. reply ≡ entry_reply self.old entry) }
         ensures disk { OnOk result (self.new ≡ after_entry self.old entry) }
@@ -80,19 +123,61 @@ impl PlainDisk {
         if free < need {
             return Ok(Reply::NoRoom { need, free });
         }
-        let added = data_sectors(&entry);
-        self.history.push(entry)?;
-        self.data_sectors += added;
+        let calls = entry_calls(&self.room, &entry);
+        self.history.reserve(1)?;
+        if !self.device.write(calls) {
+            return Ok(Reply::Fault);
+        }
+        self.data_sectors += data_sectors(&entry);
+        self.history.push_reserved(entry);
         self.room.enter(sectors);
         Ok(Reply::Entered(self.history.len() as u64))
     }
 
-    /// Reads so many sectors from `lba` on, if one read may cover them. The one error is want of memory.
-    fn read(&self, lba: u64, sectors: u64) -> Result<Reply, AllocError>
-        ensures { IfOk result (λ reply. reply ≡ read_reply self.now lba sectors) }
+    /// Reads so many sectors from `lba` on, if one read may cover them and the device passes its calls. The one error
+    /// is want of memory, after which the disk is as before.
+    fn read(&mut self, lba: u64, sectors: u64) -> Result<Reply, AllocError>
+        ensures reply { IfOk result (λ reply. reply ≡ read_reply self.old lba sectors) }
+        ensures disk { OnOk result (self.new ≡ after_read self.old lba sectors) }
+        ensures err { OnErr result (self.new ≡ self.old) }
     {
+        if !self.geometry.may_transfer(lba, sectors) {
+            return Ok(Reply::Range);
+        }
         let alloc = *self.history.allocator();
-        read_history(alloc, &self.geometry, &self.history, lba, sectors)
+        let reply = read_history(alloc, &self.geometry, &self.history, lba, sectors)?;
+        let last = last_writers(alloc, &self.history, lba, sectors)?;
+        if self.device.read(run_count(&last)) {
+            Ok(reply)
+        } else {
+            Ok(Reply::Fault)
+        }
+    }
+
+    /// Makes each entry so far durable by a commit, if the device passes its calls.
+    fn flush(&mut self) -> Reply
+        ensures reply { result ≡ flush_reply self.old }
+        ensures disk { self.new ≡ after_flush self.old }
+    {
+        let count = self.history.len() as u64;
+        let room = self.room;
+        if self.device.commit(PlainMark { count, room }) {
+            Reply::Flushed(count)
+        } else {
+            Reply::Fault
+        }
+    }
+}
+
+/// The writes that an entry takes: its record, and the pad before it where one is needed.
+fn entry_calls(room: &LogRoom, entry: &Entry) -> u64
+    ensures calls { result ≡ entry_calls room.now entry.now }
+    ensures few { result ≤ 2 }
+{
+    if room.pad_before(record_sectors(entry)) == 0 {
+        1
+    } else {
+        2
     }
 }
 
@@ -288,6 +373,16 @@ mod tests {
             Reply::NoRoom { need, free } => Some((*need, *free)),
             _ => None,
         }
+    }
+
+    #[test]
+    fn a_pad_is_one_write_more(rt: HostRuntime) -> Result<(), Fail> {
+        for (head, sectors, calls) in [(0, 8, 1), (17, 1, 2), (16, 1, 1), (10, 8, 2)] {
+            let body = Body::filled(rt.alloc(), sectors, b'A')?;
+            let room = LogRoom::at(18, head, 0);
+            assert_eq!(rt; entry_calls(&room, &Entry::Write { lba: 0, body }), calls);
+        }
+        Ok(())
     }
 
     #[test]

@@ -31,4 +31,6 @@ pub enum Reply {
     NoRoom { need: u64, free: u64 },
     /// The disk does not take a request for these sectors.
     Range,
+    /// The device failed a call of the request.
+    Fault,
 }

@@ -1,4 +1,5 @@
-ghost use Rattle.std.specs.Prelude.{◌≡◌, IsTrue, IfOk};
+ghost use Rattle.std.specs.Prelude.{◌≡◌, ◌^◌, ◌<◌, IsTrue, IfOk};
+ghost use Rattle.std.specs.List.{sum_by};
 ghost use Rattle.lsvd_base.specs.Limits.{is_within_limits};
 ghost use Rattle.plain_disk.specs.Machine.{AllInRange, batch_refusal, data_sectors, history_reply};
 
@@ -65,4 +66,16 @@ pub fn data_sectors(entry: &Entry) -> u64
         Entry::Write { body, .. } => body.sectors(),
         Entry::Zero { .. } => 0,
     }
+}
+
+/// How many sectors of data these entries carry. Their number fits (a condition).
+pub fn sum_data_sectors(history: &[Entry]) -> u64
+    requires { sum_by data_sectors history.now < 2 ^ 64 }
+    ensures { result ≡ sum_by data_sectors history.now }
+{
+    let mut sum = 0u64;
+    for entry in history {
+        sum += data_sectors(entry);
+    }
+    sum
 }

@@ -52,10 +52,22 @@ fn shown(window: &[u8], lba: u64, at: u64, sectors: u64) -> (usize, usize)
     ensures end { result.1 ≡ min (length window.now) (512 * at + 512 * sectors - 512 * lba) }
 {
     let held = window.len() as u64 / SECTOR_BYTES;
-    let start = at.saturating_sub(lba).min(held);
-    let end = (at + sectors).saturating_sub(lba).min(held);
+    let (start, end) = shown_sectors(held, lba, at, sectors);
     (
         (start * SECTOR_BYTES) as usize,
         (end * SECTOR_BYTES) as usize,
+    )
+}
+
+/// From which sector to which a window that holds so many shows those from `at` on; its first one is `lba`.
+/// The two are the same where it shows none of them.
+pub(crate) fn shown_sectors(held: u64, lba: u64, at: u64, sectors: u64) -> (u64, u64)
+    requires { at + sectors < 2 ^ 64 }
+    ensures start { result.0 ≡ min held (at - lba) }
+    ensures end { result.1 ≡ min held (at + sectors - lba) }
+{
+    (
+        at.saturating_sub(lba).min(held),
+        (at + sectors).saturating_sub(lba).min(held),
     )
 }
