@@ -1,11 +1,11 @@
 -- The grammar of scripts: which bytes are a line, and which lines spell a command.
-use Rattle.std.specs.Prelude.{◌≡◌, ℕ, ◌/◌, ◌%◌, ◌^◌, ◌<◌, List, [], ◌∷◌, ◌==◌, IsTrue, if◌then◌else◌, length, codes, decimal}
+use Rattle.std.specs.Prelude.{◌≡◌, ℕ, ◌/◌, ◌%◌, ◌^◌, ◌<◌, List, [], ◌∷◌, ◌==◌, IsTrue, if◌then◌else◌, length, take, codes, decimal}
 use Rattle.std.specs.Char.{digit_char}
 use Rattle.std.specs.List.{slice_split}
 use Rattle.lsvd_base.specs.Limits.{is_within_limits}
 use Rattle.lsvd_base.specs.declared.geometry.Geometry.{Geometry}
 use Rattle.replay_script.specs.declared.command.Command.{Command}
-use Rattle.replay_script.specs.declared.command.Command.TheVariants.{New, Write, Zero, Read, Flush}
+use Rattle.replay_script.specs.declared.command.Command.TheVariants.{New, Write, Zero, Read, Flush, Stop, CrashKeep}
 use Rattle.replay_script.specs.declared.error.LineError.{LineError}
 use Rattle.replay_script.specs.declared.error.LineError.TheVariants.{UnknownCommand, WordCount, Form, OutOfMemory}
 
@@ -33,48 +33,62 @@ spelling (Write lba sectors byte) = codes "w" ∷ decimal lba ∷ decimal sector
 spelling (Zero lba sectors) = codes "z" ∷ decimal lba ∷ decimal sectors ∷ []
 spelling (Read lba sectors) = codes "r" ∷ decimal lba ∷ decimal sectors ∷ []
 spelling Flush = codes "f" ∷ []
+spelling (Stop calls) = codes "stop" ∷ decimal calls ∷ []
+spelling (CrashKeep device objects) = codes "crash" ∷ codes "keep" ∷ device ∷ objects ∷ []
 
 -- each size of a geometry is below 2^64
 abbrev pub SizesFit : Geometry → Type 0
 SizesFit g = (g.sectors < 2 ^ 64) × (g.log < 2 ^ 64) × (g.max_write < 2 ^ 64) × (g.batch < 2 ^ 64)
 
--- the numbers of a command are below 2^64, a byte is one, and a geometry keeps the limits of a volume
+-- The numbers of a command are below 2^64, a byte is one, and a geometry keeps the limits of a volume. Letters are any
+-- word: a word has no space.
 abbrev pub Fits : Command → Type 0
 Fits (New g) = IsTrue (is_within_limits g)
 Fits (Write lba sectors byte) = (lba < 2 ^ 64) × (sectors < 2 ^ 64) × (byte < 256)
 Fits (Zero lba sectors) = (lba < 2 ^ 64) × (sectors < 2 ^ 64)
 Fits (Read lba sectors) = (lba < 2 ^ 64) × (sectors < 2 ^ 64)
 Fits Flush = Unit {0}
+Fits (Stop calls) = calls < 2 ^ 64
+Fits (CrashKeep device objects) = Unit {0}
 
 -- a line is a command
 pub record Spells (line : List ℕ) (command : Command) : Type 0 where
   pub words : words_of line ≡ spelling command
   pub fits : Fits command
 
--- the first word of a line, or of what spells a command
-abbrev pub first_word : List (List ℕ) → List ℕ
-first_word [] = []
-first_word (word ∷ words) = word
+-- the words of a command's name: one or two
+abbrev pub name_of : Command → List (List ℕ)
+name_of (New g) = codes "new" ∷ []
+name_of (Write lba sectors byte) = codes "w" ∷ []
+name_of (Zero lba sectors) = codes "z" ∷ []
+name_of (Read lba sectors) = codes "r" ∷ []
+name_of Flush = codes "f" ∷ []
+name_of (Stop calls) = codes "stop" ∷ []
+name_of (CrashKeep device objects) = codes "crash" ∷ codes "keep" ∷ []
 
--- the line begins with the command's first word
+-- these words begin with the command's name, or are a front of that name
+abbrev pub BeginAs : List (List ℕ) → Command → Type 0
+BeginAs words command = take (length words) (name_of command) ≡ take (length (name_of command)) words
+
+-- the line begins with the command's name, or is a front of that name
 abbrev pub BeginsAs : List ℕ → Command → Type 0
-BeginsAs line command = first_word (words_of line) ≡ first_word (spelling command)
+BeginsAs line command = BeginAs (words_of line) command
 
 -- the line has as many words as the command
 abbrev pub CountsAs : List ℕ → Command → Type 0
 CountsAs line command = length (words_of line) ≡ length (spelling command)
 
--- no command begins with the line's first word
+-- the line begins with no command's name, and is no front of one
 abbrev pub IsUnknown : List ℕ → Type 0
 IsUnknown line = (command : Command) → ¬ BeginsAs line command
 
--- some command begins with the line's first word, and none of those has as many words
+-- the line begins with some command's name or is a front of that name, and no such command has as many words
 pub record HasWrongWordCount (line : List ℕ) : Type 0 where
   pub command : Command
   pub known : BeginsAs line command
   pub miscounted : (other : Command) → BeginsAs line other → ¬ CountsAs line other
 
--- some command begins with the line's first word and has as many words, but the line spells none
+-- the line begins with some command's name and has as many words as the command, but it spells none
 pub record IsMisspelt (line : List ℕ) : Type 0 where
   pub command : Command
   pub known : BeginsAs line command

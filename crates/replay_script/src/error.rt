@@ -7,7 +7,7 @@ use thiserror::Error;
 /// Why a line was not read as a command. Of the reasons that a line gives, the first in this order is told.
 #[derive(Clone, Copy, Debug, PartialEq, Eq, Error)]
 pub enum LineError {
-    /// The first word is no command's.
+    /// The line does not begin with the name of a command.
     #[error("no such command")]
     UnknownCommand,
     /// The command has another number of words.

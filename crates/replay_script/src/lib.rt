@@ -8,6 +8,7 @@
 mod command;
 mod decimal;
 mod error;
+mod letters;
 mod line;
 mod number;
 mod run_text;
@@ -15,5 +16,6 @@ mod run_text;
 pub use command::{Command, a_line_spells_one_command, command_of};
 pub use decimal::push_decimal;
 pub use error::LineError;
+pub use letters::Letters;
 pub use line::{LINE_LIMIT, SCRIPT_LIMIT, line_number, split_line};
 pub use run_text::{a_run_text_is_determined, push_run_text};
