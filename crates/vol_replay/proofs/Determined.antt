@@ -5,17 +5,17 @@ use Rattle.plain_disk.specs.Machine.{Disk, reply_of}
 use Rattle.plain_disk.specs.declared.event.Event.{Event}
 use Rattle.plain_disk.specs.declared.event.Event.TheVariants as events
 use Rattle.plain_disk.specs.declared.event.Reply.{Reply}
-use Rattle.plain_disk.specs.declared.event.Reply.TheVariants.{Entered, Flushed, Data, Range, BatchFull, EntriesFull, NoRoom}
+use Rattle.plain_disk.specs.declared.event.Reply.TheVariants.{Entered, Flushed, Data, Range, BatchFull, EntriesFull, NoRoom, Fault}
 use Rattle.replay_script.specs.declared.command.Command.{Command}
-use Rattle.replay_script.specs.declared.command.Command.TheVariants.{New, Write, Zero, Read, Flush}
+use Rattle.replay_script.specs.declared.command.Command.TheVariants.{New, Write, Zero, Read, Flush, Stop, CrashKeep}
 use Rattle.replay_script.specs.Grammar.{lines_of}
 use Rattle.replay_script.proofs.Decide.{one_command, unknown_unspelled, miscounted_unspelled, misspelt_unspelled, unknown_or_miscounted, unknown_or_misspelt, miscounted_or_misspelt}
 use Rattle.replay_script.proofs.Runs.{one_run_text}
 use Rattle.vol_replay.specs.declared.outcome.Outcome.{Outcome}
 use Rattle.vol_replay.specs.declared.outcome.Outcome.TheVariants.{BadLine}
 use Rattle.vol_replay.specs.declared.outcome.Reason.{Reason}
-use Rattle.vol_replay.specs.declared.outcome.Reason.TheVariants.{UnknownCommand, WordCount, Form, NotAllowed, TooLong}
-use Rattle.vol_replay.specs.Transcript.{State, TellsReply, Steps, Answers, IsAnswered, IsBad, StopsAt, Transcript, IsTranscript}
+use Rattle.vol_replay.specs.declared.outcome.Reason.TheVariants.{UnknownCommand, WordCount, Form, NotAllowed, Letters, TooLong}
+use Rattle.vol_replay.specs.Transcript.{State, TellsReply, Steps, Answers, IsAllowed, FitsLetters, IsMisplaced, HasUnfitLetters, IsAnswered, IsBad, StopsAt, Transcript, IsTranscript}
 
 -- a reply is told by one text
 one_telling : (reply : Reply) (a b : List ℕ) → TellsReply reply a → TellsReply reply b → a ≡ b
@@ -26,6 +26,7 @@ one_telling Range a b s t = s ∙ sym t
 one_telling (BatchFull sectors) a b s t = s ∙ sym t
 one_telling (EntriesFull entries) a b s t = s ∙ sym t
 one_telling (NoRoom lacking left) a b s t = s ∙ sym t
+one_telling Fault a b s t = s ∙ sym t
 
 -- one text and one state
 abbrev AreSame : List ℕ → List ℕ → State → State → Type 0
@@ -41,10 +42,14 @@ one_answer None (Write lba sectors byte) a b p q s t = absurd s
 one_answer None (Zero lba sectors) a b p q s t = absurd s
 one_answer None (Read lba sectors) a b p q s t = absurd s
 one_answer None Flush a b p q s t = absurd s
+one_answer None (Stop calls) a b p q s t = absurd s
+one_answer None (CrashKeep device objects) a b p q s t = absurd s
 one_answer (Some disk) (New g) a b p q s t = absurd s
 one_answer (Some disk) (Write lba sectors byte) a b p q s t = one_step disk (events.Write lba (replicate (512 * sectors) byte)) a b p q s t
 one_answer (Some disk) (Zero lba sectors) a b p q s t = one_step disk (events.Zero lba sectors) a b p q s t
 one_answer (Some disk) Flush a b p q s t = one_step disk events.Flush a b p q s t
+one_answer (Some disk) (Stop calls) a b p q s t = (s.1 ∙ sym t.1, s.2 ∙ sym t.2)
+one_answer (Some disk) (CrashKeep device objects) a b p q s t = (s.1.0 ∙ sym t.1.0, s.1.1 ∙ sym t.1.1)
 one_answer (Some disk) (Read lba sectors) a b p q s t = one_step disk (events.Read lba sectors) a b p q s t
 
 -- a line is answered in one way
@@ -53,18 +58,54 @@ one_answered state line a b p q s t =
     let P : Command → Type 0 = λ c. Answers state c b q in
     one_answer state s.command a b p q s.answered (subst P (one_command line t.command s.command t.spelled s.spelled) t.answered)
 
+-- a command that is answered is allowed, and its letters fit
+answered_allowed : (state : State) (command : Command) (text : List ℕ) (next : State) → Answers state command text next → IsAllowed state command
+answered_allowed None (New g) text next s = tt
+answered_allowed None (Write lba sectors byte) text next s = s
+answered_allowed None (Zero lba sectors) text next s = s
+answered_allowed None (Read lba sectors) text next s = s
+answered_allowed None Flush text next s = s
+answered_allowed None (Stop calls) text next s = s
+answered_allowed None (CrashKeep device objects) text next s = s
+answered_allowed (Some disk) (New g) text next s = s
+answered_allowed (Some disk) (Write lba sectors byte) text next s = tt
+answered_allowed (Some disk) (Zero lba sectors) text next s = tt
+answered_allowed (Some disk) (Read lba sectors) text next s = tt
+answered_allowed (Some disk) Flush text next s = tt
+answered_allowed (Some disk) (Stop calls) text next s = s.0
+answered_allowed (Some disk) (CrashKeep device objects) text next s = tt
+
+answered_fits : (state : State) (command : Command) (text : List ℕ) (next : State) → Answers state command text next → FitsLetters state command
+answered_fits None command text next s = tt
+answered_fits (Some disk) (New g) text next s = tt
+answered_fits (Some disk) (Write lba sectors byte) text next s = tt
+answered_fits (Some disk) (Zero lba sectors) text next s = tt
+answered_fits (Some disk) (Read lba sectors) text next s = tt
+answered_fits (Some disk) Flush text next s = tt
+answered_fits (Some disk) (Stop calls) text next s = tt
+answered_fits (Some disk) (CrashKeep device objects) text next s = s.0
+
 -- a line that is answered is not bad
 answered_not_bad : (state : State) (line answer : List ℕ) (next : State) (reason : Reason) → IsAnswered state line answer next → IsBad state line reason → ⊥
 answered_not_bad state line answer next UnknownCommand s bad = unknown_unspelled line bad.1 s.command s.spelled
 answered_not_bad state line answer next WordCount s bad = miscounted_unspelled line bad.1 s.command s.spelled
 answered_not_bad state line answer next Form s bad = misspelt_unspelled line bad.1 s.command s.spelled
-answered_not_bad state line answer next NotAllowed s (short, (command, spelled, unanswered)) =
-    let P : Command → Type 0 = λ c. Answers state c answer next in
-    unanswered answer next (subst P (one_command line s.command command s.spelled spelled) s.answered)
+answered_not_bad state line answer next NotAllowed s (short, (command, spelled, disallowed)) =
+    let P : Command → Type 0 = λ c. IsAllowed state c in
+    disallowed (subst P (one_command line s.command command s.spelled spelled) (answered_allowed state s.command answer next s.answered))
+answered_not_bad state line answer next Letters s (short, (command, spelled, allowed, unfit)) =
+    let P : Command → Type 0 = λ c. FitsLetters state c in
+    unfit (subst P (one_command line s.command command s.spelled spelled) (answered_fits state s.command answer next s.answered))
 answered_not_bad state line answer next TooLong s long = omega (arith, s.short, long)
 
 answered_or_bad : (number : ℕ) (state : State) (line answer : List ℕ) (next : State) (outcome : Outcome) → IsAnswered state line answer next → StopsAt number state line outcome → ⊥
 answered_or_bad number state line answer next outcome s (reason, bad, told) = answered_not_bad state line answer next reason s bad
+
+-- a line does not spell a command that is not allowed, and one that is
+misplaced_or_unfit : (state : State) (line : List ℕ) → IsMisplaced state line → HasUnfitLetters state line → ⊥
+misplaced_or_unfit state line (command, spelled, disallowed) (other, also, allowed, unfit) =
+    let P : Command → Type 0 = λ c. IsAllowed state c in
+    disallowed (subst P (one_command line other command also spelled) allowed)
 
 -- a line is bad for one reason
 one_reason : (state : State) (line : List ℕ) (a b : Reason) → IsBad state line a → IsBad state line b → a ≡ b
@@ -72,26 +113,37 @@ one_reason state line UnknownCommand UnknownCommand p q = refl
 one_reason state line UnknownCommand WordCount p q = absurd (unknown_or_miscounted line p.1 q.1)
 one_reason state line UnknownCommand Form p q = absurd (unknown_or_misspelt line p.1 q.1)
 one_reason state line UnknownCommand NotAllowed p q = absurd (unknown_unspelled line p.1 q.1.0 q.1.1)
+one_reason state line UnknownCommand Letters p q = absurd (unknown_unspelled line p.1 q.1.0 q.1.1)
 one_reason state line UnknownCommand TooLong p q = absurd (omega arith)
 one_reason state line WordCount UnknownCommand p q = absurd (unknown_or_miscounted line q.1 p.1)
 one_reason state line WordCount WordCount p q = refl
 one_reason state line WordCount Form p q = absurd (miscounted_or_misspelt line p.1 q.1)
 one_reason state line WordCount NotAllowed p q = absurd (miscounted_unspelled line p.1 q.1.0 q.1.1)
+one_reason state line WordCount Letters p q = absurd (miscounted_unspelled line p.1 q.1.0 q.1.1)
 one_reason state line WordCount TooLong p q = absurd (omega arith)
 one_reason state line Form UnknownCommand p q = absurd (unknown_or_misspelt line q.1 p.1)
 one_reason state line Form WordCount p q = absurd (miscounted_or_misspelt line q.1 p.1)
 one_reason state line Form Form p q = refl
 one_reason state line Form NotAllowed p q = absurd (misspelt_unspelled line p.1 q.1.0 q.1.1)
+one_reason state line Form Letters p q = absurd (misspelt_unspelled line p.1 q.1.0 q.1.1)
 one_reason state line Form TooLong p q = absurd (omega arith)
 one_reason state line NotAllowed UnknownCommand p q = absurd (unknown_unspelled line q.1 p.1.0 p.1.1)
 one_reason state line NotAllowed WordCount p q = absurd (miscounted_unspelled line q.1 p.1.0 p.1.1)
 one_reason state line NotAllowed Form p q = absurd (misspelt_unspelled line q.1 p.1.0 p.1.1)
 one_reason state line NotAllowed NotAllowed p q = refl
+one_reason state line NotAllowed Letters p q = absurd (misplaced_or_unfit state line p.1 q.1)
 one_reason state line NotAllowed TooLong p q = absurd (omega arith)
+one_reason state line Letters UnknownCommand p q = absurd (unknown_unspelled line q.1 p.1.0 p.1.1)
+one_reason state line Letters WordCount p q = absurd (miscounted_unspelled line q.1 p.1.0 p.1.1)
+one_reason state line Letters Form p q = absurd (misspelt_unspelled line q.1 p.1.0 p.1.1)
+one_reason state line Letters NotAllowed p q = absurd (misplaced_or_unfit state line q.1 p.1)
+one_reason state line Letters Letters p q = refl
+one_reason state line Letters TooLong p q = absurd (omega arith)
 one_reason state line TooLong UnknownCommand p q = absurd (omega arith)
 one_reason state line TooLong WordCount p q = absurd (omega arith)
 one_reason state line TooLong Form p q = absurd (omega arith)
 one_reason state line TooLong NotAllowed p q = absurd (omega arith)
+one_reason state line TooLong Letters p q = absurd (omega arith)
 one_reason state line TooLong TooLong p q = refl
 
 one_stop : (number : ℕ) (state : State) (line : List ℕ) (x y : Outcome) → StopsAt number state line x → StopsAt number state line y → x ≡ y

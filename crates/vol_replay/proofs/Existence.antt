@@ -1,23 +1,27 @@
 -- Each script has a transcript.
 use Rattle.std.proofs.Common.{◌≡◌, ℕ, ◌+◌, ◌*◌, ◌<◌, ◌≤◌, ◌^◌, ◌⊎◌, List, [], ◌∷◌, ◌++◌, length, replicate, refl, ap, inl, inr}
-use Rattle.std.specs.Prelude.{Some, None, IsNone, codes, decimal}
+use Rattle.std.specs.Prelude.{Bool, true, false, Option, Some, None, IsNone, codes, decimal}
 use Rattle.std.proofs.lemmas.Bool.{cases_lt}
 use Rattle.lsvd_base.specs.declared.geometry.Geometry.{Geometry}
-use Rattle.plain_disk.specs.Machine.{Disk, created, reply_of, disk_after}
+use Rattle.lsvd_device.specs.Calls.{Fuse}
+use Rattle.plain_disk.specs.Machine.{Disk, created, reply_of, disk_after, stopping_after, kept_mark, mounted}
 use Rattle.plain_disk.specs.declared.event.Event.{Event}
 use Rattle.plain_disk.specs.declared.event.Event.TheVariants as events
 use Rattle.plain_disk.specs.declared.event.Reply.{Reply}
-use Rattle.plain_disk.specs.declared.event.Reply.TheVariants.{Entered, Flushed, Data, Range, BatchFull, EntriesFull, NoRoom}
+use Rattle.plain_disk.specs.declared.event.Reply.TheVariants.{Entered, Flushed, Data, Range, BatchFull, EntriesFull, NoRoom, Fault}
 use Rattle.replay_script.specs.declared.command.Command.{Command}
-use Rattle.replay_script.specs.declared.command.Command.TheVariants.{New, Write, Zero, Read, Flush}
+use Rattle.replay_script.specs.declared.command.Command.TheVariants.{New, Write, Zero, Read, Flush, Stop, CrashKeep}
 use Rattle.replay_script.specs.Grammar.{lines_of, Spells, IsUnknown, HasWrongWordCount, IsMisspelt}
 use Rattle.replay_script.proofs.Decide.{judge_line}
 use Rattle.replay_script.proofs.Runs.{some_run_text}
 use Rattle.vol_replay.specs.declared.outcome.Outcome.{Outcome}
 use Rattle.vol_replay.specs.declared.outcome.Outcome.TheVariants.{Done, BadLine}
 use Rattle.vol_replay.specs.declared.outcome.Reason.{Reason}
-use Rattle.vol_replay.specs.declared.outcome.Reason.TheVariants.{UnknownCommand, WordCount, Form, NotAllowed, TooLong}
-use Rattle.vol_replay.specs.Transcript.{State, TellsReply, Steps, Answers, IsUnanswered, IsAnswered, IsBad, StopsAt, Transcript, IsTranscript, IsFrontOfTranscript, line_after}
+use Rattle.vol_replay.specs.declared.outcome.Reason.TheVariants.{UnknownCommand, WordCount, Form, NotAllowed, Letters, TooLong}
+use Rattle.vol_replay.specs.Answer.{IsUnfit, state_of}
+use Rattle.vol_replay.specs.Volume.{VolumeState}
+use Rattle.vol_replay.specs.Letters.{fits_writes, fits_objects, keeps_last}
+use Rattle.vol_replay.specs.Transcript.{State, TellsReply, Steps, Answers, text_of_mount, IsAnswered, IsBad, StopsAt, Transcript, IsTranscript, IsFrontOfTranscript, line_after}
 
 -- each reply has a text
 some_telling : (reply : Reply) → (text : List ℕ) × TellsReply reply text
@@ -28,6 +32,7 @@ some_telling Range = (codes "range", refl)
 some_telling (BatchFull sectors) = (codes "again batch " ++ decimal sectors, refl)
 some_telling (EntriesFull entries) = (codes "again entries " ++ decimal entries, refl)
 some_telling (NoRoom lacking left) = (codes "again room " ++ decimal lacking ++ codes " " ++ decimal left, refl)
+some_telling Fault = (codes "fault", refl)
 
 abbrev HasAnswer : State → Command → Type 0
 HasAnswer state command = (text : List ℕ) × (next : State) × Answers state command text next
@@ -35,18 +40,40 @@ HasAnswer state command = (text : List ℕ) × (next : State) × Answers state c
 some_step : (disk : Disk) (event : Event) → (text : List ℕ) × (next : State) × Steps disk event text next
 some_step disk event = let told = some_telling (reply_of disk event) in (told.0, Some (disk_after disk event), (told.1, refl))
 
+-- a command that is not answered is unfit for a reason
+abbrev IsUnfitAtAll : State → Command → Type 0
+IsUnfitAtAll state command = IsUnfit state command NotAllowed ⊎ IsUnfit state command Letters
+
+-- the device is told to stop, where it was not
+stop_answer : (disk : Disk) (calls : ℕ) (fuse : Fuse) → disk.device.fuse ≡ fuse → HasAnswer (Some disk) (Stop calls) ⊎ IsUnfitAtAll (Some disk) (Stop calls)
+stop_answer disk calls None is = inl (codes "stop " ++ decimal calls, Some (stopping_after calls disk), (is, refl, refl))
+stop_answer disk calls (Some left) is = inr (inl (λ none. cc (is, none)))
+
+-- the machine stops, where the letters fit
+crash_answer : (disk : Disk) (device objects : List ℕ) (a b : Bool) → fits_writes disk.device.pending device ≡ a → fits_objects objects ≡ b
+    → HasAnswer (Some disk) (CrashKeep device objects) ⊎ IsUnfitAtAll (Some disk) (CrashKeep device objects)
+crash_answer disk device objects true true fit also =
+    inl (text_of_mount (kept_mark (keeps_last device) disk.device).count, Some (mounted (keeps_last device) disk), ((fit, also), (refl, refl)))
+crash_answer disk device objects true false fit unfit = inr (inr (tt, λ both. (let no : fits_objects objects ≡ true = both.1 in cc (unfit, no))))
+crash_answer disk device objects false b unfit other = inr (inr (tt, λ both. (let no : fits_writes disk.device.pending device ≡ true = both.0 in cc (unfit, no))))
+
 -- a command is answered or not
-some_answer : (state : State) (command : Command) → HasAnswer state command ⊎ IsUnanswered state command
+some_answer : (state : State) (command : Command) → HasAnswer state command ⊎ IsUnfitAtAll state command
 some_answer None (New g) = inl (codes "new " ++ decimal g.sectors, Some (created g), (refl, refl))
-some_answer None (Write lba sectors byte) = inr (λ text next h. h)
-some_answer None (Zero lba sectors) = inr (λ text next h. h)
-some_answer None (Read lba sectors) = inr (λ text next h. h)
-some_answer None Flush = inr (λ text next h. h)
-some_answer (Some disk) (New g) = inr (λ text next h. h)
+some_answer None (Write lba sectors byte) = inr (inl (λ h. h))
+some_answer None (Zero lba sectors) = inr (inl (λ h. h))
+some_answer None (Read lba sectors) = inr (inl (λ h. h))
+some_answer None Flush = inr (inl (λ h. h))
+some_answer None (Stop calls) = inr (inl (λ h. h))
+some_answer None (CrashKeep device objects) = inr (inl (λ h. h))
+some_answer (Some disk) (New g) = inr (inl (λ h. h))
 some_answer (Some disk) (Write lba sectors byte) = inl (some_step disk (events.Write lba (replicate (512 * sectors) byte)))
 some_answer (Some disk) (Zero lba sectors) = inl (some_step disk (events.Zero lba sectors))
 some_answer (Some disk) (Read lba sectors) = inl (some_step disk (events.Read lba sectors))
 some_answer (Some disk) Flush = inl (some_step disk events.Flush)
+some_answer (Some disk) (Stop calls) = stop_answer disk calls disk.device.fuse refl
+some_answer (Some disk) (CrashKeep device objects) =
+    crash_answer disk device objects (fits_writes disk.device.pending device) (fits_objects objects) refl refl
 
 -- a line is answered or bad
 data LineFate (number : ℕ) (state : State) (line : List ℕ) : Type 0 where
@@ -56,9 +83,10 @@ data LineFate (number : ℕ) (state : State) (line : List ℕ) : Type 0 where
 fate_bad : (number : ℕ) (state : State) (line : List ℕ) (reason : Reason) → IsBad state line reason → LineFate number state line
 fate_bad number state line reason bad = stops (BadLine number reason) (reason, bad, refl)
 
-fate_spelled : (number : ℕ) (state : State) (line : List ℕ) (command : Command) → length line ≤ 65536 → Spells line command → HasAnswer state command ⊎ IsUnanswered state command → LineFate number state line
+fate_spelled : (number : ℕ) (state : State) (line : List ℕ) (command : Command) → length line ≤ 65536 → Spells line command → HasAnswer state command ⊎ IsUnfitAtAll state command → LineFate number state line
 fate_spelled number state line command short spelled (inl a) = goes a.0 a.1 (record { short = short; command = command; spelled = spelled; answered = a.2 })
-fate_spelled number state line command short spelled (inr none) = fate_bad number state line NotAllowed (short, (command, spelled, none))
+fate_spelled number state line command short spelled (inr (inl disallowed)) = fate_bad number state line NotAllowed (short, (command, spelled, disallowed))
+fate_spelled number state line command short spelled (inr (inr unfit)) = fate_bad number state line Letters (short, (command, spelled, unfit.0, unfit.1))
 
 fate_short : (number : ℕ) (state : State) (line : List ℕ) → length line ≤ 65536 → ((command : Command) × Spells line command) ⊎ (IsUnknown line ⊎ (HasWrongWordCount line ⊎ IsMisspelt line)) → LineFate number state line
 fate_short number state line short (inl c) = fate_spelled number state line c.0 short c.1 (some_answer state c.0)
@@ -115,7 +143,8 @@ transcript_by_length script (inr short) = let t = some_transcript (lines_of scri
 pub transcript_of : (script : List ℕ) → (text : List ℕ) × (outcome : Outcome) × IsTranscript script text outcome
 transcript_of script = transcript_by_length script (cases_lt (2 ^ 24) (length script))
 
--- the line `new` is answered where there is no disk yet
-pub new_answered : (state : State) (g : Geometry) (disk : Disk) → IsNone state → disk ≡ created g → Answers state (New g) (codes "new " ++ decimal g.sectors) (Some disk)
-new_answered None g disk none is = (refl, ap Some is)
-new_answered (Some old) g disk none is = cc
+-- the line `new` is answered where there is no volume yet
+pub new_answered : (old : Option VolumeState) (g : Geometry) (volume : VolumeState) → IsNone old → volume.plain ≡ created g
+    → Answers (state_of old) (New g) (codes "new " ++ decimal g.sectors) (Some volume.plain)
+new_answered None g volume none is = (refl, ap Some is)
+new_answered (Some old) g volume none is = cc

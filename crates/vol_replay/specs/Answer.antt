@@ -1,5 +1,5 @@
 -- What the steps of a replay do to the answers that are still to be written.
-use Rattle.std.specs.Prelude.{◌≡◌, ℕ, ◌≤◌, ◌⊎◌, Option, List, ◌++◌, length, take}
+use Rattle.std.specs.Prelude.{◌≡◌, ℕ, ◌≤◌, ◌⊎◌, Option, Some, None, List, ◌++◌, length, take}
 use Rattle.std.specs.Io.KnownBytes.{Appends}
 use Rattle.replay_script.specs.declared.error.LineError.{LineError}
 use Rattle.replay_script.specs.declared.error.LineError.TheVariants as line_errors
@@ -7,8 +7,21 @@ use Rattle.vol_replay.specs.declared.answer.Refusal.{Refusal}
 use Rattle.vol_replay.specs.declared.answer.Refusal.TheVariants.{Bad, OutOfMemory}
 use Rattle.vol_replay.specs.declared.outcome.Outcome.{Outcome}
 use Rattle.vol_replay.specs.declared.outcome.Outcome.TheVariants as outcomes
-use Rattle.vol_replay.specs.declared.outcome.Reason.TheVariants.{UnknownCommand, WordCount, Form}
-use Rattle.vol_replay.specs.Transcript.{State, IsBad}
+use Rattle.vol_replay.specs.declared.outcome.Reason.{Reason}
+use Rattle.vol_replay.specs.declared.outcome.Reason.TheVariants.{UnknownCommand, WordCount, Form, NotAllowed, Letters, TooLong}
+use Rattle.replay_script.specs.declared.command.Command.{Command}
+use Rattle.vol_replay.specs.Transcript.{State, IsAllowed, FitsLetters, IsBad}
+use Rattle.vol_replay.specs.Volume.{VolumeState}
+
+-- where a replay stands that has this volume, or none yet
+abbrev pub state_of : Option VolumeState → State
+state_of None = None
+state_of (Some volume) = Some volume.plain
+
+-- the number of the last commit; there is none before the line `new`
+abbrev pub number_of : Option VolumeState → ℕ
+number_of None = 0
+number_of (Some volume) = volume.log.commits.number
 
 -- how the error that a line gives is told
 abbrev pub refusal_of : LineError → Refusal
@@ -21,6 +34,20 @@ refusal_of line_errors.OutOfMemory = OutOfMemory
 abbrev pub IsRefused : State → List ℕ → List ℕ → List ℕ → Refusal → Type 0
 IsRefused state line old new (Bad reason) = (new ≡ old) × IsBad state line reason
 IsRefused state line old new OutOfMemory = Unit {0}
+
+-- why a state does not answer a command
+abbrev pub IsUnfit : State → Command → Reason → Type 0
+IsUnfit state command UnknownCommand = ⊥
+IsUnfit state command WordCount = ⊥
+IsUnfit state command Form = ⊥
+IsUnfit state command NotAllowed = IsAllowed state command → ⊥
+IsUnfit state command Letters = IsAllowed state command × (FitsLetters state command → ⊥)
+IsUnfit state command TooLong = ⊥
+
+-- a command was not answered: one that the state does not answer left the answers as they were
+abbrev pub IsUnanswered : State → Command → List ℕ → List ℕ → Refusal → Type 0
+IsUnanswered state command old new (Bad reason) = (new ≡ old) × IsUnfit state command reason
+IsUnanswered state command old new OutOfMemory = Unit {0}
 
 -- the sink took a front of these bytes
 abbrev pub TakesFront : Option (List ℕ) → Option (List ℕ) → List ℕ → Type 0

@@ -1,4 +1,10 @@
 pub mod Answer
+pub mod Crash
+pub mod Letters
+pub mod Mounting
+pub mod Reached
+pub mod Reading
 pub mod Reason
+pub mod Standing
 pub mod Transcript
 pub mod Volume

@@ -1,7 +1,7 @@
 -- The numbers that are told for bad lines.
 use Rattle.std.specs.Prelude.{ℕ}
 use Rattle.vol_replay.specs.declared.outcome.Reason.{Reason}
-use Rattle.vol_replay.specs.declared.outcome.Reason.TheVariants.{UnknownCommand, WordCount, Form, NotAllowed, TooLong}
+use Rattle.vol_replay.specs.declared.outcome.Reason.TheVariants.{UnknownCommand, WordCount, Form, NotAllowed, Letters, TooLong}
 
 -- the number of a reason
 abbrev pub code_of : Reason → ℕ
@@ -9,4 +9,5 @@ code_of UnknownCommand = 1
 code_of WordCount = 2
 code_of Form = 3
 code_of NotAllowed = 4
+code_of Letters = 5
 code_of TooLong = 6

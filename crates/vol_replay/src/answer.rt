@@ -1,13 +1,13 @@
-ghost use Rattle.std.specs.Prelude.{◌≡◌, ℕ, List, [], ◌∷◌, ◌++◌, IsNone, IfOk, IfSome, IfNone, OnOk, IfErr, Some, IsTrue, codes, decimal};
-ghost use Rattle.vol_replay.specs.Transcript.{TellsReply, Answers, IsUnanswered, IsAnswered};
-ghost use Rattle.std.specs.Bool.{OnTrue, OnFalse};
+ghost use Rattle.std.specs.Prelude.{◌≡◌, ℕ, List, [], ◌∷◌, ◌++◌, ◌+◌, ◌^◌, ◌<◌, ◌≤◌, IsNone, OnOk, IfErr, Some, IsTrue, codes, decimal};
+ghost use Rattle.vol_replay.specs.Transcript.{TellsReply, Answers, IsAnswered, text_of_mount};
 ghost use Rattle.lsvd_base.specs.Limits.{is_within_limits};
 ghost use Rattle.replay_script.specs.Grammar.{Fits};
-ghost use Rattle.vol_replay.specs.Answer.{IsRefused, refusal_of};
+ghost use Rattle.vol_replay.specs.Answer.{IsRefused, IsUnanswered, refusal_of, state_of, number_of};
 ghost use Rattle.vol_replay.specs.declared.answer.Refusal.TheVariants as refusals;
 
+use crate::letters::{fates_of, fits_objects, fits_writes};
 use crate::outcome::Reason;
-use crate::rig::Rig;
+use crate::volume::Volume;
 use lsvd_base::Geometry;
 use plain_disk::Reply;
 use replay_script::{Command, LINE_LIMIT, LineError, command_of, push_decimal, push_run_text};
@@ -68,6 +68,7 @@ fn push_text(answers: &mut Vec<u8>, reply: &Reply) -> Result<(), AllocError>
         Reply::BatchFull { sectors } => push_counted(answers, b"again batch ", *sectors),
         Reply::EntriesFull { entries } => push_counted(answers, b"again entries ", *entries),
         Reply::NoRoom { need, free } => push_room(answers, *need, *free),
+        Reply::Fault => answers.extend_from_slice(b"fault"),
     }
 }
 
@@ -81,86 +82,151 @@ fn push_reply(answers: &mut Vec<u8>, reply: &Reply) -> Result<(), AllocError>
     Ok(())
 }
 
+// Appends the line that tells after how many calls the device stops.
+fn push_stop(answers: &mut Vec<u8>, calls: u64) -> Result<(), AllocError>
+    ensures { OnOk result (answers.new.items ≡ answers.old.items ++ ((codes "stop " ++ decimal calls) ++ 10 ∷ [])) }
+{
+    push_counted(answers, b"stop ", calls)?;
+    answers.extend_from_slice(b"\n")
+}
+
+// Appends the line that tells how many entries a mount kept.
+fn push_mount(answers: &mut Vec<u8>, count: u64) -> Result<(), AllocError>
+    ensures { OnOk result (answers.new.items ≡ answers.old.items ++ (text_of_mount count ++ 10 ∷ [])) }
+{
+    push_counted(answers, b"mounted ", count)?;
+    answers.extend_from_slice(b" 1\n")
+}
+
 // Makes the volume, and appends the line that tells it.
 fn create(
     alloc: Global,
-    rig: &mut Option<Rig>,
+    volume: &mut Option<Volume>,
     geometry: Geometry,
     answers: &mut Vec<u8>,
 ) -> Result<(), AllocError>
-    requires none { IsNone rig.old }
+    requires none { IsNone volume.old }
     requires limits { IsTrue (is_within_limits geometry) }
-    ensures { OnOk result ((text : List ℕ) × Answers rig.old (Command.New geometry) text rig.new
+    ensures told { OnOk result ((text : List ℕ) × Answers (state_of volume.old) (Command.New geometry) text (state_of volume.new)
         × (answers.new.items ≡ answers.old.items ++ (text ++ 10 ∷ []))) }
+    ensures number { number_of volume.new ≡ 0 }
 {
     push_counted(answers, b"new ", geometry.sectors)?;
     answers.push(b'\n')?;
-    *rig = Some(Rig::new(alloc, geometry)?);
+    *volume = Some(Volume::new(alloc, geometry)?);
     Ok(())
 }
 
-// Makes the step that a command asks of a disk, and answers its reply. None is for `new`.
-fn step(alloc: Global, rig: &mut Rig, command: Command) -> Result<Option<Reply>, AllocError>
-    ensures some { IfOk result (λ reply. IfSome reply (λ reply. (text : List ℕ) → TellsReply reply text → Answers (Some rig.old) command text (Some rig.new))) }
-    ensures none { IfOk result (λ reply. IfNone reply (IsUnanswered (Some rig.old) command)) }
+// Tells the device of a volume to stop, and appends the line that tells it.
+fn stop(volume: &mut Volume, calls: u64, answers: &mut Vec<u8>) -> Result<(), Refusal>
+    ensures ok { OnOk result ((text : List ℕ) × Answers (Some volume.old.plain) (Command.Stop calls) text (Some volume.new.plain)
+        × (answers.new.items ≡ answers.old.items ++ (text ++ 10 ∷ []))) }
+    ensures refused { IfErr result (IsUnanswered (Some volume.old.plain) (Command.Stop calls) answers.old.items answers.new.items) }
+    ensures number { volume.new.log.commits.number ≡ volume.old.log.commits.number }
 {
-    match command {
-        Command::New(_) => Ok(None),
-        Command::Write { lba, sectors, byte } => Ok(Some(rig.write(alloc, lba, sectors, byte)?)),
-        Command::Zero { lba, sectors } => Ok(Some(rig.zero(lba, sectors)?)),
-        Command::Read { lba, sectors } => Ok(Some(rig.read(alloc, lba, sectors)?)),
-        Command::Flush => Ok(Some(rig.flush()?)),
+    if volume.is_stopping() {
+        return Err(Refusal::Bad(Reason::NotAllowed));
     }
+    push_stop(answers, calls)?;
+    volume.stop(calls);
+    Ok(())
 }
 
-// Appends the answer to a command; false is for one that the state does not answer.
-fn answer_command(
+// Stops the machine and mounts the volume again, and appends the line that tells it.
+fn crash(
     alloc: Global,
-    rig: &mut Option<Rig>,
+    volume: &mut Volume,
+    device: &[u8],
+    objects: &[u8],
+    answers: &mut Vec<u8>,
+) -> Result<(), Refusal>
+    requires { volume.old.log.commits.number < 2 ^ 59 }
+    ensures ok { OnOk result ((text : List ℕ) × Answers (Some volume.old.plain) (Command.CrashKeep device.now objects.now) text (Some volume.new.plain)
+        × (answers.new.items ≡ answers.old.items ++ (text ++ 10 ∷ []))) }
+    ensures refused { IfErr result (IsUnanswered (Some volume.old.plain) (Command.CrashKeep device.now objects.now) answers.old.items answers.new.items) }
+    ensures number { volume.new.log.commits.number ≤ volume.old.log.commits.number + 2 }
+{
+    if !fits_writes(volume, device) || !fits_objects(objects) {
+        return Err(Refusal::Bad(Reason::Letters));
+    }
+    let fates = fates_of(alloc, device, volume.pending())?;
+    let kept = volume.crash(alloc, &fates)?;
+    Ok(push_mount(answers, kept)?)
+}
+
+// Answers a command where there is a volume.
+fn answer_on(
+    alloc: Global,
+    volume: &mut Volume,
     command: Command,
     answers: &mut Vec<u8>,
-) -> Result<bool, AllocError>
-    requires { Fits command }
-    ensures answered { IfOk result (λ answered. OnTrue answered ((text : List ℕ) × Answers rig.old command text rig.new
-        × (answers.new.items ≡ answers.old.items ++ (text ++ 10 ∷ [])))) }
-    ensures unanswered { IfOk result (λ answered. OnFalse answered (IsUnanswered rig.old command × (answers.new.items ≡ answers.old.items))) }
+) -> Result<(), Refusal>
+    requires { volume.old.log.commits.number < 2 ^ 59 }
+    ensures ok { OnOk result ((text : List ℕ) × Answers (Some volume.old.plain) command text (Some volume.new.plain)
+        × (answers.new.items ≡ answers.old.items ++ (text ++ 10 ∷ []))) }
+    ensures refused { IfErr result (IsUnanswered (Some volume.old.plain) command answers.old.items answers.new.items) }
+    ensures number { volume.new.log.commits.number ≤ volume.old.log.commits.number + 2 }
 {
-    match rig {
+    let reply = match command {
+        Command::New(_) => return Err(Refusal::Bad(Reason::NotAllowed)),
+        Command::Stop { calls } => return stop(volume, calls, answers),
+        Command::CrashKeep { device, objects } => {
+            return crash(
+                alloc,
+                volume,
+                device.as_bytes(),
+                objects.as_bytes(),
+                answers,
+            );
+        }
+        Command::Write { lba, sectors, byte } => volume.write(alloc, lba, sectors, byte)?,
+        Command::Zero { lba, sectors } => volume.zero(lba, sectors)?,
+        Command::Read { lba, sectors } => volume.read(alloc, lba, sectors)?,
+        Command::Flush => volume.flush()?,
+    };
+    Ok(push_reply(answers, &reply)?)
+}
+
+// Appends the answer to a command, or tells why the state does not answer it.
+fn answer_command(
+    alloc: Global,
+    volume: &mut Option<Volume>,
+    command: Command,
+    answers: &mut Vec<u8>,
+) -> Result<(), Refusal>
+    requires fits { Fits command }
+    requires number { number_of volume.old < 2 ^ 59 }
+    ensures ok { OnOk result ((text : List ℕ) × Answers (state_of volume.old) command text (state_of volume.new)
+        × (answers.new.items ≡ answers.old.items ++ (text ++ 10 ∷ []))) }
+    ensures refused { IfErr result (IsUnanswered (state_of volume.old) command answers.old.items answers.new.items) }
+    ensures number { number_of volume.new ≤ number_of volume.old + 2 }
+{
+    match volume {
         None => match command {
-            Command::New(geometry) => {
-                create(alloc, rig, geometry, answers)?;
-                Ok(true)
-            }
-            _ => Ok(false),
+            Command::New(geometry) => Ok(create(alloc, volume, geometry, answers)?),
+            _ => Err(Refusal::Bad(Reason::NotAllowed)),
         },
-        Some(rig) => match step(alloc, rig, command)? {
-            Some(reply) => {
-                push_reply(answers, &reply)?;
-                Ok(true)
-            }
-            None => Ok(false),
-        },
+        Some(volume) => answer_on(alloc, volume, command, answers),
     }
 }
 
-/// Answers one line, and appends the answer with its newline.
+/// Answers one line, and appends the answer with its newline. Fewer than 2^59 commits were made (a condition); a line makes
+/// two at most.
 pub(crate) fn answer_line(
     alloc: Global,
-    rig: &mut Option<Rig>,
+    volume: &mut Option<Volume>,
     line: &[u8],
     answers: &mut Vec<u8>,
 ) -> Result<(), Refusal>
-    ensures ok { OnOk result ((answer : List ℕ) × IsAnswered rig.old line.now answer rig.new
+    requires { number_of volume.old < 2 ^ 59 }
+    ensures ok { OnOk result ((answer : List ℕ) × IsAnswered (state_of volume.old) line.now answer (state_of volume.new)
         × (answers.new.items ≡ answers.old.items ++ (answer ++ 10 ∷ []))) }
-    ensures refused { IfErr result (IsRefused rig.old line.now answers.old.items answers.new.items) }
+    ensures refused { IfErr result (IsRefused (state_of volume.old) line.now answers.old.items answers.new.items) }
+    ensures number { number_of volume.new ≤ number_of volume.old + 2 }
 {
     if line.len() > LINE_LIMIT {
         return Err(Refusal::Bad(Reason::TooLong));
     }
     let command = command_of(alloc, line)?;
-    if answer_command(alloc, rig, command, answers)? {
-        Ok(())
-    } else {
-        Err(Refusal::Bad(Reason::NotAllowed))
-    }
+    answer_command(alloc, volume, command, answers)
 }

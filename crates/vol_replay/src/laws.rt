@@ -1,5 +1,7 @@
-ghost use Rattle.std.specs.Prelude.{◌≡◌, ℕ, List};
+ghost use Rattle.std.specs.Prelude.{◌≡◌, ℕ, Bool, List};
+ghost use Rattle.plain_disk.specs.Machine.{Disk};
 ghost use Rattle.vol_replay.specs.declared.outcome.Outcome.{Outcome};
+ghost use Rattle.vol_replay.specs.Reached.{Reaches, KeepsFlushed};
 ghost use Rattle.vol_replay.specs.Transcript.{IsTranscript};
 
 /// The transcript of a script and its outcome are determined by the script.
@@ -10,4 +12,10 @@ pub fn a_transcript_is_determined()
 /// Each script has a transcript.
 pub fn each_script_has_a_transcript()
     ensures { (script : List ℕ) → (text : List ℕ) × (outcome : Outcome) × IsTranscript script text outcome }
+{}
+
+/// In each state that a script reaches, a stop of the machine keeps each entry that was flushed, and no more than were
+/// taken.
+pub fn what_was_flushed_is_kept()
+    ensures { (script : List ℕ) (disk : Disk) (keeps_last : Bool) → Reaches script disk → KeepsFlushed disk keeps_last }
 {}

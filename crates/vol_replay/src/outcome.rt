@@ -7,14 +7,17 @@ use crate::rig::Rig;
 /// this order.
 #[derive(Clone, Copy, Debug, PartialEq, Eq)]
 pub enum Reason {
-    /// Its first word is no command's.
+    /// It does not begin with the name of a command.
     UnknownCommand,
     /// It has another number of words than its command.
     WordCount,
     /// A word is not a number or a byte in its form, or the sizes of `new` are outside the limits of a volume.
     Form,
-    /// Its command is not allowed where it stands: `new` comes first, and only there.
+    /// Its command is not allowed where it stands: `new` comes first, and only there, and the device is told to stop
+    /// only where it was not.
     NotAllowed,
+    /// Its letters do not fit the writes that were not synced, or the objects under way.
+    Letters,
     /// It is longer than a line may be, or the script passes its limit in it.
     TooLong,
 }
@@ -29,6 +32,7 @@ impl Reason {
             Reason::WordCount => 2,
             Reason::Form => 3,
             Reason::NotAllowed => 4,
+            Reason::Letters => 5,
             Reason::TooLong => 6,
         }
     }

@@ -1,11 +1,13 @@
 ghost use Rattle.std.specs.Prelude.{◌≡◌, ◌≢◌, ℕ, ◌^◌, ◌≤◌, List, length, IfSome, OnOk, OnErr};
 ghost use Rattle.std.specs.Io.KnownBytes.{Appends, IsAtEnd};
 ghost use Rattle.lsvd_fault.specs.Faults.{HasRisen};
-ghost use Rattle.vol_replay.specs.Answer.{TakesFront, MovesOn, IsHandedOver};
+ghost use Rattle.vol_replay.specs.Answer.{TakesFront, MovesOn, IsHandedOver, state_of};
 ghost use Rattle.vol_replay.specs.Transcript.{IsWritten, IsDone};
 
 use crate::answer::{Refusal, answer_line};
 use crate::outcome::{Outcome, Reason};
+use crate::rig::Rig;
+use crate::volume::Volume;
 use lsvd_fault::{Failed, ReadError, Sink, Source, read_past_limit, write_all};
 use replay_script::{SCRIPT_LIMIT, line_number, split_line};
 use std::alloc::Global;
@@ -60,13 +62,13 @@ fn run_lines<O: Sink>(alloc: Global, script: &[u8], sink: &mut O) -> Outcome
     ensures write_fault { result ≡ Outcome.WriteFault → HasRisen (O.faults sink.old) (O.faults sink.new) }
     ensures kept { O.faults sink.old ≤ O.faults sink.new }
 {
-    let mut rig = None;
+    let mut volume = None;
     let mut answers = Vec::new(alloc);
     let mut rest = script;
     let mut number = 1u64;
     while !rest.is_empty() {
         let (line, after) = split_line(rest);
-        match answer_line(alloc, &mut rig, line, &mut answers) {
+        match answer_line(alloc, &mut volume, line, &mut answers) {
             Ok(()) => {}
             Err(Refusal::Bad(reason)) => {
                 let outcome = Outcome::BadLine { number, reason };
@@ -80,7 +82,17 @@ fn run_lines<O: Sink>(alloc: Global, script: &[u8], sink: &mut O) -> Outcome
         rest = after;
         number += 1;
     }
-    hand_over(sink, answers.as_slice(), Outcome::Done(rig))
+    hand_over(sink, answers.as_slice(), done(volume))
+}
+
+// Each line was answered, and left this volume.
+fn done(volume: Option<Volume>) -> Outcome
+    ensures { result ≡ Outcome.Done (state_of volume) }
+{
+    match volume {
+        None => Outcome::Done(None),
+        Some(volume) => Outcome::Done(Some(Rig::new(volume))),
+    }
 }
 
 // Writes the answers where there are many of them.

@@ -42,7 +42,7 @@ const WRITTEN: &[u8] = b"new 64 64 8 16\nw 0 1 41\nr 0 2\n";
 
 #[test]
 fn answers_each_line(rt: HostRuntime) -> Result<(), Fail> {
-    let cases: [(&[u8], &[u8], Ending); 10] = [
+    let cases: [(&[u8], &[u8], Ending); 11] = [
         (b"", b"", Ending::NoLines),
         (
             b"new 64 64 8 16\nw 0 8 41\nz 7 57\nr 0 8\nr 0 9\nz 63 2\n",
@@ -83,6 +83,11 @@ fn answers_each_line(rt: HostRuntime) -> Result<(), Fail> {
             Ending::Done,
         ),
         (
+            b"new 64 64 8 16\nw 0 2 41\nw 1 1 42\nz 3 1\nf\nstop 2\nr 0 4\nr 0 1\nr 2 2\nw 0 1 43\ncrash keep  \nr 0 2\n",
+            b"new 64\nok 1\nok 2\nok 3\nok 3\nstop 2\n41x512 42x512 00x1024\nfault\n00x1024\nfault\nmounted 3 1\n41x512 42x512\n",
+            Ending::Done,
+        ),
+        (
             b"new 64 64 8 16\nw 3 2 0f\nw 4 1 10\nr 2 4\n",
             b"new 64\nok 1\nok 2\n00x512 0fx512 10x512 00x512\n",
             Ending::Done,
@@ -91,6 +96,45 @@ fn answers_each_line(rt: HostRuntime) -> Result<(), Fail> {
     for (script, text, ending) in cases {
         let script = Vec::from_slice(rt.alloc(), script)?;
         assert_replays(&rt, rt.alloc(), script, text, ending);
+    }
+    Ok(())
+}
+
+// The lines after `new 64 64 8 16`, and the answers after `new 64`.
+#[test]
+fn what_was_flushed_is_there_after_a_stop(rt: HostRuntime) -> Result<(), Fail> {
+    let cases: [(&[u8], &[u8]); 6] = [
+        (
+            b"w 0 1 41\nf\nw 0 1 42\ncrash keep o -\nr 0 1\n",
+            b"ok 1\nok 1\nok 2\nmounted 1 1\n41x512\n",
+        ),
+        (
+            b"w 0 1 41\nstop 1\nf\ncrash keep kt -\n",
+            b"ok 1\nstop 1\nfault\nmounted 0 1\n",
+        ),
+        (
+            b"w 0 1 41\nstop 4\nf\ncrash keep k -\n",
+            b"ok 1\nstop 4\nfault\nmounted 1 1\n",
+        ),
+        (
+            b"w 0 1 41\nstop 4\nf\ncrash keep o -\n",
+            b"ok 1\nstop 4\nfault\nmounted 0 1\n",
+        ),
+        (
+            b"w 0 8 41\nw 8 8 42\nf\ncrash keep - -\nw 16 1 43\n",
+            b"ok 1\nok 2\nok 2\nmounted 2 1\nagain batch 16\n",
+        ),
+        (
+            b"w 0 2 41\nw 1 1 42\nz 3 1\nstop 2\nr 0 4\nr 0 1\nr 2 2\n",
+            b"ok 1\nok 2\nok 3\nstop 2\n41x512 42x512 00x1024\nfault\n00x1024\n",
+        ),
+    ];
+    for (lines, answers) in cases {
+        let mut script = Vec::from_slice(rt.alloc(), FIRST)?;
+        script.extend_from_slice(lines)?;
+        let mut text = Vec::from_slice(rt.alloc(), b"new 64\n")?;
+        text.extend_from_slice(answers)?;
+        assert_replays(&rt, rt.alloc(), script, &text, Ending::Done);
     }
     Ok(())
 }
@@ -129,7 +173,7 @@ fn requests_out_of_range_are_answered(rt: HostRuntime) -> Result<(), Fail> {
 
 #[test]
 fn a_bad_line_keeps_the_answers_before_it(rt: HostRuntime) -> Result<(), Fail> {
-    let table: [(&[u8], Reason); 23] = [
+    let table: [(&[u8], Reason); 34] = [
         (b"", Reason::UnknownCommand),
         (b" w 0 1 41", Reason::UnknownCommand),
         (b"f\r", Reason::UnknownCommand),
@@ -153,6 +197,18 @@ fn a_bad_line_keeps_the_answers_before_it(rt: HostRuntime) -> Result<(), Fail> {
         (b"new 7 64 8 16", Reason::Form),
         (b"new 64 64 8 16", Reason::NotAllowed),
         (b"new 128 64 8 16", Reason::NotAllowed),
+        (b"crash lost - -", Reason::UnknownCommand),
+        (b"crash", Reason::WordCount),
+        // The letters do not fit, too.
+        (b"crash keep k", Reason::WordCount),
+        (b"stop 01", Reason::Form),
+        (b"crash keep k -", Reason::Letters),
+        (b"crash keep -- -", Reason::Letters),
+        (b"crash keep - k", Reason::Letters),
+        (b"crash keep - --", Reason::Letters),
+        (b"crash keep K -", Reason::Letters),
+        (b"crash keep k k", Reason::Letters),
+        (b"crash keep \t -", Reason::Letters),
         (&[0xff; 65_537], Reason::TooLong),
         (&[b' '; 65_537], Reason::TooLong),
     ];
@@ -165,7 +221,7 @@ fn a_bad_line_keeps_the_answers_before_it(rt: HostRuntime) -> Result<(), Fail> {
 
 #[test]
 fn a_bad_first_line_is_answered_by_nothing(rt: HostRuntime) -> Result<(), Fail> {
-    let table: [(&[u8], Reason); 13] = [
+    let table: [(&[u8], Reason); 16] = [
         (b"\n", Reason::UnknownCommand),
         (b" new 64 64 8 16\n", Reason::UnknownCommand),
         (b"d 2\nnew 64 64 8 16\n", Reason::UnknownCommand),
@@ -180,11 +236,88 @@ fn a_bad_first_line_is_answered_by_nothing(rt: HostRuntime) -> Result<(), Fail> 
         (b"z 0 1", Reason::NotAllowed),
         (b"r 0 1\nnew 64 64 8 16\n", Reason::NotAllowed),
         (b"f\n", Reason::NotAllowed),
+        (b"stop 0\n", Reason::NotAllowed),
+        (b"crash keep - -\n", Reason::NotAllowed),
+        // The letters do not fit a disk without writes, too.
+        (b"crash keep k k\n", Reason::NotAllowed),
         (&[b'f'; 65_537], Reason::TooLong),
     ];
     for (script, reason) in table {
         let script = Vec::from_slice(rt.alloc(), script)?;
         assert_replays(&rt, rt.alloc(), script, b"", Ending::Bad(1, reason));
+    }
+    Ok(())
+}
+
+#[test]
+fn letters_are_judged_where_they_stand(rt: HostRuntime) -> Result<(), Fail> {
+    // One write, which is not synced, and then a stop.
+    let cases: [(&[u8], &[u8], Ending); 16] = [
+        (b"crash keep - -\n", b"mounted 0 1\n", Ending::Done),
+        (b"crash keep k -\n", b"mounted 0 1\n", Ending::Done),
+        (b"crash keep o \n", b"mounted 0 1\n", Ending::Done),
+        (
+            b"crash keep z -\nr 0 1\n",
+            b"mounted 0 1\n00x512\n",
+            Ending::Done,
+        ),
+        (
+            b"crash keep t -\nw 0 1 42\n",
+            b"mounted 0 1\nok 1\n",
+            Ending::Done,
+        ),
+        (b"crash keep  -\n", b"", Ending::Bad(4, Reason::Letters)),
+        (b"crash keep kk -\n", b"", Ending::Bad(4, Reason::Letters)),
+        (b"crash keep x -\n", b"", Ending::Bad(4, Reason::Letters)),
+        // It is not allowed here, and of two bad lines the first is told.
+        (
+            b"stop 3\ncrash keep x -\n",
+            b"",
+            Ending::Bad(4, Reason::NotAllowed),
+        ),
+        (
+            b"crash keep - -\nstop 3\ncrash keep  -\nstop 0\n",
+            b"mounted 0 1\nstop 3\nmounted 0 1\nstop 0\n",
+            Ending::Done,
+        ),
+        // A commit is broken off behind its opening, and then one write is pending.
+        (
+            b"f\ncrash keep k -\n",
+            b"fault\nmounted 1 1\n",
+            Ending::Done,
+        ),
+        (
+            b"f\ncrash keep - -\n",
+            b"fault\nmounted 1 1\n",
+            Ending::Done,
+        ),
+        (
+            b"f\ncrash keep o -\n",
+            b"fault\nmounted 0 1\n",
+            Ending::Done,
+        ),
+        (
+            b"f\ncrash keep t -\nr 0 1\n",
+            b"fault\nmounted 0 1\n00x512\n",
+            Ending::Done,
+        ),
+        (
+            b"f\nw 0 1 42\nr 0 1\nr 1 1\nf\n",
+            b"fault\nfault\nfault\n00x512\nfault\n",
+            Ending::Done,
+        ),
+        (
+            b"f\ncrash keep kk -\n",
+            b"fault\n",
+            Ending::Bad(5, Reason::Letters),
+        ),
+    ];
+    for (lines, answers, ending) in cases {
+        let mut script = Vec::from_slice(rt.alloc(), b"new 64 64 8 16\nw 0 1 41\nstop 4\n")?;
+        script.extend_from_slice(lines)?;
+        let mut text = Vec::from_slice(rt.alloc(), b"new 64\nok 1\nstop 4\n")?;
+        text.extend_from_slice(answers)?;
+        assert_replays(&rt, rt.alloc(), script, &text, ending);
     }
     Ok(())
 }

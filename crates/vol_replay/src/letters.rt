@@ -1,0 +1,73 @@
+ghost use Rattle.std.specs.Prelude.{◌≡◌, IfOk, IsTrue, length, map};
+ghost use Rattle.std.specs.List.{list_all};
+ghost use Rattle.vol_replay.specs.Letters.{is_letter, is_dash, fits_writes, fits_objects, fate_of, fates_of};
+
+use crate::volume::Volume;
+use lsvd_device::Fate;
+use std::alloc::{AllocError, Global};
+
+/// Whether the word keeps all, or has a letter for each write that was not synced.
+pub(crate) fn fits_writes(volume: &Volume, word: &[u8]) -> bool
+    ensures { result ≡ fits_writes volume.now.plain.device.pending word.now }
+{
+    is_dash(word) || (word.len() == volume.pending() && are_letters(word))
+}
+
+/// Whether the word keeps all, or is empty.
+pub(crate) fn fits_objects(word: &[u8]) -> bool
+    ensures { result ≡ fits_objects word.now }
+{
+    is_dash(word) || word.is_empty()
+}
+
+/// The fates of so many writes that were not synced, which the word fits (a condition). The one error is want of memory.
+pub(crate) fn fates_of(alloc: Global, word: &[u8], pending: usize) -> Result<Vec<Fate>, AllocError>
+    requires { IsTrue (fits_writes pending word.now) }
+    ensures fates { IfOk result (λ fates. fates.items ≡ fates_of pending word.now) }
+    ensures count { IfOk result (λ fates. length fates.items ≡ pending) }
+{
+    if is_dash(word) {
+        return vec![in alloc; Fate::Kept; pending];
+    }
+    fates_of_letters(alloc, word)
+}
+
+// The fate of each letter.
+fn fates_of_letters(alloc: Global, word: &[u8]) -> Result<Vec<Fate>, AllocError>
+    ensures { IfOk result (λ fates. fates.items ≡ map fate_of word.now) }
+{
+    word.iter().map(|letter| fate_of(*letter)).collect(alloc)
+}
+
+// What becomes of a write that has this letter.
+fn fate_of(letter: u8) -> Fate
+    ensures { result ≡ fate_of letter }
+{
+    match letter {
+        b'k' => Fate::Kept,
+        b'o' => Fate::Old,
+        b'z' => Fate::Zeros,
+        _ => Fate::Torn,
+    }
+}
+
+// Whether the word keeps all.
+fn is_dash(word: &[u8]) -> bool
+    ensures { result ≡ is_dash word.now }
+{
+    word == b"-".as_slice()
+}
+
+// Whether each byte is a letter.
+fn are_letters(word: &[u8]) -> bool
+    ensures { result ≡ list_all is_letter word.now }
+{
+    word.iter().all(|b| is_letter(*b))
+}
+
+// Whether a write has this letter.
+fn is_letter(letter: u8) -> bool
+    ensures { result ≡ is_letter letter }
+{
+    letter == b'k' || letter == b'o' || letter == b'z' || letter == b't'
+}
