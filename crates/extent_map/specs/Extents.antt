@@ -1,0 +1,54 @@
+-- A list of rows as a function from sectors to places, and which lists are the shortest of their function.
+use Rattle.std.specs.Prelude.{ℕ, ◌+◌, ◌-◌, ◌^◌, ◌<◌, ◌≤◌, ◌≡◌, Bool, ◌&&◌, nat_le, nat_lt, if◌then◌else◌, Option, Some, None, List, [], ◌∷◌}
+use Rattle.extent_map.specs.declared.extent.Extent.{Extent}
+
+-- the sector k is one of so many from lba on
+abbrev pub is_within : ℕ → ℕ → ℕ → Bool
+is_within lba sectors k = nat_le lba k && nat_lt k (lba + sectors)
+
+-- how a map's places go on
+module _ {P : Type 0} (on : ℕ → P → P) where
+  -- the place that rows give a sector, where a row covers it
+  abbrev pub place_at : List (Extent P) → ℕ → Option P
+  place_at [] k = None
+  place_at (row ∷ rows) k =
+      (if is_within row.lba row.sectors k then Some (on (k - row.lba) row.place) else place_at rows k)
+
+  -- the places after the sectors from lba on were set to the places from this one on
+  abbrev pub place_after_set : ℕ → ℕ → P → (ℕ → Option P) → ℕ → Option P
+  place_after_set lba sectors place old k = (if is_within lba sectors k then Some (on (k - lba) place) else old k)
+
+  -- a row ends before the next one begins, or where they touch, the next one does not go on with its places
+  pub record ComesBefore (row next : Extent P) : Type 0 where
+    pub in_order : row.lba + row.sectors ≤ next.lba
+    pub apart : row.lba + row.sectors ≡ next.lba → on row.sectors row.place ≡ next.place → ⊥
+
+  -- the same of the first of these rows
+  abbrev pub ComesBeforeFirst : Extent P → List (Extent P) → Type 0
+  ComesBeforeFirst row [] = Unit {0}
+  ComesBeforeFirst row (next ∷ rows) = ComesBefore row next
+
+  -- no shorter list of rows gives the same places: each row covers a sector, the rows ascend, and none goes on
+  -- with the one before it
+  abbrev pub IsShortest : List (Extent P) → Type 0
+  IsShortest [] = Unit {0}
+  IsShortest (row ∷ rows) = (0 < row.sectors) × ComesBeforeFirst row rows × IsShortest rows
+
+module _ {P : Type 0} where
+  -- the places after the sectors from lba on were cleared
+  abbrev pub place_after_clear : ℕ → ℕ → (ℕ → Option P) → ℕ → Option P
+  place_after_clear lba sectors old k = (if is_within lba sectors k then None else old k)
+
+  -- the places of the sectors from lba on, and no others
+  abbrev pub place_in_range : ℕ → ℕ → (ℕ → Option P) → ℕ → Option P
+  place_in_range lba sectors old k = (if is_within lba sectors k then old k else None)
+
+  -- a row ends below 2^63, and so do its places
+  pub record Fits (number : P → ℕ) (row : Extent P) : Type 0 where
+    pub sectors : row.lba + row.sectors < 2 ^ 63
+    pub places : number row.place + row.sectors < 2 ^ 63
+
+  -- all rows do
+  abbrev pub AllFit : (P → ℕ) → List (Extent P) → Type 0
+  AllFit number [] = Unit {0}
+  AllFit number (row ∷ rows) = Fits number row × AllFit number rows

@@ -1,0 +1,77 @@
+ghost use Rattle.std.specs.Prelude.{◌≡◌, ◌+◌, ◌≤◌, ◌^◌, ◌<◌, ℕ, [], IfOk, OnOk, IsOk};
+ghost use Rattle.extent_map.specs.Extents.{place_at, place_after_set, place_after_clear, place_in_range, IsShortest, AllFit};
+
+use crate::extent::Extent;
+use crate::place::Place;
+use std::alloc::{AllocError, Global};
+use std::marker::Model;
+
+/// A map from sectors to places. It is a function on sectors: each has a place or none.
+///
+/// Contracts see it as the one shortest list of rows that says that function, with its room for changes.
+#[derive(Drop)]
+pub struct ExtentMap<P: Place> {
+    rows: Vec<Extent<P>>,
+}
+
+impl<P: Place> Model for ExtentMap<P> {
+    ghost use Rattle.extent_map.specs.State.{MapState, map_state_code};
+
+    ghost Value = { MapState P };
+
+    ghost coded = { map_state_code P.code };
+
+    ghost use Rattle.std.specs.Prelude.{◌-◌, ◌/◌, length, vec_capacity};
+    ghost use Rattle.extent_map.specs.Extents.{IsShortest, AllFit};
+
+    ghost view = { λ m. record { rows = m.rows.items; spare = (vec_capacity m.rows - length m.rows.items) / 2 } };
+
+    ghost invariant = { λ m. IsShortest P.on m.rows.items × AllFit P.number m.rows.items };
+}
+
+/// The rows that one change may add.
+const ROWS_OF_CHANGE: usize = 2;
+
+impl<P: Place> ExtentMap<P> {
+    /// The map that gives no sector a place. It takes no memory, and has no room for a change.
+    pub fn new(alloc: Global) -> ExtentMap<P>
+        ensures { result ≡ record { rows = []; spare = 0 } }
+    {
+        ExtentMap {
+            rows: Vec::new(alloc),
+        }
+    }
+
+    /// Makes room for so many changes. The one error is want of memory, which comes only where that room is
+    /// missing. The rows are as before, and no room is lost.
+    pub fn reserve(&mut self, changes: usize) -> Result<(), AllocError>
+        ensures ok { OnOk result (changes ≤ self.new.spare) }
+        ensures rows { self.new.rows ≡ self.old.rows }
+        ensures spare { self.old.spare ≤ self.new.spare }
+        ensures succeeds { changes ≤ self.old.spare → IsOk result }
+    {
+        if changes <= self.spare() {
+            return Ok(());
+        }
+        let Some(more) = changes.checked_mul(ROWS_OF_CHANGE) else {
+            return Err(AllocError);
+        };
+        self.rows.reserve(more)
+    }
+
+    /// How many changes there is room for.
+    pub fn spare(&self) -> usize
+        ensures { result ≡ self.now.spare }
+    {
+        (self.rows.capacity() - self.rows.len()) / ROWS_OF_CHANGE
+    }
+
+    /// All rows. The one error is want of memory.
+    pub fn rows(&self, alloc: Global) -> Result<Vec<Extent<P>>, AllocError>
+        ensures rows { IfOk result (λ rows. rows.items ≡ self.now.rows) }
+        ensures shortest { IsShortest P.on self.now.rows }
+        ensures fits { AllFit P.number self.now.rows }
+    {
+        Vec::from_slice(alloc, self.rows.as_slice())
+    }
+}

@@ -1,0 +1,15 @@
+//! A map from sectors to places: a function on sectors, kept as the one shortest list of rows.
+//!
+//! Its contract: a set or a clear changes the function on its range and nowhere else, and the rows are always the
+//! shortest list that says it. It stands on the standard library alone.
+#![tactic(auto)]
+
+mod extent;
+mod extent_map;
+mod laws;
+mod place;
+
+pub use extent::Extent;
+pub use extent_map::ExtentMap;
+pub use laws::a_function_has_one_shortest_list;
+pub use place::Place;

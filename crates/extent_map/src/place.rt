@@ -1,0 +1,57 @@
+ghost use Rattle.std.specs.Prelude.{◌≡◌, ◌+◌, ◌^◌, ◌<◌, ◌↔◌, ℕ, IsTrue};
+
+/// Where the data of a sector stand. Places go on one by one.
+pub trait Place: Copy {
+    /// The number of the place, in sectors from the beginning of what it is a place of.
+    ghost number: { Self → ℕ };
+
+    /// The place that stands so many sectors on.
+    ghost on: { ℕ → Self → Self };
+
+    /// Its number.
+    fn number(&self) -> u64
+        ensures { result ≡ number self.now };
+
+    /// The place so many sectors on. Its number is below 2^63 (a condition).
+    fn on(&self, sectors: u64) -> Self
+        requires { number self.now + sectors < 2 ^ 63 }
+        ensures { result ≡ on sectors self.now };
+
+    /// Whether both are one place.
+    fn is_same(&self, other: &Self) -> bool
+        ensures { IsTrue result ↔ (self.now ≡ other.now) };
+
+    // A place is itself no sectors on, goes on by sums, and has the number that it went on to.
+    ghost on_none: { (p : Self) → on 0 p ≡ p };
+
+    ghost on_twice: { (a b : ℕ) (p : Self) → on a (on b p) ≡ on (b + a) p };
+
+    ghost number_on: { (n : ℕ) (p : Self) → number (on n p) ≡ number p + n };
+}
+
+impl Place for u64 {
+    ghost use Rattle.std.specs.Prelude.{◌+◌};
+    ghost use Rattle.std.proofs.Common.{arith};
+
+    ghost number = { λ p. p };
+
+    ghost on = { λ sectors p. p + sectors };
+
+    fn number(&self) -> u64 {
+        *self
+    }
+
+    fn on(&self, sectors: u64) -> u64 {
+        *self + sectors
+    }
+
+    fn is_same(&self, other: &u64) -> bool {
+        *self == *other
+    }
+
+    ghost on_none = { λ p. omega arith };
+
+    ghost on_twice = { λ a b p. omega arith };
+
+    ghost number_on = { λ n p. omega arith };
+}
