@@ -1,2 +1,12 @@
 pub mod Places
 pub mod OneList
+pub mod Order
+pub mod Cuts
+pub mod CutPlaces
+pub mod Counts
+pub mod CutIndex
+pub mod TakenOut
+pub mod Changed
+pub mod Joined
+pub mod Put
+pub mod Looked

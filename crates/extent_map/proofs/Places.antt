@@ -3,6 +3,7 @@ use Rattle.std.proofs.Common.{ℕ, ◌+◌, ◌-◌, ◌<◌, ◌≤◌, ◌≡�
 use Rattle.std.proofs.lemmas.Bool.Decides.{nat_tests}
 use Rattle.extent_map.specs.declared.extent.Extent.{Extent}
 use Rattle.extent_map.specs.Extents.{is_within, place_at, ComesBeforeFirst, IsShortest}
+use Rattle.extent_map.specs.Sides.{StartsFrom}
 
 -- ---- which sectors a range has
 
@@ -16,11 +17,6 @@ pub not_past : (lba sectors k : ℕ) → lba + sectors ≤ k → is_within lba s
 not_past lba sectors k high = grind (arith, nat_tests)
 
 module _ {P : Type 0} where
-  -- the first of these rows begins at this sector or past it
-  abbrev pub StartsFrom : ℕ → List (Extent P) → Type 0
-  StartsFrom at [] = Unit {0}
-  StartsFrom at (row ∷ rows) = at ≤ row.lba
-
   pub starts_earlier : (low at : ℕ) (rows : List (Extent P)) → low ≤ at → StartsFrom at rows → StartsFrom low rows
   starts_earlier low at [] le starts = tt
   starts_earlier low at (row ∷ rows) le starts = omega arith

@@ -1,3 +1,6 @@
+pub mod Sides
+pub mod Cut
+pub mod Join
 pub mod Extents
 pub mod State
 pub mod Laws

@@ -1,7 +1,9 @@
 ghost use Rattle.std.specs.Prelude.{◌≡◌, ◌+◌, ◌≤◌, ◌^◌, ◌<◌, ℕ, [], IfOk, OnOk, IsOk};
 ghost use Rattle.extent_map.specs.Extents.{place_at, place_after_set, place_after_clear, place_in_range, IsShortest, AllFit};
 
+use crate::cut::{look, take_out};
 use crate::extent::Extent;
+use crate::join::put;
 use crate::place::Place;
 use std::alloc::{AllocError, Global};
 use std::marker::Model;
@@ -73,5 +75,52 @@ impl<P: Place> ExtentMap<P> {
         ensures fits { AllFit P.number self.now.rows }
     {
         Vec::from_slice(alloc, self.rows.as_slice())
+    }
+
+    /// Gives the sectors from `lba` on the places from `place` on, one by one, whatever they had. No sectors change
+    /// nothing. There is room for a change, and the range and its places end below 2^63 (conditions). It takes no
+    /// memory.
+    pub fn set(&mut self, lba: u64, sectors: u64, place: P)
+        requires room { 1 ≤ self.old.spare }
+        requires range { lba + sectors < 2 ^ 63 }
+        requires places { P.number place + sectors < 2 ^ 63 }
+        ensures places { (k : ℕ) → place_at P.on self.new.rows k ≡ place_after_set P.on lba sectors place (place_at P.on self.old.rows) k }
+        ensures shortest { IsShortest P.on self.new.rows }
+        ensures spare { self.old.spare ≤ self.new.spare + 1 }
+    {
+        if sectors != 0 {
+            let index = take_out(&mut self.rows, lba, lba + sectors);
+            let row = Extent {
+                lba,
+                sectors,
+                place,
+            };
+            put(&mut self.rows, index, row);
+        }
+    }
+
+    /// Leaves the sectors from `lba` on without a place. No sectors change nothing. There is room for a change, and
+    /// the range ends below 2^63 (conditions). It takes no memory.
+    pub fn clear(&mut self, lba: u64, sectors: u64)
+        requires room { 1 ≤ self.old.spare }
+        requires range { lba + sectors < 2 ^ 63 }
+        ensures places { (k : ℕ) → place_at P.on self.new.rows k ≡ place_after_clear lba sectors (place_at P.on self.old.rows) k }
+        ensures shortest { IsShortest P.on self.new.rows }
+        ensures spare { self.old.spare ≤ self.new.spare + 1 }
+    {
+        if sectors != 0 {
+            let _ = take_out(&mut self.rows, lba, lba + sectors);
+        }
+    }
+
+    /// The rows of the sectors from `lba` on alone, cut at the edges of that range: the shortest list that gives
+    /// them their places. The range ends below 2^63 (a condition). The one error is want of memory.
+    pub fn look(&self, alloc: Global, lba: u64, sectors: u64) -> Result<Vec<Extent<P>>, AllocError>
+        requires { lba + sectors < 2 ^ 63 }
+        ensures places { IfOk result (λ rows. (k : ℕ) → place_at P.on rows.items k ≡ place_in_range lba sectors (place_at P.on self.now.rows) k) }
+        ensures shortest { IfOk result (λ rows. IsShortest P.on rows.items) }
+        ensures fits { IfOk result (λ rows. AllFit P.number rows.items) }
+    {
+        look(alloc, &self.rows, lba, sectors)
     }
 }

@@ -4,10 +4,14 @@
 //! shortest list that says it. It stands on the standard library alone.
 #![tactic(auto)]
 
+mod cut;
 mod extent;
 mod extent_map;
+mod join;
 mod laws;
 mod place;
+#[cfg(test)]
+mod tests;
 
 pub use extent::Extent;
 pub use extent_map::ExtentMap;
