@@ -86,6 +86,7 @@ impl<P: Place> ExtentMap<P> {
         requires places { P.number place + sectors < 2 ^ 63 }
         ensures places { (k : ℕ) → place_at P.on self.new.rows k ≡ place_after_set P.on lba sectors place (place_at P.on self.old.rows) k }
         ensures shortest { IsShortest P.on self.new.rows }
+        ensures none { sectors ≡ 0 → self.new ≡ self.old }
         ensures spare { self.old.spare ≤ self.new.spare + 1 }
     {
         if sectors != 0 {
@@ -106,6 +107,7 @@ impl<P: Place> ExtentMap<P> {
         requires range { lba + sectors < 2 ^ 63 }
         ensures places { (k : ℕ) → place_at P.on self.new.rows k ≡ place_after_clear lba sectors (place_at P.on self.old.rows) k }
         ensures shortest { IsShortest P.on self.new.rows }
+        ensures none { sectors ≡ 0 → self.new ≡ self.old }
         ensures spare { self.old.spare ≤ self.new.spare + 1 }
     {
         if sectors != 0 {

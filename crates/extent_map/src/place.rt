@@ -49,9 +49,9 @@ impl Place for u64 {
         *self == *other
     }
 
-    ghost on_none = { λ p. omega arith };
+    ghost on_none = { λ p. Prim.omega arith };
 
-    ghost on_twice = { λ a b p. omega arith };
+    ghost on_twice = { λ a b p. Prim.omega arith };
 
-    ghost number_on = { λ n p. omega arith };
+    ghost number_on = { λ n p. Prim.omega arith };
 }

@@ -1,6 +1,5 @@
 use super::*;
 use std::alloc::{AllocError, Global};
-use std::process::Abort;
 use std::test::Fail;
 
 /// How many sectors the tests use.
@@ -65,6 +64,120 @@ fn make(map: &mut ExtentMap<InObject>, change: Change) -> Result<(), Fail> {
     match change {
         Change::Set(..) => map.set(lba, sectors, InObject { object, at }),
         Change::Clear(..) => map.clear(lba, sectors),
+    }
+    Ok(())
+}
+
+/// Makes a change of places that are kept sector by sector.
+fn make_plainly(places: &mut [Option<InObject>], change: Change) {
+    let (lba, sectors) = match change {
+        Change::Set(lba, sectors, ..) => (lba, sectors),
+        Change::Clear(lba, sectors) => (lba, sectors),
+    };
+    for (k, place) in places.iter_mut().enumerate() {
+        let on = (k as u64).wrapping_sub(lba);
+        if on < sectors {
+            *place = match change {
+                Change::Set(_, _, object, at) => Some(InObject {
+                    object,
+                    at: at.wrapping_add(on),
+                }),
+                Change::Clear(..) => None,
+            };
+        }
+    }
+}
+
+/// The rows of so many of these places, sector by sector.
+fn plain_rows(
+    alloc: Global,
+    places: &[Option<InObject>],
+    lba: u64,
+    sectors: u64,
+) -> Result<Vec<Extent<InObject>>, AllocError> {
+    let mut rows = Vec::new(alloc);
+    for (k, place) in places.iter().enumerate() {
+        let k = k as u64;
+        if let Some(place) = place {
+            if k.wrapping_sub(lba) < sectors {
+                add_sector(&mut rows, k, *place)?;
+            }
+        }
+    }
+    Ok(rows)
+}
+
+/// Adds a sector to the last row where it goes on with that, or else as a row.
+fn add_sector(
+    rows: &mut Vec<Extent<InObject>>,
+    lba: u64,
+    place: InObject,
+) -> Result<(), AllocError> {
+    let sector = Extent {
+        lba,
+        sectors: 1,
+        place,
+    };
+    let Some(last) = rows.pop() else {
+        rows.push(sector)?;
+        return Ok(());
+    };
+    let next = last.place.at.wrapping_add(last.sectors);
+    if last.lba.wrapping_add(last.sectors) == lba
+        && last.place.object == place.object
+        && next == place.at
+    {
+        let sectors = last.sectors.wrapping_add(1);
+        rows.push(Extent { sectors, ..last })?;
+    } else {
+        rows.push(last)?;
+        rows.push(sector)?;
+    }
+    Ok(())
+}
+
+/// The next of a list of numbers in no order, below a limit.
+fn next(state: &mut u64, limit: u64) -> u64 {
+    *state = state
+        .wrapping_mul(6_364_136_223_846_793_005)
+        .wrapping_add(1_442_695_040_888_963_407);
+    (*state >> 33) % limit.max(1)
+}
+
+/// A change of at most 15 sectors. The places of one object mostly go on with one another.
+fn next_change(state: &mut u64) -> Change {
+    let lba = next(state, SECTORS);
+    let sectors = next(state, 16).min(SECTORS.saturating_sub(lba));
+    match next(state, 8) {
+        0 => Change::Clear(lba, sectors),
+        1 => Change::Set(lba, sectors, 1, lba.wrapping_add(1)),
+        kind => Change::Set(lba, sectors, kind % 2, lba),
+    }
+}
+
+#[test]
+fn many_changes_are_those_sector_by_sector(rt: HostRuntime) -> Result<(), Fail> {
+    let alloc = rt.alloc();
+    let mut map = ExtentMap::new(alloc);
+    let mut places = [None; SECTORS as usize];
+    let mut state = 1;
+    for step in 0..4_000 {
+        let change = next_change(&mut state);
+        make(&mut map, change)?;
+        make_plainly(&mut places, change);
+        let wanted = plain_rows(alloc, &places, 0, SECTORS)?;
+        let rows = map.rows(alloc)?;
+        assert_eq!(rt; rows.as_slice(), wanted.as_slice(), "{step}: {change:?}");
+        let lba = next(&mut state, SECTORS);
+        let sectors = next(&mut state, SECTORS);
+        assert!(rt; lba < SECTORS && sectors < SECTORS);
+        let wanted = plain_rows(alloc, &places, lba, sectors)?;
+        let found = map.look(alloc, lba, sectors)?;
+        assert_eq!(rt;
+            found.as_slice(),
+            wanted.as_slice(),
+            "{step}: {lba} {sectors}"
+        );
     }
     Ok(())
 }
@@ -147,5 +260,39 @@ fn changes_are_kept_as_the_shortest_rows(rt: HostRuntime) -> Result<(), Fail> {
             );
         }
     }
+    Ok(())
+}
+
+#[test]
+fn a_map_of_numbers_counts_its_room(rt: HostRuntime) -> Result<(), Fail> {
+    let alloc = rt.alloc();
+    let mut map: ExtentMap<u64> = ExtentMap::new(alloc);
+    assert_eq!(rt; map.spare(), 0);
+    map.reserve(3)?;
+    assert!(rt; 3 <= map.spare());
+    map.set(3, 4, 10);
+    map.set(7, 2, 14);
+    map.set(9, 2, 17);
+    let rows = map.rows(alloc)?;
+    let wanted = [
+        Extent {
+            lba: 3,
+            sectors: 6,
+            place: 10,
+        },
+        Extent {
+            lba: 9,
+            sectors: 2,
+            place: 17,
+        },
+    ];
+    assert_eq!(rt; rows.as_slice(), wanted.as_slice());
+    let found = map.look(alloc, 5, 1)?;
+    let wanted = [Extent {
+        lba: 5,
+        sectors: 1,
+        place: 12,
+    }];
+    assert_eq!(rt; found.as_slice(), wanted.as_slice());
     Ok(())
 }
