@@ -10,3 +10,4 @@ pub mod Changed
 pub mod Joined
 pub mod Put
 pub mod Looked
+pub mod Shorter

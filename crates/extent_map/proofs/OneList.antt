@@ -45,7 +45,7 @@ module _ {P : Type 0} (on : ℕ → P → P) (on_none : (p : P) → on 0 p ≡ p
       cc
 
   -- what stands behind a row does not go on with its places
-  not_on : (a : Extent P) (more_a : List (Extent P)) → IsShortest on (a ∷ more_a)
+  pub not_on : (a : Extent P) (more_a : List (Extent P)) → IsShortest on (a ∷ more_a)
       → place_at on more_a (a.lba + a.sectors) ≡ Some (on a.sectors a.place) → ⊥
   not_on a [] shortest goes_on = cc
   not_on a (next ∷ more_a) shortest goes_on =

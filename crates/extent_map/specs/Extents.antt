@@ -28,8 +28,8 @@ module _ {P : Type 0} (on : ℕ → P → P) where
   ComesBeforeFirst row [] = Unit {0}
   ComesBeforeFirst row (next ∷ rows) = ComesBefore row next
 
-  -- no shorter list of rows gives the same places: each row covers a sector, the rows ascend, and none goes on
-  -- with the one before it
+  -- the shortest list of rows in order that gives its places: each row covers a sector, the rows ascend, and none
+  -- goes on with the one before it
   abbrev pub IsShortest : List (Extent P) → Type 0
   IsShortest [] = Unit {0}
   IsShortest (row ∷ rows) = (0 < row.sectors) × ComesBeforeFirst row rows × IsShortest rows

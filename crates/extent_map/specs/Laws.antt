@@ -1,7 +1,8 @@
 -- What a function on sectors has to do with its shortest list of rows.
-use Rattle.std.specs.Prelude.{ℕ, ◌≡◌, List}
+use Rattle.std.specs.Prelude.{ℕ, ◌≡◌, ◌≤◌, List, length}
 use Rattle.extent_map.specs.declared.extent.Extent.{Extent}
 use Rattle.extent_map.specs.Extents.{place_at, IsShortest}
+use Rattle.extent_map.specs.Sides.{IsInOrder}
 
 -- shortest lists of rows that give each sector the same place are one list
 abbrev pub HasOneShortestList : {P : Type 0} → (ℕ → P → P) → Type 0
@@ -9,3 +10,10 @@ HasOneShortestList {P} on =
     (a b : List (Extent P)) → IsShortest on a → IsShortest on b
     → ((k : ℕ) → place_at on a k ≡ place_at on b k)
     → a ≡ b
+
+-- rows in order that give each sector the place that a shortest list gives it are no fewer
+abbrev pub HasNoShorterList : {P : Type 0} → (ℕ → P → P) → Type 0
+HasNoShorterList {P} on =
+    (a b : List (Extent P)) → IsShortest on a → IsInOrder b
+    → ((k : ℕ) → place_at on a k ≡ place_at on b k)
+    → length a ≤ length b

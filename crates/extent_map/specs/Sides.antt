@@ -1,4 +1,4 @@
--- Rows that lie on one side of a sector.
+-- Rows that lie on one side of a sector, and rows in order.
 use Rattle.std.specs.Prelude.{ℕ, ◌+◌, ◌≤◌, List, [], ◌∷◌}
 use Rattle.extent_map.specs.declared.extent.Extent.{Extent}
 
@@ -12,3 +12,8 @@ module _ {P : Type 0} where
   abbrev pub EndBy : ℕ → List (Extent P) → Type 0
   EndBy at [] = Unit {0}
   EndBy at (row ∷ rows) = (row.lba + row.sectors ≤ at) × EndBy at rows
+
+  -- each row ends before the next one begins, or where it does
+  abbrev pub IsInOrder : List (Extent P) → Type 0
+  IsInOrder [] = Unit {0}
+  IsInOrder (row ∷ rows) = StartsFrom (row.lba + row.sectors) rows × IsInOrder rows

@@ -10,7 +10,7 @@ use std::marker::Model;
 
 /// A map from sectors to places. It is a function on sectors: each has a place or none.
 ///
-/// Contracts see it as the one shortest list of rows that says that function, with its room for changes.
+/// Contracts see it as the one shortest list of rows in order that says that function, with its room for changes.
 #[derive(Drop)]
 pub struct ExtentMap<P: Place> {
     rows: Vec<Extent<P>>,

@@ -1,8 +1,14 @@
-ghost use Rattle.extent_map.specs.Laws.{HasOneShortestList};
+ghost use Rattle.extent_map.specs.Laws.{HasOneShortestList, HasNoShorterList};
 
 use crate::place::Place;
 
 /// A law: two shortest lists of rows that give each sector the same place are one list.
 pub fn a_function_has_one_shortest_list<P: Place>()
     ensures { HasOneShortestList P.on }
+{}
+
+/// A law: rows in order, none of which overlap, that give each sector the place that a shortest list gives it are no
+/// fewer than its rows.
+pub fn no_list_in_order_is_shorter<P: Place>()
+    ensures { HasNoShorterList P.on }
 {}

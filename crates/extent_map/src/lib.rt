@@ -1,7 +1,7 @@
-//! A map from sectors to places: a function on sectors, kept as the one shortest list of rows.
+//! A map from sectors to places: a function on sectors, kept as the one shortest list of rows in order.
 //!
 //! Its contract: a set or a clear changes the function on its range and nowhere else, and the rows are always the
-//! shortest list that says it. It stands on the standard library alone.
+//! shortest list in order that says it. It stands on the standard library alone.
 #![tactic(auto)]
 
 mod cut;
@@ -15,5 +15,5 @@ mod tests;
 
 pub use extent::Extent;
 pub use extent_map::ExtentMap;
-pub use laws::a_function_has_one_shortest_list;
+pub use laws::{a_function_has_one_shortest_list, no_list_in_order_is_shorter};
 pub use place::Place;
