@@ -1,0 +1,42 @@
+-- For which reason bytes are no object: the tests, and their order.
+use Rattle.std.specs.Prelude.{ℕ, ◌≡◌, ◌==◌, ◌%◌, ◌<◌, Bool, ◌&&◌, nat_le, IsTrue, IsSome, IsSomeAnd, Option, Some, None, List, length, take, codes}
+use Rattle.std.specs.Int.{w64}
+use Rattle.lsvd_bytes.specs.Places.{bytes_at, number_at}
+use Rattle.object_format.specs.declared.header.Header.{Header}
+use Rattle.object_format.specs.declared.expected.Expected.{Expected}
+use Rattle.object_format.specs.declared.reason.BadObject.{BadObject}
+use Rattle.object_format.specs.declared.reason.BadObject.TheVariants as reasons
+use Rattle.object_format.specs.Layout.{length_of}
+use Rattle.object_format.specs.Header.{header_in, has_due_seqs, is_within_limits}
+
+-- the number of a reason, in the order of the tests
+abbrev pub code_of : BadObject → ℕ
+code_of reasons.Length = 1
+code_of reasons.Magic = 2
+code_of reasons.Kind = 3
+code_of reasons.Uuid = 4
+code_of reasons.Number = 5
+code_of reasons.Seqs = 6
+code_of reasons.Counts = 7
+code_of reasons.Rows = 8
+
+-- an object may have so many bytes: those that its header says, or where its kind is none, whole sectors
+abbrev pub is_length : Option Header → ℕ → Bool
+is_length None size = nat_le 512 size && (size % 512 == 0)
+is_length (Some header) size = size == length_of header
+
+-- the bytes pass the test that a reason stands for
+abbrev pub Passes : List ℕ → Expected → BadObject → Type 0
+Passes bytes expected reasons.Length = IsTrue (is_length (header_in (take 64 bytes)) (length bytes))
+Passes bytes expected reasons.Magic = take 8 (take 64 bytes) ≡ codes "LSVDOBJ1"
+Passes bytes expected reasons.Kind = IsSome (header_in (take 64 bytes))
+Passes bytes expected reasons.Uuid = bytes_at 12 16 (take 64 bytes) ≡ expected.uuid
+Passes bytes expected reasons.Number = number_at w64 28 (take 64 bytes) ≡ expected.number
+Passes bytes expected reasons.Seqs = IsSomeAnd (header_in (take 64 bytes)) (λ header. IsTrue (has_due_seqs expected header))
+Passes bytes expected reasons.Counts = IsSomeAnd (header_in (take 64 bytes)) (λ header. IsTrue (is_within_limits expected header))
+Passes bytes expected reasons.Rows = Unit {0}
+
+-- the first test that the bytes do not pass is that of this reason
+pub record IsRefusedAs (bytes : List ℕ) (expected : Expected) (reason : BadObject) : Type 0 where
+  pub earlier : (other : BadObject) → code_of other < code_of reason → Passes bytes expected other
+  pub failed : ¬ Passes bytes expected reason

@@ -1,0 +1,65 @@
+ghost use Rattle.std.specs.Prelude.{◌≡◌, ◌↔◌, IsTrue};
+ghost use Rattle.object_format.specs.Header.{has_due_seqs, is_within_limits, most_rows};
+
+use crate::header::Header;
+use crate::kind::Kind;
+
+/// What is known of an object by its number in the store, before it is read or written.
+#[derive(Clone, Copy, Debug, PartialEq, Eq)]
+pub struct Expected {
+    /// The volume's uuid.
+    pub uuid: [u8; 16],
+    /// The number of the object.
+    pub number: u64,
+    /// The sectors of the volume.
+    pub sectors: u64,
+    /// The end seq of the object before it, where that is known.
+    pub end_before: Option<u64>,
+}
+
+impl Expected {
+    /// The most rows of a data object or a copy.
+    const MAX_ROWS: u64 = 65_536;
+
+    /// The most sectors of a payload.
+    const MAX_PAYLOAD: u64 = 131_071;
+
+    /// Whether the header has the volume's uuid.
+    pub(crate) fn has_uuid_of(&self, header: &Header) -> bool
+        ensures { IsTrue result ↔ (header.now.uuid ≡ self.now.uuid) }
+    {
+        header.uuid == self.uuid
+    }
+
+    /// Whether the seqs are in order for the kind, and go on where the object before ends.
+    pub(crate) fn has_due_seqs(&self, header: &Header) -> bool
+        ensures { result ≡ has_due_seqs self.now header.now }
+    {
+        let of_kind = match header.kind {
+            Kind::Data => header.first_seq < header.end_seq,
+            Kind::Copy | Kind::Checkpoint => header.first_seq == header.end_seq,
+        };
+        let goes_on = match self.end_before {
+            Some(end_before) => header.first_seq == end_before,
+            None => true,
+        };
+        of_kind && goes_on
+    }
+
+    /// Whether there are no more rows and sectors of payload than an object may have.
+    pub(crate) fn allows_counts(&self, header: &Header) -> bool
+        ensures { result ≡ is_within_limits self.now header.now }
+    {
+        u64::from(header.rows) <= self.most_rows(header.kind) && header.payload <= Self::MAX_PAYLOAD
+    }
+
+    /// The most rows of an object of the kind.
+    fn most_rows(&self, kind: Kind) -> u64
+        ensures { result ≡ most_rows self.now.sectors kind }
+    {
+        match kind {
+            Kind::Data | Kind::Copy => Self::MAX_ROWS,
+            Kind::Checkpoint => self.sectors,
+        }
+    }
+}

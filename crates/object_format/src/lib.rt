@@ -1,0 +1,46 @@
+//! The numbered objects of a virtual disk's store: a header, rows that say which sectors of the volume the
+//! object holds, and the payload, which is the data of these sectors.
+//!
+//! Its contract: an object is read exactly where the grammar has it under the expected number, and is else
+//! refused for the first test that it fails; what is written is in the grammar.
+//! It stands on `lsvd_base`, on `lsvd_bytes` for numbers, and on the kit's `thiserror`.
+#![tactic(auto)]
+
+mod expected;
+mod header;
+mod kind;
+mod reading;
+mod reason;
+
+pub use expected::Expected;
+pub use header::Header;
+pub use kind::Kind;
+pub use reading::read_header;
+pub use reason::BadObject;
+
+/// The bytes that an object begins with.
+const MAGIC: [u8; 8] = *b"LSVDOBJ1";
+
+/// The bytes of a header.
+const HEADER_BYTES: usize = 64;
+
+/// Where the number of the kind stands, in 4 bytes, as all numbers highest byte first.
+const KIND_AT: usize = 8;
+
+/// Where the volume's uuid stands, in 16 bytes.
+const UUID_AT: usize = 12;
+
+/// Where the object's number stands, in 8 bytes.
+const NUMBER_AT: usize = 28;
+
+/// Where the first seq stands, in 8 bytes.
+const FIRST_SEQ_AT: usize = 36;
+
+/// Where the end seq stands, in 8 bytes.
+const END_SEQ_AT: usize = 44;
+
+/// Where the count of rows stands, in 4 bytes.
+const ROWS_AT: usize = 52;
+
+/// Where the count of sectors of the payload stands, in 8 bytes.
+const PAYLOAD_AT: usize = 56;
