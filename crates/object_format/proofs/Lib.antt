@@ -1,3 +1,5 @@
 pub mod PartLemmas
 pub mod HeaderLemmas
 pub mod TestLemmas
+pub mod RowLemmas
+pub mod ObjectLemmas

@@ -54,3 +54,6 @@ pub number_behind : (w : Width) (size at : ℕ) (front rest : List ℕ) → leng
     → number_at w (size + at) (front ++ rest) ≡ number_at w at rest
 number_behind w size at front rest is =
     ap (λ xs. number_at w 0 xs) (sym (drop-drop at size (front ++ rest)) ∙ ap (drop at) (drop_at front rest size is))
+
+pub bytes_of_rest : (at : ℕ) (bytes : List ℕ) → IsBytes bytes → IsBytes (drop at bytes)
+bytes_of_rest at bytes fits i = rw (get_or-drop at bytes i 0) (fits (at + i))

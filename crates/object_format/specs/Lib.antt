@@ -1,3 +1,5 @@
 pub mod Layout
 pub mod Header
+pub mod Rows
+pub mod Object
 pub mod Tests

@@ -6,8 +6,12 @@ use Rattle.object_format.specs.declared.header.Header.{Header}
 use Rattle.object_format.specs.declared.expected.Expected.{Expected}
 use Rattle.object_format.specs.declared.reason.BadObject.{BadObject}
 use Rattle.object_format.specs.declared.reason.BadObject.TheVariants as reasons
+use Rattle.object_format.specs.declared.rows.Rows.{Rows}
+use Rattle.object_format.specs.declared.rows_reading.ReadError.{ReadError}
+use Rattle.object_format.specs.declared.rows_reading.ReadError.TheVariants.{Bad, OutOfMemory}
 use Rattle.object_format.specs.Layout.{length_of}
 use Rattle.object_format.specs.Header.{header_in, has_due_seqs, is_within_limits}
+use Rattle.object_format.specs.Object.{IsObject}
 
 -- the number of a reason, in the order of the tests
 abbrev pub code_of : BadObject → ℕ
@@ -34,9 +38,14 @@ Passes bytes expected reasons.Uuid = bytes_at 12 16 (take 64 bytes) ≡ expected
 Passes bytes expected reasons.Number = number_at w64 28 (take 64 bytes) ≡ expected.number
 Passes bytes expected reasons.Seqs = IsSomeAnd (header_in (take 64 bytes)) (λ header. IsTrue (has_due_seqs expected header))
 Passes bytes expected reasons.Counts = IsSomeAnd (header_in (take 64 bytes)) (λ header. IsTrue (is_within_limits expected header))
-Passes bytes expected reasons.Rows = Unit {0}
+Passes bytes expected reasons.Rows = (header : Header) × (rows : Rows) × IsObject bytes expected header rows
 
 -- the first test that the bytes do not pass is that of this reason
 pub record IsRefusedAs (bytes : List ℕ) (expected : Expected) (reason : BadObject) : Type 0 where
   pub earlier : (other : BadObject) → code_of other < code_of reason → Passes bytes expected other
   pub failed : ¬ Passes bytes expected reason
+
+-- what an error of a read says of the bytes
+abbrev pub IsReasonOf : List ℕ → Expected → ReadError → Type 0
+IsReasonOf bytes expected (Bad reason) = IsRefusedAs bytes expected reason
+IsReasonOf bytes expected OutOfMemory = Unit {0}

@@ -6,17 +6,25 @@
 //! It stands on `lsvd_base`, on `lsvd_bytes` for numbers, and on the kit's `thiserror`.
 #![tactic(auto)]
 
+mod copy_row;
+mod data_row;
 mod expected;
 mod header;
 mod kind;
 mod reading;
 mod reason;
+mod rows;
+mod rows_reading;
 
+pub use copy_row::{CopyRow, Source};
+pub use data_row::DataRow;
 pub use expected::Expected;
 pub use header::Header;
 pub use kind::Kind;
 pub use reading::read_header;
 pub use reason::BadObject;
+pub use rows::Rows;
+pub use rows_reading::{ReadError, read_rows};
 
 /// The bytes that an object begins with.
 const MAGIC: [u8; 8] = *b"LSVDOBJ1";
@@ -44,3 +52,9 @@ const ROWS_AT: usize = 52;
 
 /// Where the count of sectors of the payload stands, in 8 bytes.
 const PAYLOAD_AT: usize = 56;
+
+/// Where the count of sectors stands in a row, in 8 bytes. The first sector of the volume stands before it.
+const SECTORS_AT: usize = 8;
+
+/// Where the place in the payload stands in a row, in 8 bytes.
+const PLACE_AT: usize = 16;
