@@ -3,3 +3,4 @@ pub mod HeaderLemmas
 pub mod TestLemmas
 pub mod RowLemmas
 pub mod ObjectLemmas
+pub mod WritingLemmas

@@ -1,9 +1,10 @@
-ghost use Rattle.std.specs.Prelude.{◌≡◌, ◌≤◌, length, None, Some};
-ghost use Rattle.object_format.specs.Rows.{copy_row_in, breaks_off, is_source, copy_may_follow, copy_may_stand, copy_rows_may_stand};
+ghost use Rattle.std.specs.Prelude.{◌≡◌, ◌+◌, ◌*◌, ◌^◌, ◌<◌, ◌≤◌, ◌++◌, length, take, drop, None};
+ghost use Rattle.std.specs.List.{flat_map, sum_by};
+ghost use Rattle.object_format.specs.Rows.{copy_row_bytes, copy_row_in, breaks_off, is_source, copy_may_follow, copy_may_stand, copy_rows_may_stand};
 
 use crate::rows::is_inside;
 use crate::{PLACE_AT, SECTORS_AT};
-use lsvd_bytes::{read_u32, read_u64};
+use lsvd_bytes::{read_u32, read_u64, write_u32, write_u64};
 
 /// Where data stand: a place in the payload of an object.
 #[derive(Clone, Copy, Debug, PartialEq, Eq)]
@@ -60,6 +61,19 @@ impl CopyRow {
                 place: read_u64(bytes, Self::SOURCE_PLACE_AT),
             },
         }
+    }
+
+    /// Writes it into the 44 bytes from `at` on.
+    fn write(&self, bytes: &mut [u8], at: usize)
+        requires { at + 44 ≤ length bytes.old }
+        ensures { bytes.new ≡ take at bytes.old ++ copy_row_bytes self.now ++ drop (at + 44) bytes.old }
+    {
+        write_u64(bytes, at, self.lba);
+        write_u64(bytes, at + SECTORS_AT, self.sectors);
+        write_u64(bytes, at + PLACE_AT, self.place);
+        write_u32(bytes, at + Self::LEVEL_AT, self.source.level);
+        write_u64(bytes, at + Self::SOURCE_NUMBER_AT, self.source.number);
+        write_u64(bytes, at + Self::SOURCE_PLACE_AT, self.source.place);
     }
 
     /// Whether it may stand behind the row before it, or as the first, with its payload at a place, in the
@@ -129,4 +143,22 @@ pub(crate) fn copy_rows_may_stand(rows: &[CopyRow], volume: u64, payload: u64, n
         before = Some(*row);
     }
     place == payload
+}
+
+/// The sectors of the payload of rows.
+pub(crate) fn copies_payload(rows: &[CopyRow]) -> u64
+    requires { sum_by (λ row. row.sectors) rows.now < 2 ^ 64 }
+    ensures { result ≡ sum_by (λ row. row.sectors) rows.now }
+{
+    rows.iter().map(|row| row.sectors).sum()
+}
+
+/// Writes rows into as many bytes as they have.
+pub(crate) fn write_copy_rows(rows: &[CopyRow], bytes: &mut [u8])
+    requires { length bytes.old ≡ 44 * length rows.now }
+    ensures { bytes.new ≡ flat_map copy_row_bytes rows.now }
+{
+    for (index, row) in rows.iter().enumerate() {
+        row.write(bytes, CopyRow::BYTES * index);
+    }
 }

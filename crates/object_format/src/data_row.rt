@@ -1,9 +1,10 @@
-ghost use Rattle.std.specs.Prelude.{◌≡◌, ◌≤◌, length, None, Some};
-ghost use Rattle.object_format.specs.Rows.{place_from, data_row_in, data_payload, is_at, data_may_follow, data_may_stand, data_rows_may_stand};
+ghost use Rattle.std.specs.Prelude.{◌≡◌, ◌+◌, ◌*◌, ◌^◌, ◌<◌, ◌≤◌, ◌++◌, length, take, drop, None};
+ghost use Rattle.std.specs.List.{flat_map, sum_by};
+ghost use Rattle.object_format.specs.Rows.{place_number, place_from, data_row_bytes, data_row_in, data_payload, is_at, data_may_follow, data_may_stand, data_rows_may_stand};
 
 use crate::rows::is_inside;
 use crate::{PLACE_AT, SECTORS_AT};
-use lsvd_bytes::read_u64;
+use lsvd_bytes::{read_u64, write_u64};
 
 /// Sectors of the volume that entries wrote.
 #[derive(Clone, Copy, Debug, PartialEq, Eq)]
@@ -44,6 +45,23 @@ impl DataRow {
         } else {
             Some(number)
         }
+    }
+
+    /// Writes it into the 24 bytes from `at` on.
+    fn write(&self, bytes: &mut [u8], at: usize)
+        requires { at + 24 ≤ length bytes.old }
+        ensures { bytes.new ≡ take at bytes.old ++ data_row_bytes self.now ++ drop (at + 24) bytes.old }
+    {
+        write_u64(bytes, at, self.lba);
+        write_u64(bytes, at + SECTORS_AT, self.sectors);
+        write_u64(bytes, at + PLACE_AT, self.place_number());
+    }
+
+    /// The number of its place.
+    fn place_number(&self) -> u64
+        ensures { result ≡ place_number self.now.place }
+    {
+        self.place.unwrap_or(Self::NO_PLACE)
     }
 
     /// The sectors of its payload.
@@ -106,4 +124,22 @@ pub(crate) fn data_rows_may_stand(rows: &[DataRow], volume: u64, payload: u64) -
         before = Some(*row);
     }
     place == payload
+}
+
+/// The sectors of the payload of rows.
+pub(crate) fn data_payload(rows: &[DataRow]) -> u64
+    requires { sum_by data_payload rows.now < 2 ^ 64 }
+    ensures { result ≡ sum_by data_payload rows.now }
+{
+    rows.iter().map(|row| row.payload_sectors()).sum()
+}
+
+/// Writes rows into as many bytes as they have.
+pub(crate) fn write_data_rows(rows: &[DataRow], bytes: &mut [u8])
+    requires { length bytes.old ≡ 24 * length rows.now }
+    ensures { bytes.new ≡ flat_map data_row_bytes rows.now }
+{
+    for (index, row) in rows.iter().enumerate() {
+        row.write(bytes, DataRow::BYTES * index);
+    }
 }

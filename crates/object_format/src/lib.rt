@@ -15,6 +15,7 @@ mod reading;
 mod reason;
 mod rows;
 mod rows_reading;
+mod writing;
 
 pub use copy_row::{CopyRow, Source};
 pub use data_row::DataRow;
@@ -25,6 +26,7 @@ pub use reading::read_header;
 pub use reason::BadObject;
 pub use rows::Rows;
 pub use rows_reading::{ReadError, read_rows};
+pub use writing::ObjectWriter;
 
 /// The bytes that an object begins with.
 const MAGIC: [u8; 8] = *b"LSVDOBJ1";

@@ -1,9 +1,13 @@
-ghost use Rattle.std.specs.Prelude.{◌≡◌};
-ghost use Rattle.object_format.specs.Rows.{is_inside, may_stand};
+ghost use Rattle.std.specs.Prelude.{◌≡◌, ◌^◌, ◌<◌, length};
+ghost use Rattle.object_format.specs.Layout.{rows_length};
+ghost use Rattle.object_format.specs.Rows.{is_inside, may_stand, kind_of, count_of, rows_bytes};
+ghost use Rattle.object_format.specs.Writing.{payload_of, header_of};
 
-use crate::copy_row::{CopyRow, copy_rows_may_stand};
-use crate::data_row::{DataRow, data_rows_may_stand};
+use crate::copy_row::{CopyRow, copies_payload, copy_rows_may_stand, write_copy_rows};
+use crate::data_row::{DataRow, data_payload, data_rows_may_stand, write_data_rows};
+use crate::expected::Expected;
 use crate::header::Header;
+use crate::kind::Kind;
 
 /// The rows of an object, by its kind.
 #[derive(Debug, Drop)]
@@ -28,6 +32,71 @@ impl Rows {
                 copy_rows_may_stand(rows.as_slice(), volume, header.payload, header.number)
             }
             Rows::Checkpoint => header.payload == 0,
+        }
+    }
+
+    /// The header of the expected object with these rows, of which there are fewer than 2^32, with fewer than
+    /// 2^64 sectors of payload (conditions).
+    pub(crate) fn header(&self, expected: &Expected, first_seq: u64, end_seq: u64) -> Header
+        requires count { count_of self.now < 2 ^ 32 }
+        requires payload { payload_of self.now < 2 ^ 64 }
+        ensures { result ≡ header_of expected.now first_seq end_seq self.now }
+    {
+        Header {
+            kind: self.kind(),
+            uuid: expected.uuid,
+            number: expected.number,
+            first_seq,
+            end_seq,
+            rows: self.count(),
+            payload: self.payload_sectors(),
+        }
+    }
+
+    /// The kind of object that has such rows.
+    fn kind(&self) -> Kind
+        ensures { result ≡ kind_of self.now }
+    {
+        match self {
+            Rows::Data(_) => Kind::Data,
+            Rows::Copy(_) => Kind::Copy,
+            Rows::Checkpoint => Kind::Checkpoint,
+        }
+    }
+
+    /// How many rows there are.
+    fn count(&self) -> u32
+        requires { count_of self.now < 2 ^ 32 }
+        ensures { result ≡ count_of self.now }
+    {
+        match self {
+            Rows::Data(rows) => rows.len() as u32,
+            Rows::Copy(rows) => rows.len() as u32,
+            Rows::Checkpoint => 0,
+        }
+    }
+
+    /// The sectors of their payload.
+    fn payload_sectors(&self) -> u64
+        requires { payload_of self.now < 2 ^ 64 }
+        ensures { result ≡ payload_of self.now }
+    {
+        match self {
+            Rows::Data(rows) => data_payload(rows.as_slice()),
+            Rows::Copy(rows) => copies_payload(rows.as_slice()),
+            Rows::Checkpoint => 0,
+        }
+    }
+
+    /// Writes the rows into as many bytes as they have.
+    pub(crate) fn write(&self, bytes: &mut [u8])
+        requires { length bytes.old ≡ rows_length (kind_of self.now) (count_of self.now) }
+        ensures { bytes.new ≡ rows_bytes self.now }
+    {
+        match self {
+            Rows::Data(rows) => write_data_rows(rows.as_slice(), bytes),
+            Rows::Copy(rows) => write_copy_rows(rows.as_slice(), bytes),
+            Rows::Checkpoint => {}
         }
     }
 }
