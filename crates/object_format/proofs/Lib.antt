@@ -4,3 +4,4 @@ pub mod TestLemmas
 pub mod RowLemmas
 pub mod ObjectLemmas
 pub mod WritingLemmas
+pub mod LawLemmas

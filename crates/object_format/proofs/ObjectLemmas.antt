@@ -175,7 +175,7 @@ read_may_stand bytes expected header Checkpoint (Copy other) wide is object = le
 
 -- ---- the last reason
 
-same_header : (bytes : List ℕ) (expected : Expected) (a b : Header) → IsHeader bytes expected a → IsHeader bytes expected b → a ≡ b
+pub same_header : (bytes : List ℕ) (expected : Expected) (a b : Header) → IsHeader bytes expected a → IsHeader bytes expected b → a ≡ b
 same_header bytes expected a b is_a is_b =
     let e = header_in-IsHeader bytes expected a is_a in
     let f = header_in-IsHeader bytes expected b is_b in

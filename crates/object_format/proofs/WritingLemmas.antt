@@ -84,6 +84,10 @@ length-row_slot at old head room size =
     length-take-le (at - 64) (drop 64 (head ++ drop 64 old))
     (omega (arith, length-drop 64 (head ++ drop 64 old), length-append head (drop 64 old), length-drop 64 old, size, room))
 
+same_parts : (a b c x y z : List ℕ) → a ≡ x → b ≡ y → c ≡ z → a ++ b ++ c ≡ x ++ y ++ z
+same_parts a b c x y z first second third =
+    ap (λ xs. xs ++ b ++ c) first ∙ ap (λ xs. x ++ xs ++ c) second ∙ ap (λ xs. x ++ y ++ xs) third
+
 -- the header, the rows and zeros, written one behind the other, are the front of an object
 pub front_if_written : (header : Header) (rows : Rows) (at : ℕ) (old head part zeros : List ℕ) → at ≡ rows_end header
     → length old ≡ 512 * front_sectors header → length head ≡ 64 → length part ≡ at - 64
@@ -99,6 +103,5 @@ front_if_written header rows at old head part zeros is_at size head_size part_si
     ap length (take_rest list at) ∙ length-drop at list ∙ omega (arith, whole, is_at, size) in
     written_to_end at list zeros (omega (arith, whole, room))
     ∙ ap (λ xs. xs ++ zeros) (take-with_rows at old head part low head_size part_size)
-    ∙ ap (λ xs. head ++ part ++ xs) (is_zeros ∙ ap (λ n. replicate n 0) count)
-    ∙ ap (λ xs. xs ++ part ++ replicate (padding header) 0) is_head
-    ∙ ap (λ xs. header_bytes header ++ xs ++ replicate (padding header) 0) is_part
+    ∙ same_parts head part zeros (header_bytes header) (rows_bytes rows) (replicate (padding header) 0) is_head is_part
+    (is_zeros ∙ ap (λ n. replicate n 0) count)

@@ -4,3 +4,4 @@ pub mod Rows
 pub mod Object
 pub mod Writing
 pub mod Tests
+pub mod Laws

@@ -11,10 +11,13 @@ mod data_row;
 mod expected;
 mod header;
 mod kind;
+mod laws;
 mod reading;
 mod reason;
 mod rows;
 mod rows_reading;
+#[cfg(test)]
+mod tests;
 mod writing;
 
 pub use copy_row::{CopyRow, Source};
@@ -22,6 +25,7 @@ pub use data_row::DataRow;
 pub use expected::Expected;
 pub use header::Header;
 pub use kind::Kind;
+pub use laws::{an_object_has_one_reading, what_is_written_is_an_object};
 pub use reading::read_header;
 pub use reason::BadObject;
 pub use rows::Rows;

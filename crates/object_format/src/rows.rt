@@ -10,7 +10,7 @@ use crate::header::Header;
 use crate::kind::Kind;
 
 /// The rows of an object, by its kind.
-#[derive(Debug, Drop)]
+#[derive(Debug, Drop, PartialEq, Eq)]
 pub enum Rows {
     /// Those of a data object.
     Data(Vec<DataRow>),

@@ -2,7 +2,7 @@ ghost use Rattle.std.specs.Prelude.{◌≡◌, ◌*◌, ◌+◌, ◌≤◌, ◌+
 ghost use Rattle.object_format.specs.Layout.{front_sectors, length_of};
 ghost use Rattle.object_format.specs.Header.{header_bytes};
 ghost use Rattle.object_format.specs.Rows.{kind_of, count_of};
-ghost use Rattle.object_format.specs.Writing.{header_of, MayBeWritten, front_bytes};
+ghost use Rattle.object_format.specs.Writing.{payload_of, header_of, MayBeWritten, front_bytes};
 
 use crate::expected::Expected;
 use crate::header::Header;
@@ -46,6 +46,7 @@ impl ObjectWriter {
     ) -> Result<ObjectWriter, AllocError>
         requires { MayBeWritten expected.now (header_of expected.now first_seq end_seq rows.now) rows.now }
         ensures bytes { IfOk result (λ writer. writer.bytes ≡ front_bytes (header_of expected.now first_seq end_seq rows.now) rows.now) }
+        ensures missing { IfOk result (λ writer. length writer.bytes + 512 * payload_of rows.now ≡ writer.size) }
         ensures size { IfOk result (λ writer. writer.size ≡ length_of (header_of expected.now first_seq end_seq rows.now)) }
     {
         let header = rows.header(expected, first_seq, end_seq);
