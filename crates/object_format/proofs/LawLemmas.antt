@@ -1,5 +1,5 @@
 -- Written objects are read again, in one way.
-use Rattle.std.proofs.Common.{◌≡◌, ℕ, ◌+◌, ◌*◌, ◌^◌, ◌<◌, List, [], ◌∷◌, ◌++◌, length, take, drop, replicate, refl, sym, ◌∙◌, ap, subst, append_assoc, arith}
+use Rattle.std.proofs.Common.{◌≡◌, ℕ, ◌+◌, ◌*◌, ◌^◌, ◌<◌, List, [], ◌∷◌, ◌++◌, length, take, replicate, refl, sym, ◌∙◌, ap, subst, append_assoc, arith}
 use Rattle.std.proofs.lemmas.List.{length-append, length-replicate, take_at, drop_at}
 use Rattle.std.proofs.Math.Nat.{mul-suc}
 use Rattle.std.specs.List.{flat_map}
@@ -8,11 +8,11 @@ use Rattle.object_format.specs.declared.header.Header.{Header}
 use Rattle.object_format.specs.declared.expected.Expected.{Expected}
 use Rattle.object_format.specs.declared.rows.Rows.{Rows}
 use Rattle.object_format.specs.declared.rows.Rows.TheVariants.{Data, Copy, Checkpoint}
-use Rattle.object_format.specs.Layout.{rows_length, rows_end, front_sectors, padding, length_of}
-use Rattle.object_format.specs.Header.{header_bytes, HasWidths, IsHeader}
+use Rattle.object_format.specs.Layout.{rows_length, rows_end, padding, length_of}
+use Rattle.object_format.specs.Header.{header_bytes}
 use Rattle.object_format.specs.Rows.{data_row_bytes, copy_row_bytes, rows_bytes, kind_of, count_of}
 use Rattle.object_format.specs.Object.{IsObject}
-use Rattle.object_format.specs.Writing.{header_of, MayBeWritten, front_bytes}
+use Rattle.object_format.specs.Writing.{header_of, front_bytes}
 use Rattle.object_format.specs.Laws.{WritesObjects, AreSameRows, HasOneReading}
 use Rattle.object_format.proofs.HeaderLemmas.{length-header_bytes}
 use Rattle.object_format.proofs.RowLemmas.{length-data_row_bytes, length-copy_row_bytes}

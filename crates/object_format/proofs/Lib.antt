@@ -5,3 +5,4 @@ pub mod RowLemmas
 pub mod ObjectLemmas
 pub mod WritingLemmas
 pub mod LawLemmas
+pub mod SpellingLemmas

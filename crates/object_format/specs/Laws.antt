@@ -1,10 +1,14 @@
 -- What written objects have to do with those that are read.
-use Rattle.std.specs.Prelude.{ℕ, ◌≡◌, ◌*◌, ◌^◌, ◌<◌, List, ◌++◌, length}
+use Rattle.std.specs.Prelude.{ℕ, ◌≡◌, ◌+◌, ◌*◌, ◌^◌, ◌<◌, IsTrue, Option, Some, None, List, [], ◌∷◌, ◌++◌, length}
+use Rattle.std.specs.List.{sum_by}
 use Rattle.object_format.specs.declared.header.Header.{Header}
 use Rattle.object_format.specs.declared.expected.Expected.{Expected}
+use Rattle.object_format.specs.declared.data_row.DataRow.{DataRow}
+use Rattle.object_format.specs.declared.copy_row.CopyRow.{CopyRow}
 use Rattle.object_format.specs.declared.rows.Rows.{Rows}
 use Rattle.object_format.specs.declared.rows.Rows.TheVariants.{Data, Copy, Checkpoint}
 use Rattle.object_format.specs.Header.{HasWidths}
+use Rattle.object_format.specs.Rows.{data_payload, data_may_stand, data_rows_may_stand, copy_may_stand, copy_rows_may_stand}
 use Rattle.object_format.specs.Object.{IsObject}
 use Rattle.object_format.specs.Writing.{payload_of, header_of, MayBeWritten, front_bytes}
 
@@ -30,3 +34,37 @@ HasOneReading =
     (bytes : List ℕ) (expected : Expected) (a b : Header) (rows others : Rows) → expected.sectors < 2 ^ 64
     → IsObject bytes expected a rows → IsObject bytes expected b others
     → (a ≡ b) × AreSameRows rows others
+
+-- ---- rows that are made one after the other
+
+-- the last of rows behind a row, if there is one
+abbrev pub last_of : {R : Type 0} → Option R → List R → Option R
+last_of before [] = before
+last_of before (row ∷ rows) = last_of (Some row) rows
+
+-- rows that may stand may have another at their end, which then may stand behind the last, with its payload
+-- behind theirs
+abbrev pub DataRowsMayGoOn : Type 0
+DataRowsMayGoOn =
+    (volume payload : ℕ) (rows : List DataRow) (row : DataRow)
+    → IsTrue (data_rows_may_stand volume payload None 0 rows)
+    → IsTrue (data_may_stand volume (payload + data_payload row) (last_of None rows) payload row)
+    → IsTrue (data_rows_may_stand volume (payload + data_payload row) None 0 (rows ++ row ∷ []))
+
+abbrev pub CopyRowsMayGoOn : Type 0
+CopyRowsMayGoOn =
+    (volume payload number : ℕ) (rows : List CopyRow) (row : CopyRow)
+    → IsTrue (copy_rows_may_stand volume payload number None 0 rows)
+    → IsTrue (copy_may_stand volume (payload + row.sectors) number (last_of None rows) payload row)
+    → IsTrue (copy_rows_may_stand volume (payload + row.sectors) number None 0 (rows ++ row ∷ []))
+
+-- rows that may stand have all of the payload
+abbrev pub DataRowsHavePayload : Type 0
+DataRowsHavePayload =
+    (volume payload : ℕ) (rows : List DataRow) → IsTrue (data_rows_may_stand volume payload None 0 rows)
+    → sum_by data_payload rows ≡ payload
+
+abbrev pub CopyRowsHavePayload : Type 0
+CopyRowsHavePayload =
+    (volume payload number : ℕ) (rows : List CopyRow) → IsTrue (copy_rows_may_stand volume payload number None 0 rows)
+    → sum_by (λ row. row.sectors) rows ≡ payload

@@ -3,7 +3,7 @@ ghost use Rattle.std.specs.List.{flat_map, sum_by};
 ghost use Rattle.object_format.specs.Rows.{copy_row_bytes, copy_row_in, breaks_off, is_source, copy_may_follow, copy_may_stand, copy_rows_may_stand};
 
 use crate::rows::is_inside;
-use crate::{PLACE_AT, SECTORS_AT};
+use crate::{MAX_PAYLOAD, PLACE_AT, SECTORS_AT};
 use lsvd_bytes::{read_u32, read_u64, write_u32, write_u64};
 
 /// Where data stand: a place in the payload of an object.
@@ -42,9 +42,6 @@ impl CopyRow {
 
     /// Where the place of the source stands, in 8 bytes.
     const SOURCE_PLACE_AT: usize = 36;
-
-    /// The most sectors of a payload.
-    const MAX_PAYLOAD: u64 = 131_071;
 
     /// The row that the bytes begin with.
     pub(crate) fn read(bytes: &[u8]) -> CopyRow
@@ -102,8 +99,8 @@ impl CopyRow {
     {
         self.source.level == 0
             && self.source.number < number
-            && self.source.place <= Self::MAX_PAYLOAD
-            && self.sectors <= Self::MAX_PAYLOAD - self.source.place
+            && self.source.place <= MAX_PAYLOAD
+            && self.sectors <= MAX_PAYLOAD - self.source.place
     }
 
     /// Whether it begins where the row before it ends, or past that, and is not one row with it.

@@ -1,8 +1,11 @@
 ghost use Rattle.std.specs.Prelude.{◌≡◌, ◌↔◌, IsTrue};
+ghost use Rattle.object_format.specs.Writing.{MayBeWritten};
 ghost use Rattle.object_format.specs.Header.{has_due_seqs, is_within_limits, most_rows};
 
+use crate::MAX_PAYLOAD;
 use crate::header::Header;
 use crate::kind::Kind;
+use crate::rows::Rows;
 
 /// What is known of an object by its number in the store, before it is read or written.
 #[derive(Clone, Copy, Debug, PartialEq, Eq)]
@@ -21,8 +24,15 @@ impl Expected {
     /// The most rows of a data object or a copy.
     const MAX_ROWS: u64 = 65_536;
 
-    /// The most sectors of a payload.
-    const MAX_PAYLOAD: u64 = 131_071;
+    /// Whether rows may be written under this header, which is theirs: its seqs are in order for the kind and
+    /// go on where the object before ends, its counts keep their limits, and the rows keep their one spelling.
+    pub fn may_be_written(&self, header: &Header, rows: &Rows) -> bool
+        ensures { IsTrue result ↔ MayBeWritten self.now header.now rows.now }
+    {
+        self.has_due_seqs(header)
+            && self.allows_counts(header)
+            && rows.may_stand(self.sectors, header)
+    }
 
     /// Whether the header has the volume's uuid.
     pub(crate) fn has_uuid_of(&self, header: &Header) -> bool
@@ -50,7 +60,7 @@ impl Expected {
     pub(crate) fn allows_counts(&self, header: &Header) -> bool
         ensures { result ≡ is_within_limits self.now header.now }
     {
-        u64::from(header.rows) <= self.most_rows(header.kind) && header.payload <= Self::MAX_PAYLOAD
+        u64::from(header.rows) <= self.most_rows(header.kind) && header.payload <= MAX_PAYLOAD
     }
 
     /// The most rows of an object of the kind.

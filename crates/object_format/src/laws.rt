@@ -1,4 +1,4 @@
-ghost use Rattle.object_format.specs.Laws.{WritesObjects, HasOneReading};
+ghost use Rattle.object_format.specs.Laws.{WritesObjects, HasOneReading, DataRowsMayGoOn, CopyRowsMayGoOn, DataRowsHavePayload, CopyRowsHavePayload};
 
 /// A law: what is written, with the payload that its rows have, is an object.
 pub fn what_is_written_is_an_object()
@@ -8,4 +8,16 @@ pub fn what_is_written_is_an_object()
 /// A law: bytes are an object with one header and with one list of rows.
 pub fn an_object_has_one_reading()
     ensures { HasOneReading }
+{}
+
+/// A law: rows that may stand may have another at their end, which may stand behind the last.
+pub fn rows_may_go_on()
+    ensures data_rows { DataRowsMayGoOn }
+    ensures copy_rows { CopyRowsMayGoOn }
+{}
+
+/// A law: rows that may stand have all of the payload.
+pub fn rows_have_the_payload()
+    ensures data_rows { DataRowsHavePayload }
+    ensures copy_rows { CopyRowsHavePayload }
 {}

@@ -25,7 +25,9 @@ pub use data_row::DataRow;
 pub use expected::Expected;
 pub use header::Header;
 pub use kind::Kind;
-pub use laws::{an_object_has_one_reading, what_is_written_is_an_object};
+pub use laws::{
+    an_object_has_one_reading, rows_have_the_payload, rows_may_go_on, what_is_written_is_an_object,
+};
 pub use reading::read_header;
 pub use reason::BadObject;
 pub use rows::Rows;
@@ -37,6 +39,9 @@ const MAGIC: [u8; 8] = *b"LSVDOBJ1";
 
 /// The bytes of a header.
 const HEADER_BYTES: usize = 64;
+
+/// The most sectors of a payload.
+const MAX_PAYLOAD: u64 = 131_071;
 
 /// Where the number of the kind stands, in 4 bytes, as all numbers highest byte first.
 const KIND_AT: usize = 8;

@@ -243,6 +243,8 @@ fn a_copy_is_written_and_read(rt: HostRuntime) -> Result<(), Fail> {
         },
     }]
     .to_vec(alloc)?);
+    let header = rows.header(&EXPECTED, 0, 0);
+    assert!(rt; EXPECTED.may_be_written(&header, &rows));
     let mut writer = ObjectWriter::new(alloc, &EXPECTED, 0, 0, &rows)?;
     writer.append(&[0x42; 512]);
     let object = writer.finish();
