@@ -45,7 +45,7 @@ pub record IsRefusedAs (bytes : List ℕ) (expected : Expected) (reason : BadObj
   pub earlier : (other : BadObject) → code_of other < code_of reason → Passes bytes expected other
   pub failed : ¬ Passes bytes expected reason
 
--- what an error of a read says of the bytes
+-- what an error of a read of rows says of the bytes: the rows are the first that fails
 abbrev pub IsReasonOf : List ℕ → Expected → ReadError → Type 0
-IsReasonOf bytes expected (Bad reason) = IsRefusedAs bytes expected reason
+IsReasonOf bytes expected (Bad reason) = (reason ≡ reasons.Rows) × IsRefusedAs bytes expected reason
 IsReasonOf bytes expected OutOfMemory = Unit {0}
