@@ -1,0 +1,6 @@
+mod NameOrder
+mod Kept
+mod Listed
+mod Plans
+mod Changed
+mod OneList

@@ -1,0 +1,5 @@
+pub mod Objects
+pub mod Store
+pub mod Memory
+pub mod Faulty
+pub mod Laws

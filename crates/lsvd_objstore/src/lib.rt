@@ -1,0 +1,24 @@
+//! The store of a virtual disk's objects: a finite map from names to bytes, where each put is whole or absent.
+//!
+//! Its contract is that of the trait `Store`: what a put, a removal, a search and a list do, acknowledged or not, and
+//! when a call fails. A receipt stands for the bytes that one object had. It stands on `lsvd_names`, `lsvd_base` and
+//! `lsvd_fault`, and on the kit's `bytes` for bytes that a store in memory and its receipts share.
+#![tactic(auto)]
+
+mod error;
+mod faulty;
+mod laws;
+mod memory;
+mod names;
+mod store;
+#[cfg(test)]
+mod tests;
+
+pub use error::StoreError;
+pub use faulty::{FaultStore, PlannedFault};
+pub use laws::{
+    a_store_in_memory_never_fails, a_volume_has_one_list, an_object_is_changed_whole_or_not_at_all,
+};
+pub use memory::{MemReceipt, MemStore};
+pub use names::Names;
+pub use store::{Receipt, Store};
