@@ -22,7 +22,7 @@ use Rattle.lsvd_names.specs.Spelling.{IsName}
 use Rattle.lsvd_names.specs.declared.name.Kind.{Kind}
 use Rattle.lsvd_names.specs.declared.name.Kind.TheVariants.{Super, Epoch, Object, Hold}
 use Rattle.lsvd_names.specs.declared.name.ObjName.{ObjName}
-use Rattle.lsvd_objstore.specs.Objects.{Objects, found, Lists, name_cmp}
+use Rattle.lsvd_objstore.specs.Objects.{Objects, found, AreNamesOf, Lists, name_cmp}
 use Rattle.lsvd_objstore.specs.Memory.{HaveNames, first_name_of, last_name_of}
 use Rattle.lsvd_objstore.proofs.NameOrder.{name_cmp_total, name_cmp_exact, kind_cmp}
 
@@ -128,3 +128,6 @@ lists uuid map ordered have = record {
       Contains-keys_from_lookup (tells_apart name_cmp_exact) name (filter (λ object. in_volume uuid object.0) map.entries)
       (rw (found-filter (in_volume uuid) map.entries name, in_volume-from_uuid uuid name e is.fits) h);
 }
+
+pub are_names : {uuid : List ℕ} {objects : Objects} {names : List ObjName} → Lists uuid objects names → AreNamesOf uuid names
+are_names listed = record { ascending = listed.ascending; each = λ name h. let there = listed.present name h in (there.0, there.1) }

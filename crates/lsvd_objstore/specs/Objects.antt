@@ -43,6 +43,11 @@ pub record IsRemoved (name : ObjName) (old new : Objects) : Type 0 where
 abbrev pub MayBeRemoved : ObjName → Objects → Objects → Type 0
 MayBeRemoved name old new = (new ≡ old) ⊎ IsRemoved name old new
 
+-- Names of one volume: each once, in ascending order of kind and number.
+pub record AreNamesOf (uuid : List ℕ) (names : List ObjName) : Type 0 where
+  pub ascending : IsStrictlySortedBy name_cmp names
+  pub each : (name : ObjName) → Contains names name → IsName name × (name.uuid ≡ uuid)
+
 -- The names of a volume's objects: each once, in ascending order of kind and number.
 pub record Lists (uuid : List ℕ) (objects : Objects) (names : List ObjName) : Type 0 where
   pub ascending : IsStrictlySortedBy name_cmp names

@@ -1,6 +1,6 @@
 ghost use Rattle.std.specs.Prelude.{◌≡◌, ℕ, ◌+◌, ◌≤◌, length, take, drop, option_map, IfOk, IfSome, OnOk, OnErr, IsErrOf, is_ok, is_err};
 ghost use Rattle.lsvd_names.specs.Spelling.{IsName};
-ghost use Rattle.lsvd_objstore.specs.Objects.{IsPut, MayBePut, IsRemoved, MayBeRemoved, Lists};
+ghost use Rattle.lsvd_objstore.specs.Objects.{IsPut, MayBePut, IsRemoved, MayBeRemoved, AreNamesOf, Lists};
 ghost use Rattle.lsvd_objstore.specs.Store.{IsReceiptOf, Becomes, Counts, has_failed, counted_with, Finds};
 ghost use Rattle.lsvd_objstore.specs.Faulty.{Plan, planned_at, planned_in, faulty_state, IsLost, Lands, IsCall};
 
@@ -147,6 +147,7 @@ impl<S: Store> Store for FaultStore<S> {
     }
 
     fn list(&mut self, alloc: Global, uuid: Uuid) -> Result<Names, StoreError>
+        ensures names { IfOk result (AreNamesOf uuid) }
         ensures listed { IfOk result (λ names. IfSome self.old.store.objects (λ objects. Lists uuid objects names)) }
         ensures unchanged { self.new.store.objects ≡ self.old.store.objects }
         ensures count { Counts (has_failed result) (faulty_state self.old).faults (faulty_state self.new).faults }

@@ -5,7 +5,7 @@ ghost use Rattle.std.specs.BTreeMap.Range.{entries_between};
 ghost use Rattle.std.specs.Map.{keys_of};
 ghost use Rattle.std.specs.Ordering.{is_gt};
 ghost use Rattle.std.specs.declared.ops.Bound.TheVariants.{Included};
-ghost use Rattle.lsvd_objstore.specs.Objects.{name_cmp, IsPut, Lists};
+ghost use Rattle.lsvd_objstore.specs.Objects.{name_cmp, IsPut, AreNamesOf, Lists};
 ghost use Rattle.lsvd_objstore.specs.Memory.{HaveNames, first_name_of, last_name_of};
 
 use crate::error::StoreError;
@@ -164,7 +164,8 @@ fn names_of(
     uuid: Uuid,
 ) -> Result<Vec<ObjName>, AllocError>
     requires { HaveNames objects.now.entries }
-    ensures { IfOk result (λ names. Lists uuid objects.now.entries names.items) }
+    ensures names { IfOk result (λ names. AreNamesOf uuid names.items) }
+    ensures listed { IfOk result (λ names. Lists uuid objects.now.entries names.items) }
 {
     let names = names_between(alloc, objects, first_name(uuid), last_name(uuid))?;
     Ok(names)

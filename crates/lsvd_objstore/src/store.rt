@@ -1,6 +1,6 @@
 ghost use Rattle.std.specs.Prelude.{◌≡◌, ◌+◌, ◌≤◌, length, take, drop, option_map, IsTrue, IfOk, IfSome, OnOk, OnErr, IsErrOf, is_err, ◌↔◌};
 ghost use Rattle.lsvd_names.specs.Spelling.{IsName};
-ghost use Rattle.lsvd_objstore.specs.Objects.{IsPut, MayBePut, IsRemoved, MayBeRemoved, Lists};
+ghost use Rattle.lsvd_objstore.specs.Objects.{IsPut, MayBePut, IsRemoved, MayBeRemoved, AreNamesOf, Lists};
 ghost use Rattle.lsvd_objstore.specs.Store.{StoreState, ReceiptState, IsReceiptOf, Becomes, Counts, has_failed, Finds};
 
 use crate::error::StoreError;
@@ -81,6 +81,7 @@ pub trait Store {
     /// The names of a volume's objects, each once, in ascending order: by kind, then by number. `Failed` comes where
     /// the store could not be asked, and the fault was counted. `OutOfMemory` comes where memory lacked.
     fn list(&mut self, alloc: Global, uuid: Uuid) -> Result<Names, StoreError>
+        ensures names { IfOk result (AreNamesOf uuid) }
         ensures listed { IfOk result (λ names. IfSome (state self.old).objects (λ objects. Lists uuid objects names)) }
         ensures unchanged { (state self.new).objects ≡ (state self.old).objects }
         ensures count { Counts (has_failed result) (state self.old).faults (state self.new).faults };
