@@ -127,7 +127,7 @@ concat-zeros (suc sectors) =
 pub All-zeros : (sectors : ℕ) → AllOfLength 512 (replicate sectors zero_sector)
 All-zeros sectors = All-replicate (IsOfLength 512) sectors zero_sector length-zero_sector
 
--- an image of a volume of so many sectors, each of which is whole
+-- an image of a volume of this many sectors, each of which is whole
 pub record IsImage (sectors : ℕ) (image : Image) : Type 0 where
   pub count : length image ≡ sectors
   pub whole : AllOfLength 512 image

@@ -6,7 +6,7 @@ use Rattle.std.proofs.lemmas.Option.{slice_get_past, slice_get-get_or}
 use Rattle.std.specs.List.{slice_get}
 use Rattle.lsvd_base.specs.declared.entry.Entry.TheVariants.{Write, Zero}
 use Rattle.lsvd_base.specs.Image.{Image, zero_sector, cut_into_sectors, overwritten, apply}
-use Rattle.lsvd_base.specs.Laws.{KeepsCount, KeepsOthers, WritesData, WritesZeros, AppliesInParts}
+use Rattle.lsvd_base.specs.Laws.{KeepsCount, KeepsOtherSectors, WritesData, WritesZeros, AppliesInParts}
 use Rattle.lsvd_base.proofs.ImageLemmas.{length-overwritten, length-cut}
 
 -- the sectors below those that were put, among them and above them
@@ -70,7 +70,7 @@ keeps_count (Write lba body) image h =
 keeps_count (Zero lba sectors) image h =
     length-overwritten lba (replicate sectors zero_sector) image (omega (arith, length-replicate sectors zero_sector))
 
-pub keeps_others : KeepsOthers
+pub keeps_others : KeepsOtherSectors
 keeps_others (Write lba body) image k h apart =
     let count = length body / 512 in
     let size : length (cut_into_sectors count body) ≡ count = length-cut count body in

@@ -1,4 +1,4 @@
--- What a volume holds, and what an entry and a history of entries make of it.
+-- Contract: what a volume holds, and what an entry and a history of entries make of it.
 use Rattle.std.specs.Prelude.{ℕ, ◌+◌, ◌/◌, zero, suc, List, [], ◌∷◌, ◌++◌, length, take, drop, replicate}
 use Rattle.lsvd_base.specs.declared.entry.Entry.{Entry}
 use Rattle.lsvd_base.specs.declared.entry.Entry.TheVariants.{Write, Zero}
@@ -15,7 +15,7 @@ zero_sector = replicate 512 0
 abbrev pub blank : ℕ → Image
 blank sectors = replicate sectors zero_sector
 
--- bytes cut into so many sectors
+-- bytes cut into `count` sectors
 unfoldable pub cut_into_sectors : ℕ → List ℕ → Image
 cut_into_sectors zero bytes = []
 cut_into_sectors (suc count) bytes = take 512 bytes ∷ cut_into_sectors count (drop 512 bytes)

@@ -1,4 +1,4 @@
--- What an entry changes of an image, sector by sector.
+-- Contract: what an entry changes of an image, sector by sector.
 use Rattle.std.specs.Prelude.{ℕ, ◌≡◌, ◌+◌, ◌*◌, ◌/◌, ◌<◌, ◌≤◌, ◌⊎◌, Some, List, ◌++◌, length, take, drop}
 use Rattle.std.specs.List.{slice_get}
 use Rattle.lsvd_base.specs.declared.entry.Entry.{Entry}
@@ -14,7 +14,7 @@ abbrev pub sector_count : Entry → ℕ
 sector_count (Write lba body) = length body / 512
 sector_count (Zero lba sectors) = sectors
 
--- the entry covers no sector past so many
+-- the entry covers no sector past this one
 abbrev pub EndsBy : ℕ → Entry → Type 0
 EndsBy sectors entry = first_sector entry + sector_count entry ≤ sectors
 
@@ -25,8 +25,8 @@ KeepsCount =
     → length (apply entry image) ≡ length image
 
 -- each sector that the entry does not cover is as before
-abbrev pub KeepsOthers : Type 0
-KeepsOthers =
+abbrev pub KeepsOtherSectors : Type 0
+KeepsOtherSectors =
     (entry : Entry) (image : Image) (k : ℕ) → EndsBy (length image) entry
     → (k < first_sector entry) ⊎ (first_sector entry + sector_count entry ≤ k)
     → slice_get (apply entry image) k ≡ slice_get image k

@@ -1,4 +1,4 @@
--- The limits of a volume, and which sectors a request may cover.
+-- Contract: the limits of a volume, and which sectors a request may cover.
 use Rattle.std.specs.Prelude.{ℕ, ◌+◌, ◌*◌, ◌^◌, Bool, ◌&&◌, nat_lt, nat_le}
 use Rattle.lsvd_base.specs.declared.geometry.Geometry.{Geometry}
 

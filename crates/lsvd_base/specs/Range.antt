@@ -1,4 +1,4 @@
--- Which entries a volume takes.
+-- Contract: which entries a volume takes.
 use Rattle.std.specs.Prelude.{◌/◌, Bool, ◌&&◌, nat_lt, length}
 use Rattle.lsvd_base.specs.declared.geometry.Geometry.{Geometry}
 use Rattle.lsvd_base.specs.declared.entry.Entry.{Entry}

@@ -31,7 +31,7 @@ impl Body {
         Body { bytes }
     }
 
-    /// So many sectors, each byte of which is `byte`. The one error is want of memory.
+    /// A body of `sectors` sectors, each byte of which is `byte`. The one error is that memory ran out.
     pub fn filled(alloc: Global, sectors: u64, byte: u8) -> Result<Body, AllocError>
         ensures { IfOk result (λ body. body ≡ replicate (512 * sectors) byte) }
     {
@@ -57,7 +57,7 @@ impl Body {
         self.bytes.as_slice()
     }
 
-    /// The same bytes again. The one error is want of memory.
+    /// The same bytes again. The one error is that memory ran out.
     pub fn copy(&self, alloc: Global) -> Result<Body, AllocError>
         ensures { IfOk result (λ body. body ≡ self.now) }
     {

@@ -10,12 +10,12 @@ use std::alloc::{AllocError, Global};
 pub enum Entry {
     /// Puts the data at the sectors from `lba` on.
     Write { lba: u64, body: Body },
-    /// Puts zeros at so many sectors from `lba` on.
+    /// Puts zeros at `sectors` sectors from `lba` on.
     Zero { lba: u64, sectors: u64 },
 }
 
 impl Entry {
-    /// The same entry again, with its data. The one error is want of memory.
+    /// The same entry again, with its data. The one error is that memory ran out.
     pub fn copy(&self, alloc: Global) -> Result<Entry, AllocError>
         ensures { IfOk result (λ entry. entry ≡ self.now) }
     {

@@ -47,7 +47,7 @@ impl Geometry {
             && self.log <= Self::MAX_LOG
     }
 
-    /// Whether one read or write may cover so many sectors from `lba` on: at least one, at most
+    /// Whether one read or write may cover `sectors` sectors from `lba` on: at least one, at most
     /// `max_write`, and all of them inside the volume.
     pub fn may_transfer(&self, lba: u64, sectors: u64) -> bool
         ensures { result ≡ may_transfer self.now lba sectors }
@@ -55,7 +55,7 @@ impl Geometry {
         0 < sectors && sectors <= self.max_write && self.covers(lba, sectors)
     }
 
-    /// Whether so many sectors from `lba` on lie inside the volume.
+    /// Whether `sectors` sectors from `lba` on lie inside the volume.
     pub fn covers(&self, lba: u64, sectors: u64) -> bool
         ensures { result ≡ covers self.now lba sectors }
     {

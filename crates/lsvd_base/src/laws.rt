@@ -1,10 +1,10 @@
-ghost use Rattle.lsvd_base.specs.Laws.{KeepsCount, KeepsOthers, WritesData, WritesZeros, AppliesInParts};
+ghost use Rattle.lsvd_base.specs.Laws.{KeepsCount, KeepsOtherSectors, WritesData, WritesZeros, AppliesInParts};
 
 /// A law: an entry inside an image changes the sectors that it covers, to its data or to zeros, and no
 /// others.
 pub fn an_entry_changes_its_sectors_only()
     ensures count { KeepsCount }
-    ensures others { KeepsOthers }
+    ensures others { KeepsOtherSectors }
     ensures write { WritesData }
     ensures zero { WritesZeros }
 {}

@@ -1,4 +1,4 @@
--- What reads and writes have to do with each other.
+-- Contract: what reads and writes have to do with each other.
 use Rattle.std.specs.Prelude.{ℕ, ◌≡◌, ◌+◌, ◌*◌, ◌^◌, ◌<◌, ◌≤◌, ◌⊎◌, List, length, slice_index}
 use Rattle.std.specs.Int.{Width, byte_len}
 use Rattle.lsvd_bytes.specs.Places.{bytes_at, number_at, with_bytes, with_number}

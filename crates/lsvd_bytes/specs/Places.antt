@@ -1,8 +1,8 @@
--- Bytes and numbers at a place of a list of bytes, as the contracts of reads and writes have them.
+-- Contract: bytes and numbers at a place of a list of bytes.
 use Rattle.std.specs.Prelude.{ℕ, ◌+◌, List, ◌++◌, length, take, drop}
 use Rattle.std.specs.Int.{Width, byte_len, from_be_bytes, to_be_bytes}
 
--- so many bytes from a place on
+-- `count` bytes from a place on
 abbrev pub bytes_at : ℕ → ℕ → List ℕ → List ℕ
 bytes_at at count bytes = take count (drop at bytes)
 

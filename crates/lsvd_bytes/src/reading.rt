@@ -1,4 +1,4 @@
-ghost use Rattle.std.specs.Prelude.{◌≡◌, ◌+◌, ◌≤◌, length, take, drop};
+ghost use Rattle.std.specs.Prelude.{◌≡◌, ◌+◌, ◌≤◌, length, take, drop, replicate, IsTrue, ◌↔◌};
 ghost use Rattle.std.specs.Int.{w16, w32, w64, from_be_bytes};
 
 use byteorder::{BigEndian, ByteOrder};
@@ -35,4 +35,11 @@ pub fn read_16_bytes(bytes: &[u8], at: usize) -> [u8; 16]
     let mut value = [0u8; 16];
     value.copy_from_slice(&bytes[at..at + 16]);
     value
+}
+
+/// Whether each of the bytes is 0.
+pub fn is_zeros(bytes: &[u8]) -> bool
+    ensures { IsTrue result ↔ (bytes.now ≡ replicate (length bytes.now) 0) }
+{
+    bytes.iter().all(|byte| *byte == 0)
 }

@@ -65,3 +65,16 @@ fn a_uuid_is_written_and_read(rt: HostRuntime) {
     assert_eq!(rt; read_u64(&bytes, 3), 7_757_371_264_673_321_425);
     assert_eq!(rt; read_16_bytes(&bytes, 3), uuid);
 }
+
+#[test]
+fn zeros_are_told(rt: HostRuntime) {
+    let table: [(&[u8], bool); 4] = [
+        (b"", true),
+        (b"\0\0\0", true),
+        (b"\0\0\x01", false),
+        (b"\x01\0\0", false),
+    ];
+    for (bytes, wanted) in table {
+        assert_eq!(rt; is_zeros(bytes), wanted, "{}", bytes.len());
+    }
+}

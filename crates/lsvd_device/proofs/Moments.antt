@@ -2,9 +2,10 @@
 use Rattle.std.proofs.Common.{◌≡◌, ℕ, ◌+◌, ◌<◌, ◌≤◌, ◌^◌, zero, suc, List, [], ◌∷◌, ◌++◌, length, take, drop, replicate, min, refl, sym, ◌∙◌, ap, subst, arith, length-append}
 use Rattle.std.specs.List.{AllByRecursion}
 use Rattle.std.proofs.lemmas.List.{take-append-le, drop-append-le, take_all, drop_all, length-take-le, length-drop, length-replicate, take-replicate}
-use Rattle.lsvd_device.specs.Medium.{Medium, durable, overwritten, after_write, after_sync}
+use Rattle.lsvd_device.specs.Medium.{Medium, durable, after_write, after_sync}
+use Rattle.lsvd_bytes.specs.Places.{with_bytes}
 use Rattle.lsvd_device.specs.Device.{DiskState, IsDisk, HasSize, HoldsNow, moments_after}
-use Rattle.lsvd_device.specs.Memory.{moments_from, moments_of, bytes_written, LiesInside, LieInside, IsFrontOf, IsStill, IsWrite, AreSyncedUpTo, IsKept}
+use Rattle.lsvd_device.specs.Memory.{moments_from, moments_of, bytes_written, LiesInside, LieInside, IsFrontOf, IsSynced, IsWrite, AreSyncedUpTo, IsKept}
 use Rattle.lsvd_device.specs.declared.change.Change.{Change}
 use Rattle.lsvd_device.specs.declared.change.Change.TheVariants.{Write, Sync}
 
@@ -50,8 +51,8 @@ one_count (Write at count ∷ changes) change =
 one_count (Sync ∷ changes) change = one_count changes change
 
 -- bytes are as many with a piece in place of some
-pub length-overwritten : (at : ℕ) (piece bytes : List ℕ) → at + length piece ≤ length bytes → length (overwritten at piece bytes) ≡ length bytes
-length-overwritten at piece bytes inside =
+pub length-with_bytes : (at : ℕ) (piece bytes : List ℕ) → at + length piece ≤ length bytes → length (with_bytes at piece bytes) ≡ length bytes
+length-with_bytes at piece bytes inside =
     let front = length-take-le at bytes (omega (arith, inside)) in
     let back = length-drop (at + length piece) bytes in
     let e = length-append (take at bytes ++ piece) (drop (at + length piece) bytes) in
@@ -62,7 +63,7 @@ length-overwritten at piece bytes inside =
 -- a medium keeps its size over a write and over a sync
 pub write_has_size : (size at : ℕ) (piece : List ℕ) (medium : Medium) → at + length piece ≤ size → HasSize size medium → HasSize size (after_write at piece medium)
 write_has_size size at piece medium inside has = record {
-  bytes = length-overwritten at piece medium.bytes (let e = has.bytes in omega (arith, e, inside)) ∙ has.bytes;
+  bytes = length-with_bytes at piece medium.bytes (let e = has.bytes in omega (arith, e, inside)) ∙ has.bytes;
   synced = has.synced;
 }
 
@@ -104,7 +105,7 @@ inside_more : (size : ℕ) (changes : List Change) (change : Change) → LieInsi
 inside_more size [] change all one = (one, tt)
 inside_more size (first ∷ changes) change all one = (all.0, inside_more size changes change all.1 one)
 
--- the changes up to the last sync are as before behind one write more
+-- the changes up to the last sync are as before after one write more
 all_writes_more : (changes : List Change) (at count : ℕ) → AllByRecursion IsWrite changes → AllByRecursion IsWrite (changes ++ Write at count ∷ [])
 all_writes_more [] at count all = (tt, tt)
 all_writes_more (change ∷ changes) at count all = (all.0, all_writes_more changes at count all.1)
@@ -127,12 +128,12 @@ write_up_to size synced at changes written piece counted up_to =
     record {
       inside = (let e = length-append changes one in omega (arith, e, up_to.inside));
       still =
-          subst (HoldsNow IsStill) (sym (ap (λ cs. moments_of size cs (take (bytes_written cs) (written ++ piece))) front ∙ ap (moments_of size (take synced changes)) bytes)) up_to.still;
+          subst (HoldsNow IsSynced) (sym (ap (λ cs. moments_of size cs (take (bytes_written cs) (written ++ piece))) front ∙ ap (moments_of size (take synced changes)) bytes)) up_to.still;
       writes = subst (AllByRecursion IsWrite) (sym (drop-append-le synced changes one up_to.inside)) (all_writes_more (drop synced changes) at (length piece) up_to.writes);
     }
 
 pub kept_write : (size synced at : ℕ) (changes : List Change) (written piece held front : List ℕ) → at + length piece ≤ size → (kept : IsKept size synced changes written held)
-    → IsFrontOf (overwritten at piece kept.now.bytes) front
+    → IsFrontOf (with_bytes at piece kept.now.bytes) front
     → IsKept size synced (changes ++ Write at (length piece) ∷ []) (written ++ piece) front
 kept_write size synced at changes written piece held front inside kept is_front = record {
   counted = (let e = one_count changes (Write at (length piece)) in let f = length-append written piece in let g : bytes_written (Write at (length piece) ∷ []) ≡ length piece = omega arith in omega (arith, e, f, g, kept.counted));
@@ -150,7 +151,7 @@ pub moments_sync : (size : ℕ) (changes : List Change) (written : List ℕ)
     → moments_of size (changes ++ Sync ∷ []) written ≡ moments_after after_sync (moments_of size changes written)
 moments_sync size changes written = one_sync changes (durable (replicate size 0) ∷ []) written
 
--- all changes are those up to a sync behind them
+-- all changes are those up to a sync after them
 sync_up_to : (size : ℕ) (changes : List Change) (written : List ℕ) (now : Medium) (past : List Medium) → bytes_written (changes ++ Sync ∷ []) ≡ length written
     → moments_of size (changes ++ Sync ∷ []) written ≡ after_sync now ∷ now ∷ past → AreSyncedUpTo size (length (changes ++ Sync ∷ [])) (changes ++ Sync ∷ []) written
 sync_up_to size changes written now past counted moments =
@@ -160,7 +161,7 @@ sync_up_to size changes written now past counted moments =
     record {
       inside = omega arith;
       still =
-          subst (HoldsNow IsStill) (sym (ap (λ cs. moments_of size cs (take (bytes_written cs) written)) whole ∙ ap (moments_of size all) bytes ∙ moments)) (record { pending = refl; synced = refl });
+          subst (HoldsNow IsSynced) (sym (ap (λ cs. moments_of size cs (take (bytes_written cs) written)) whole ∙ ap (moments_of size all) bytes ∙ moments)) (record { pending = refl; synced = refl });
       writes = subst (AllByRecursion IsWrite) (sym (drop_all (length all) all (omega arith))) tt;
     }
 

@@ -4,7 +4,7 @@ use Rattle.std.specs.Prelude.{Option, Some, None, IfSome, nat_le}
 use Rattle.std.proofs.lemmas.List.{take-append-le, take_all}
 use Rattle.std.proofs.Math.Seq.{take-append-add}
 use Rattle.lsvd_device.specs.Medium.{Medium}
-use Rattle.lsvd_device.specs.Calls.{Fuse, Budget, Cost, passes, lowered, Takes, PassesNone}
+use Rattle.lsvd_device.specs.Calls.{Fuse, Budget, Cost, passes, fuse_after, Takes, PassesNone}
 use Rattle.lsvd_device.specs.Device.{DiskState, MakesCalls, FailsAlone}
 use Rattle.lsvd_device.specs.Sequence.{Call, moments_with, moments_with_all, passed_of, bytes_of_all, HasRoomFor, MakesThosePassed}
 
@@ -56,7 +56,7 @@ all_passed : (fuse : Fuse) (n : ℕ) → true ≡ passes fuse n → passed_of fu
 all_passed None n is = refl
 all_passed (Some left) n is = (let e : nat_le n left ≡ true = sym is in grind arith)
 
-passed_on : (fuse : Fuse) (m n : ℕ) → true ≡ passes fuse m → passed_of fuse (m + n) ≡ m + passed_of (lowered fuse m) n
+passed_on : (fuse : Fuse) (m n : ℕ) → true ≡ passes fuse m → passed_of fuse (m + n) ≡ m + passed_of (fuse_after fuse m) n
 passed_on None m n is = refl
 passed_on (Some left) m n is = (let e : nat_le m left ≡ true = sym is in grind arith)
 
@@ -81,8 +81,8 @@ then_in (Some budget) middle_budget a b cost old middle new asks takes first sec
     first (omega (arith, room.0, long), omega (arith, room.1, wide))
     ∙ ap (λ n. moments_with_all (take n a) old.moments) (all_passed budget.fuse (length a) passed)
     ∙ ap (λ calls. moments_with_all calls old.moments) (take_all (length a) a (omega arith)) in
-    let lower : left.fuse ≡ lowered budget.fuse (length a) = fits.fuse ∙ ap (lowered budget.fuse) asks.count in
-    let k : ℕ = passed_of (lowered budget.fuse (length a)) (length b) in
+    let lower : left.fuse ≡ fuse_after budget.fuse (length a) = fits.fuse ∙ ap (fuse_after budget.fuse) asks.count in
+    let k : ℕ = passed_of (fuse_after budget.fuse (length a)) (length b) in
     let count : passed_of budget.fuse (length (a ++ b)) ≡ length a + k = ap (passed_of budget.fuse) long ∙ passed_on budget.fuse (length a) (length b) passed in
     next (omega (arith, room.0, long, fits.calls, asks.changes), omega (arith, room.1, wide, fits.bytes, asks.bytes))
     ∙ ap (λ fuse. moments_with_all (take (passed_of fuse (length b)) b) middle.moments) lower

@@ -1,12 +1,13 @@
 -- The bytes of a disk in memory, made of its changes.
 use Rattle.std.proofs.Common.{◌≡◌, ℕ, ◌+◌, ◌-◌, ◌<◌, ◌≤◌, List, [], ◌∷◌, ◌++◌, zero, suc, length, take, drop, replicate, get_or, refl, sym, ◌∙◌, ap, subst, arith}
 use Rattle.std.proofs.lemmas.List.{drop-drop, drop-take, take-take, take_all, take_more, length-take, length-replicate, drop-replicate, take-replicate}
-use Rattle.lsvd_device.specs.Medium.{Medium, durable, overwritten, after_write, after_sync}
+use Rattle.lsvd_device.specs.Medium.{Medium, durable, after_write, after_sync}
+use Rattle.lsvd_bytes.specs.Places.{with_bytes}
 use Rattle.lsvd_device.specs.Device.{HoldsNow}
 use Rattle.lsvd_device.specs.Memory.{moments_from, moments_of, contents_from, bytes_written, LiesInside, LieInside, IsFrontOf, IsKept}
 use Rattle.lsvd_device.specs.declared.change.Change.{Change}
 use Rattle.lsvd_device.specs.declared.change.Change.TheVariants.{Write, Sync}
-use Rattle.lsvd_device.proofs.Moments.{length-overwritten, one_count, written_some}
+use Rattle.lsvd_device.proofs.Moments.{length-with_bytes, one_count, written_some}
 
 -- the bytes after one change more
 pub contents_more : (changes : List Change) (bytes written : List ℕ) (change : Change)
@@ -14,8 +15,8 @@ pub contents_more : (changes : List Change) (bytes written : List ℕ) (change :
 unfolding contents_from
 contents_more [] bytes written change = refl
 contents_more (Write from n ∷ changes) bytes written change =
-    contents_more changes (overwritten from (take n written) bytes) (drop n written) change
-    ∙ ap (contents_from (contents_from (overwritten from (take n written) bytes) changes (drop n written)) (change ∷ [])) (drop-drop (bytes_written changes) n written)
+    contents_more changes (with_bytes from (take n written) bytes) (drop n written) change
+    ∙ ap (contents_from (contents_from (with_bytes from (take n written) bytes) changes (drop n written)) (change ∷ [])) (drop-drop (bytes_written changes) n written)
 contents_more (Sync ∷ changes) bytes written change = contents_more changes bytes written change
 
 -- changes inside a disk keep its length
@@ -24,8 +25,8 @@ unfolding contents_from
 length-contents [] size bytes written count inside = count
 length-contents (Write at n ∷ changes) size bytes written count inside =
     let some : length (take n written) ≤ n = (let e = length-take n written in omega (arith, e)) in
-    length-contents changes size (overwritten at (take n written) bytes) (drop n written)
-    (length-overwritten at (take n written) bytes (let e = inside.0 in omega (arith, some, e, count)) ∙ count) inside.1
+    length-contents changes size (with_bytes at (take n written) bytes) (drop n written)
+    (length-with_bytes at (take n written) bytes (let e = inside.0 in omega (arith, some, e, count)) ∙ count) inside.1
 length-contents (Sync ∷ changes) size bytes written count inside = length-contents changes size bytes written count inside.1
 
 -- the bytes of the newest moment
@@ -60,7 +61,7 @@ pub zeros_part : (n at size : ℕ) → at + n ≤ size → replicate {A = ℕ} n
 zeros_part n at size inside = sym (ap (take n) (drop-replicate {X = ℕ} at size 0) ∙ take-replicate {X = ℕ} n (size - at) 0 (omega (arith, inside)))
 
 -- what a change makes of a window
-pub write_shown : (at count : ℕ) (bytes written : List ℕ) → contents_from bytes (Write at count ∷ []) written ≡ overwritten at (take count written) bytes
+pub write_shown : (at count : ℕ) (bytes written : List ℕ) → contents_from bytes (Write at count ∷ []) written ≡ with_bytes at (take count written) bytes
 unfolding contents_from
 write_shown at count bytes written = refl
 

@@ -4,15 +4,16 @@ use Rattle.std.specs.List.{All, AllByRecursion}
 use Rattle.std.proofs.lemmas.List.{append_assoc, length-append, take_more, take_all, drop_at, length-take-le, length-drop, length-replicate, get_or-take, get_or-drop, get_or_append_left, get_or-append_right, reverse-append, drop-drop, take-take, drop-take, take-append-drop, take_rest}
 use Rattle.std.proofs.lemmas.List.Elements.{All-head, All-tail}
 use Rattle.std.proofs.Math.Seq.{take-append_seam}
-use Rattle.lsvd_device.specs.Medium.{Medium, MayLeave, LiesOutside, durable, overwritten, after_write, after_sync}
+use Rattle.lsvd_device.specs.Medium.{Medium, MayLeave, LiesOutside, durable, after_write, after_sync}
+use Rattle.lsvd_bytes.specs.Places.{with_bytes}
 use Rattle.lsvd_device.specs.Device.{DiskState, HasSize, HoldsNow, moments_after}
-use Rattle.lsvd_device.specs.Memory.{moments_from, moments_of, bytes_written, IsStill, IsKept, IsWrite, LiesInside, LieInside}
+use Rattle.lsvd_device.specs.Memory.{moments_from, moments_of, bytes_written, IsSynced, IsKept, IsWrite, LiesInside, LieInside}
 use Rattle.lsvd_device.specs.declared.change.Change.{Change}
 use Rattle.lsvd_device.specs.declared.change.Change.TheVariants.{Write, Sync}
 use Rattle.lsvd_device.specs.declared.fate.Fate.{Fate}
 use Rattle.lsvd_device.specs.declared.fate.Fate.TheVariants.{Kept, Old, Zeros, Torn}
 use Rattle.lsvd_device.specs.Stop.{put_by, left_by, left_in_order, AreLeftBy, change_by, HasNow, Rewrites, LeavesBy, IsStopped, MayStop}
-use Rattle.lsvd_device.proofs.Moments.{length-overwritten, written_some, one_count, write_has_size}
+use Rattle.lsvd_device.proofs.Moments.{length-with_bytes, written_some, one_count, write_has_size}
 
 -- ---- changes made again
 
@@ -47,14 +48,14 @@ sync_made moments written = refl
 
 -- ---- bytes outside a piece that was put
 
-get_before : (at i : ℕ) (piece bytes : List ℕ) → i < at → at ≤ length bytes → get_or (overwritten at piece bytes) i 0 ≡ get_or bytes i 0
+get_before : (at i : ℕ) (piece bytes : List ℕ) → i < at → at ≤ length bytes → get_or (with_bytes at piece bytes) i 0 ≡ get_or bytes i 0
 get_before at i piece bytes before inside =
     let front : length (take at bytes) ≡ at = length-take-le at bytes inside in
     get_or_append_left (take at bytes ++ piece) (drop (at + length piece) bytes) 0 i (let e = length-append (take at bytes) piece in omega (arith, e, front, before))
     ∙ get_or_append_left (take at bytes) piece 0 i (omega (arith, front, before))
     ∙ get_or-take at bytes i 0 before
 
-get_behind : (at i : ℕ) (piece bytes : List ℕ) → at + length piece ≤ i → at + length piece ≤ length bytes → get_or (overwritten at piece bytes) i 0 ≡ get_or bytes i 0
+get_behind : (at i : ℕ) (piece bytes : List ℕ) → at + length piece ≤ i → at + length piece ≤ length bytes → get_or (with_bytes at piece bytes) i 0 ≡ get_or bytes i 0
 get_behind at i piece bytes behind inside =
     let front : length (take at bytes) ≡ at = length-take-le at bytes (omega (arith, inside)) in
     let count : length (take at bytes ++ piece) ≡ at + length piece = (let e = length-append (take at bytes) piece in omega (arith, e, front)) in
@@ -65,7 +66,7 @@ get_behind at i piece bytes behind inside =
 
 -- a piece no longer than a span, put where it begins, keeps what lies outside the span
 pub get_outside : (at count i : ℕ) (piece bytes : List ℕ) → length piece ≤ count → at + count ≤ length bytes → LiesOutside i (record { at = at; count = count })
-    → get_or (overwritten at piece bytes) i 0 ≡ get_or bytes i 0
+    → get_or (with_bytes at piece bytes) i 0 ≡ get_or bytes i 0
 get_outside at count i piece bytes short inside (inl before) = get_before at i piece bytes before (omega (arith, inside))
 get_outside at count i piece bytes short inside (inr behind) = get_behind at i piece bytes (omega (arith, behind, short)) (omega (arith, inside, short))
 
@@ -85,16 +86,16 @@ put_keeps Torn at i piece bytes inside outside =
     get_outside at (length piece) i (take (length piece / 2) piece) bytes (let e = half_short (length piece) in omega (arith, e, short)) inside outside
 
 pub length-put : (fate : Fate) (at : ℕ) (piece bytes : List ℕ) → at + length piece ≤ length bytes → length (put_by fate at piece bytes) ≡ length bytes
-length-put Kept at piece bytes inside = length-overwritten at piece bytes inside
+length-put Kept at piece bytes inside = length-with_bytes at piece bytes inside
 length-put Old at piece bytes inside = refl
 length-put Zeros at piece bytes inside =
-    length-overwritten at (replicate (length piece) 0) bytes (let e = length-replicate {A = ℕ} (length piece) 0 in omega (arith, e, inside))
+    length-with_bytes at (replicate (length piece) 0) bytes (let e = length-replicate {A = ℕ} (length piece) 0 in omega (arith, e, inside))
 length-put Torn at piece bytes inside =
     let short : length (take (length piece / 2) piece) ≡ length piece / 2 = length-take-le (length piece / 2) piece (half_short (length piece)) in
-    length-overwritten at (take (length piece / 2) piece) bytes (let e = half_short (length piece) in omega (arith, e, short, inside))
+    length-with_bytes at (take (length piece / 2) piece) bytes (let e = half_short (length piece) in omega (arith, e, short, inside))
 
 -- what was written is read there
-read_there : (at : ℕ) (piece bytes : List ℕ) → at + length piece ≤ length bytes → take (length piece) (drop at (overwritten at piece bytes)) ≡ piece
+read_there : (at : ℕ) (piece bytes : List ℕ) → at + length piece ≤ length bytes → take (length piece) (drop at (with_bytes at piece bytes)) ≡ piece
 read_there at piece bytes inside =
     let front : length (take at bytes) ≡ at = length-take-le at bytes (omega (arith, inside)) in
     let rest : List ℕ = drop (at + length piece) bytes in
@@ -127,7 +128,7 @@ next_fate size at fates fate piece bytes now past inside left =
       has_size = write_has_size size at piece now inside left.has_size;
     }
 
-first_fate : (size : ℕ) (now : Medium) (past : List Medium) (bytes : List ℕ) → IsStill now → HasSize size now → bytes ≡ now.bytes → AreLeftBy size [] (now ∷ past) bytes
+first_fate : (size : ℕ) (now : Medium) (past : List Medium) (bytes : List ℕ) → IsSynced now → HasSize size now → bytes ≡ now.bytes → AreLeftBy size [] (now ∷ past) bytes
 first_fate size now past bytes still has is =
     let same : bytes ≡ now.synced = is ∙ sym still.synced in
     record {
@@ -138,7 +139,7 @@ first_fate size now past bytes still has is =
 
 -- ---- a loop over the writes
 
--- there is a newest moment behind changes where there was one before
+-- there is a newest moment after changes where there was one before
 record HasNewest (moments : List Medium) : Type 0 where
   now : Medium
   past : List Medium
@@ -188,7 +189,7 @@ fates_next size k used fates fate changes change written before old new inside i
     let Q : List Medium → Type 0 = λ ms. HasNow (λ d. AreLeftBy size (take k fates ++ fate ∷ []) ms d.bytes) new in
     subst P (sym order) (subst Q (sym more) next)
 
-holds_first : (size : ℕ) (now : Medium) (past before : List Medium) → IsStill now → HasSize size now → HasNow (λ d. d.bytes ≡ now.bytes) before → HasNow (λ d. AreLeftBy size [] (now ∷ past) d.bytes) before
+holds_first : (size : ℕ) (now : Medium) (past before : List Medium) → IsSynced now → HasSize size now → HasNow (λ d. d.bytes ≡ now.bytes) before → HasNow (λ d. AreLeftBy size [] (now ∷ past) d.bytes) before
 holds_first size now past [] still has starts = absurd starts
 holds_first size now past (d ∷ more) still has starts = first_fate size now past d.bytes still has starts
 
@@ -217,8 +218,8 @@ one_of P [] k change less is all = absurd (omega (arith, less))
 one_of P (first ∷ changes) zero change less is all = subst P (sym is) all.0
 one_of P (first ∷ changes) (suc k) change less is all = one_of P changes k change (omega (arith, less)) is all.1
 
--- what is read behind a piece that was put
-pub rewrites_write : (f : List ℕ → List ℕ) (at : ℕ) (piece : List ℕ) (old new : List Medium) → ((bytes : List ℕ) → f bytes ≡ overwritten at piece bytes)
+-- what is read after a piece that was put
+pub rewrites_write : (f : List ℕ → List ℕ) (at : ℕ) (piece : List ℕ) (old new : List Medium) → ((bytes : List ℕ) → f bytes ≡ with_bytes at piece bytes)
     → new ≡ moments_after (after_write at piece) old → Rewrites f old new
 rewrites_write f at piece [] new is moments = tt
 rewrites_write f at piece (now ∷ past) new is moments = subst (HasNow (λ d. d.bytes ≡ f now.bytes)) (sym moments) (sym (is now.bytes))
@@ -227,7 +228,7 @@ pub rewrites_none : (f : List ℕ → List ℕ) (old : List Medium) → ((bytes 
 rewrites_none f [] is = tt
 rewrites_none f (now ∷ past) is = sym (is now.bytes)
 
--- ---- the changes up to the last sync, and those behind it
+-- ---- the changes up to the last sync, and those after it
 
 moments_split : (a b : List Change) (moments : List Medium) (written : List ℕ) → moments_from moments (a ++ b) written ≡ moments_from (moments_from moments a written) b (drop (bytes_written a) written)
 unfolding moments_from
@@ -269,7 +270,7 @@ record AreSplit (size synced : ℕ) (changes : List Change) (written : List ℕ)
   now : Medium
   past : List Medium
   at_sync : moments_of size (take synced changes) written ≡ now ∷ past
-  still : IsStill now
+  still : IsSynced now
   behind : moments_of size changes written ≡ moments_from (now ∷ past) (drop synced changes) (drop (bytes_written (take synced changes)) written)
 
 are_split : (size synced : ℕ) (changes : List Change) (written held : List ℕ) → IsKept size synced changes written held → AreSplit size synced changes written
@@ -282,7 +283,7 @@ are_split size synced changes written held kept =
       now = newest.now;
       past = newest.past;
       at_sync = newest.is;
-      still = subst (HoldsNow IsStill) (front ∙ newest.is) kept.up_to.still;
+      still = subst (HoldsNow IsSynced) (front ∙ newest.is) kept.up_to.still;
       behind =
           ap (λ cs. moments_of size cs written) (sym (take-append-drop synced changes))
           ∙ moments_split before (drop synced changes) (durable (replicate size 0) ∷ []) written

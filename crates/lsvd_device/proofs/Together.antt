@@ -1,16 +1,16 @@
 -- What calls one after the other leave of a disk.
-use Rattle.std.proofs.Common.{◌≡◌, ℕ, ◌+◌, ◌≤◌, Bool, true, false, refl, sym, ◌∙◌, ap, subst, inl, inr, arith}
-use Rattle.std.specs.Prelude.{Option, Some, None, nat_le}
-use Rattle.lsvd_fault.specs.Faults.{HasRisen}
-use Rattle.lsvd_device.specs.Calls.{Fuse, Budget, Cost, together, passes, lowered, Takes, TakesWithin}
+use Rattle.std.proofs.Common.{◌≡◌, ℕ, ◌+◌, Bool, true, false, refl, sym, ◌∙◌, ap, subst, arith}
+use Rattle.std.specs.Prelude.{Option, Some, None, nat_le, not}
+use Rattle.lsvd_fault.specs.Faults.{Counts}
+use Rattle.lsvd_device.specs.Calls.{Fuse, Budget, Cost, together, passes, fuse_after, Takes, TakesWithin}
 use Rattle.lsvd_device.specs.Device.{DiskState, MakesCalls}
 
 -- a fuse that passes some calls and then others passes them together
-pass_on : (fuse : Fuse) (m n : ℕ) → true ≡ passes fuse m → passes (lowered fuse m) n ≡ passes fuse (m + n)
+pass_on : (fuse : Fuse) (m n : ℕ) → true ≡ passes fuse m → passes (fuse_after fuse m) n ≡ passes fuse (m + n)
 pass_on None m n first = refl
 pass_on (Some left) m n first = grind arith
 
-lower_on : (fuse : Fuse) (m n : ℕ) → lowered (lowered fuse m) n ≡ lowered fuse (m + n)
+lower_on : (fuse : Fuse) (m n : ℕ) → fuse_after (fuse_after fuse m) n ≡ fuse_after fuse (m + n)
 lower_on None m n = refl
 lower_on (Some left) m n = ap Some (omega arith)
 
@@ -19,14 +19,14 @@ stop_on : (fuse : Fuse) (m n : ℕ) → false ≡ passes fuse m → false ≡ pa
 stop_on None m n first = first
 stop_on (Some left) m n first = grind arith
 
-spent_on : (fuse : Fuse) (m n : ℕ) → false ≡ passes fuse m → lowered fuse m ≡ lowered fuse (m + n)
+spent_on : (fuse : Fuse) (m n : ℕ) → false ≡ passes fuse m → fuse_after fuse m ≡ fuse_after fuse (m + n)
 spent_on None m n first = refl
 spent_on (Some left) m n first = ap Some (let e : nat_le m left ≡ false = sym first in grind arith)
 
 within_then : (a b : Cost) (is_made : Bool) (old middle new : Budget) → TakesWithin a true old middle → TakesWithin b is_made middle new → TakesWithin (together a b) is_made old new
 within_then a b is_made old middle new first second = record {
   made = second.made ∙ ap (λ fuse. passes fuse b.calls) first.fuse ∙ pass_on old.fuse a.calls b.calls first.made;
-  fuse = second.fuse ∙ ap (λ fuse. lowered fuse b.calls) first.fuse ∙ lower_on old.fuse a.calls b.calls;
+  fuse = second.fuse ∙ ap (λ fuse. fuse_after fuse b.calls) first.fuse ∙ lower_on old.fuse a.calls b.calls;
   calls = omega (arith, first.calls, second.calls);
   bytes = omega (arith, first.bytes, second.bytes);
 }
@@ -56,16 +56,11 @@ takes_failed a b None new first = first
 takes_failed a b (Some old) new first =
     (first.0, first.1, λ calls bytes. within_failed a b old first.0 (first.2 (omega (arith, calls)) (omega (arith, bytes))))
 
-risen_on : (old middle new : ℕ) → old ≤ middle → HasRisen middle new → HasRisen old new
-risen_on old middle new kept (inl less) = inl (omega (arith, kept, less))
-risen_on old middle new kept (inr most) = inr most
-
 -- calls that were all made, and then others
 pub made_then : (a b : Cost) (is_made : Bool) (old middle new : DiskState) → MakesCalls a true old middle → MakesCalls b is_made middle new → MakesCalls (together a b) is_made old new
 made_then a b is_made old middle new first second = record {
   size = second.size ∙ first.size;
-  counted = omega (arith, first.counted, second.counted);
-  failed = λ is. risen_on old.faults middle.faults new.faults first.counted (second.failed is);
+  faults = subst (λ (n : ℕ). Counts (not is_made) n new.faults) first.faults second.faults;
   budget = takes_then a b is_made old.budget middle.budget new.budget first.budget second.budget;
 }
 
@@ -73,7 +68,6 @@ made_then a b is_made old middle new first second = record {
 pub failed_then : (a b : Cost) (old new : DiskState) → MakesCalls a false old new → MakesCalls (together a b) false old new
 failed_then a b old new first = record {
   size = first.size;
-  counted = first.counted;
-  failed = first.failed;
+  faults = first.faults;
   budget = takes_failed a b old.budget new.budget first.budget;
 }

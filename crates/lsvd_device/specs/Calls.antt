@@ -1,4 +1,4 @@
--- How many calls a disk still passes, and what calls take of that.
+-- Contract: how many calls a disk still passes, and what calls take of that.
 use Rattle.std.specs.Prelude.{◌≡◌, ℕ, ◌+◌, ◌-◌, ◌≤◌, Option, Some, None, option_map, Bool, true, nat_le}
 
 -- the calls that a disk passes before it fails each one; none stands for no limit
@@ -38,21 +38,21 @@ together first second = record {
   bytes = first.bytes + second.bytes;
 }
 
--- the fuse passes so many calls
+-- the fuse passes this many calls
 abbrev pub passes : Fuse → ℕ → Bool
 passes None calls = true
 passes (Some left) calls = nat_le calls left
 
--- the fuse after so many calls, which it passed or not
-abbrev pub lowered : Fuse → ℕ → Fuse
-lowered None calls = None
-lowered (Some left) calls = Some (left - calls)
+-- the fuse after this many calls, which it passed or not
+abbrev pub fuse_after : Fuse → ℕ → Fuse
+fuse_after None calls = None
+fuse_after (Some left) calls = Some (left - calls)
 
 -- Calls within the room are all made exactly where the fuse passes them. The fuse falls by their number, and the
 -- room by no more than what they take.
 pub record TakesWithin (cost : Cost) (are_made : Bool) (old new : Budget) : Type 0 where
   pub made : are_made ≡ passes old.fuse cost.calls
-  pub fuse : new.fuse ≡ lowered old.fuse cost.calls
+  pub fuse : new.fuse ≡ fuse_after old.fuse cost.calls
   pub calls : old.calls ≤ new.calls + cost.changes
   pub bytes : old.bytes ≤ new.bytes + cost.bytes
 

@@ -1,7 +1,7 @@
--- What contracts see of a disk, and what its calls do.
-use Rattle.std.specs.Prelude.{◌≡◌, ℕ, ◌^◌, ◌<◌, ◌≤◌, ◌⊎◌, Option, Bool, false, List, [], ◌∷◌, length}
+-- Contract: what is seen of a disk, and what its calls do.
+use Rattle.std.specs.Prelude.{◌≡◌, ℕ, ◌^◌, ◌<◌, ◌⊎◌, Option, Bool, false, not, List, [], ◌∷◌, ◌++◌, length}
 use Rattle.std.specs.List.{AllByRecursion}
-use Rattle.lsvd_fault.specs.Faults.{HasRisen}
+use Rattle.lsvd_fault.specs.Faults.{Counts}
 use Rattle.lsvd_device.specs.Medium.{Medium, IsTorn}
 use Rattle.lsvd_device.specs.Calls.{Budget, Cost, Takes}
 
@@ -32,22 +32,28 @@ abbrev pub HoldsNow : (Medium → Type 0) → List Medium → Type 0
 HoldsNow P [] = Unit {0}
 HoldsNow P (now ∷ past) = P now
 
+-- the moments of a disk after calls, at each of which since then P holds
+pub record HoldsSince (P : Medium → Type 0) (old new : List Medium) : Type 0 where
+  pub since : List Medium
+  pub moments : new ≡ since ++ old
+  pub each : AllByRecursion P since
+
 -- one moment more: what the newest one holds after a step
 abbrev pub moments_after : (Medium → Medium) → List Medium → List Medium
 moments_after step [] = []
 moments_after step (now ∷ past) = step now ∷ now ∷ past
 
--- A write of so many bytes that failed was not begun, or any bytes may stand in its range.
+-- A write of `count` bytes that failed was not begun, or any bytes may stand in its range.
 abbrev pub FailsToWrite : ℕ → ℕ → List Medium → List Medium → Type 0
 FailsToWrite at count [] new = new ≡ []
 FailsToWrite at count (now ∷ past) new =
     (new ≡ now ∷ past) ⊎ ((torn : Medium) × IsTorn at count now torn × (new ≡ torn ∷ now ∷ past))
 
--- What calls leave of a disk, beside what it holds: they were all made, or one of them failed and was counted.
+-- What calls leave of a disk, beside what it holds: they were all made, or one of them failed, which ended them. A call
+-- that failed was counted once, and nothing else was.
 pub record MakesCalls (cost : Cost) (are_made : Bool) (old new : DiskState) : Type 0 where
   pub size : new.size ≡ old.size
-  pub counted : old.faults ≤ new.faults
-  pub failed : are_made ≡ false → HasRisen old.faults new.faults
+  pub faults : Counts (not are_made) old.faults new.faults
   pub budget : Takes cost are_made old.budget new.budget
 
 -- a call failed, and changed nothing but the count

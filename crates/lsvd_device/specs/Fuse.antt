@@ -1,5 +1,6 @@
--- What a fuse makes of a disk.
-use Rattle.std.specs.Prelude.{ℕ, ◌+◌, ◌-◌, ◌^◌, Option, Some, None, min}
+-- Contract: what a fuse makes of a disk.
+use Rattle.std.specs.Prelude.{ℕ, Option, Some, None, min}
+use Rattle.lsvd_fault.specs.Faults.{counted_with}
 use Rattle.lsvd_device.specs.Calls.{Fuse, Budget}
 use Rattle.lsvd_device.specs.Device.{DiskState}
 
@@ -18,10 +19,6 @@ abbrev pub with_new_fuse : Fuse → Option Budget → Option Budget
 with_new_fuse fuse None = None
 with_new_fuse fuse (Some budget) = Some (record budget { fuse = fuse })
 
--- a count that stands at the greatest number of its type
-abbrev pub counted_with : ℕ → ℕ → ℕ
-counted_with count more = min (count + more) (2 ^ 64 - 1)
-
--- a disk with a fuse before it, which has failed so many calls
-abbrev pub fused : Fuse → ℕ → DiskState → DiskState
-fused fuse failed disk = record disk { faults = counted_with disk.faults failed; budget = with_fuse fuse disk.budget }
+-- a disk with a fuse before it, which has failed this many calls
+abbrev pub with_fuse_before : Fuse → ℕ → DiskState → DiskState
+with_fuse_before fuse failed disk = record disk { faults = counted_with disk.faults failed; budget = with_fuse fuse disk.budget }

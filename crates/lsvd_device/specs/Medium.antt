@@ -1,8 +1,9 @@
--- What a disk holds, and what a stop may leave of it.
-use Rattle.std.specs.Prelude.{◌≡◌, ℕ, ◌+◌, ◌<◌, ◌≤◌, ◌⊎◌, List, [], ◌∷◌, ◌++◌, length, take, drop, slice_index}
+-- Contract: what a disk holds, and what a stop may leave of it.
+use Rattle.std.specs.Prelude.{◌≡◌, ℕ, ◌+◌, ◌<◌, ◌≤◌, ◌⊎◌, List, [], ◌∷◌, length, take, drop, slice_index}
 use Rattle.std.specs.List.{All}
+use Rattle.lsvd_bytes.specs.Places.{with_bytes}
 
--- so many bytes from a place on
+-- `count` bytes from a place on
 pub record Span : Type 0 where
   pub at : ℕ
   pub count : ℕ
@@ -30,14 +31,10 @@ pub record MayLeave (medium : Medium) (left : List ℕ) : Type 0 where
 abbrev pub durable : List ℕ → Medium
 durable bytes = record { bytes = bytes; synced = bytes; pending = [] }
 
--- bytes with a piece in place of those from a byte on
-abbrev pub overwritten : ℕ → List ℕ → List ℕ → List ℕ
-overwritten at piece bytes = take at bytes ++ piece ++ drop (at + length piece) bytes
-
 -- a piece was written
 abbrev pub after_write : ℕ → List ℕ → Medium → Medium
 after_write at piece medium = record medium {
-  bytes = overwritten at piece medium.bytes;
+  bytes = with_bytes at piece medium.bytes;
   pending = record { at = at; count = length piece } ∷ medium.pending;
 }
 
@@ -45,7 +42,7 @@ after_write at piece medium = record medium {
 abbrev pub after_sync : Medium → Medium
 after_sync medium = durable medium.bytes
 
--- a write of so many bytes failed: any bytes may stand in its range
+-- a write of `count` bytes failed: any bytes may stand in its range
 pub record IsTorn (at count : ℕ) (old new : Medium) : Type 0 where
   pub before : take at new.bytes ≡ take at old.bytes
   pub behind : drop (at + count) new.bytes ≡ drop (at + count) old.bytes

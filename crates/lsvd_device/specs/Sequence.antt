@@ -1,4 +1,4 @@
--- Writes and syncs one after the other, and what a fuse lets pass of them.
+-- Contract: writes and syncs one after the other, and what a fuse lets pass of them.
 use Rattle.std.specs.Prelude.{◌≡◌, ℕ, ◌+◌, ◌≤◌, min, Some, None, IfSome, List, [], ◌∷◌, length, take}
 use Rattle.lsvd_device.specs.Medium.{Medium, after_write, after_sync}
 use Rattle.lsvd_device.specs.Calls.{Fuse, Budget}
@@ -19,7 +19,7 @@ abbrev pub moments_with_all : List Call → List Medium → List Medium
 moments_with_all [] moments = moments
 moments_with_all (call ∷ calls) moments = moments_with_all calls (moments_with call moments)
 
--- of so many calls those that a fuse passes
+-- of a number of calls those that a fuse passes
 abbrev pub passed_of : Fuse → ℕ → ℕ
 passed_of None calls = calls
 passed_of (Some left) calls = min left calls

@@ -1,19 +1,20 @@
--- What a stop leaves of writes that were not synced, where each has a fate.
+-- Contract: what a stop leaves of writes that were not synced, where each has a fate.
 use Rattle.std.specs.Prelude.{◌≡◌, ℕ, ◌-◌, ◌/◌, List, [], ◌∷◌, take, drop, length, replicate, reverse}
-use Rattle.lsvd_device.specs.Medium.{Span, Medium, MayLeave, durable, overwritten}
+use Rattle.lsvd_device.specs.Medium.{Span, Medium, MayLeave, durable}
+use Rattle.lsvd_bytes.specs.Places.{with_bytes}
 use Rattle.lsvd_device.specs.Device.{HasSize, HoldsNow}
-use Rattle.lsvd_device.specs.Memory.{IsStill, IsKept, moments_from}
+use Rattle.lsvd_device.specs.Memory.{IsSynced, IsKept, moments_from}
 use Rattle.lsvd_device.specs.declared.change.Change.{Change}
 use Rattle.lsvd_device.specs.declared.change.Change.TheVariants.{Write, Sync}
 use Rattle.lsvd_device.specs.declared.fate.Fate.{Fate}
 use Rattle.lsvd_device.specs.declared.fate.Fate.TheVariants.{Kept, Old, Zeros, Torn}
 
--- the bytes behind a write of a piece that met its fate
+-- the bytes after a write of a piece that met its fate
 abbrev pub put_by : Fate → (at : ℕ) → (piece bytes : List ℕ) → List ℕ
-put_by Kept at piece bytes = overwritten at piece bytes
+put_by Kept at piece bytes = with_bytes at piece bytes
 put_by Old at piece bytes = bytes
-put_by Zeros at piece bytes = overwritten at (replicate (length piece) 0) bytes
-put_by Torn at piece bytes = overwritten at (take (length piece / 2) piece) bytes
+put_by Zeros at piece bytes = with_bytes at (replicate (length piece) 0) bytes
+put_by Torn at piece bytes = with_bytes at (take (length piece / 2) piece) bytes
 
 -- the same of the newest write of a medium, which is read there
 abbrev pub put_newest_by : Fate → List Span → (now bytes : List ℕ) → List ℕ
@@ -42,7 +43,7 @@ pub record AreLeftBy (size : ℕ) (fates : List Fate) (moments : List Medium) (b
   pub may_leave : HoldsNow (λ now. MayLeave now bytes) moments
   pub has_size : HoldsNow (HasSize size) moments
 
--- bytes behind a change that met its fate; the bytes of a write are the first of these
+-- bytes after a change that met its fate; the bytes of a write are the first of these
 abbrev pub change_by : Fate → Change → (written bytes : List ℕ) → List ℕ
 change_by fate (Write at count) written bytes = put_by fate at (take count written) bytes
 change_by fate Sync written bytes = bytes
@@ -60,10 +61,10 @@ Rewrites f (now ∷ past) after = HasNow (λ d. d.bytes ≡ f now.bytes) after
 -- a disk holds what the fates leave of changes that were made when nothing was pending
 abbrev pub LeavesBy : (size : ℕ) → List Fate → List Change → List ℕ → (before after : List Medium) → Type 0
 LeavesBy size fates changes written before after =
-    (now : Medium) (past : List Medium) → IsStill now → HasSize size now → HasNow (λ d. d.bytes ≡ now.bytes) before
+    (now : Medium) (past : List Medium) → IsSynced now → HasSize size now → HasNow (λ d. d.bytes ≡ now.bytes) before
     → HasNow (λ d. AreLeftBy size fates (moments_from (now ∷ past) changes written) d.bytes) after
 
--- what a stop needs of a disk's changes: they are kept, and those behind the last sync have a fate each
+-- what a stop needs of a disk's changes: they are kept, and those after the last sync have a fate each
 pub record MayStop (size synced : ℕ) (changes : List Change) (written : List ℕ) (fates : List Fate) : Type 0 where
   pub held : List ℕ
   pub kept : IsKept size synced changes written held

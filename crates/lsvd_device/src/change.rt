@@ -1,7 +1,7 @@
 /// A change of a disk in memory.
 #[derive(Clone, Copy, Debug, PartialEq, Eq)]
 pub(crate) enum Change {
-    /// So many bytes were written from the byte `at` on.
+    /// `count` bytes were written from the byte `at` on.
     Write { at: u64, count: usize },
     /// What was written before was synced.
     Sync,

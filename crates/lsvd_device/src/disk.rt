@@ -1,11 +1,15 @@
-ghost use Rattle.std.specs.Prelude.{◌≡◌, ◌+◌, ◌≤◌, ℕ, length, take, drop, OnOk, OnErr, is_ok};
-ghost use Rattle.lsvd_device.specs.Medium.{after_write, after_sync};
-ghost use Rattle.lsvd_device.specs.Calls.{read_cost, write_cost, sync_cost, PassesNone};
+ghost use Rattle.std.specs.Prelude.{◌≡◌, ◌+◌, ◌≤◌, ℕ, length, take, drop, Some, None, IfOk, OnOk, OnErr, is_ok};
+ghost use Rattle.lsvd_device.specs.Medium.{MayLeave, after_write, after_sync};
+ghost use Rattle.lsvd_device.specs.Calls.{fuse_of, read_cost, write_cost, sync_cost, PassesNone};
 ghost use Rattle.lsvd_device.specs.Device.{DiskState, IsDisk, HoldsNow, moments_after, FailsToWrite, MakesCalls, FailsAlone};
+ghost use Rattle.lsvd_device.specs.Stop.{left_in_order, IsStopped};
 
+use crate::fate::Fate;
+use crate::memory::MemDisk;
 use lsvd_fault::Failed;
+use std::alloc::{AllocError, Global};
 
-/// A device of so many bytes, which keeps what was synced over a stop of the machine.
+/// A device of a fixed number of bytes, which keeps what was synced over a stop of the machine.
 ///
 /// Between two syncs that succeed a stop may leave any bytes in each range that was written, a failed write's
 /// range included, and every other byte as it was at the first of them. No other bytes are ever changed.
@@ -50,4 +54,22 @@ pub trait Disk {
     /// How many calls have failed since the disk was made. At `u64::MAX` the count stands.
     fn faults(&self) -> u64
         ensures { result ≡ (state self.now).faults };
+}
+
+/// A disk that tells what a stop of the machine leaves of it: one in memory, for tests and for scripts of stops.
+pub trait StoppedDisk: Disk {
+    /// How many writes were made since the last sync.
+    fn pending(&self) -> usize
+        ensures { HoldsNow (λ now. result ≡ length now.pending) (Self.Disk.state self.now).moments };
+
+    /// The disk after a stop of the machine: each write that was not synced has met its fate, and nothing is pending.
+    /// The fates are in the order of the writes, and as many as `pending` says (a condition). The disk that is left has
+    /// no fuse. The one error is that memory ran out.
+    fn stopped(&self, alloc: Global, fates: &[Fate]) -> Result<MemDisk, AllocError>
+        requires { HoldsNow (λ now. length fates.now ≡ length now.pending) (Self.Disk.state self.now).moments }
+        ensures size { IfOk result (λ disk. disk.size ≡ (Self.Disk.state self.now).size) }
+        ensures left { IfOk result (λ disk. IsStopped fates.now (Self.Disk.state self.now).moments disk.moments) }
+        ensures may_leave { OnOk result (HoldsNow (λ now. MayLeave now (left_in_order fates.now (Self.Disk.state self.now).moments)) (Self.Disk.state self.now).moments) }
+        ensures fuse { IfOk result (λ disk. fuse_of disk.budget ≡ Some None) }
+        ensures is_disk { IfOk result IsDisk };
 }

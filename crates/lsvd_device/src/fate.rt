@@ -7,6 +7,6 @@ pub enum Fate {
     Old,
     /// Zeros stand in its range.
     Zeros,
-    /// The first half of its bytes stand, rounded down, and behind them the bytes from before it.
+    /// The first half of its bytes stand, rounded down, and after them the bytes from before it.
     Torn,
 }

@@ -1,20 +1,20 @@
 ghost use Rattle.std.specs.Prelude.{◌≡◌, ℕ, length, ◌-◌, ◌<◌, ◌≤◌, ◌⊎◌, ◌^◌, Some, None, IfOk, OnOk, OnErr, IsSome};
-ghost use Rattle.lsvd_fault.specs.Faults.{HasRisen};
-ghost use Rattle.lsvd_device.specs.Calls.{Fuse, fuse_of, lowered};
+ghost use Rattle.lsvd_fault.specs.Faults.{CountsOne};
+ghost use Rattle.lsvd_device.specs.Calls.{Fuse, fuse_of, fuse_after};
 ghost use Rattle.lsvd_device.specs.Device.{IsDisk, HoldsNow};
-ghost use Rattle.lsvd_device.specs.Fuse.{fused, with_new_fuse};
+ghost use Rattle.lsvd_device.specs.Fuse.{with_fuse_before, with_new_fuse};
 ghost use Rattle.lsvd_device.specs.Medium.{MayLeave};
 ghost use Rattle.lsvd_device.specs.Stop.{left_in_order, IsStopped};
 ghost use Rattle.lsvd_device.specs.Memory.{HasRoom};
 
-use crate::disk::Disk;
+use crate::disk::{Disk, StoppedDisk};
 use crate::fate::Fate;
 use crate::memory::MemDisk;
 use lsvd_fault::Failed;
 use std::alloc::{AllocError, Global};
 use std::marker::Model;
 
-/// A disk with a fuse before it: so many calls are passed on, and each later one fails without being made.
+/// A disk with a fuse before it: a number of calls are passed on, and each later one fails without being made.
 #[derive(Drop)]
 pub struct FuseDisk<D: Disk> {
     disk: D,
@@ -26,21 +26,22 @@ pub struct FuseDisk<D: Disk> {
 
 impl<D: Disk> Model for FuseDisk<D> {
     ghost use Rattle.lsvd_device.specs.Device.{DiskState, IsDisk};
-    ghost use Rattle.lsvd_device.specs.Fuse.{fused};
+    ghost use Rattle.lsvd_device.specs.Fuse.{with_fuse_before};
 
     ghost Value = { DiskState };
 
-    ghost view = { λ f. fused f.left f.failed (D.state f.disk) };
+    ghost view = { λ f. with_fuse_before f.left f.failed (D.state f.disk) };
 
     ghost invariant = { λ f. IsDisk (D.state f.disk) };
 }
 
 impl<D: Disk> FuseDisk<D> {
-    /// The disk with a fuse that passes so many calls, or all where there is no limit. The disk is one (a condition,
+    /// The disk with a fuse that passes this many calls, or all where there is no limit. The disk is one (a condition,
     /// which its `len` tells).
     pub fn new(disk: D, fuse: Option<u64>) -> FuseDisk<D>
         requires { IsDisk (D.state disk) }
-        ensures { result ≡ fused fuse 0 (D.state disk) }
+        ensures state { result ≡ with_fuse_before fuse 0 (D.state disk) }
+        ensures is_disk { IsDisk result }
     {
         FuseDisk {
             disk,
@@ -51,15 +52,15 @@ impl<D: Disk> FuseDisk<D> {
 
     /// Gives the disk behind the fuse back.
     pub fn into_disk(self) -> D
-        ensures { (fuse : Fuse) × (failed : ℕ) × (self ≡ fused fuse failed (D.state result)) }
+        ensures { (fuse : Fuse) × (failed : ℕ) × (self ≡ with_fuse_before fuse failed (D.state result)) }
     {
         self.disk
     }
 }
 
 impl FuseDisk<MemDisk> {
-    /// Makes room on the disk in memory for so many more writes and syncs, and for so many bytes of writes, so that
-    /// none of them fails but by the fuse. The one error is want of memory. What the disk holds, and its count, are
+    /// Makes room on the disk in memory for `calls` more writes and syncs, and for `bytes` bytes of writes, so that
+    /// none of them fails but by the fuse. The one error is that memory ran out. What the disk holds, and its count, are
     /// as before.
     pub fn reserve(&mut self, calls: u64, bytes: u64) -> Result<(), AllocError>
         ensures room { OnOk result (HasRoom calls bytes self.new.budget) }
@@ -69,32 +70,23 @@ impl FuseDisk<MemDisk> {
         self.disk.reserve(calls, bytes)
     }
 
-    /// How many writes were made since the last sync.
-    pub fn pending(&self) -> usize
-        ensures { HoldsNow (λ now. result ≡ length now.pending) self.now.moments }
-    {
-        self.disk.pending()
-    }
-
-    /// The disk in memory after a stop of the machine, as its `stopped` gives it: each write that was not synced has met
-    /// its fate. The fates are as many as `pending` says (a condition). The one error is want of memory.
-    pub fn stopped(&self, alloc: Global, fates: &[Fate]) -> Result<MemDisk, AllocError>
-        requires { HoldsNow (λ now. length fates.now ≡ length now.pending) self.now.moments }
-        ensures size { IfOk result (λ disk. disk.size ≡ self.now.size) }
-        ensures left { IfOk result (λ disk. IsStopped fates.now self.now.moments disk.moments) }
-        ensures may_leave { OnOk result (HoldsNow (λ now. MayLeave now (left_in_order fates.now self.now.moments)) self.now.moments) }
-        ensures fuse { IfOk result (λ disk. fuse_of disk.budget ≡ Some None) }
-    {
-        self.disk.stopped(alloc, fates)
-    }
-
-    /// Makes the disk pass so many further calls, or all where there is no limit.
+    /// Makes the disk pass this many further calls, or all where there is no limit.
     pub fn set_fuse(&mut self, fuse: Option<u64>)
         ensures fuse { self.new.budget ≡ with_new_fuse fuse self.old.budget }
         ensures rest { self.new ≡ record self.old { budget = self.new.budget } }
     {
-        let _ = self.disk.pending();
+        self.disk.has_no_fuse();
         self.left = fuse;
+    }
+}
+
+impl<D: StoppedDisk> StoppedDisk for FuseDisk<D> {
+    fn pending(&self) -> usize {
+        self.disk.pending()
+    }
+
+    fn stopped(&self, alloc: Global, fates: &[Fate]) -> Result<MemDisk, AllocError> {
+        self.disk.stopped(alloc, fates)
     }
 }
 
@@ -127,8 +119,8 @@ impl<D: Disk> Disk for FuseDisk<D> {
 
 // Passes a call on, which burns the fuse by one; none is left where it fails.
 fn pass(left: &mut Option<u64>, failed: &mut u64) -> Result<(), Failed>
-    ensures ok { OnOk result ((left.old ≡ Some 0 → ⊥) × (left.new ≡ lowered left.old 1) × (failed.new ≡ failed.old)) }
-    ensures err { OnErr result ((left.old ≡ Some 0) × (left.new ≡ Some 0) × HasRisen failed.old failed.new × (failed.old ≤ failed.new)) }
+    ensures ok { OnOk result ((left.old ≡ Some 0 → ⊥) × (left.new ≡ fuse_after left.old 1) × (failed.new ≡ failed.old)) }
+    ensures err { OnErr result ((left.old ≡ Some 0) × (left.new ≡ Some 0) × CountsOne failed.old failed.new) }
 {
     match left {
         None => Ok(()),
@@ -170,6 +162,28 @@ mod tests {
             inner.read(0, &mut held)?;
             assert_eq!(rt; held, wanted);
         }
+        Ok(())
+    }
+
+    // The bytes that a stop leaves of a disk of four bytes, where its last write is kept.
+    fn left_by_stop<D: StoppedDisk>(alloc: Global, disk: &D) -> Result<[u8; 4], Fail> {
+        if disk.pending() != 1 || disk.len() != 4 {
+            return Err("one write of four bytes")?;
+        }
+        let mut left = disk.stopped(alloc, &[Fate::Kept])?;
+        let mut held = [0xff; 4];
+        left.read(0, &mut held)?;
+        Ok(held)
+    }
+
+    #[test]
+    fn a_disk_is_stopped_through_its_fuse(rt: HostRuntime) -> Result<(), Fail> {
+        let alloc = rt.alloc();
+        let mut disk = FuseDisk::new(MemDisk::new(alloc, 4)?, Some(1));
+        assert_eq!(rt; disk.len(), 4);
+        disk.write(1, b"ab")?;
+        assert!(rt; disk.write(0, b"c").is_err());
+        assert_eq!(rt; left_by_stop(alloc, &disk)?, *b"\0ab\0");
         Ok(())
     }
 }

@@ -1,16 +1,17 @@
 ghost use Rattle.std.specs.Prelude.{◌≡◌, ◌+◌, ◌-◌, ◌<◌, ◌≤◌, ◌∷◌, ◌++◌, [], None, Some, IfOk, OnOk, OnErr, IsOk, IfSome, length, replicate, take, drop, vec_capacity, ◌^◌, List, ℕ};
-ghost use Rattle.lsvd_fault.specs.Faults.{HasRisen};
-ghost use Rattle.lsvd_device.specs.Medium.{MayLeave, durable, overwritten};
+ghost use Rattle.lsvd_fault.specs.Faults.{CountsOne};
+ghost use Rattle.lsvd_device.specs.Medium.{MayLeave, durable};
+ghost use Rattle.lsvd_bytes.specs.Places.{with_bytes};
 ghost use Rattle.lsvd_device.specs.Calls.{fuse_of};
 ghost use Rattle.lsvd_device.specs.Device.{DiskState, HoldsNow};
 ghost use Rattle.lsvd_device.specs.Stop.{left_in_order, IsStopped};
 ghost use Rattle.lsvd_device.specs.Memory.{HasRoom, IsFrontOf, LiesInside, LieInside, bytes_written, contents_from};
 
 use crate::change::Change;
-use crate::disk::Disk;
+use crate::disk::{Disk, StoppedDisk};
 use crate::fate::Fate;
 use crate::stop::stop;
-use byte_window::paste;
+use lsvd_bytes::paste;
 use lsvd_fault::Failed;
 use std::alloc::{AllocError, Global};
 use std::marker::Model;
@@ -25,7 +26,7 @@ pub struct MemDisk {
     /// The first bytes, as a read gives them.
     front: Vec<u8>,
     changes: Vec<Change>,
-    /// The data of the changes, one behind the other.
+    /// The data of the changes, one after the other.
     written: Vec<u8>,
     /// How many of the changes are those up to the last sync.
     synced: usize,
@@ -53,11 +54,11 @@ impl Model for MemDisk {
     ghost invariant = { λ d. IsKept d.size d.synced d.changes.items d.written.items d.front.items };
 }
 
-/// The first bytes of a disk that was made, for which memory is taken at once.
+// The first bytes of a disk that was made, for which memory is taken at once.
 const FRONT_BYTES: u64 = 4_096;
 
 impl MemDisk {
-    /// A disk of so many bytes, all of them zeros. The one error is want of memory.
+    /// A disk of `len` bytes, all of them zeros. The one error is that memory ran out.
     pub fn new(alloc: Global, len: u64) -> Result<MemDisk, AllocError>
         ensures size { IfOk result (λ disk. disk.size ≡ len) }
         ensures moments { IfOk result (λ disk. disk.moments ≡ durable (replicate len 0) ∷ []) }
@@ -76,8 +77,8 @@ impl MemDisk {
 }
 
 impl MemDisk {
-    /// Makes room for so many more writes and syncs, and for so many bytes of writes, so that none of them fails.
-    /// The one error is want of memory. What the disk holds, and its count, are as before.
+    /// Makes room for `calls` more writes and syncs, and for `bytes` bytes of writes, so that none of them fails.
+    /// The one error is that memory ran out. What the disk holds, and its count, are as before.
     pub fn reserve(&mut self, calls: u64, bytes: u64) -> Result<(), AllocError>
         ensures room { OnOk result (HasRoom calls bytes self.new.budget) }
         ensures fuse { fuse_of self.new.budget ≡ fuse_of self.old.budget }
@@ -87,24 +88,20 @@ impl MemDisk {
         self.written.reserve(bytes as usize)
     }
 
-    /// How many writes were made since the last sync. The disk has no fuse of its own.
-    pub fn pending(&self) -> usize
-        ensures count { HoldsNow (λ now. result ≡ length now.pending) self.now.moments }
-        ensures fuse { fuse_of self.now.budget ≡ Some None }
+    // It has no fuse of its own.
+    pub(crate) fn has_no_fuse(&self)
+        ensures { fuse_of self.now.budget ≡ Some None }
     {
+        let _faults = self.faults;
+    }
+}
+
+impl StoppedDisk for MemDisk {
+    fn pending(&self) -> usize {
         self.changes.len() - self.synced
     }
 
-    /// The disk after a stop of the machine: each write that was not synced has met its fate, and nothing is pending.
-    /// The fates are in the order of the writes, and as many as `pending` says (a condition). The one error is want of
-    /// memory.
-    pub fn stopped(&self, alloc: Global, fates: &[Fate]) -> Result<MemDisk, AllocError>
-        requires { HoldsNow (λ now. length fates.now ≡ length now.pending) self.now.moments }
-        ensures size { IfOk result (λ disk. disk.size ≡ self.now.size) }
-        ensures left { IfOk result (λ disk. IsStopped fates.now self.now.moments disk.moments) }
-        ensures may_leave { OnOk result (HoldsNow (λ now. MayLeave now (left_in_order fates.now self.now.moments)) self.now.moments) }
-        ensures fuse { IfOk result (λ disk. fuse_of disk.budget ≡ Some None) }
-    {
+    fn stopped(&self, alloc: Global, fates: &[Fate]) -> Result<MemDisk, AllocError> {
         stop(
             alloc,
             self.size,
@@ -149,7 +146,7 @@ impl Disk for MemDisk {
     }
 }
 
-// Keeps a write; where memory lacks, it keeps nothing.
+// Keeps a write; where memory runs out, it keeps nothing.
 fn keep_write(
     changes: &mut Vec<Change>,
     written: &mut Vec<u8>,
@@ -171,18 +168,17 @@ fn keep_write(
 
 // Counts a fault.
 fn counted(faults: &mut u64) -> Failed
-    ensures risen { HasRisen faults.old faults.new }
-    ensures kept { faults.old ≤ faults.new }
+    ensures { CountsOne faults.old faults.new }
 {
     *faults = faults.saturating_add(1);
     Failed
 }
 
-// Puts a piece in place of the bytes from `at` on, as far as the front has them or ends there. Where memory lacks for
+// Puts a piece in place of the bytes from `at` on, as far as the front has them or ends there. Where memory runs out for
 // a longer front it ends before the piece.
 fn put_in_front(front: &mut Vec<u8>, at: usize, piece: &[u8])
     requires { at + length piece.now < 2 ^ 64 }
-    ensures { (bytes : List ℕ) → at + length piece.now ≤ length bytes → IsFrontOf bytes front.old.items → IsFrontOf (overwritten at piece.now bytes) front.new.items }
+    ensures { (bytes : List ℕ) → at + length piece.now ≤ length bytes → IsFrontOf bytes front.old.items → IsFrontOf (with_bytes at piece.now bytes) front.new.items }
 {
     if at + piece.len() <= front.len() {
         put_inside(front, at, piece);
@@ -195,7 +191,7 @@ fn put_in_front(front: &mut Vec<u8>, at: usize, piece: &[u8])
 // Puts a piece in place of the bytes from `at` on.
 fn put_inside(bytes: &mut Vec<u8>, at: usize, piece: &[u8])
     requires { at + length piece.now ≤ length bytes.old.items }
-    ensures { bytes.new.items ≡ overwritten at piece.now bytes.old.items }
+    ensures { bytes.new.items ≡ with_bytes at piece.now bytes.old.items }
 {
     bytes[at..at + piece.len()].copy_from_slice(piece);
 }

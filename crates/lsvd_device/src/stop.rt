@@ -2,19 +2,21 @@ ghost use Rattle.std.specs.Prelude.{◌≡◌, ◌+◌, ◌≤◌, [], ◌∷◌
 ghost use Rattle.std.specs.List.{AllByRecursion};
 ghost use Rattle.lsvd_device.specs.Medium.{MayLeave, after_write, after_sync};
 ghost use Rattle.lsvd_device.specs.Calls.{fuse_of};
-ghost use Rattle.lsvd_device.specs.Device.{HoldsNow, moments_after};
+ghost use Rattle.lsvd_device.specs.Device.{IsDisk, HoldsNow, moments_after};
 ghost use Rattle.lsvd_device.specs.Memory.{IsWrite, LiesInside, LieInside, bytes_written, moments_from, moments_of};
 ghost use Rattle.lsvd_device.specs.Stop.{put_by, change_by, left_in_order, IsStopped, Rewrites, LeavesBy, MayStop};
 
 use crate::change::Change;
 use crate::disk::Disk;
+#[cfg(test)]
+use crate::disk::StoppedDisk;
 use crate::fate::Fate;
 use crate::memory::MemDisk;
 use lsvd_fault::Failed;
 use std::alloc::{AllocError, Global};
 
-/// The disk that a stop leaves of these changes, of which so many are those up to the last sync, and each write behind
-/// them has met its fate. The one error is want of memory.
+/// The disk that a stop leaves of these changes, of which the first `synced` are those up to the last sync, and each write
+/// after them has met its fate. The one error is that memory ran out.
 pub(crate) fn stop(
     alloc: Global,
     size: u64,
@@ -28,6 +30,7 @@ pub(crate) fn stop(
     ensures left { IfOk result (λ disk. IsStopped fates.now (moments_of size changes.now written.now) disk.moments) }
     ensures may_leave { OnOk result (HoldsNow (λ now. MayLeave now (left_in_order fates.now (moments_of size changes.now written.now))) (moments_of size changes.now written.now)) }
     ensures fuse { IfOk result (λ disk. fuse_of disk.budget ≡ Some None) }
+    ensures is_disk { IfOk result IsDisk }
 {
     let mut disk = MemDisk::new(alloc, size)?;
     let used = make_again(&mut disk, &changes[..synced], written)?;
@@ -39,7 +42,7 @@ pub(crate) fn stop(
         fates,
     )?;
     sync(&mut disk)?;
-    let _ = disk.pending();
+    disk.has_no_fuse();
     Ok(disk)
 }
 
@@ -148,7 +151,7 @@ fn put_by(
     }
 }
 
-// A write, which fails only for want of memory.
+// A write, which fails only where memory runs out.
 fn put(disk: &mut MemDisk, at: u64, piece: &[u8]) -> Result<(), AllocError>
     requires inside { at + length piece.now ≤ disk.old.size }
     ensures moments { OnOk result (disk.new.moments ≡ moments_after (after_write at piece.now) disk.old.moments) }
@@ -160,7 +163,7 @@ fn put(disk: &mut MemDisk, at: u64, piece: &[u8]) -> Result<(), AllocError>
     }
 }
 
-// A sync, which fails only for want of memory.
+// A sync, which fails only where memory runs out.
 fn sync(disk: &mut MemDisk) -> Result<(), AllocError>
     ensures moments { OnOk result (disk.new.moments ≡ moments_after after_sync disk.old.moments) }
     ensures size { disk.new.size ≡ disk.old.size }

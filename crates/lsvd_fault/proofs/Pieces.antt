@@ -9,7 +9,7 @@ front_and_rest : (xs : List ℕ) (at count : ℕ) → take count (drop at xs) ++
 front_and_rest xs at count =
     ap (λ ys. take count (drop at xs) ++ ys) (sym (drop-drop count at xs)) ∙ take-append-drop count (drop at xs)
 
--- what was copied stands in front of the buffer, and with what is left behind it makes the bytes that were left
+-- what was copied stands in front of the buffer, and with what is left after it makes the bytes that were left
 pub copied_front : (xs new rest : List ℕ) (at count : ℕ) → new ≡ take count (drop at xs) → length new ≡ count → drop at xs ≡ take count (new ++ rest) ++ drop (at + count) xs
 copied_front xs new rest at count copied long =
     sym (front_and_rest xs at count) ∙ ap (λ ys. ys ++ drop (at + count) xs) (sym copied ∙ sym (take-append_seam new rest) ∙ ap (λ n. take n (new ++ rest)) long)

@@ -1,4 +1,4 @@
--- What contracts see of the ends over real readers and writers.
+-- Contract: what is seen of the ends over real readers and writers.
 use Rattle.std.specs.Prelude.{ℕ, List, Option}
 
 -- a source: the bytes that its reader has left, where it tells them, and the count of faults

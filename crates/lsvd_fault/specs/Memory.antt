@@ -1,4 +1,4 @@
--- What contracts see of the ends in memory.
+-- Contract: what is seen of the ends in memory.
 use Rattle.std.specs.Prelude.{ℕ, List}
 
 -- a source: the bytes that are left, and the count of faults

@@ -5,7 +5,7 @@ use crate::stream::{Failed, Link, Sink, Source};
 use std::alloc::Global;
 use std::marker::Model;
 
-/// The call of an end in memory that is to fail, if any: 0 is the next one.
+// The call of an end in memory that is to fail, if any: 0 is the next one.
 #[derive(Clone, Copy, Debug, PartialEq, Eq)]
 struct Schedule {
     failing: Option<u64>,
@@ -66,7 +66,7 @@ impl MemSource {
         }
     }
 
-    /// The same source, where each read gives at most so many bytes. A later call replaces the limit.
+    /// The same source, where each read gives at most `most` bytes. A later call replaces the limit.
     pub fn in_pieces(mut self, most: usize) -> MemSource
         requires { 0 < most }
         ensures { result ≡ self }
@@ -108,7 +108,7 @@ impl Source for MemSource {
 }
 
 /// A sink that keeps what it takes in memory. It fails where `failing_at` says so, and where memory for
-/// the bytes lacks.
+/// the bytes runs out.
 #[derive(Debug, Drop)]
 pub struct MemSink {
     bytes: Vec<u8>,
@@ -142,7 +142,7 @@ impl MemSink {
         }
     }
 
-    /// The same sink, where each write takes at most so many bytes. A later call replaces the limit.
+    /// The same sink, where each write takes at most `most` bytes. A later call replaces the limit.
     pub fn in_pieces(mut self, most: usize) -> MemSink
         requires { 0 < most }
         ensures { result ≡ self }

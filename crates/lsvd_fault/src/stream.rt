@@ -1,7 +1,7 @@
-ghost use Rattle.std.specs.Prelude.{◌≡◌, ℕ, ◌<◌, ◌≤◌, List, length, Option, IfOk, OnErr};
+ghost use Rattle.std.specs.Prelude.{◌≡◌, ℕ, ◌<◌, List, length, Option, IfOk, is_err};
 ghost use Rattle.std.specs.Io.{ReadsAtMost, WritesAtMost};
 ghost use Rattle.std.specs.Io.KnownBytes.{ReadConsumes, WriteAppends};
-ghost use Rattle.lsvd_fault.specs.Faults.{HasRisen};
+ghost use Rattle.lsvd_fault.specs.Faults.{Counts};
 
 use thiserror::Error;
 
@@ -20,12 +20,11 @@ pub trait Source {
 
     /// Reads some bytes into the front of `buf`, and answers how many; it may be fewer than `buf` has room
     /// for. No byte for a `buf` that has room means that the source is at its end. `Failed` comes where the
-    /// outside could not be read: the read took nothing and was counted, and may be tried again.
+    /// outside could not be read: the read took nothing and was counted once, and may be tried again.
     fn read(&mut self, buf: &mut [u8]) -> Result<usize, Failed>
         ensures bound { ReadsAtMost result buf.new }
         ensures bytes { ReadConsumes (remaining self.old) (remaining self.new) result buf.new }
-        ensures kept { faults self.old ≤ faults self.new }
-        ensures cause { OnErr result (HasRisen (faults self.old) (faults self.new)) };
+        ensures count { Counts (is_err result) (faults self.old) (faults self.new) };
 
     /// How many calls have failed since the stream was made. At `u64::MAX` the count stands.
     fn faults(&self) -> u64
@@ -47,8 +46,7 @@ pub trait Sink {
         ensures bound { WritesAtMost result piece.now }
         ensures some { IfOk result (λ n. 0 < length piece.now → 0 < n) }
         ensures bytes { WriteAppends (contents self.old) (contents self.new) result piece.now }
-        ensures kept { faults self.old ≤ faults self.new }
-        ensures cause { OnErr result (HasRisen (faults self.old) (faults self.new)) };
+        ensures count { Counts (is_err result) (faults self.old) (faults self.new) };
 
     /// How many calls have failed since the stream was made. At `u64::MAX` the count stands.
     fn faults(&self) -> u64

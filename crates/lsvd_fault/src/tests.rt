@@ -1,3 +1,5 @@
+ghost use Rattle.std.specs.Prelude.{◌≡◌, IfOk};
+
 use crate::adapter::{ReadSource, WriteSink};
 use crate::memory::{MemLink, MemSink, MemSource};
 use crate::stream::{Failed, Sink, Source};
@@ -36,6 +38,42 @@ struct Full;
 impl Write for Full {
     fn write(&mut self, _: &[u8]) -> io::Result<usize> {
         Ok(0)
+    }
+
+    fn flush(&mut self) -> io::Result<()> {
+        Ok(())
+    }
+}
+
+// A reader and a writer whose first call fails, and each later one takes all.
+#[derive(Drop)]
+struct FailingOnce {
+    has_failed: bool,
+}
+
+impl FailingOnce {
+    const NEW: FailingOnce = FailingOnce { has_failed: false };
+
+    fn all_but_first(&mut self, count: usize) -> io::Result<usize>
+        ensures { IfOk result (λ n. n ≡ count) }
+    {
+        if self.has_failed {
+            return Ok(count);
+        }
+        self.has_failed = true;
+        Err(ErrorKind::Interrupted.into())
+    }
+}
+
+impl Read for FailingOnce {
+    fn read(&mut self, buf: &mut [u8]) -> io::Result<usize> {
+        self.all_but_first(buf.len())
+    }
+}
+
+impl Write for FailingOnce {
+    fn write(&mut self, piece: &[u8]) -> io::Result<usize> {
+        self.all_but_first(piece.len())
     }
 
     fn flush(&mut self) -> io::Result<()> {
@@ -223,4 +261,20 @@ fn adapters_count_faults(rt: HostRuntime) -> Result<(), Fail> {
     assert_eq!(rt; sink.write(b""), Ok(0));
     assert_eq!(rt; sink.faults(), 1);
     Ok(())
+}
+
+#[test]
+fn adapters_try_no_call_again(rt: HostRuntime) {
+    let mut buffer = [0; 3];
+    let mut source = ReadSource::new(FailingOnce::NEW);
+    assert_eq!(rt; source.read(&mut buffer), Err(Failed));
+    assert_eq!(rt; source.faults(), 1);
+    assert_eq!(rt; source.read(&mut buffer), Ok(3));
+    assert_eq!(rt; source.faults(), 1);
+
+    let mut sink = WriteSink::new(FailingOnce::NEW);
+    assert_eq!(rt; sink.write(b"123"), Err(Failed));
+    assert_eq!(rt; sink.faults(), 1);
+    assert_eq!(rt; sink.write(b"123"), Ok(3));
+    assert_eq!(rt; sink.faults(), 1);
 }

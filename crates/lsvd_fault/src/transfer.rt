@@ -1,6 +1,6 @@
-ghost use Rattle.std.specs.Prelude.{◌≡◌, ℕ, ◌≤◌, List, ◌+◌, ◌<◌, ◌++◌, length, take, vec_len, IfOk, OnOk, OnErr, IsErrOf};
+ghost use Rattle.std.specs.Prelude.{◌≡◌, ℕ, ◌≤◌, List, ◌+◌, ◌<◌, ◌++◌, length, take, vec_len, IfOk, OnOk, OnErr, is_err};
 ghost use Rattle.std.specs.Io.KnownBytes.{Appends, Consumes, IsAtEnd};
-ghost use Rattle.lsvd_fault.specs.Faults.{HasRisen};
+ghost use Rattle.lsvd_fault.specs.Faults.{Counts, is_read_fault};
 ghost use Rattle.lsvd_fault.specs.declared.transfer.ReadError.TheVariants as read_errors;
 
 use crate::stream::{Failed, Sink, Source};
@@ -13,7 +13,7 @@ pub enum ReadError {
     /// A read of the source failed, and was counted there.
     #[error("a read failed")]
     Failed,
-    /// Memory for the bytes, or for the buffer that they are read into, lacked. No fault was counted.
+    /// Memory ran out for the bytes, or for the buffer that they are read into. No fault was counted.
     #[error("out of memory")]
     OutOfMemory,
 }
@@ -34,10 +34,10 @@ impl From<AllocError> for ReadError {
     }
 }
 
-/// The most bytes that one read asks for.
+// The most bytes that one read asks for.
 const CHUNK: usize = 65_536;
 
-// A buffer of so many bytes.
+// A buffer of `length` bytes.
 fn buffer(alloc: Global, length: usize) -> Result<Vec<u8>, AllocError>
     ensures { IfOk result (λ buffer. vec_len buffer ≡ length) }
 {
@@ -56,8 +56,7 @@ fn read_more<S: Source>(
         × Consumes (S.remaining source.old) (S.remaining source.new) piece) }
     ensures end { IfOk result (λ n. n ≡ 0 → IsAtEnd (S.remaining source.new)) }
     ensures lost { OnErr result ((piece : List ℕ) × Consumes (S.remaining source.old) (S.remaining source.new) piece) }
-    ensures kept { S.faults source.old ≤ S.faults source.new }
-    ensures cause { IsErrOf result ReadError.Failed → HasRisen (S.faults source.old) (S.faults source.new) }
+    ensures count { Counts (is_read_fault result) (S.faults source.old) (S.faults source.new) }
 {
     let count = source.read(buffer)?;
     bytes.extend_from_slice(&buffer[..count])?;
@@ -67,7 +66,7 @@ fn read_more<S: Source>(
 /// Reads until the source is at its end, or until more than `limit` bytes have come, and answers all of the
 /// bytes that came: where they are at most `limit`, the source was at its end. One read asks for up to 65,536
 /// bytes, so that many more than `limit` may come. The first fault of the source ends it with
-/// `ReadError::Failed`, and lack of memory with `ReadError::OutOfMemory`; after either the bytes that were
+/// `ReadError::Failed`, and `ReadError::OutOfMemory` comes where memory ran out; after either the bytes that were
 /// read are lost.
 pub fn read_past_limit<S: Source>(
     alloc: Global,
@@ -77,8 +76,7 @@ pub fn read_past_limit<S: Source>(
     ensures bytes { IfOk result (λ bytes. Consumes (S.remaining source.old) (S.remaining source.new) bytes.items) }
     ensures end { IfOk result (λ bytes. length bytes.items ≤ limit → IsAtEnd (S.remaining source.new)) }
     ensures lost { OnErr result ((bytes : List ℕ) × Consumes (S.remaining source.old) (S.remaining source.new) bytes) }
-    ensures kept { S.faults source.old ≤ S.faults source.new }
-    ensures cause { IsErrOf result ReadError.Failed → HasRisen (S.faults source.old) (S.faults source.new) }
+    ensures count { Counts (is_read_fault result) (S.faults source.old) (S.faults source.new) }
 {
     let mut bytes = Vec::new(alloc);
     let mut buffer = buffer(alloc, CHUNK)?;
@@ -95,8 +93,7 @@ pub fn read_past_limit<S: Source>(
 pub fn write_all<S: Sink>(sink: &mut S, bytes: &[u8]) -> Result<(), Failed>
     ensures ok { OnOk result (Appends (S.contents sink.old) (S.contents sink.new) bytes.now) }
     ensures front { OnErr result ((n : ℕ) × (n ≤ length bytes.now) × Appends (S.contents sink.old) (S.contents sink.new) (take n bytes.now)) }
-    ensures kept { S.faults sink.old ≤ S.faults sink.new }
-    ensures cause { OnErr result (HasRisen (S.faults sink.old) (S.faults sink.new)) }
+    ensures count { Counts (is_err result) (S.faults sink.old) (S.faults sink.new) }
 {
     let mut rest = bytes;
     while !rest.is_empty() {

@@ -1,4 +1,4 @@
-use Rattle.std.proofs.Common.{◌≡◌, ℕ, ◌+◌, ◌-◌, ◌≤◌, length}
+use Rattle.std.proofs.Common.{◌≡◌, ℕ, ◌+◌, ◌-◌, length}
 use Rattle.std.specs.Prelude.{vec_len}
 use Rattle.std.specs.Io.KnownBytes.{Consumes}
 use Rattle.lsvd_fault.proofs.transfer.read_past_limit.Given as goal
@@ -6,7 +6,7 @@ use Rattle.lsvd_fault.proofs.transfer.read_past_limit.Given as goal
 abbrev pub invariant-loop-source : goal.invariant-loop-source
 invariant-loop-source g l = record {
   read : Consumes (g.S.Source.remaining l.fn.source) (g.S.Source.remaining l.source) l.bytes.items;
-  kept : g.S.Source.faults l.fn.source ≤ g.S.Source.faults l.source;
+  none_failed : g.S.Source.faults l.source ≡ g.S.Source.faults l.fn.source;
   room : vec_len l.buffer ≡ 65536;
 }
 

@@ -1,4 +1,4 @@
-use Rattle.std.proofs.Common.{rules, arith, ap, subst, length, take, drop, List, ℕ, ◌-◌}
+use Rattle.std.proofs.Common.{rules, arith, ap, subst, length, take, drop, List, ℕ, ◌-◌, ◌∙◌}
 use Rattle.std.proofs.lemmas.List.{take_rest}
 use Rattle.lsvd_fault.proofs.Streams.{IsPartWritten, front_taken, part_more, part_kept, holds_at_error}
 use Rattle.lsvd_fault.proofs.transfer.write_all.Goals as goal
@@ -11,5 +11,5 @@ returns-in_err-count-clause-front g c =
 pub loop-rest-preserved : goal.loop-rest-preserved
 loop-rest-preserved g c = record {
   part = part_more _ _ _ _ c.loop-rest.rest.now c.in_ok-count.count c.loop-rest.invariant.part c.in_ok-count.ensures.bytes;
-  kept = omega (arith, c.loop-rest.invariant.kept, c.in_ok-count.ensures.kept);
+  none_failed = c.in_ok-count.ensures.count ∙ c.loop-rest.invariant.none_failed;
 }

@@ -1,7 +1,7 @@
-use Rattle.std.proofs.Common.{rules, ◌≡◌, ◌≤◌, false, refl}
+use Rattle.std.proofs.Common.{rules, ◌≡◌, false, refl}
 use Rattle.std.specs.Prelude.{Some, is_ok}
-use Rattle.lsvd_fault.specs.Faults.{HasRisen}
-use Rattle.lsvd_device.specs.Calls.{sync_cost, lowered}
+use Rattle.lsvd_fault.specs.Faults.{CountsOne}
+use Rattle.lsvd_device.specs.Calls.{sync_cost, fuse_after}
 use Rattle.lsvd_device.specs.Device.{DiskState}
 use Rattle.lsvd_device.proofs.Fused.{fused_passed, fused_stopped, fused_blown}
 use Rattle.lsvd_device.proofs.fuse.FuseDiskDisk.sync.Goals as goal
@@ -11,17 +11,16 @@ returns-in_err-pass-clause-call g c =
     let disk : DiskState = g.D.Disk.state c.self.inside.disk in
     let burnt : c.self.inside.left ≡ Some 0 = search rules in
     let stays : c.pass.new.left ≡ Some 0 = search rules in
-    let risen : HasRisen c.self.inside.failed c.pass.new.failed = search rules in
-    let kept : c.self.inside.failed ≤ c.pass.new.failed = search rules in
+    let counted : CountsOne c.self.inside.failed c.pass.new.failed = search rules in
     let failed : is_ok c.from_residual.result ≡ false = search rules in
-    rw (← c.self.view_is, failed) (fused_stopped (sync_cost) c.self.inside.left c.pass.new.left c.self.inside.failed c.pass.new.failed disk refl burnt stays risen kept)
+    rw (← c.self.view_is, failed) (fused_stopped (sync_cost) c.self.inside.left c.pass.new.left c.self.inside.failed c.pass.new.failed disk refl burnt stays counted)
 
 pub returns-clause-call : goal.returns-clause-call
 returns-clause-call g c =
     let old : DiskState = g.D.Disk.state c.self.inside.disk in
     let new : DiskState = g.D.Disk.state c.sync.new.self in
     let some : c.self.inside.left ≡ Some 0 → ⊥ = search rules in
-    let after : c.pass.new.left ≡ lowered c.self.inside.left 1 = search rules in
+    let after : c.pass.new.left ≡ fuse_after c.self.inside.left 1 = search rules in
     let same : c.pass.new.failed ≡ c.self.inside.failed = search rules in
     rw (← c.self.view_is)
     (fused_passed (sync_cost) (is_ok c.sync.result) c.self.inside.left c.pass.new.left c.self.inside.failed c.pass.new.failed old new refl some after same c.sync.ensures.call)
@@ -31,6 +30,6 @@ returns-clause-blown g c =
     let old : DiskState = g.D.Disk.state c.self.inside.disk in
     let new : DiskState = g.D.Disk.state c.sync.new.self in
     let some : c.self.inside.left ≡ Some 0 → ⊥ = search rules in
-    let after : c.pass.new.left ≡ lowered c.self.inside.left 1 = search rules in
+    let after : c.pass.new.left ≡ fuse_after c.self.inside.left 1 = search rules in
     let same : c.pass.new.failed ≡ c.self.inside.failed = search rules in
     rw (← c.self.view_is) (fused_blown (is_ok c.sync.result) c.self.inside.left c.pass.new.left c.self.inside.failed c.pass.new.failed old new some after same c.sync.ensures.blown)

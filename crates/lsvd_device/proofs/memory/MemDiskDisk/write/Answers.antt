@@ -1,7 +1,8 @@
 use Rattle.std.proofs.Common.{rules, ◌≡◌, ◌+◌, ◌≤◌, ℕ, ◌∷◌, ◌++◌, [], ◌∙◌, ap, refl, arith, length}
 use Rattle.lsvd_device.specs.declared.change.Change.TheVariants.{Write}
 use Rattle.lsvd_device.specs.Device.{DiskState, moments_after}
-use Rattle.lsvd_device.specs.Medium.{after_write, overwritten}
+use Rattle.lsvd_device.specs.Medium.{after_write}
+use Rattle.lsvd_bytes.specs.Places.{with_bytes}
 use Rattle.lsvd_device.specs.Memory.{IsFrontOf, IsKept, moments_of}
 use Rattle.lsvd_device.proofs.Moments.{kept_write, moments_write, kept_is_disk}
 use Rattle.lsvd_device.proofs.memory.MemDiskDisk.write.Goals as goal
@@ -13,7 +14,7 @@ invariant_of-self-2 c =
     let written : c.keep_write.new.written.items ≡ c.self.inside.written.items ++ c.args.piece.now = search rules in
     let inside : c.args.at + length c.args.piece.now ≤ size = search rules in
     let fits : c.args.at + length c.args.piece.now ≤ length c.self.invariant.now.bytes = (let e = c.self.invariant.media.0.bytes in omega (arith, e, inside)) in
-    let front : IsFrontOf (overwritten c.args.at c.args.piece.now c.self.invariant.now.bytes) c.put_in_front.new.front.items = c.put_in_front.ensures c.self.invariant.now.bytes fits c.self.invariant.front in
+    let front : IsFrontOf (with_bytes c.args.at c.args.piece.now c.self.invariant.now.bytes) c.put_in_front.new.front.items = c.put_in_front.ensures c.self.invariant.now.bytes fits c.self.invariant.front in
     rw (changes, written)
     (kept_write size c.self.inside.synced c.args.at c.self.inside.changes.items c.self.inside.written.items c.args.piece.now c.self.inside.front.items c.put_in_front.new.front.items inside c.self.invariant front)
 
@@ -34,7 +35,7 @@ returns-clause-disk c =
     let written : c.keep_write.new.written.items ≡ c.self.inside.written.items ++ c.args.piece.now = search rules in
     let inside : c.args.at + length c.args.piece.now ≤ size = search rules in
     let fits : c.args.at + length c.args.piece.now ≤ length c.self.invariant.now.bytes = (let e = c.self.invariant.media.0.bytes in omega (arith, e, inside)) in
-    let front : IsFrontOf (overwritten c.args.at c.args.piece.now c.self.invariant.now.bytes) c.put_in_front.new.front.items = c.put_in_front.ensures c.self.invariant.now.bytes fits c.self.invariant.front in
+    let front : IsFrontOf (with_bytes c.args.at c.args.piece.now c.self.invariant.now.bytes) c.put_in_front.new.front.items = c.put_in_front.ensures c.self.invariant.now.bytes fits c.self.invariant.front in
     let kept : IsKept size c.self.inside.synced c.keep_write.new.changes.items c.keep_write.new.written.items c.put_in_front.new.front.items =
     rw (changes, written)
     (kept_write size c.self.inside.synced c.args.at c.self.inside.changes.items c.self.inside.written.items c.args.piece.now c.self.inside.front.items c.put_in_front.new.front.items inside c.self.invariant front) in

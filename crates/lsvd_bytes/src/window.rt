@@ -1,11 +1,11 @@
 ghost use Rattle.std.specs.Prelude.{ℕ, ◌≡◌, ◌+◌, ◌-◌, ◌^◌, ◌<◌, length, min};
-ghost use Rattle.byte_window.specs.Window.{Splices};
+ghost use Rattle.lsvd_bytes.specs.Window.{Pastes};
 
 /// Copies that part of a piece which a window shows. The window shows the bytes from `from` on, and the piece is put
 /// among them at `at`.
 pub fn paste(window: &mut [u8], from: u64, at: u64, piece: &[u8])
     requires { at + length piece.now < 2 ^ 64 }
-    ensures { Splices from at piece.now window.old window.new }
+    ensures { Pastes from at piece.now window.old window.new }
 {
     let end_of_piece = at + piece.len() as u64;
     let start = (at.saturating_sub(from) as usize).min(window.len());

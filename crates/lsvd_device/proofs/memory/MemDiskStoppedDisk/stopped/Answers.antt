@@ -3,7 +3,7 @@ use Rattle.lsvd_device.specs.Device.{DiskState, HoldsNow}
 use Rattle.lsvd_device.specs.Memory.{moments_of}
 use Rattle.lsvd_device.specs.declared.change.Change.{Change}
 use Rattle.lsvd_device.proofs.Stopped.{may_stop}
-use Rattle.lsvd_device.proofs.memory.MemDisk.stopped.Goals as goal
+use Rattle.lsvd_device.proofs.memory.MemDiskStoppedDisk.stopped.Goals as goal
 
 pub stop-requires : goal.stop-requires
 stop-requires c =

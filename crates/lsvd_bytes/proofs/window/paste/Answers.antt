@@ -1,6 +1,6 @@
 use Rattle.std.proofs.Common.{arith, ◌∙◌}
-use Rattle.byte_window.proofs.Windows.{splice_seen, splice_unseen, part_same}
-use Rattle.byte_window.proofs.window.paste.Goals as goal
+use Rattle.lsvd_bytes.proofs.Windows.{splice_seen, splice_unseen, part_same}
+use Rattle.lsvd_bytes.proofs.window.paste.Goals as goal
 
 pub returns-then-start-end : goal.returns-then-start-end
 returns-then-start-end c =
