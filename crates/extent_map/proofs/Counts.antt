@@ -9,7 +9,7 @@ use Rattle.std.proofs.lemmas.List.Sums.{prefix_len_is}
 use Rattle.extent_map.specs.declared.extent.Extent.{Extent}
 use Rattle.extent_map.specs.Extents.{IsShortest}
 use Rattle.extent_map.specs.Cut.{before_count}
-use Rattle.extent_map.specs.Sides.{StartsFrom}
+use Rattle.extent_map.specs.Laws.{StartsFrom}
 use Rattle.extent_map.proofs.Order.{ascend}
 
 module _ {P : Type 0} where

@@ -8,12 +8,12 @@ use Rattle.std.proofs.lemmas.List.{append_assoc, length-append, length-drop, len
 use Rattle.extent_map.specs.declared.extent.Extent.{Extent}
 use Rattle.extent_map.specs.Extents.{ComesBeforeFirst, IsShortest, Fits, AllFit}
 use Rattle.extent_map.specs.Cut.{rows_before, rows_from, rest_of, before_count}
-use Rattle.extent_map.specs.Sides.{StartsFrom}
+use Rattle.extent_map.specs.Laws.{StartsFrom}
 use Rattle.extent_map.proofs.Order.{fits_at}
 use Rattle.extent_map.proofs.Cuts.{cut_short, before_ends, before_crosses, from_ends, from_crosses, nothing_before, all_from}
 use Rattle.extent_map.proofs.Counts.{count_early, count_late, count_bound, starts_after}
 
--- what a write at a place and an insert behind it leave of a list
+-- what a write at a place and an insert after it leave of a list
 edited : {X : Type 0} (xs : List X) (from i : ℕ) (x y : X) → from + i < length xs
     → insert (set xs (from + i) x) (from + i + 1) y
     ≡ take from xs ++ ((take i (drop from xs) ++ x ∷ []) ++ (y ∷ drop (i + 1) (drop from xs)))
@@ -30,7 +30,7 @@ edited xs from i x y inside =
     ∙ append_assoc (take from xs) (take i (drop from xs) ++ x ∷ []) (y ∷ drop (i + 1) (drop from xs))
 
 module _ {P : Type 0} (on : ℕ → P → P) where
-  -- a row ends before a sector where more of the rows behind it begin before it
+  -- a row ends before a sector where more of the rows after it begin before it
   pub ends_early : (at i : ℕ) (row : Extent P) (rows : List (Extent P)) → ComesBeforeFirst on row rows
       → before_count at rows ≡ suc i → row.lba + row.sectors ≤ at
   ends_early at i row [] before count = absurd (omega (arith, count))
@@ -40,7 +40,7 @@ module _ {P : Type 0} (on : ℕ → P → P) where
         | inr late ↦ absurd (omega (arith, count, count_late at next rows late))
       ]
 
-  no_count_starts : (at : ℕ) (rows : List (Extent P)) → before_count at rows ≡ 0 → StartsFrom at rows
+  pub no_count_starts : (at : ℕ) (rows : List (Extent P)) → before_count at rows ≡ 0 → StartsFrom at rows
   no_count_starts at rows count = subst (λ n. StartsFrom at (drop n rows)) count (starts_after at rows)
 
   rest_count : (at i : ℕ) (row : Extent P) (rows : List (Extent P)) → before_count at (row ∷ rows) ≡ suc i
@@ -194,10 +194,10 @@ module _ {P : Type 0} (on : ℕ → P → P) where
           let back = drop from rows in
           let i = index - 1 - from in
           let reaches = subst (λ r. at < r.lba + r.sectors) row_last over in
-          let behind : from + i + 1 ≡ index = omega (arith, count_last, index_is) in
+          let beyond : from + i + 1 ≡ index = omega (arith, count_last, index_is) in
           let in_rows : from + i < length rows = omega (arith, place_last, index_inside) in
           ap (λ n. insert (set rows n (cut_short at row)) index (rest_of on at row)) (sym place_last)
-          ∙ ap (λ n. insert (set rows (from + i) (cut_short at row)) n (rest_of on at row)) (sym behind)
+          ∙ ap (λ n. insert (set rows (from + i) (cut_short at row)) n (rest_of on at row)) (sym beyond)
           ∙ edited rows from i (cut_short at row) (rest_of on at row) in_rows
           ∙ ap (λ xs. take from rows ++ xs) (ap (λ n. (take i back ++ cut_short at row ∷ []) ++ rest_of on at row ∷ drop n back) (add-one i)
           ∙ ap (λ r. (take i back ++ cut_short at r ∷ []) ++ rest_of on at r ∷ drop (suc i) back) row_last

@@ -2,10 +2,10 @@
 use Rattle.std.proofs.Common.{ℕ, ◌+◌, ◌-◌, ◌<◌, ◌≤◌, ◌≡◌, cond, Some, List, [], ◌∷◌, length, refl, sym, ◌∙◌, ap, arith}
 use Rattle.std.proofs.lemmas.Bool.Decides.{nat_tests}
 use Rattle.extent_map.specs.declared.extent.Extent.{Extent}
-use Rattle.extent_map.specs.Extents.{is_within, place_at, IsShortest, AllFit}
+use Rattle.extent_map.specs.Extents.{NumbersGoOn, is_within, place_at, IsShortest, AllFit}
 use Rattle.extent_map.specs.Cut.{rows_before, rows_from, rest_of}
-use Rattle.extent_map.proofs.Places.{at_below, at_past, after_row, starts_earlier}
-use Rattle.extent_map.proofs.Order.{behind_row}
+use Rattle.extent_map.proofs.Places.{number_at_most, at_below, at_past, after_row, starts_earlier}
+use Rattle.extent_map.proofs.Order.{same_after}
 use Rattle.extent_map.proofs.Cuts.{cut_short, ends, crosses, starts, meets, before_ends, before_crosses, before_starts, from_ends, from_crosses, from_starts, nothing_before, all_from}
 
 -- a cut leaves the sectors on its side
@@ -26,10 +26,10 @@ module _ {P : Type 0} (on : ℕ → P → P) where
   places_before at (row ∷ rows) k low =
       let rest = places_before at rows k low in
       elim (meets at row) [
-        | ends ended ↦ rw (before_ends at row rows ended) (behind_row on row (rows_before at rows) rows k rest)
+        | ends ended ↦ rw (before_ends at row rows ended) (same_after on row (rows_before at rows) rows k rest)
         | crosses after inside ↦
             rw (before_crosses at row rows after inside)
-            (behind_row on (cut_short at row) (rows_before at rows) rows k rest
+            (same_after on (cut_short at row) (rows_before at rows) rows k rest
             ∙ ap (λ b. cond b (Some (on (k - row.lba) row.place)) (place_at on rows k))
             (same_within_short row.lba row.sectors at k after inside low))
         | starts before inside ↦
@@ -58,9 +58,9 @@ module _ {P : Type 0} (on : ℕ → P → P) where
               rw (from_ends on at row rows (omega (arith, shortest.0)) ended) (rest ∙ sym (at_past on row rows k (omega arith)))
           | crosses after inside ↦
               rw (from_crosses on at row rows after inside)
-              (behind_row on (rest_of on at row) (rows_from on at rows) rows k rest ∙ rest_gives at row rows k after inside high)
+              (same_after on (rest_of on at row) (rows_from on at rows) rows k rest ∙ rest_gives at row rows k after inside high)
           | starts before inside ↦
-              rw (from_starts on at row rows before) (behind_row on row (rows_from on at rows) rows k rest)
+              rw (from_starts on at row rows before) (same_after on row (rows_from on at rows) rows k rest)
         ]
 
   -- ---- how many rows they are
@@ -83,7 +83,7 @@ module _ {P : Type 0} (on : ℕ → P → P) where
   count_cut at [] shortest = omega arith
   count_cut at (row ∷ rows) shortest =
       let rest = count_cut at rows shortest.2 in
-      let behind = after_row on row rows shortest.1 in
+      let beyond = after_row on row rows shortest.1 in
       elim (meets at row) [
         | ends ended ↦
             omega (
@@ -93,7 +93,7 @@ module _ {P : Type 0} (on : ℕ → P → P) where
               ap length (from_ends on at row rows (omega (arith, shortest.0)) ended),
             )
         | crosses after inside ↦
-            let later = starts_earlier at (row.lba + row.sectors) rows (omega arith) behind in
+            let later = starts_earlier at (row.lba + row.sectors) rows (omega arith) beyond in
             omega (
               arith,
               ap length (before_crosses at row rows after inside),
@@ -125,7 +125,7 @@ module _ {P : Type 0} (on : ℕ → P → P) where
         | starts before inside ↦ rw (before_starts at row rows before inside) rest
       ]
 
-  pub fit_from : (number : P → ℕ) → ((n : ℕ) (p : P) → number (on n p) ≡ number p + n) → (at : ℕ) (rows : List (Extent P))
+  pub fit_from : (number : P → ℕ) → NumbersGoOn on number → (at : ℕ) (rows : List (Extent P))
       → IsShortest on rows → AllFit number rows → AllFit number (rows_from on at rows)
   unfolding rows_from
   fit_from number number_on at [] shortest fits = tt
@@ -137,7 +137,7 @@ module _ {P : Type 0} (on : ℕ → P → P) where
             rw (from_crosses on at row rows after inside) (
               record {
                 sectors = omega (arith, fits.0.sectors);
-                places = omega (arith, fits.0.places, number_on (at - row.lba) row.place);
+                places = omega (arith, fits.0.places, number_at_most on number number_on (at - row.lba) row.place);
               },
               rest,
             )

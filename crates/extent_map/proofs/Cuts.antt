@@ -4,10 +4,10 @@ use Rattle.std.proofs.lemmas.Bool.{cases_lt}
 use Rattle.std.proofs.lemmas.Bool.Decides.{nat_tests}
 use Rattle.extent_map.specs.declared.extent.Extent.{Extent}
 use Rattle.extent_map.specs.Extents.{ComesBeforeFirst, IsShortest}
-use Rattle.extent_map.specs.Cut.{rows_before, rows_from, rest_of}
-use Rattle.extent_map.specs.Sides.{StartsFrom}
+use Rattle.extent_map.specs.Cut.{part_before, rows_before, rows_from, rest_of}
+use Rattle.extent_map.specs.Laws.{StartsFrom}
 use Rattle.extent_map.proofs.Places.{starts_earlier, after_row}
-use Rattle.extent_map.specs.Sides.{EndBy}
+use Rattle.extent_map.specs.Join.{EndBy}
 use Rattle.extent_map.proofs.Order.{before_same}
 
 is_le : (a b : ℕ) → a ≤ b → nat_le a b ≡ true
@@ -41,24 +41,36 @@ module _ {P : Type 0} where
         | inr ended ↦ ends ended
       ]
 
+  -- ---- the part of a row before a sector
+
+  pub part_ends : (at : ℕ) (row : Extent P) (rows : List (Extent P)) → row.lba + row.sectors ≤ at
+      → part_before at row rows ≡ row ∷ rows
+  part_ends at row rows ended = rw (is_le (row.lba + row.sectors) at ended)
+
+  pub part_crosses : (at : ℕ) (row : Extent P) (rows : List (Extent P)) → row.lba < at → at < row.lba + row.sectors
+      → part_before at row rows ≡ cut_short at row ∷ rows
+  part_crosses at row rows after inside = rw (not_le (row.lba + row.sectors) at inside, is_lt row.lba at after)
+
+  pub part_starts : (at : ℕ) (row : Extent P) (rows : List (Extent P)) → at ≤ row.lba → at < row.lba + row.sectors
+      → part_before at row rows ≡ rows
+  part_starts at row rows before inside = rw (not_le (row.lba + row.sectors) at inside, not_lt row.lba at before)
+
   -- ---- the rows before a sector
 
   pub before_ends : (at : ℕ) (row : Extent P) (rows : List (Extent P)) → row.lba + row.sectors ≤ at
       → rows_before at (row ∷ rows) ≡ row ∷ rows_before at rows
   unfolding rows_before
-  before_ends at row rows ended = rw (is_le (row.lba + row.sectors) at ended)
+  before_ends at row rows ended = part_ends at row (rows_before at rows) ended
 
   pub before_crosses : (at : ℕ) (row : Extent P) (rows : List (Extent P)) → row.lba < at → at < row.lba + row.sectors
       → rows_before at (row ∷ rows) ≡ cut_short at row ∷ rows_before at rows
   unfolding rows_before
-  before_crosses at row rows after inside =
-      rw (not_le (row.lba + row.sectors) at inside, is_lt row.lba at after)
+  before_crosses at row rows after inside = part_crosses at row (rows_before at rows) after inside
 
   pub before_starts : (at : ℕ) (row : Extent P) (rows : List (Extent P)) → at ≤ row.lba → at < row.lba + row.sectors
       → rows_before at (row ∷ rows) ≡ rows_before at rows
   unfolding rows_before
-  before_starts at row rows before inside =
-      rw (not_le (row.lba + row.sectors) at inside, not_lt row.lba at before)
+  before_starts at row rows before inside = part_starts at row (rows_before at rows) before inside
 
 module _ {P : Type 0} (on : ℕ → P → P) where
   -- ---- the rows from a sector on

@@ -1,13 +1,14 @@
 -- Rows that are joined with those that go on with them.
-use Rattle.std.proofs.Common.{ℕ, ◌+◌, ◌-◌, ◌<◌, ◌≡◌, inl, inr, Some, List, [], ◌∷◌, ◌++◌, refl, sym, ◌∙◌, ap, subst, arith}
+use Rattle.std.proofs.Common.{ℕ, ◌+◌, ◌-◌, ◌^◌, ◌<◌, ◌≡◌, inl, inr, Some, List, [], ◌∷◌, ◌++◌, refl, sym, ◌∙◌, ap, subst, arith}
 use Rattle.std.proofs.lemmas.Bool.{cases_lt}
 use Rattle.std.proofs.lemmas.List.{append_assoc}
 use Rattle.extent_map.specs.declared.extent.Extent.{Extent}
-use Rattle.extent_map.specs.Extents.{place_at, ComesBeforeFirst, IsShortest, Fits, AllFit}
-use Rattle.extent_map.specs.Join.{GoesOn, joined, TakesNext, IsPutBehind}
-use Rattle.extent_map.specs.Sides.{StartsFrom, EndBy}
+use Rattle.extent_map.specs.Extents.{NumbersGoOn, place_at, ComesBeforeFirst, IsShortest, Fits, AllFit}
+use Rattle.extent_map.specs.Join.{GoesOn, joined, TakesNext, IsPutAfter}
+use Rattle.extent_map.specs.Laws.{StartsFrom}
+use Rattle.extent_map.specs.Join.{EndBy}
 use Rattle.extent_map.proofs.Places.{at_inside, at_below, at_past}
-use Rattle.extent_map.proofs.Order.{behind_rows, before_same, fit_append}
+use Rattle.extent_map.proofs.Order.{same_after_all, before_same, fit_append}
 
 module _ {P : Type 0} (on : ℕ → P → P) (on_twice : (a b : ℕ) (p : P) → on a (on b p) ≡ on (b + a) p) where
   -- ---- two rows as one
@@ -56,16 +57,20 @@ module _ {P : Type 0} (on : ℕ → P → P) (on_twice : (a b : ℕ) (p : P) →
   joined_shortest row next rows goes shortest =
       (omega (arith, shortest.0), joined_before row next rows goes shortest.1, shortest.2)
 
-  module _ (number : P → ℕ) (number_on : (n : ℕ) (p : P) → number (on n p) ≡ number p + n) where
+  module _ (number : P → ℕ) (number_on : NumbersGoOn on number) where
     pub joined_fits : (row next : Extent P) → GoesOn on row next → Fits number next → Fits number (joined row next)
     joined_fits row next goes fits =
         let touch = goes.touches in
+        let sectors : row.sectors + next.sectors < 2 ^ 63 = omega (arith, fits.sectors) in
         record {
           sectors = omega (arith, fits.sectors);
-          places = omega (arith, fits.places, number_on row.sectors row.place, ap number goes.places);
+          places = elim (number_on row.sectors row.place) [
+            | inl counts ↦ omega (arith, fits.places, counts, ap number goes.places)
+            | inr none ↦ omega (arith, none.0, sectors)
+          ];
         }
 
-  -- ---- a row and those behind it
+  -- ---- a row and those after it
 
   pub taken_places : (row : Extent P) (rows : List (Extent P)) (new : Extent P) (left : List (Extent P)) (k : ℕ)
       → TakesNext on row rows new left → place_at on (new ∷ left) k ≡ place_at on (row ∷ rows) k
@@ -97,7 +102,7 @@ module _ {P : Type 0} (on : ℕ → P → P) (on_twice : (a b : ℕ) (p : P) →
   taken_lba row (next ∷ rows) new left taken =
       elim taken [ inl both ↦ ap (λ r. r.lba) both.1 | inr one ↦ ap (λ r. r.lba) one.1 ]
 
-  module _ (number : P → ℕ) (number_on : (n : ℕ) (p : P) → number (on n p) ≡ number p + n) where
+  module _ (number : P → ℕ) (number_on : NumbersGoOn on number) where
     pub taken_fits : (row : Extent P) (rows : List (Extent P)) (new : Extent P) (left : List (Extent P))
         → Fits number row → AllFit number rows → TakesNext on row rows new left → Fits number new × AllFit number left
     taken_fits row [] new left fits all taken = rw (taken.0, taken.1) (fits, tt)
@@ -139,7 +144,7 @@ module _ {P : Type 0} (on : ℕ → P → P) (on_twice : (a b : ℕ) (p : P) →
   )
 
   pub put_places : (front : List (Extent P)) (row : Extent P) (back new : List (Extent P)) (k : ℕ)
-      → IsPutBehind on front row back new → place_at on new k ≡ place_at on (front ++ row ∷ back) k
+      → IsPutAfter on front row back new → place_at on new k ≡ place_at on (front ++ row ∷ back) k
   put_places front row back new k put =
       elim put [
         | inl both ↦
@@ -149,31 +154,31 @@ module _ {P : Type 0} (on : ℕ → P → P) (on_twice : (a b : ℕ) (p : P) →
             let goes : GoesOn on last row = both.3 in
             let new_is : new ≡ rest ++ joined last row ∷ back = both.4 in
             ap (λ xs. place_at on xs k) new_is
-            ∙ behind_rows on rest (joined last row ∷ back) (last ∷ row ∷ back) k (joined_places last row back k goes)
+            ∙ same_after_all on rest (joined last row ∷ back) (last ∷ row ∷ back) k (joined_places last row back k goes)
             ∙ ap (λ xs. place_at on xs k) (sym (append_assoc rest (last ∷ []) (row ∷ back)))
             ∙ ap (λ xs. place_at on (xs ++ row ∷ back) k) (sym front_is)
         | inr one ↦ ap (λ xs. place_at on xs k) one.1
       ]
 
   pub put_shortest : (front : List (Extent P)) (row : Extent P) (back new : List (Extent P)) → IsShortest on front
-      → EndBy row.lba front → IsShortest on (row ∷ back) → IsPutBehind on front row back new → IsShortest on new
-  put_shortest front row back new shortest ends behind put =
+      → EndBy row.lba front → IsShortest on (row ∷ back) → IsPutAfter on front row back new → IsShortest on new
+  put_shortest front row back new shortest ends beyond put =
       elim put [
         | inl both ↦
             let front_is : front ≡ both.0 ++ both.1 ∷ [] = both.2 in
             let new_is : new ≡ both.0 ++ joined both.1 row ∷ back = both.4 in
             subst (IsShortest on) (sym new_is)
-            (last_before both.0 both.1 row back (subst (IsShortest on) front_is shortest) both.3 behind)
-        | inr one ↦ subst (IsShortest on) (sym one.1) (apart_before front row back shortest ends one.0 behind)
+            (last_before both.0 both.1 row back (subst (IsShortest on) front_is shortest) both.3 beyond)
+        | inr one ↦ subst (IsShortest on) (sym one.1) (apart_before front row back shortest ends one.0 beyond)
       ]
 
-  module _ (number : P → ℕ) (number_on : (n : ℕ) (p : P) → number (on n p) ≡ number p + n) where
+  module _ (number : P → ℕ) (number_on : NumbersGoOn on number) where
     fit_rest : (rest : List (Extent P)) (last : Extent P) → AllFit number (rest ++ last ∷ []) → AllFit number rest
     fit_rest [] last fits = tt
     fit_rest (row ∷ rest) last fits = (fits.0, fit_rest rest last fits.1)
 
     pub put_fits : (front : List (Extent P)) (row : Extent P) (back new : List (Extent P)) → AllFit number front
-        → Fits number row → AllFit number back → IsPutBehind on front row back new → AllFit number new
+        → Fits number row → AllFit number back → IsPutAfter on front row back new → AllFit number new
     put_fits front row back new front_fits fits back_fits put =
         elim put [
           | inl both ↦

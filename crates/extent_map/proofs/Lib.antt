@@ -9,5 +9,7 @@ pub mod TakenOut
 pub mod Changed
 pub mod Joined
 pub mod Put
+pub mod Range
 pub mod Looked
+pub mod FirstRow
 pub mod Shorter

@@ -1,16 +1,14 @@
 -- The rows of a range of sectors alone.
-use Rattle.std.proofs.Common.{ℕ, zero, suc, ◌+◌, ◌-◌, ◌<◌, ◌≤◌, ◌≡◌, inl, inr, cond, None, List, [], ◌∷◌, ◌++◌, take, drop, sym, ◌∙◌, ap, subst, arith}
+use Rattle.std.proofs.Common.{ℕ, zero, suc, ◌+◌, ◌-◌, ◌<◌, ◌≤◌, ◌≡◌, inl, inr, List, [], ◌∷◌, ◌++◌, take, drop, sym, ◌∙◌, ap, subst, arith}
 use Rattle.std.proofs.lemmas.Bool.{cases_lt}
-use Rattle.std.proofs.lemmas.List.{append-nil}
 use Rattle.std.proofs.lemmas.List.Edits.{split_between}
 use Rattle.extent_map.specs.declared.extent.Extent.{Extent}
-use Rattle.extent_map.specs.Extents.{place_at, place_in_range, IsShortest, AllFit}
+use Rattle.extent_map.specs.Extents.{NumbersGoOn, place_at, place_in_range, IsShortest, AllFit}
 use Rattle.extent_map.specs.Cut.{rows_before, rows_from, rows_met, before_count}
-use Rattle.extent_map.specs.Sides.{EndBy}
-use Rattle.extent_map.proofs.Places.{within, not_below, not_past, none_before}
+use Rattle.extent_map.specs.Join.{EndBy}
+use Rattle.extent_map.proofs.Places.{none_before}
 use Rattle.extent_map.proofs.Order.{in_front, past_front, shortest_take, shortest_drop, fit_take, fit_drop}
-use Rattle.extent_map.proofs.Cuts.{before_end, from_start, shortest_before, shortest_from}
-use Rattle.extent_map.proofs.CutPlaces.{places_before, places_from, fit_before, fit_from}
+use Rattle.extent_map.proofs.Range.{same_in_range, range_shortest, range_places, range_fits}
 use Rattle.extent_map.proofs.Counts.{count_early, count_late, count_rises, starts_after}
 use Rattle.extent_map.proofs.CutIndex.{ends_early}
 
@@ -64,33 +62,15 @@ module _ {P : Type 0} (on : ℕ → P → P) where
         (ends_before lba rows shortest) from
         ∙ in_front on part (drop last rows) k none)
 
-    from_met : IsShortest on (rows_from on lba (rows_met lba (lba + sectors) rows))
-    from_met = shortest_from on on_twice lba (rows_met lba (lba + sectors) rows) met_shortest
-
     pub found_shortest : IsShortest on found_rows
-    found_shortest = shortest_before on (lba + sectors) (rows_from on lba (rows_met lba (lba + sectors) rows)) from_met
+    found_shortest = range_shortest on on_twice lba sectors (rows_met lba (lba + sectors) rows) met_shortest
 
     pub found_places : (k : ℕ) → place_at on found_rows k ≡ place_in_range lba sectors (place_at on rows) k
     found_places k =
-        let behind = rows_from on lba (rows_met lba (lba + sectors) rows) in
-        elim (cases_lt k (lba + sectors)) [
-          | inl low ↦ places_before on (lba + sectors) behind k low
-              ∙ elim (cases_lt k lba) [
-                | inl early ↦
-                    none_before on behind lba k from_met (from_start on lba (rows_met lba (lba + sectors) rows) met_shortest) early
-                    ∙ sym (ap (λ b. cond b (place_at on rows k) None) (not_below lba sectors k early))
-                | inr from ↦
-                    places_from on on_twice lba (rows_met lba (lba + sectors) rows) k met_shortest from
-                    ∙ met_places k from low
-                    ∙ sym (ap (λ b. cond b (place_at on rows k) None) (within lba sectors k from low))
-              ]
-          | inr past ↦
-              ap (λ xs. place_at on xs k) (sym (append-nil found_rows))
-              ∙ past_front on found_rows [] (lba + sectors) k (before_end on (lba + sectors) behind) past
-              ∙ sym (ap (λ b. cond b (place_at on rows k) None) (not_past lba sectors k past))
-        ]
+        range_places on on_twice lba sectors (rows_met lba (lba + sectors) rows) met_shortest k
+        ∙ same_in_range lba sectors (place_at on (rows_met lba (lba + sectors) rows)) (place_at on rows) met_places k
 
-    module _ (number : P → ℕ) (number_on : (n : ℕ) (p : P) → number (on n p) ≡ number p + n) (fits : AllFit number rows) where
+    module _ (number : P → ℕ) (number_on : NumbersGoOn on number) (fits : AllFit number rows) where
       pub met_fits : AllFit number (rows_met lba (lba + sectors) rows)
       unfolding rows_met
       met_fits =
@@ -98,6 +78,4 @@ module _ {P : Type 0} (on : ℕ → P → P) where
           (fit_drop number (before_count lba rows - 1) rows fits)
 
       pub found_fits : AllFit number found_rows
-      found_fits =
-          fit_before on number (lba + sectors) (rows_from on lba (rows_met lba (lba + sectors) rows))
-          (fit_from on number number_on lba (rows_met lba (lba + sectors) rows) met_shortest met_fits)
+      found_fits = range_fits on on_twice lba sectors (rows_met lba (lba + sectors) rows) met_shortest number number_on met_fits

@@ -44,7 +44,7 @@ module _ {P : Type 0} (on : ℕ → P → P) (on_none : (p : P) → on 0 p ≡ p
       let is_b = on_none b.place in
       cc
 
-  -- what stands behind a row does not go on with its places
+  -- what stands after a row does not go on with its places
   pub not_on : (a : Extent P) (more_a : List (Extent P)) → IsShortest on (a ∷ more_a)
       → place_at on more_a (a.lba + a.sectors) ≡ Some (on a.sectors a.place) → ⊥
   not_on a [] shortest goes_on = cc
@@ -64,7 +64,7 @@ module _ {P : Type 0} (on : ℕ → P → P) (on_none : (p : P) → on 0 p ≡ p
   not_shorter a b more_a more_b shortest same lba place shorter =
       let end = a.lba + a.sectors in
       let here = same end in
-      let behind = at_past on a more_a end (omega arith) in
+      let beyond = at_past on a more_a end (omega arith) in
       let in_b = at_inside on b more_b end (omega arith) (omega arith) in
       let far : end - b.lba ≡ a.sectors = omega arith in
       not_on a more_a shortest (cc)

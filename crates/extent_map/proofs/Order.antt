@@ -2,7 +2,8 @@
 use Rattle.std.proofs.Common.{ℕ, zero, suc, ◌+◌, ◌-◌, ◌<◌, ◌≤◌, ◌≡◌, cond, Some, None, List, [], ◌∷◌, ◌++◌, length, get_or, take, drop, refl, sym, ◌∙◌, ap, arith}
 use Rattle.extent_map.specs.declared.extent.Extent.{Extent}
 use Rattle.extent_map.specs.Extents.{is_within, place_at, ComesBefore, ComesBeforeFirst, IsShortest, Fits, AllFit}
-use Rattle.extent_map.specs.Sides.{StartsFrom, EndBy}
+use Rattle.extent_map.specs.Laws.{StartsFrom}
+use Rattle.extent_map.specs.Join.{EndBy}
 use Rattle.extent_map.proofs.Places.{starts_earlier, at_past, after_row}
 
 module _ {P : Type 0} where
@@ -29,22 +30,22 @@ module _ {P : Type 0} where
 module _ {P : Type 0} (on : ℕ → P → P) where
   -- ---- what parts of a list give a sector
 
-  -- rows behind a row that give a sector the same
-  pub behind_row : (row : Extent P) (a b : List (Extent P)) (k : ℕ) → place_at on a k ≡ place_at on b k
+  -- rows after a row that give a sector the same
+  pub same_after : (row : Extent P) (a b : List (Extent P)) (k : ℕ) → place_at on a k ≡ place_at on b k
       → place_at on (row ∷ a) k ≡ place_at on (row ∷ b) k
-  behind_row row a b k same =
+  same_after row a b k same =
       ap (λ rest. cond (is_within row.lba row.sectors k) (Some (on (k - row.lba) row.place)) rest) same
 
-  pub behind_rows : (front a b : List (Extent P)) (k : ℕ) → place_at on a k ≡ place_at on b k
+  pub same_after_all : (front a b : List (Extent P)) (k : ℕ) → place_at on a k ≡ place_at on b k
       → place_at on (front ++ a) k ≡ place_at on (front ++ b) k
-  behind_rows [] a b k same = same
-  behind_rows (row ∷ front) a b k same = behind_row row (front ++ a) (front ++ b) k (behind_rows front a b k same)
+  same_after_all [] a b k same = same
+  same_after_all (row ∷ front) a b k same = same_after row (front ++ a) (front ++ b) k (same_after_all front a b k same)
 
   -- rows that give a sector none do not change what those before them give
   pub in_front : (front back : List (Extent P)) (k : ℕ) → place_at on back k ≡ None
       → place_at on (front ++ back) k ≡ place_at on front k
   in_front [] back k none = none
-  in_front (row ∷ front) back k none = behind_row row (front ++ back) front k (in_front front back k none)
+  in_front (row ∷ front) back k none = same_after row (front ++ back) front k (in_front front back k none)
 
   -- rows that end before a sector do not give it a place
   pub past_front : (front back : List (Extent P)) (at k : ℕ) → EndBy at front → at ≤ k
@@ -87,7 +88,7 @@ module _ {P : Type 0} (on : ℕ → P → P) where
     apart = λ touch goes. absurd (omega arith);
   }
 
-  -- rows with a gap before the rows behind them
+  -- rows with a gap before the rows after them
   pub shortest_append : (a b : List (Extent P)) (at from : ℕ) → IsShortest on a → IsShortest on b → EndBy at a
       → StartsFrom from b → at < from → IsShortest on (a ++ b)
   shortest_append [] b at from shortest_a shortest_b ends starts gap = shortest_b

@@ -1,9 +1,9 @@
 -- What rows in order give a sector.
-use Rattle.std.proofs.Common.{ℕ, ◌+◌, ◌-◌, ◌<◌, ◌≤◌, ◌≡◌, true, false, cond, Some, None, List, [], ◌∷◌, refl, ◌∙◌, ap, arith}
+use Rattle.std.proofs.Common.{ℕ, ◌+◌, ◌-◌, ◌<◌, ◌≤◌, ◌≡◌, inl, inr, true, false, cond, Some, None, List, [], ◌∷◌, refl, ◌∙◌, ap, arith}
 use Rattle.std.proofs.lemmas.Bool.Decides.{nat_tests}
 use Rattle.extent_map.specs.declared.extent.Extent.{Extent}
-use Rattle.extent_map.specs.Extents.{is_within, place_at, ComesBeforeFirst, IsShortest}
-use Rattle.extent_map.specs.Sides.{StartsFrom}
+use Rattle.extent_map.specs.Extents.{NumbersGoOn, is_within, place_at, ComesBeforeFirst, IsShortest}
+use Rattle.extent_map.specs.Laws.{StartsFrom}
 
 -- ---- which sectors a range has
 
@@ -22,6 +22,12 @@ module _ {P : Type 0} where
   starts_earlier low at (row ∷ rows) le starts = omega arith
 
 module _ {P : Type 0} (on : ℕ → P → P) where
+  -- ---- the number of a place
+
+  pub number_at_most : (number : P → ℕ) → NumbersGoOn on number → (n : ℕ) (p : P) → number (on n p) ≤ number p + n
+  number_at_most number number_on n p =
+      elim (number_on n p) [ inl counts ↦ omega arith | inr none ↦ omega (arith, none.1) ]
+
   -- ---- what the first row gives, and what the rest give
 
   pub at_inside : (row : Extent P) (rows : List (Extent P)) (k : ℕ) → row.lba ≤ k → k < row.lba + row.sectors

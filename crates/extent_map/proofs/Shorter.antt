@@ -3,7 +3,7 @@ use Rattle.std.proofs.Common.{ℕ, ◌+◌, ◌-◌, ◌<◌, ◌≤◌, ◌≡�
 use Rattle.std.proofs.lemmas.Bool.{cases_lt, cases_order}
 use Rattle.extent_map.specs.declared.extent.Extent.{Extent}
 use Rattle.extent_map.specs.Extents.{place_at, ComesBeforeFirst, IsShortest}
-use Rattle.extent_map.specs.Sides.{StartsFrom, IsInOrder}
+use Rattle.extent_map.specs.Laws.{StartsFrom, IsInOrder}
 use Rattle.extent_map.proofs.Places.{starts_earlier, at_inside, at_below, at_past, none_before}
 use Rattle.extent_map.proofs.OneList.{not_on}
 

@@ -2,7 +2,7 @@
 use Rattle.std.proofs.Common.{ℕ, ◌+◌, ◌≤◌, ◌≡◌, List, ◌++◌, length, take, drop, sym, ◌∙◌, ap, subst, arith}
 use Rattle.std.proofs.lemmas.List.{append_assoc, length-append, take_at, drop_at}
 use Rattle.extent_map.specs.declared.extent.Extent.{Extent}
-use Rattle.extent_map.specs.Extents.{IsShortest, AllFit}
+use Rattle.extent_map.specs.Extents.{NumbersGoOn, IsShortest, AllFit}
 use Rattle.extent_map.specs.Cut.{rows_before, rows_from}
 use Rattle.extent_map.proofs.Cuts.{shortest_from}
 use Rattle.extent_map.proofs.CutPlaces.{count_from, count_cut, fit_from}
@@ -31,7 +31,7 @@ module _ {P : Type 0} (on : ℕ → P → P) (on_twice : (a b : ℕ) (p : P) →
   pub shortest_once : IsShortest on (drop from once)
   shortest_once = subst (IsShortest on) (sym drop_once) (shortest_from on on_twice lba rows shortest)
 
-  pub fit_once : (number : P → ℕ) → ((n : ℕ) (p : P) → number (on n p) ≡ number p + n) → AllFit number rows
+  pub fit_once : (number : P → ℕ) → NumbersGoOn on number → AllFit number rows
       → AllFit number (drop from once)
   fit_once number number_on fits = subst (AllFit number) (sym drop_once) (fit_from on number number_on lba rows shortest fits)
 

@@ -1,10 +1,10 @@
--- Rows that are cut at a sector.
+-- For this crate's own clauses: rows that are cut at a sector.
 use Rattle.std.specs.Prelude.{ℕ, ◌+◌, ◌-◌, nat_le, nat_lt, if◌then◌else◌, List, [], ◌∷◌, take, drop}
 use Rattle.std.specs.List.{prefix_len}
 use Rattle.extent_map.specs.declared.extent.Extent.{Extent}
 
 module _ {P : Type 0} where
-  -- the part of a row before the sector, behind which these rows stand
+  -- the part of a row before the sector, and these rows after it
   abbrev pub part_before : ℕ → Extent P → List (Extent P) → List (Extent P)
   part_before at row rows =
       (if nat_le (row.lba + row.sectors) at
@@ -33,7 +33,7 @@ module _ {P : Type 0} (on : ℕ → P → P) where
     place = on (at - row.lba) row.place;
   }
 
-  -- the part of a row from the sector on, behind which these rows stand
+  -- the part of a row from the sector on, and these rows after it
   abbrev pub part_from : ℕ → Extent P → List (Extent P) → List (Extent P)
   part_from at row rows =
       (if nat_le at row.lba

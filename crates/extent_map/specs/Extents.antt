@@ -1,13 +1,17 @@
--- A list of rows as a function from sectors to places, and which lists are the shortest of their function.
-use Rattle.std.specs.Prelude.{ℕ, ◌+◌, ◌-◌, ◌^◌, ◌<◌, ◌≤◌, ◌≡◌, Bool, ◌&&◌, nat_le, nat_lt, if◌then◌else◌, Option, Some, None, List, [], ◌∷◌}
+-- Contract: a list of rows as a function from sectors to places, and which lists are the shortest of their function.
+use Rattle.std.specs.Prelude.{ℕ, ◌+◌, ◌-◌, ◌^◌, ◌<◌, ◌≤◌, ◌≡◌, ◌⊎◌, Bool, ◌&&◌, nat_le, nat_lt, if◌then◌else◌, Option, Some, None, List, [], ◌∷◌, slice_get}
 use Rattle.extent_map.specs.declared.extent.Extent.{Extent}
 
--- the sector k is one of so many from lba on
+-- the sector k is one of the N sectors from lba on
 abbrev pub is_within : ℕ → ℕ → ℕ → Bool
 is_within lba sectors k = nat_le lba k && nat_lt k (lba + sectors)
 
 -- how a map's places go on
 module _ {P : Type 0} (on : ℕ → P → P) where
+  -- the number of a place rises by one with each sector, or it is 0 and stays so, as that of zeros, which stand nowhere
+  abbrev pub NumbersGoOn : (P → ℕ) → Type 0
+  NumbersGoOn number = (n : ℕ) (p : P) → (number (on n p) ≡ number p + n) ⊎ ((number p ≡ 0) × (number (on n p) ≡ 0))
+
   -- the place that rows give a sector, where a row covers it
   abbrev pub place_at : List (Extent P) → ℕ → Option P
   place_at [] k = None
@@ -52,3 +56,24 @@ module _ {P : Type 0} where
   abbrev pub AllFit : (P → ℕ) → List (Extent P) → Type 0
   AllFit number [] = Unit {0}
   AllFit number (row ∷ rows) = Fits number row × AllFit number rows
+
+  -- no sector of a range has a place
+  abbrev pub IsBare : ℕ → ℕ → (ℕ → Option P) → Type 0
+  IsBare lba sectors old = (k : ℕ) → lba ≤ k → k < lba + sectors → old k ≡ None
+
+module _ {P : Type 0} (on : ℕ → P → P) where
+  -- the first row of a range, none where it has no rows: its rows are the shortest list that gives just its sectors
+  -- their places
+  pub record IsFirstOfRange (lba sectors : ℕ) (old : ℕ → Option P) (first : Option (Extent P)) : Type 0 where
+    pub rows : List (Extent P)
+    pub shortest : IsShortest on rows
+    pub places : (k : ℕ) → place_at on rows k ≡ place_in_range lba sectors old k
+    pub is_first : first ≡ slice_get rows 0
+
+  -- a row of sectors of a range, of which those before the row have no place, and those of the row have its places
+  pub record StartsRange (lba sectors : ℕ) (old : ℕ → Option P) (row : Extent P) : Type 0 where
+    pub some : 0 < row.sectors
+    pub from : lba ≤ row.lba
+    pub to : row.lba + row.sectors ≤ lba + sectors
+    pub none_before : (k : ℕ) → lba ≤ k → k < row.lba → old k ≡ None
+    pub places : (k : ℕ) → row.lba ≤ k → k < row.lba + row.sectors → old k ≡ Some (on (k - row.lba) row.place)

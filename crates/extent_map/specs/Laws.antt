@@ -1,8 +1,18 @@
--- What a function on sectors has to do with its shortest list of rows.
-use Rattle.std.specs.Prelude.{ℕ, ◌≡◌, ◌≤◌, List, length}
+-- Contract: what a function on sectors has to do with its shortest list of rows.
+use Rattle.std.specs.Prelude.{ℕ, ◌+◌, ◌≡◌, ◌≤◌, List, [], ◌∷◌, length}
 use Rattle.extent_map.specs.declared.extent.Extent.{Extent}
 use Rattle.extent_map.specs.Extents.{place_at, IsShortest}
-use Rattle.extent_map.specs.Sides.{IsInOrder}
+
+module _ {P : Type 0} where
+  -- the first of these rows begins at this sector or past it
+  abbrev pub StartsFrom : ℕ → List (Extent P) → Type 0
+  StartsFrom at [] = Unit {0}
+  StartsFrom at (row ∷ rows) = at ≤ row.lba
+
+  -- each row ends before the next one begins, or where it does
+  abbrev pub IsInOrder : List (Extent P) → Type 0
+  IsInOrder [] = Unit {0}
+  IsInOrder (row ∷ rows) = StartsFrom (row.lba + row.sectors) rows × IsInOrder rows
 
 -- shortest lists of rows that give each sector the same place are one list
 abbrev pub HasOneShortestList : {P : Type 0} → (ℕ → P → P) → Type 0

@@ -1,4 +1,3 @@
-pub mod Sides
 pub mod Cut
 pub mod Join
 pub mod Extents

@@ -1,4 +1,4 @@
--- What contracts see of a map.
+-- Contract: what contracts see of a map.
 use Rattle.std.specs.Prelude.{ℕ, List, refl}
 use Rattle.std.specs.Coded.{Coded, code_by, coded×, coded_list, coded_ℕ}
 use Rattle.extent_map.specs.declared.extent.Extent.{Extent}

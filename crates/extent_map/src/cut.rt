@@ -6,8 +6,8 @@ use crate::extent::Extent;
 use crate::place::Place;
 use std::alloc::{AllocError, Global};
 
-/// Cuts the rows from an index on at a sector, so that none reaches over it, and answers the index of the first
-/// row from the sector on. There is room for a row.
+// Cuts the rows from an index on at a sector, so that none reaches over it, and answers the index of the first
+// row from the sector on. There is room for a row.
 pub(crate) fn cut<P: Place>(rows: &mut Vec<Extent<P>>, from: usize, at: u64) -> usize
     requires from { from ≤ length rows.old.items }
     requires room { length rows.old.items < vec_capacity rows.old }
@@ -40,8 +40,8 @@ pub(crate) fn cut<P: Place>(rows: &mut Vec<Extent<P>>, from: usize, at: u64) -> 
     index
 }
 
-/// The index of the first of the rows from an index on that begins from a sector on.
-fn first_from<P: Place>(rows: &[Extent<P>], from: usize, at: u64) -> usize
+// The index of the first of the rows from an index on that begins from a sector on.
+pub(crate) fn first_from<P: Place>(rows: &[Extent<P>], from: usize, at: u64) -> usize
     requires from { from ≤ length rows.now }
     requires shortest { IsShortest P.on (drop from rows.now) }
     ensures { result ≡ from + before_count at (drop from rows.now) }
@@ -49,7 +49,7 @@ fn first_from<P: Place>(rows: &[Extent<P>], from: usize, at: u64) -> usize
     from + rows[from..].partition_point(|row| row.lba < at)
 }
 
-/// Takes what rows are between two sectors out, and answers the index where they stood. There is room for two rows.
+// Takes what rows are between two sectors out, and answers the index where they stood. There is room for two rows.
 pub(crate) fn take_out<P: Place>(rows: &mut Vec<Extent<P>>, lba: u64, end: u64) -> usize
     requires order { lba < end }
     requires room { length rows.old.items + 2 ≤ vec_capacity rows.old }
@@ -66,7 +66,7 @@ pub(crate) fn take_out<P: Place>(rows: &mut Vec<Extent<P>>, lba: u64, end: u64) 
     from
 }
 
-/// What rows are from a sector on, for so many sectors. The one error is want of memory.
+// The rows of N sectors from a sector on, cut at both ends. The one error is out of memory.
 pub(crate) fn look<P: Place>(
     alloc: Global,
     rows: &[Extent<P>],
@@ -88,7 +88,7 @@ pub(crate) fn look<P: Place>(
     Ok(found)
 }
 
-/// A copy of the rows that may reach between two sectors, with room for two more.
+// A copy of the rows that may reach between two sectors, with room for two more.
 fn copy_met<P: Place>(
     alloc: Global,
     rows: &[Extent<P>],
@@ -108,7 +108,7 @@ fn copy_met<P: Place>(
     Ok(found)
 }
 
-/// From which index on and up to which the rows may reach between two sectors.
+// From which index on and up to which the rows may reach between two sectors.
 fn met_between<P: Place>(rows: &[Extent<P>], lba: u64, end: u64) -> (usize, usize)
     requires order { lba ≤ end }
     requires shortest { IsShortest P.on rows.now }
@@ -121,7 +121,7 @@ fn met_between<P: Place>(rows: &[Extent<P>], lba: u64, end: u64) -> (usize, usiz
     (early.saturating_sub(1), first_from(rows, 0, end))
 }
 
-/// Removes the rows between two indices.
+// Removes the rows between two indices.
 fn remove<P: Place>(rows: &mut Vec<Extent<P>>, from: usize, to: usize)
     requires order { from ≤ to }
     requires inside { to ≤ length rows.old.items }

@@ -1,8 +1,9 @@
-ghost use Rattle.std.specs.Prelude.{◌≡◌, ◌+◌, ◌≤◌, ◌^◌, ◌<◌, ℕ, [], IfOk, OnOk, IsOk};
-ghost use Rattle.extent_map.specs.Extents.{place_at, place_after_set, place_after_clear, place_in_range, IsShortest, AllFit};
+ghost use Rattle.std.specs.Prelude.{◌≡◌, ◌+◌, ◌≤◌, ◌^◌, ◌<◌, ◌↔◌, ℕ, [], IfOk, OnOk, IsOk, IfSome, IsNone};
+ghost use Rattle.extent_map.specs.Extents.{place_at, place_after_set, place_after_clear, place_in_range, IsShortest, Fits, AllFit, IsFirstOfRange, StartsRange, IsBare};
 
 use crate::cut::{look, take_out};
 use crate::extent::Extent;
+use crate::first::first_between;
 use crate::join::put;
 use crate::place::Place;
 use std::alloc::{AllocError, Global};
@@ -31,7 +32,7 @@ impl<P: Place> Model for ExtentMap<P> {
     ghost invariant = { λ m. IsShortest P.on m.rows.items × AllFit P.number m.rows.items };
 }
 
-/// The rows that one change may add.
+// The rows that one change may add.
 const ROWS_OF_CHANGE: usize = 2;
 
 impl<P: Place> ExtentMap<P> {
@@ -44,8 +45,8 @@ impl<P: Place> ExtentMap<P> {
         }
     }
 
-    /// Makes room for so many changes. The one error is want of memory, which comes only where that room is
-    /// missing. The rows are as before, and no room is lost.
+    /// Makes room for N changes. The one error is out of memory, which comes only where that room is missing.
+    /// The rows are as before, and no room is lost.
     pub fn reserve(&mut self, changes: usize) -> Result<(), AllocError>
         ensures ok { OnOk result (changes ≤ self.new.spare) }
         ensures rows { self.new.rows ≡ self.old.rows }
@@ -68,7 +69,7 @@ impl<P: Place> ExtentMap<P> {
         (self.rows.capacity() - self.rows.len()) / ROWS_OF_CHANGE
     }
 
-    /// All rows. The one error is want of memory.
+    /// All rows. The one error is out of memory.
     pub fn rows(&self, alloc: Global) -> Result<Vec<Extent<P>>, AllocError>
         ensures rows { IfOk result (λ rows. rows.items ≡ self.now.rows) }
         ensures shortest { IsShortest P.on self.now.rows }
@@ -116,7 +117,7 @@ impl<P: Place> ExtentMap<P> {
     }
 
     /// The rows of the sectors from `lba` on alone, cut at the edges of that range: the shortest list that gives
-    /// them their places. The range ends below 2^63 (a condition). The one error is want of memory.
+    /// them their places. The range ends below 2^63 (a condition). The one error is out of memory.
     pub fn look(&self, alloc: Global, lba: u64, sectors: u64) -> Result<Vec<Extent<P>>, AllocError>
         requires { lba + sectors < 2 ^ 63 }
         ensures places { IfOk result (λ rows. (k : ℕ) → place_at P.on rows.items k ≡ place_in_range lba sectors (place_at P.on self.now.rows) k) }
@@ -124,5 +125,17 @@ impl<P: Place> ExtentMap<P> {
         ensures fits { IfOk result (λ rows. AllFit P.number rows.items) }
     {
         look(alloc, &self.rows, lba, sectors)
+    }
+
+    /// The first of the rows that `look` of this range gives, cut at the edges of the range; none where no sector of
+    /// it has a place. The range ends below 2^63 (a condition). It takes no memory.
+    pub fn first_in(&self, lba: u64, sectors: u64) -> Option<Extent<P>>
+        requires { lba + sectors < 2 ^ 63 }
+        ensures first { IsFirstOfRange P.on lba sectors (place_at P.on self.now.rows) result }
+        ensures none { IsNone result ↔ IsBare lba sectors (place_at P.on self.now.rows) }
+        ensures row { IfSome result (StartsRange P.on lba sectors (place_at P.on self.now.rows)) }
+        ensures fits { IfSome result (Fits P.number) }
+    {
+        first_between(&self.rows, lba, lba + sectors)
     }
 }

@@ -7,6 +7,7 @@
 mod cut;
 mod extent;
 mod extent_map;
+mod first;
 mod join;
 mod laws;
 mod place;

@@ -1,18 +1,19 @@
 ghost use Rattle.std.specs.Prelude.{◌≡◌, ◌+◌, ◌^◌, ◌<◌, ◌↔◌, ℕ, IsTrue};
+ghost use Rattle.extent_map.specs.Extents.{NumbersGoOn};
 
-/// Where the data of a sector stand. Places go on one by one.
+/// Where the data of a sector stand. Places go on one by one, or one place stands for each sector, as for zeros.
 pub trait Place: Copy {
-    /// The number of the place, in sectors from the beginning of what it is a place of.
+    /// The number of the place, in sectors from the beginning of what it is a place of; 0 for a place of zeros.
     ghost number: { Self → ℕ };
 
-    /// The place that stands so many sectors on.
+    /// The place that stands N sectors on.
     ghost on: { ℕ → Self → Self };
 
     /// Its number.
     fn number(&self) -> u64
         ensures { result ≡ number self.now };
 
-    /// The place so many sectors on. Its number is below 2^63 (a condition).
+    /// The place N sectors on. Its number and N are below 2^63 together (a condition).
     fn on(&self, sectors: u64) -> Self
         requires { number self.now + sectors < 2 ^ 63 }
         ensures { result ≡ on sectors self.now };
@@ -21,17 +22,17 @@ pub trait Place: Copy {
     fn is_same(&self, other: &Self) -> bool
         ensures { IsTrue result ↔ (self.now ≡ other.now) };
 
-    // A place is itself no sectors on, goes on by sums, and has the number that it went on to.
+    // A place is itself no sectors on and goes on by sums. Its number goes on with it, or is 0 and stays so.
     ghost on_none: { (p : Self) → on 0 p ≡ p };
 
     ghost on_twice: { (a b : ℕ) (p : Self) → on a (on b p) ≡ on (b + a) p };
 
-    ghost number_on: { (n : ℕ) (p : Self) → number (on n p) ≡ number p + n };
+    ghost number_on: { NumbersGoOn on number };
 }
 
 impl Place for u64 {
     ghost use Rattle.std.specs.Prelude.{◌+◌};
-    ghost use Rattle.std.proofs.Common.{arith};
+    ghost use Rattle.std.proofs.Common.{arith, inl};
 
     ghost number = { λ p. p };
 
@@ -53,5 +54,5 @@ impl Place for u64 {
 
     ghost on_twice = { λ a b p. Prim.omega arith };
 
-    ghost number_on = { λ n p. Prim.omega arith };
+    ghost number_on = { λ n p. inl (Prim.omega arith) };
 }

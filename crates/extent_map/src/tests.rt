@@ -1,100 +1,114 @@
 use super::*;
+use Change::{Clear, Set};
+use Spot::{InObject, Zeros};
 use std::alloc::{AllocError, Global};
 use std::test::Fail;
 
-/// How many sectors the tests use.
+// How many sectors the tests use.
 const SECTORS: u64 = 64;
 
-/// A place in an object: the object's number, and a sector of its data.
+// A place in an object, by its number and a sector of its data, or one of zeros, which go on as they are.
 #[derive(Clone, Copy, Debug, PartialEq, Eq)]
-struct InObject {
-    object: u64,
-    at: u64,
+enum Spot {
+    InObject(u64, u64),
+    Zeros,
 }
 
-impl Place for InObject {
+impl Place for Spot {
     ghost use Rattle.std.specs.Prelude.{◌+◌};
-    ghost use Rattle.std.proofs.Common.{arith};
+    ghost use Rattle.std.proofs.Common.{arith, inl, inr, refl};
+    ghost use Rattle.extent_map.specs.declared.tests.Spot.TheVariants.{InObject, Zeros};
 
-    ghost number = { λ p. p.at };
+    ghost number = { elim [ InObject _ at ↦ at | Zeros ↦ 0 ] };
 
-    ghost on = { λ sectors p. record p { at = p.at + sectors } };
+    ghost on = { λ sectors. elim [ InObject object at ↦ InObject object (at + sectors) | Zeros ↦ Zeros ] };
 
     fn number(&self) -> u64 {
-        self.at
-    }
-
-    fn on(&self, sectors: u64) -> InObject {
-        InObject {
-            object: self.object,
-            at: self.at + sectors,
+        match *self {
+            Spot::InObject(_, at) => at,
+            Spot::Zeros => 0,
         }
     }
 
-    fn is_same(&self, other: &InObject) -> bool {
-        self.object == other.object && self.at == other.at
+    fn on(&self, sectors: u64) -> Spot {
+        match *self {
+            Spot::InObject(object, at) => Spot::InObject(object, at + sectors),
+            Spot::Zeros => Spot::Zeros,
+        }
     }
 
-    ghost on_none = { λ p. Prim.grind arith };
+    fn is_same(&self, other: &Spot) -> bool {
+        match (*self, *other) {
+            (Spot::InObject(object, at), Spot::InObject(other_object, other_at)) => {
+                object == other_object && at == other_at
+            }
+            (Spot::Zeros, Spot::Zeros) => true,
+            _ => false,
+        }
+    }
 
-    ghost on_twice = { λ a b p. Prim.grind arith };
+    ghost on_none = { elim [ InObject object at ↦ Prim.grind arith | Zeros ↦ refl ] };
 
-    ghost number_on = { λ n p. Prim.omega arith };
+    ghost on_twice = { λ a b. elim [ InObject object at ↦ Prim.grind arith | Zeros ↦ refl ] };
+
+    ghost number_on = { λ n. elim [ InObject object at ↦ inl refl | Zeros ↦ inr (refl, refl) ] };
 }
 
-/// A change of a map.
+// A change of N sectors from the first number on.
 #[derive(Clone, Copy, Debug)]
 enum Change {
-    /// So many sectors from the first number on were set, to a sector of an object.
-    Set(u64, u64, u64, u64),
-    /// So many sectors from the first number on were cleared.
+    Set(u64, u64, Spot),
     Clear(u64, u64),
 }
 
-/// Makes a change. It lies inside the sectors of the tests.
-fn make(map: &mut ExtentMap<InObject>, change: Change) -> Result<(), Fail> {
+// Makes a change. It lies inside the sectors of the tests.
+fn make(map: &mut ExtentMap<Spot>, change: Change) -> Result<(), Fail> {
     map.reserve(1)?;
-    let (lba, sectors, object, at) = match change {
-        Change::Set(lba, sectors, object, at) => (lba, sectors, object, at),
-        Change::Clear(lba, sectors) => (lba, sectors, 0, 0),
-    };
-    if SECTORS < lba || SECTORS < sectors || 1 << 32 < at {
+    let (Change::Set(lba, sectors, _) | Change::Clear(lba, sectors)) = change;
+    if SECTORS < lba || SECTORS < sectors {
         return Err("past the end")?;
     }
     match change {
-        Change::Set(..) => map.set(lba, sectors, InObject { object, at }),
+        Change::Set(lba, sectors, place) => {
+            if 1 << 32 < place.number() {
+                return Err("a place past the end")?;
+            }
+            map.set(lba, sectors, place);
+        }
         Change::Clear(..) => map.clear(lba, sectors),
     }
     Ok(())
 }
 
-/// Makes a change of places that are kept sector by sector.
-fn make_plainly(places: &mut [Option<InObject>], change: Change) {
-    let (lba, sectors) = match change {
-        Change::Set(lba, sectors, ..) => (lba, sectors),
-        Change::Clear(lba, sectors) => (lba, sectors),
-    };
+// The place N sectors on.
+fn spot_on(place: Spot, sectors: u64) -> Spot {
+    match place {
+        Spot::InObject(object, at) => Spot::InObject(object, at.wrapping_add(sectors)),
+        Spot::Zeros => Spot::Zeros,
+    }
+}
+
+// Makes a change of places that are kept sector by sector.
+fn make_plainly(places: &mut [Option<Spot>], change: Change) {
+    let (Change::Set(lba, sectors, _) | Change::Clear(lba, sectors)) = change;
     for (k, place) in places.iter_mut().enumerate() {
         let on = (k as u64).wrapping_sub(lba);
         if on < sectors {
             *place = match change {
-                Change::Set(_, _, object, at) => Some(InObject {
-                    object,
-                    at: at.wrapping_add(on),
-                }),
+                Change::Set(_, _, first) => Some(spot_on(first, on)),
                 Change::Clear(..) => None,
             };
         }
     }
 }
 
-/// The rows of so many of these places, sector by sector.
+// The rows of N of these places, sector by sector.
 fn plain_rows(
     alloc: Global,
-    places: &[Option<InObject>],
+    places: &[Option<Spot>],
     lba: u64,
     sectors: u64,
-) -> Result<Vec<Extent<InObject>>, AllocError> {
+) -> Result<Vec<Extent<Spot>>, AllocError> {
     let mut rows = Vec::new(alloc);
     for (k, place) in places.iter().enumerate() {
         let k = k as u64;
@@ -107,12 +121,8 @@ fn plain_rows(
     Ok(rows)
 }
 
-/// Adds a sector to the last row where it goes on with that, or else as a row.
-fn add_sector(
-    rows: &mut Vec<Extent<InObject>>,
-    lba: u64,
-    place: InObject,
-) -> Result<(), AllocError> {
+// Adds a sector to the last row where it goes on with that, or else as a row.
+fn add_sector(rows: &mut Vec<Extent<Spot>>, lba: u64, place: Spot) -> Result<(), AllocError> {
     let sector = Extent {
         lba,
         sectors: 1,
@@ -122,11 +132,7 @@ fn add_sector(
         rows.push(sector)?;
         return Ok(());
     };
-    let next = last.place.at.wrapping_add(last.sectors);
-    if last.lba.wrapping_add(last.sectors) == lba
-        && last.place.object == place.object
-        && next == place.at
-    {
+    if last.lba.wrapping_add(last.sectors) == lba && spot_on(last.place, last.sectors) == place {
         let sectors = last.sectors.wrapping_add(1);
         rows.push(Extent { sectors, ..last })?;
     } else {
@@ -136,7 +142,7 @@ fn add_sector(
     Ok(())
 }
 
-/// The next of a list of numbers in no order, below a limit.
+// The next of a list of numbers in no order, below a limit.
 fn next(state: &mut u64, limit: u64) -> u64 {
     *state = state
         .wrapping_mul(6_364_136_223_846_793_005)
@@ -144,14 +150,15 @@ fn next(state: &mut u64, limit: u64) -> u64 {
     (*state >> 33) % limit.max(1)
 }
 
-/// A change of at most 15 sectors. The places of one object mostly go on with one another.
+// A change of at most 15 sectors. The places of one object mostly go on with one another.
 fn next_change(state: &mut u64) -> Change {
     let lba = next(state, SECTORS);
     let sectors = next(state, 16).min(SECTORS.saturating_sub(lba));
     match next(state, 8) {
         0 => Change::Clear(lba, sectors),
-        1 => Change::Set(lba, sectors, 1, lba.wrapping_add(1)),
-        kind => Change::Set(lba, sectors, kind % 2, lba),
+        1 => Change::Set(lba, sectors, Spot::InObject(1, lba.wrapping_add(1))),
+        2 | 3 => Change::Set(lba, sectors, Spot::Zeros),
+        kind => Change::Set(lba, sectors, Spot::InObject(kind % 2, lba)),
     }
 }
 
@@ -178,6 +185,8 @@ fn many_changes_are_those_sector_by_sector(rt: HostRuntime) -> Result<(), Fail> 
             wanted.as_slice(),
             "{step}: {lba} {sectors}"
         );
+        let first = map.first_in(lba, sectors);
+        assert_eq!(rt; first, wanted.first().copied(), "{step}: {lba} {sectors}");
     }
     Ok(())
 }
@@ -185,57 +194,70 @@ fn many_changes_are_those_sector_by_sector(rt: HostRuntime) -> Result<(), Fail> 
 #[test]
 fn changes_are_kept_as_the_shortest_rows(rt: HostRuntime) -> Result<(), Fail> {
     let alloc = rt.alloc();
-    let tables: [(&[Change], &[(u64, u64, u64, u64)]); 12] = [
+    let tables: [(&[Change], &[(u64, u64, Spot)]); 14] = [
         (&[], &[]),
-        (&[Change::Set(5, 0, 1, 9)], &[]),
-        (&[Change::Set(5, 3, 1, 9)], &[(5, 3, 1, 9)]),
+        (&[Set(5, 0, InObject(1, 9))], &[]),
+        (&[Set(5, 3, InObject(1, 9))], &[(5, 3, InObject(1, 9))]),
         // Two that touch are one where the second goes on with the first, and else two.
         (
-            &[Change::Set(5, 3, 1, 9), Change::Set(8, 2, 1, 12)],
-            &[(5, 5, 1, 9)],
+            &[Set(5, 3, InObject(1, 9)), Set(8, 2, InObject(1, 12))],
+            &[(5, 5, InObject(1, 9))],
         ),
         (
-            &[Change::Set(8, 2, 1, 12), Change::Set(5, 3, 1, 9)],
-            &[(5, 5, 1, 9)],
+            &[Set(8, 2, InObject(1, 12)), Set(5, 3, InObject(1, 9))],
+            &[(5, 5, InObject(1, 9))],
         ),
         (
-            &[Change::Set(5, 3, 1, 9), Change::Set(8, 2, 2, 12)],
-            &[(5, 3, 1, 9), (8, 2, 2, 12)],
+            &[Set(5, 3, InObject(1, 9)), Set(8, 2, InObject(2, 12))],
+            &[(5, 3, InObject(1, 9)), (8, 2, InObject(2, 12))],
         ),
         (
-            &[Change::Set(5, 3, 1, 9), Change::Set(8, 2, 1, 13)],
-            &[(5, 3, 1, 9), (8, 2, 1, 13)],
+            &[Set(5, 3, InObject(1, 9)), Set(8, 2, InObject(1, 13))],
+            &[(5, 3, InObject(1, 9)), (8, 2, InObject(1, 13))],
         ),
         // One between two joins both.
         (
             &[
-                Change::Set(0, 4, 1, 0),
-                Change::Set(6, 4, 1, 6),
-                Change::Set(3, 4, 1, 3),
+                Set(0, 4, InObject(1, 0)),
+                Set(6, 4, InObject(1, 6)),
+                Set(3, 4, InObject(1, 3)),
             ],
-            &[(0, 10, 1, 0)],
+            &[(0, 10, InObject(1, 0))],
         ),
         // One inside another splits it, and the rest keeps its places.
         (
-            &[Change::Set(0, 9, 1, 0), Change::Set(3, 2, 2, 0)],
-            &[(0, 3, 1, 0), (3, 2, 2, 0), (5, 4, 1, 5)],
+            &[Set(0, 9, InObject(1, 0)), Set(3, 2, InObject(2, 0))],
+            &[
+                (0, 3, InObject(1, 0)),
+                (3, 2, InObject(2, 0)),
+                (5, 4, InObject(1, 5)),
+            ],
         ),
         (
-            &[Change::Set(0, 9, 1, 0), Change::Set(3, 2, 1, 3)],
-            &[(0, 9, 1, 0)],
+            &[Set(0, 9, InObject(1, 0)), Set(3, 2, InObject(1, 3))],
+            &[(0, 9, InObject(1, 0))],
         ),
         (
-            &[Change::Set(0, 9, 1, 0), Change::Clear(3, 2)],
-            &[(0, 3, 1, 0), (5, 4, 1, 5)],
+            &[Set(0, 9, InObject(1, 0)), Clear(3, 2)],
+            &[(0, 3, InObject(1, 0)), (5, 4, InObject(1, 5))],
         ),
         (
             &[
-                Change::Set(0, 2, 1, 0),
-                Change::Set(4, 2, 2, 0),
-                Change::Set(8, 2, 3, 0),
-                Change::Clear(1, 8),
+                Set(0, 2, InObject(1, 0)),
+                Set(4, 2, InObject(2, 0)),
+                Set(8, 2, InObject(3, 0)),
+                Clear(1, 8),
             ],
-            &[(0, 1, 1, 0), (9, 1, 3, 1)],
+            &[(0, 1, InObject(1, 0)), (9, 1, InObject(3, 1))],
+        ),
+        // Zeros are one row however they are set, and a row of them is cut into zeros.
+        (
+            &[Set(0, 4, Zeros), Set(6, 3, Zeros), Set(4, 2, Zeros)],
+            &[(0, 9, Zeros)],
+        ),
+        (
+            &[Set(0, 9, Zeros), Set(3, 2, InObject(1, 0)), Clear(8, 1)],
+            &[(0, 3, Zeros), (3, 2, InObject(1, 0)), (5, 3, Zeros)],
         ),
     ];
     for (changes, wanted) in tables {
@@ -245,17 +267,13 @@ fn changes_are_kept_as_the_shortest_rows(rt: HostRuntime) -> Result<(), Fail> {
         }
         let rows = map.rows(alloc)?;
         assert_eq!(rt; rows.len(), wanted.len());
-        for (row, (lba, sectors, object, at)) in rows.iter().zip(wanted) {
-            let place = InObject {
-                object: *object,
-                at: *at,
-            };
+        for (row, (lba, sectors, place)) in rows.iter().zip(wanted) {
             assert_eq!(rt;
                 *row,
                 Extent {
                     lba: *lba,
                     sectors: *sectors,
-                    place
+                    place: *place
                 }
             );
         }

@@ -1,4 +1,4 @@
--- The spelling of a name, and which values are names.
+-- Contract: the spelling of a name, and which values are names.
 use Rattle.std.specs.Prelude.{◌≡◌, ℕ, zero, suc, ◌/◌, ◌%◌, ◌^◌, ◌<◌, List, [], ◌∷◌, ◌++◌, length, codes}
 use Rattle.std.specs.Char.{digit_char}
 use Rattle.std.specs.List.{All}
@@ -7,7 +7,7 @@ use Rattle.lsvd_names.specs.declared.name.Kind.{Kind}
 use Rattle.lsvd_names.specs.declared.name.Kind.TheVariants.{Super, Epoch, Object, Hold}
 use Rattle.lsvd_names.specs.declared.name.ObjName.{ObjName}
 
--- the last digits of a number, so many, in lower-case hexadecimal with leading zeros
+-- the last N digits of a number in lower-case hexadecimal, with leading zeros
 unfoldable pub hex_digits : ℕ → ℕ → List ℕ
 hex_digits zero number = []
 hex_digits (suc count) number = hex_digits count (number / 16) ++ digit_char (number % 16) ∷ []
@@ -34,7 +34,7 @@ ending Hold number = word Hold ++ dot ∷ hex_digits 16 number
 abbrev pub spelling : ObjName → List ℕ
 spelling name = hyphenated_text lower name.uuid ++ dot ∷ ending name.kind name.number
 
--- a kind has numbers
+-- a kind has numbers (for this crate's own clauses)
 abbrev pub IsNumbered : Kind → Type 0
 IsNumbered Super = ⊥
 IsNumbered Epoch = Unit {0}

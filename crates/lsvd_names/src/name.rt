@@ -32,7 +32,7 @@ pub struct ObjName {
 }
 
 impl ObjName {
-    /// Spells the name. A super has the number 0 (a condition). The one error is want of memory.
+    /// Spells the name. A super has the number 0 (a condition). The one error is out of memory.
     pub fn print(&self, alloc: Global) -> Result<String, AllocError>
         requires { MayHaveNumber self.now.kind self.now.number }
         ensures { IfOk result (λ text. string_bytes text ≡ spelling self.now) }
@@ -61,7 +61,7 @@ impl ObjName {
     }
 }
 
-/// The kind and the number that stand after the uuid and a dot.
+// The kind and the number that stand after the uuid and a dot.
 fn kind_and_number(text: &str) -> Option<(Kind, u64)>
     ensures found { IfSome result (λ found. MayHaveNumber found.0 found.1 × (text.now ≡ ending found.0 found.1)) }
     ensures none { IfNone result ((kind : Kind) (number : ℕ) → text.now ≡ ending kind number → ⊥) }
@@ -73,7 +73,7 @@ fn kind_and_number(text: &str) -> Option<(Kind, u64)>
     Some((kind_of(word)?, number_of(digits.as_bytes())?))
 }
 
-/// The kind with a number that has this word. None is where there is none.
+// The kind with a number that has this word. None is where there is none.
 fn kind_of(text: &str) -> Option<Kind>
     ensures found { IfSome result (λ kind. IsNumbered kind × (text.now ≡ word kind)) }
     ensures none { IfNone result ((kind : Kind) → IsNumbered kind → text.now ≡ word kind → ⊥) }

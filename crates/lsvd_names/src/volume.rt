@@ -4,8 +4,8 @@ ghost use Rattle.lsvd_names.specs.Spelling.{IsUuid};
 
 use uuid::Uuid;
 
-/// The uuid that a text spells in lower case with hyphens. None is for any other text, also for the other
-/// forms of a uuid.
+// The uuid that a text spells in lower case with hyphens. None is for any other text, also for the other
+// forms of a uuid.
 pub(crate) fn uuid_of(text: &str) -> Option<Uuid>
     ensures found { IfSome result (λ uuid. IsUuid uuid × (text.now ≡ hyphenated_text lower uuid)) }
     ensures none { IfNone result ((uuid : List ℕ) → IsUuid uuid → text.now ≡ hyphenated_text lower uuid → ⊥) }

@@ -1,8 +1,9 @@
--- What follows from the calls of a store.
+-- Contract: what follows from the calls of a store.
 use Rattle.std.specs.Prelude.{◌≡◌, ℕ, ◌⊎◌, List, Some, None}
 use Rattle.lsvd_names.specs.declared.name.ObjName.{ObjName}
 use Rattle.lsvd_objstore.specs.Objects.{Objects, found, MayBePut, MayBeRemoved, Lists}
-use Rattle.lsvd_objstore.specs.Store.{StoreState, CountsOne}
+use Rattle.lsvd_objstore.specs.Store.{StoreState}
+use Rattle.lsvd_fault.specs.Faults.{CountsOne}
 
 -- after a put, acknowledged or not, each name has the bytes that it had, or it is the name put and has the whole new ones
 abbrev pub PutsWhole : Type 0

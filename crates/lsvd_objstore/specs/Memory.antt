@@ -1,5 +1,5 @@
--- What contracts see of a store in memory and of its receipts.
-use Rattle.std.specs.Prelude.{ℕ, ◌-◌, ◌^◌, List, Some, length}
+-- Contract: what is seen of a store in memory and of its receipts.
+use Rattle.std.specs.Prelude.{ℕ, ◌-◌, ◌^◌, List, Some, None, length}
 use Rattle.std.specs.List.{AllByRecursion}
 use Rattle.lsvd_names.specs.Spelling.{IsName}
 use Rattle.lsvd_names.specs.declared.name.ObjName.{ObjName}
@@ -7,9 +7,9 @@ use Rattle.lsvd_names.specs.declared.name.Kind.TheVariants.{Super, Hold}
 use Rattle.lsvd_objstore.specs.Objects.{Objects}
 use Rattle.lsvd_objstore.specs.Store.{StoreState, ReceiptState}
 
--- a store in memory tells what it holds, and has no faults
+-- a store in memory tells what it holds and not what it was asked, and has no faults
 abbrev pub told_state : Objects → StoreState
-told_state objects = record { objects = Some objects; faults = 0 }
+told_state objects = record { objects = Some objects; asked = None; faults = 0 }
 
 -- a receipt of a store in memory is the object itself
 pub record Kept : Type 0 where

@@ -1,4 +1,4 @@
--- What a store holds: a finite map from the names of objects to their bytes.
+-- Contract: what a store holds: a finite map from the names of objects to their bytes.
 use Rattle.std.specs.Prelude.{◌≡◌, ℕ, ◌⊎◌, List, Option, Some, None, IsSome}
 use Rattle.std.specs.List.{Contains}
 use Rattle.std.specs.List.Sorted.{IsStrictlySortedBy}

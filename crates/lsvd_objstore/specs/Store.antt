@@ -1,15 +1,21 @@
--- What contracts see of a store and of a receipt, and what the calls of a store do.
-use Rattle.std.specs.Prelude.{◌≡◌, ℕ, ◌+◌, ◌-◌, ◌^◌, ◌≤◌, min, Bool, true, false, List, length, Option, Some, None, IfSome, Result, Ok, Err}
-use Rattle.lsvd_fault.specs.Faults.{HasRisen}
+-- Contract: what is seen of a store and of a receipt, and what the calls of a store do.
+use Rattle.std.specs.Prelude.{◌≡◌, ℕ, Bool, true, false, List, ◌∷◌, length, Option, Some, None, IfSome, Result, Ok, Err}
 use Rattle.lsvd_names.specs.declared.name.ObjName.{ObjName}
 use Rattle.lsvd_objstore.specs.Objects.{Objects, found}
 use Rattle.lsvd_objstore.specs.declared.error.StoreError.{StoreError}
 use Rattle.lsvd_objstore.specs.declared.error.StoreError.TheVariants.{Failed, OutOfMemory}
 
+-- a put or a removal that was asked of a store
+pub data StoreCall : Type 0 where
+  Put : (name : ObjName) (bytes : List ℕ) → StoreCall
+  Remove : (name : ObjName) → StoreCall
+
 -- a store
 pub record StoreState : Type 0 where
   -- what it holds, where it tells that
   pub objects : Option Objects
+  -- the puts and removals that were asked of it, the newest first, where it tells them
+  pub asked : Option (List StoreCall)
   -- how often a call has failed; the count stands at the greatest number of its type
   pub faults : ℕ
 
@@ -27,25 +33,25 @@ pub record IsReceiptOf (name : ObjName) (bytes : List ℕ) (receipt : ReceiptSta
   pub size : receipt.size ≡ length bytes
   pub told : IfSome receipt.told (λ told. told ≡ bytes)
 
+-- both stand for one object: one name, one length, and the same bytes, where both tell them
+pub record IsSameObject (a b : ReceiptState) : Type 0 where
+  pub named : a.name ≡ b.name
+  pub size : a.size ≡ b.size
+  pub told : IfSome a.told (λ bytes. IfSome b.told (λ others. bytes ≡ others))
+
+-- where a store tells what it was asked, it was asked one call more
+abbrev pub Asks : StoreCall → Option (List StoreCall) → Option (List StoreCall) → Type 0
+Asks call None new = new ≡ None
+Asks call (Some calls) new = new ≡ Some (call ∷ calls)
+
+-- nothing changed but the count of faults
+abbrev pub OnlyCounts : StoreState → StoreState → Type 0
+OnlyCounts old new = new ≡ record old { faults = new.faults }
+
 -- where a store tells what it holds, a call changes it so, and it goes on telling
 abbrev pub Becomes : (Objects → Objects → Type 0) → Option Objects → Option Objects → Type 0
 Becomes Change None new = new ≡ None
 Becomes Change (Some old) new = (objects : Objects) × (new ≡ Some objects) × Change old objects
-
--- a count that stands at the greatest number of its type
-abbrev pub counted_with : ℕ → ℕ → ℕ
-counted_with count more = min (count + more) (2 ^ 64 - 1)
-
--- one more fault was counted
-pub record CountsOne (before now : ℕ) : Type 0 where
-  pub risen : HasRisen before now
-  pub kept : before ≤ now
-  pub most : now ≤ before + 1
-
--- a call that failed was counted, and no other
-abbrev pub Counts : Bool → ℕ → ℕ → Type 0
-Counts true before now = CountsOne before now
-Counts false before now = now ≡ before
 
 -- a call of the store failed
 abbrev pub has_failed : {T : Type 0} → Result T StoreError → Bool

@@ -11,7 +11,7 @@ pub enum StoreError {
     /// The store could not be reached, or did not acknowledge what it was asked for. It counted the fault.
     #[error("a call of the store failed")]
     Failed,
-    /// Memory lacked. Nothing changed, and no fault was counted.
+    /// Memory ran out. Nothing changed, and no fault was counted.
     #[error("out of memory")]
     OutOfMemory,
 }

@@ -1,7 +1,8 @@
 ghost use Rattle.std.specs.Prelude.{◌≡◌, ℕ, ◌+◌, ◌≤◌, length, take, drop, option_map, IfOk, IfSome, OnOk, OnErr, IsErrOf, is_ok, is_err};
 ghost use Rattle.lsvd_names.specs.Spelling.{IsName};
 ghost use Rattle.lsvd_objstore.specs.Objects.{IsPut, MayBePut, IsRemoved, MayBeRemoved, AreNamesOf, Lists};
-ghost use Rattle.lsvd_objstore.specs.Store.{IsReceiptOf, Becomes, Counts, has_failed, counted_with, Finds};
+ghost use Rattle.lsvd_objstore.specs.Store.{Put, Remove, IsReceiptOf, Asks, OnlyCounts, Becomes, has_failed, Finds};
+ghost use Rattle.lsvd_fault.specs.Faults.{counted_with, Counts};
 ghost use Rattle.lsvd_objstore.specs.Faulty.{Plan, planned_at, planned_in, faulty_state, IsLost, Lands, IsCall};
 
 use crate::error::StoreError;
@@ -24,9 +25,9 @@ pub struct PlannedFault {
     pub lands: bool,
 }
 
-/// A store before which calls fail as planned. Every other call is passed on to the store behind it.
+/// A store before which calls fail as planned. Every other call is passed on to the store under it.
 ///
-/// A planned call answers `Failed` and counts a fault. One that lands is made first; where the store behind gives it no
+/// A planned call answers `Failed` and counts a fault. One that lands is made first; where the store under it gives it no
 /// answer, that is the error, and counts there alone. The count of calls stands at `u64::MAX`.
 #[derive(Drop)]
 pub struct FaultStore<S: Store> {
@@ -48,8 +49,8 @@ impl<S: Store> Model for FaultStore<S> {
 }
 
 impl<S: Store + Drop> FaultStore<S> {
-    /// The store, before which these calls fail. Of two faults of one call the last counts. The one error is want of
-    /// memory.
+    /// The store, before which these calls fail. Of two faults of one call the last counts. The one error is that memory
+    /// ran out.
     pub fn new(
         alloc: Global,
         store: S,
@@ -71,7 +72,7 @@ impl<S: Store + Drop> FaultStore<S> {
 }
 
 impl<S: Store> FaultStore<S> {
-    /// Gives the store behind back.
+    /// Gives the store under it back.
     pub fn into_store(self) -> S
         ensures { self.store ≡ S.state result }
     {
@@ -79,7 +80,7 @@ impl<S: Store> FaultStore<S> {
     }
 }
 
-/// The faults by their calls.
+// The faults by their calls.
 fn plan_of(alloc: Global, planned: &[PlannedFault]) -> Result<BTreeMap<u64, bool>, AllocError>
     ensures { IfOk result (λ plan. (call : ℕ) → planned_at plan.entries call ≡ planned_in planned.now call) }
 {
@@ -106,6 +107,7 @@ impl<S: Store> Store for FaultStore<S> {
         ensures receipt { IfOk result (λ receipt. IsReceiptOf name.now bytes.now (S.Receipt.state receipt)) }
         ensures failed { IsErrOf result StoreError.Failed → Becomes (MayBePut name.now bytes.now) self.old.store.objects self.new.store.objects }
         ensures unchanged { IsErrOf result StoreError.OutOfMemory → faulty_state self.new ≡ faulty_state self.old }
+        ensures asked { (IsErrOf result StoreError.OutOfMemory → ⊥) → Asks (Put name.now bytes.now) (faulty_state self.old).asked (faulty_state self.new).asked }
         ensures count { Counts (has_failed result) (faulty_state self.old).faults (faulty_state self.new).faults }
         ensures call { IsCall (has_failed result) (Lands (is_ok result) (has_failed result) (IsPut name.now bytes.now) self.old self.new) self.old self.new }
     {
@@ -123,7 +125,7 @@ impl<S: Store> Store for FaultStore<S> {
     fn get(&mut self, receipt: &S::Receipt, from: u64, buf: &mut [u8]) -> Result<(), Failed>
         requires { from + length buf.old ≤ (S.Receipt.state receipt.now).size }
         ensures bytes { OnOk result (IfSome (S.Receipt.state receipt.now).told (λ told. buf.new ≡ take (length buf.old) (drop from told))) }
-        ensures unchanged { self.new.store.objects ≡ self.old.store.objects }
+        ensures unchanged { OnlyCounts (faulty_state self.old) (faulty_state self.new) }
         ensures count { Counts (is_err result) (faulty_state self.old).faults (faulty_state self.new).faults }
         ensures call { IsCall (is_err result) (IsLost (is_err result) self.old self.new) self.old self.new }
     {
@@ -136,7 +138,7 @@ impl<S: Store> Store for FaultStore<S> {
     fn find(&mut self, alloc: Global, name: &ObjName) -> Result<Option<S::Receipt>, StoreError>
         requires { IsName name.now }
         ensures found { IfOk result (λ receipt. Finds name.now self.old.store.objects (option_map S.Receipt.state receipt)) }
-        ensures unchanged { self.new.store.objects ≡ self.old.store.objects }
+        ensures unchanged { OnlyCounts (faulty_state self.old) (faulty_state self.new) }
         ensures count { Counts (has_failed result) (faulty_state self.old).faults (faulty_state self.new).faults }
         ensures call { IsCall (has_failed result) (IsLost (has_failed result) self.old self.new) self.old self.new }
     {
@@ -149,7 +151,7 @@ impl<S: Store> Store for FaultStore<S> {
     fn list(&mut self, alloc: Global, uuid: Uuid) -> Result<Names, StoreError>
         ensures names { IfOk result (AreNamesOf uuid) }
         ensures listed { IfOk result (λ names. IfSome self.old.store.objects (λ objects. Lists uuid objects names)) }
-        ensures unchanged { self.new.store.objects ≡ self.old.store.objects }
+        ensures unchanged { OnlyCounts (faulty_state self.old) (faulty_state self.new) }
         ensures count { Counts (has_failed result) (faulty_state self.old).faults (faulty_state self.new).faults }
         ensures call { IsCall (has_failed result) (IsLost (has_failed result) self.old self.new) self.old self.new }
     {
@@ -162,6 +164,7 @@ impl<S: Store> Store for FaultStore<S> {
     fn remove(&mut self, receipt: &S::Receipt) -> Result<(), Failed>
         ensures removed { OnOk result (Becomes (IsRemoved (S.Receipt.state receipt.now).name) self.old.store.objects self.new.store.objects) }
         ensures failed { OnErr result (Becomes (MayBeRemoved (S.Receipt.state receipt.now).name) self.old.store.objects self.new.store.objects) }
+        ensures asked { Asks (Remove (S.Receipt.state receipt.now).name) (faulty_state self.old).asked (faulty_state self.new).asked }
         ensures count { Counts (is_err result) (faulty_state self.old).faults (faulty_state self.new).faults }
         ensures call { IsCall (is_err result) (Lands (is_ok result) (is_err result) (IsRemoved (S.Receipt.state receipt.now).name) self.old self.new) self.old self.new }
     {
@@ -181,7 +184,7 @@ impl<S: Store> Store for FaultStore<S> {
     }
 }
 
-/// Counts a call. Where it is to fail, the answer is whether it lands.
+// Counts a call. Where it is to fail, the answer is whether it lands.
 fn begin(planned: &BTreeMap<u64, bool>, calls: &mut u64) -> Option<bool>
     ensures calls { calls.new ≡ counted_with calls.old 1 }
     ensures fate { result ≡ planned_at planned.now.entries calls.new }
@@ -190,7 +193,7 @@ fn begin(planned: &BTreeMap<u64, bool>, calls: &mut u64) -> Option<bool>
     planned.get(&*calls).copied()
 }
 
-/// Counts a planned fault.
+// Counts a planned fault.
 fn fail(failed: &mut u64) -> Failed
     ensures { failed.new ≡ counted_with failed.old 1 }
 {

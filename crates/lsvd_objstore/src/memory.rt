@@ -36,10 +36,13 @@ impl Model for MemReceipt {
 }
 
 impl Receipt for MemReceipt {
-    ghost use Rattle.std.proofs.Common.{refl};
-    ghost use Rattle.lsvd_objstore.specs.Memory.{told_receipt};
+    ghost use Rattle.std.specs.Prelude.{◌≡◌};
+    ghost use Rattle.std.proofs.Common.{refl, ap};
+    ghost use Rattle.lsvd_objstore.specs.Memory.{Kept, told_receipt};
 
     ghost state = { told_receipt };
+
+    ghost are_same = { λ receipt other. receipt ≡ other };
 
     fn name(&self) -> ObjName {
         self.name
@@ -62,9 +65,15 @@ impl Receipt for MemReceipt {
     }
 
     ghost told_whole = { λ _. refl };
+
+    ghost only_same = { λ receipt other one. record {
+      named = ap (λ (kept : Kept). kept.name) one;
+      size = ap (λ (kept : Kept). (told_receipt kept).size) one;
+      told = ap (λ (kept : Kept). kept.bytes) one;
+    } };
 }
 
-/// A store in memory. It tells what it holds, and none of its calls fails, other than for want of memory.
+/// A store in memory. It tells what it holds, and none of its calls fails, other than where memory ran out.
 #[derive(Drop)]
 pub struct MemStore {
     objects: BTreeMap<ObjName, Bytes>,
@@ -141,7 +150,7 @@ impl Store for MemStore {
     }
 }
 
-/// Keeps an object, in place of one with its name.
+// Keeps an object, in place of one with its name.
 fn keep(
     objects: &mut BTreeMap<ObjName, Bytes>,
     name: ObjName,
@@ -157,7 +166,7 @@ fn keep(
     Ok(())
 }
 
-/// The names of a volume's objects, in ascending order.
+// The names of a volume's objects, in ascending order.
 fn names_of(
     alloc: Global,
     objects: &BTreeMap<ObjName, Bytes>,
@@ -171,7 +180,7 @@ fn names_of(
     Ok(names)
 }
 
-/// The names of the objects from the first to the last.
+// The names of the objects from the first to the last.
 fn names_between(
     alloc: Global,
     objects: &BTreeMap<ObjName, Bytes>,
@@ -188,7 +197,7 @@ fn names_between(
         .collect(alloc)
 }
 
-/// The first name that an object of the volume may have.
+// The first name that an object of the volume may have.
 fn first_name(uuid: Uuid) -> ObjName
     ensures { result ≡ first_name_of uuid }
 {
@@ -199,7 +208,7 @@ fn first_name(uuid: Uuid) -> ObjName
     }
 }
 
-/// The last one.
+// The last one.
 fn last_name(uuid: Uuid) -> ObjName
     ensures { result ≡ last_name_of uuid }
 {

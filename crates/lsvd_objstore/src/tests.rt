@@ -26,7 +26,7 @@ const OTHER_HOLD: &str = "00000000-0000-4000-8000-000000000000.hold.ffffffffffff
 
 const THIRD_SUPER: &str = "00000000-0000-4000-8000-000000000002.super";
 
-/// The name that a text spells.
+// The name that a text spells.
 fn name(text: &str) -> Result<ObjName, Fail>
     ensures { IfOk result IsName }
 {
@@ -40,7 +40,7 @@ fn object(alloc: Global, bytes: &[u8]) -> Result<ObjectBytes, Fail> {
     Ok(ObjectBytes::from_bytes(bytes.to_vec(alloc)?))
 }
 
-/// So many bytes of a receipt, from a place on.
+// `count` bytes of a receipt, from a place on.
 fn part<S: Store>(
     alloc: Global,
     store: &mut S,
@@ -57,7 +57,7 @@ fn part<S: Store>(
     Ok(part)
 }
 
-/// All bytes of the object with a name, if there is one.
+// All bytes of the object with a name, if there is one.
 fn held<S: Store>(alloc: Global, store: &mut S, text: &str) -> Result<Option<Vec<u8>>, Fail> {
     let Some(receipt) = store.find(alloc, &name(text)?)? else {
         return Ok(None);
@@ -66,7 +66,7 @@ fn held<S: Store>(alloc: Global, store: &mut S, text: &str) -> Result<Option<Vec
     Ok(Some(part(alloc, store, &receipt, 0, count)?))
 }
 
-/// Whether the object with a name has these bytes, or there is none.
+// Whether the object with a name has these bytes, or there is none.
 fn holds<S: Store>(
     alloc: Global,
     store: &mut S,
@@ -80,7 +80,7 @@ fn holds<S: Store>(
     })
 }
 
-/// Puts an object.
+// Puts an object.
 fn put<S: Store>(
     alloc: Global,
     store: &mut S,
@@ -90,7 +90,7 @@ fn put<S: Store>(
     Ok(store.put(alloc, &name(text)?, &object(alloc, bytes)?)?)
 }
 
-/// Removes an object, and then removes it again.
+// Removes an object, and then removes it again.
 fn remove_twice<S: Store>(alloc: Global, store: &mut S, text: &str) -> Result<(), Fail> {
     if let Some(receipt) = store.find(alloc, &name(text)?)? {
         store.remove(&receipt)?;
@@ -99,7 +99,7 @@ fn remove_twice<S: Store>(alloc: Global, store: &mut S, text: &str) -> Result<()
     Ok(())
 }
 
-/// Puts and removals on a store of which no call fails. After each, two names are looked for.
+// Puts and removals on a store of which no call fails. After each, two names are looked for.
 fn put_and_remove<S: Store>(alloc: Global, rt: &impl Abort, store: &mut S) -> Result<(), Fail> {
     let one: Option<&[u8]> = Some(b"one");
     let longer: Option<&[u8]> = Some(b"longer than before");
@@ -190,8 +190,8 @@ fn a_list_has_the_names_of_one_volume_in_order(rt: HostRuntime) -> Result<(), Fa
     Ok(())
 }
 
-/// A put over an object, a get of three bytes of the receipt, a find, a list and a removal: which of them were
-/// acknowledged, and the length of what was found, or 0.
+// A put over an object, a get of three bytes of the receipt, a find, a list and a removal: which of them were
+// acknowledged, and the length of what was found, or 0.
 fn five_calls<S: Store>(
     alloc: Global,
     store: &mut S,

@@ -32,7 +32,7 @@ number_of_fits Checkpoint = omega arith
 
 -- ---- the shape of a header
 
--- what stands up to the end of the uuid, and behind it
+-- what stands up to the end of the uuid, and after it
 abbrev front_of : Header → List ℕ
 front_of header = codes "LSVDOBJ1" ++ to_be_bytes w32 (number_of header.kind) ++ header.uuid
 

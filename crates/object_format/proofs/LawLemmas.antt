@@ -1,6 +1,6 @@
 -- Written objects are read again, in one way.
-use Rattle.std.proofs.Common.{◌≡◌, ℕ, ◌+◌, ◌*◌, ◌^◌, ◌<◌, List, [], ◌∷◌, ◌++◌, length, take, replicate, refl, sym, ◌∙◌, ap, subst, append_assoc, arith}
-use Rattle.std.proofs.lemmas.List.{length-append, length-replicate, take_at, drop_at}
+use Rattle.std.proofs.Common.{◌≡◌, ℕ, ◌+◌, ◌*◌, ◌^◌, ◌<◌, ◌≤◌, List, [], ◌∷◌, ◌++◌, length, take, replicate, refl, sym, ◌∙◌, ap, subst, append_assoc, arith}
+use Rattle.std.proofs.lemmas.List.{length-append, length-replicate, take_at, drop_at, take-append-le}
 use Rattle.std.proofs.Math.Nat.{mul-suc}
 use Rattle.std.specs.List.{flat_map}
 use Rattle.lsvd_bytes.specs.Places.{bytes_at}
@@ -9,12 +9,14 @@ use Rattle.object_format.specs.declared.expected.Expected.{Expected}
 use Rattle.object_format.specs.declared.rows.Rows.{Rows}
 use Rattle.object_format.specs.declared.rows.Rows.TheVariants.{Data, Copy, Checkpoint}
 use Rattle.object_format.specs.Layout.{rows_length, rows_end, padding, length_of}
-use Rattle.object_format.specs.Header.{header_bytes}
+use Rattle.object_format.specs.Header.{header_bytes, header_in}
 use Rattle.object_format.specs.Rows.{data_row_bytes, copy_row_bytes, rows_bytes, kind_of, count_of}
 use Rattle.object_format.specs.Object.{IsObject}
 use Rattle.object_format.specs.Writing.{header_of, front_bytes}
-use Rattle.object_format.specs.Laws.{WritesObjects, AreSameRows, HasOneReading}
+use Rattle.object_format.specs.Laws.{WritesObjects, AreSameRows, HasOneReading, BeginsNoOther}
+use Rattle.std.specs.Prelude.{Some}
 use Rattle.object_format.proofs.HeaderLemmas.{length-header_bytes}
+use Rattle.object_format.proofs.TestLemmas.{header_in-IsHeader}
 use Rattle.object_format.proofs.RowLemmas.{length-data_row_bytes, length-copy_row_bytes}
 use Rattle.object_format.proofs.ObjectLemmas.{same_header, data_of_object, copies_of_object}
 
@@ -80,13 +82,14 @@ writes_objects expected first_seq end_seq rows payload widths may size =
     record {
       head = record {
         head = ap (take 64) splits ∙ take_at head (part ++ (zeros ++ payload)) 64 head_size;
-        size = whole;
+        has_size = whole;
         uuid = refl;
         number = refl;
         seqs = may.seqs;
         limits = may.limits;
         widths = widths;
       };
+      whole_front = omega (arith, whole);
       rows_are = record { kind = refl; count = refl; spelling = may.spelling };
       row_bytes =
           ap (λ xs. bytes_at 64 (rows_length header.kind header.rows) xs) splits
@@ -102,24 +105,39 @@ writes_objects expected first_seq end_seq rows payload widths may size =
 
 -- ---- an object has one reading
 
-same_rows : (bytes : List ℕ) (expected : Expected) (header : Header) (rows others : Rows) → expected.sectors < 2 ^ 64
-    → IsObject bytes expected header rows → IsObject bytes expected header others → AreSameRows rows others
-same_rows bytes expected header (Data rows) (Data others) wide is other =
-    sym (data_of_object bytes expected header rows.items wide is.head is.rows_are.count is.rows_are.spelling is.row_bytes)
-    ∙ data_of_object bytes expected header others.items wide other.head other.rows_are.count other.rows_are.spelling other.row_bytes
-same_rows bytes expected header (Copy rows) (Copy others) wide is other =
-    sym (copies_of_object bytes expected header rows.items wide is.head is.rows_are.count is.rows_are.spelling is.row_bytes)
-    ∙ copies_of_object bytes expected header others.items wide other.head other.rows_are.count other.rows_are.spelling other.row_bytes
-same_rows bytes expected header Checkpoint Checkpoint wide is other = tt
-same_rows bytes expected header (Data rows) (Copy others) wide is other = let e = is.rows_are.kind ∙ sym other.rows_are.kind in cc
-same_rows bytes expected header (Data rows) Checkpoint wide is other = let e = is.rows_are.kind ∙ sym other.rows_are.kind in cc
-same_rows bytes expected header (Copy rows) (Data others) wide is other = let e = is.rows_are.kind ∙ sym other.rows_are.kind in cc
-same_rows bytes expected header (Copy rows) Checkpoint wide is other = let e = is.rows_are.kind ∙ sym other.rows_are.kind in cc
-same_rows bytes expected header Checkpoint (Data others) wide is other = let e = is.rows_are.kind ∙ sym other.rows_are.kind in cc
-same_rows bytes expected header Checkpoint (Copy others) wide is other = let e = is.rows_are.kind ∙ sym other.rows_are.kind in cc
+same_rows : (bytes : List ℕ) (size : ℕ) (expected : Expected) (header : Header) (rows others : Rows) → expected.sectors < 2 ^ 64
+    → IsObject bytes size expected header rows → IsObject bytes size expected header others → AreSameRows rows others
+same_rows bytes size expected header (Data rows) (Data others) wide is other =
+    sym (data_of_object bytes size expected header rows.items wide is.head is.rows_are.count is.rows_are.spelling is.row_bytes)
+    ∙ data_of_object bytes size expected header others.items wide other.head other.rows_are.count other.rows_are.spelling other.row_bytes
+same_rows bytes size expected header (Copy rows) (Copy others) wide is other =
+    sym (copies_of_object bytes size expected header rows.items wide is.head is.rows_are.count is.rows_are.spelling is.row_bytes)
+    ∙ copies_of_object bytes size expected header others.items wide other.head other.rows_are.count other.rows_are.spelling other.row_bytes
+same_rows bytes size expected header Checkpoint Checkpoint wide is other = tt
+same_rows bytes size expected header (Data rows) (Copy others) wide is other = let e = is.rows_are.kind ∙ sym other.rows_are.kind in cc
+same_rows bytes size expected header (Data rows) Checkpoint wide is other = let e = is.rows_are.kind ∙ sym other.rows_are.kind in cc
+same_rows bytes size expected header (Copy rows) (Data others) wide is other = let e = is.rows_are.kind ∙ sym other.rows_are.kind in cc
+same_rows bytes size expected header (Copy rows) Checkpoint wide is other = let e = is.rows_are.kind ∙ sym other.rows_are.kind in cc
+same_rows bytes size expected header Checkpoint (Data others) wide is other = let e = is.rows_are.kind ∙ sym other.rows_are.kind in cc
+same_rows bytes size expected header Checkpoint (Copy others) wide is other = let e = is.rows_are.kind ∙ sym other.rows_are.kind in cc
 
 pub has_one_reading : HasOneReading
-has_one_reading bytes expected a b rows others wide is_a is_b =
-    let same = same_header bytes expected a b is_a.head is_b.head in
-    let P : Header → Type 0 = λ h. IsObject bytes expected h others in
-    (same, same_rows bytes expected a rows others wide is_a (subst P (sym same) is_b))
+has_one_reading bytes size expected a b rows others wide is_a is_b =
+    let same = same_header bytes size expected a b is_a.head is_b.head in
+    let P : Header → Type 0 = λ h. IsObject bytes size expected h others in
+    (same, same_rows bytes size expected a rows others wide is_a (subst P (sym same) is_b))
+
+-- ---- no object begins another
+
+no_more : (xs ys : List ℕ) → length (xs ++ ys) ≡ length xs → ys ≡ []
+no_more xs [] same = refl
+no_more xs (y ∷ ys) same = absurd (omega (arith, length-append xs (y ∷ ys), same))
+
+pub begins_no_other : BeginsNoOther
+begins_no_other bytes more expected another a b is_a is_b =
+    let long : 64 ≤ length bytes = omega (arith, is_a.has_size) in
+    let front : take 64 (bytes ++ more) ≡ take 64 bytes = take-append-le 64 bytes more long in
+    let e : header_in (take 64 bytes) ≡ Some a = header_in-IsHeader bytes (length bytes) expected a is_a in
+    let f : header_in (take 64 bytes) ≡ Some b = ap header_in (sym front) ∙ header_in-IsHeader (bytes ++ more) (length (bytes ++ more)) another b is_b in
+    let same : a ≡ b = cc in
+    no_more bytes more (is_b.has_size ∙ sym (ap length_of same) ∙ sym is_a.has_size)

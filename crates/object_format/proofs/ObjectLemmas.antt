@@ -57,37 +57,34 @@ read_count header bytes (Data rows) is = ap length is.1 ∙ length-rows_in 24 da
 read_count header bytes (Copy rows) is = ap length is.1 ∙ length-rows_in 44 copy_row_in header.rows bytes
 read_count header bytes Checkpoint is = sym is.1
 
--- there is room for the rows and the zeros behind them
-pub room_for_front : (bytes : List ℕ) (expected : Expected) (header : Header) → IsHeader bytes expected header
-    → 512 * front_sectors header ≤ length bytes
-room_for_front bytes expected header is = omega (arith, is.size)
-
+-- the rows end in the front
 pub rows_end_first : (header : Header) → rows_end header ≤ 512 * front_sectors header
 rows_end_first header = omega arith
 
 abbrev pub row_part : Header → List ℕ → List ℕ
 row_part header bytes = bytes_at 64 (rows_length header.kind header.rows) bytes
 
-pub length-row_part : (bytes : List ℕ) (expected : Expected) (header : Header) → IsHeader bytes expected header
+pub length-row_part : (bytes : List ℕ) (header : Header) → 512 * front_sectors header ≤ length bytes
     → length (row_part header bytes) ≡ rows_length header.kind header.rows
-length-row_part bytes expected header is =
-    length_of_part 64 (rows_length header.kind header.rows) bytes (omega (arith, room_for_front bytes expected header is, rows_end_first header))
+length-row_part bytes header room =
+    length_of_part 64 (rows_length header.kind header.rows) bytes (omega (arith, room, rows_end_first header))
 
-pub object_if_read : (bytes : List ℕ) (expected : Expected) (header : Header) (rows : Rows) → IsBytes bytes
-    → IsHeader bytes expected header → AreReadAs header (row_part header bytes) rows
+pub object_if_read : (bytes : List ℕ) (size : ℕ) (expected : Expected) (header : Header) (rows : Rows) → IsBytes bytes
+    → IsHeader bytes size expected header → 512 * front_sectors header ≤ length bytes → AreReadAs header (row_part header bytes) rows
     → bytes_at (rows_end header) (padding header) bytes ≡ replicate (padding header) 0
-    → IsTrue (may_stand expected.sectors header rows) → IsObject bytes expected header rows
-object_if_read bytes expected header rows fits head is zeros stand =
+    → IsTrue (may_stand expected.sectors header rows) → IsObject bytes size expected header rows
+object_if_read bytes size expected header rows fits head room is zeros stand =
     let part = row_part header bytes in
     let part_fits = bytes_of_part 64 (rows_length header.kind header.rows) bytes fits in
     record {
       head = head;
+      whole_front = room;
       rows_are = record { kind = read_kind header part rows is; count = read_count header part rows is; spelling = stand };
-      row_bytes = read_bytes header part rows (length-row_part bytes expected header head) part_fits is;
+      row_bytes = read_bytes header part rows (length-row_part bytes header room) part_fits is;
       zeros = zeros;
     }
 
--- ---- the zeros behind the rows, as a slice from one place to another shows them
+-- ---- the zeros after the rows, as a slice from one place to another shows them
 
 abbrev pub between : ℕ → ℕ → List ℕ → List ℕ
 between at end bytes = take (end - at) (drop at bytes)
@@ -98,26 +95,26 @@ zero_part bytes header at end is_at is_end =
     let count : end - at ≡ padding header = omega (arith, is_at, is_end) in
     ap (λ n. take n (drop at bytes)) count ∙ ap (λ n. take (padding header) (drop n bytes)) is_at
 
-length-zero_part : (bytes : List ℕ) (expected : Expected) (header : Header) → IsHeader bytes expected header
+length-zero_part : (bytes : List ℕ) (header : Header) → 512 * front_sectors header ≤ length bytes
     → length (bytes_at (rows_end header) (padding header) bytes) ≡ padding header
-length-zero_part bytes expected header is =
-    length_of_part (rows_end header) (padding header) bytes (omega (arith, room_for_front bytes expected header is, rows_end_first header))
+length-zero_part bytes header room =
+    length_of_part (rows_end header) (padding header) bytes (omega (arith, room, rows_end_first header))
 
-pub zeros_pass : (bytes : List ℕ) (expected : Expected) (header : Header) (at end : ℕ) → IsHeader bytes expected header
+pub zeros_pass : (bytes : List ℕ) (header : Header) (at end : ℕ) → 512 * front_sectors header ≤ length bytes
     → at ≡ rows_end header → end ≡ front_sectors header * 512
     → bytes_at (rows_end header) (padding header) bytes ≡ replicate (padding header) 0
     → between at end bytes ≡ replicate (length (between at end bytes)) 0
-zeros_pass bytes expected header at end is is_at is_end zeros =
+zeros_pass bytes header at end room is_at is_end zeros =
     let part = zero_part bytes header at end is_at is_end in
-    part ∙ zeros ∙ ap (λ n. replicate n 0) (sym (ap length part ∙ length-zero_part bytes expected header is))
+    part ∙ zeros ∙ ap (λ n. replicate n 0) (sym (ap length part ∙ length-zero_part bytes header room))
 
-pub zeros_if_pass : (bytes : List ℕ) (expected : Expected) (header : Header) (at end : ℕ) → IsHeader bytes expected header
+pub zeros_if_pass : (bytes : List ℕ) (header : Header) (at end : ℕ) → 512 * front_sectors header ≤ length bytes
     → at ≡ rows_end header → end ≡ front_sectors header * 512
     → between at end bytes ≡ replicate (length (between at end bytes)) 0
     → bytes_at (rows_end header) (padding header) bytes ≡ replicate (padding header) 0
-zeros_if_pass bytes expected header at end is is_at is_end zeros =
+zeros_if_pass bytes header at end room is_at is_end zeros =
     let part = zero_part bytes header at end is_at is_end in
-    sym part ∙ zeros ∙ ap (λ n. replicate n 0) (ap length part ∙ length-zero_part bytes expected header is)
+    sym part ∙ zeros ∙ ap (λ n. replicate n 0) (ap length part ∙ length-zero_part bytes header room)
 
 -- the rows, as a slice shows them
 pub row_part_between : (bytes : List ℕ) (header : Header) (end : ℕ) → end ≡ rows_end header
@@ -128,67 +125,67 @@ row_part_between bytes header end is_end =
 
 -- ---- an object has the rows that are read in it
 
-payload_is_low : (bytes : List ℕ) (expected : Expected) (header : Header) → IsHeader bytes expected header → header.payload ≤ 131071
-payload_is_low bytes expected header is = leb-true _ _ (and_parts _ _ is.limits).1
+payload_is_low : (bytes : List ℕ) (size : ℕ) (expected : Expected) (header : Header) → IsHeader bytes size expected header → header.payload ≤ 131071
+payload_is_low bytes size expected header is = leb-true _ _ (and_parts _ _ is.limits).1
 
-pub data_of_object : (bytes : List ℕ) (expected : Expected) (header : Header) (rows : List DataRow) → expected.sectors < 2 ^ 64
-    → IsHeader bytes expected header → length rows ≡ header.rows
+pub data_of_object : (bytes : List ℕ) (size : ℕ) (expected : Expected) (header : Header) (rows : List DataRow) → expected.sectors < 2 ^ 64
+    → IsHeader bytes size expected header → length rows ≡ header.rows
     → IsTrue (data_rows_may_stand expected.sectors header.payload None 0 rows)
     → row_part header bytes ≡ flat_map data_row_bytes rows
     → rows_in 24 data_row_in header.rows (row_part header bytes) ≡ rows
-data_of_object bytes expected header rows wide head count stand is =
-    let fit = data_rows_fit expected.sectors header.payload None 0 rows wide (payload_is_low bytes expected header head) stand in
+data_of_object bytes size expected header rows wide head count stand is =
+    let fit = data_rows_fit expected.sectors header.payload None 0 rows wide (payload_is_low bytes size expected header head) stand in
     ap (λ n. rows_in 24 data_row_in n (row_part header bytes)) (sym count)
     ∙ ap (rows_in 24 data_row_in (length rows)) is
     ∙ rows_in-flat_map 24 data_row_in data_row_bytes DataRowFits length-data_row_bytes data_row_again rows fit
 
-pub copies_of_object : (bytes : List ℕ) (expected : Expected) (header : Header) (rows : List CopyRow) → expected.sectors < 2 ^ 64
-    → IsHeader bytes expected header → length rows ≡ header.rows
+pub copies_of_object : (bytes : List ℕ) (size : ℕ) (expected : Expected) (header : Header) (rows : List CopyRow) → expected.sectors < 2 ^ 64
+    → IsHeader bytes size expected header → length rows ≡ header.rows
     → IsTrue (copy_rows_may_stand expected.sectors header.payload header.number None 0 rows)
     → row_part header bytes ≡ flat_map copy_row_bytes rows
     → rows_in 44 copy_row_in header.rows (row_part header bytes) ≡ rows
-copies_of_object bytes expected header rows wide head count stand is =
-    let fit = copy_rows_fit expected.sectors header.payload header.number None 0 rows wide (payload_is_low bytes expected header head) head.widths.number stand in
+copies_of_object bytes size expected header rows wide head count stand is =
+    let fit = copy_rows_fit expected.sectors header.payload header.number None 0 rows wide (payload_is_low bytes size expected header head) head.widths.number stand in
     ap (λ n. rows_in 44 copy_row_in n (row_part header bytes)) (sym count)
     ∙ ap (rows_in 44 copy_row_in (length rows)) is
     ∙ rows_in-flat_map 44 copy_row_in copy_row_bytes CopyRowFits length-copy_row_bytes copy_row_again rows fit
 
 -- rows that are read in an object keep the spelling that its rows keep
-pub read_may_stand : (bytes : List ℕ) (expected : Expected) (header : Header) (rows other : Rows) → expected.sectors < 2 ^ 64
-    → AreReadAs header (row_part header bytes) rows → IsObject bytes expected header other
+pub read_may_stand : (bytes : List ℕ) (size : ℕ) (expected : Expected) (header : Header) (rows other : Rows) → expected.sectors < 2 ^ 64
+    → AreReadAs header (row_part header bytes) rows → IsObject bytes size expected header other
     → IsTrue (may_stand expected.sectors header rows)
-read_may_stand bytes expected header (Data rows) (Data other) wide is object =
-    let same = is.1 ∙ data_of_object bytes expected header other.items wide object.head object.rows_are.count object.rows_are.spelling object.row_bytes in
+read_may_stand bytes size expected header (Data rows) (Data other) wide is object =
+    let same = is.1 ∙ data_of_object bytes size expected header other.items wide object.head object.rows_are.count object.rows_are.spelling object.row_bytes in
     let P : List DataRow → Type 0 = λ xs. IsTrue (data_rows_may_stand expected.sectors header.payload None 0 xs) in
     subst P (sym same) object.rows_are.spelling
-read_may_stand bytes expected header (Copy rows) (Copy other) wide is object =
-    let same = is.1 ∙ copies_of_object bytes expected header other.items wide object.head object.rows_are.count object.rows_are.spelling object.row_bytes in
+read_may_stand bytes size expected header (Copy rows) (Copy other) wide is object =
+    let same = is.1 ∙ copies_of_object bytes size expected header other.items wide object.head object.rows_are.count object.rows_are.spelling object.row_bytes in
     let P : List CopyRow → Type 0 = λ xs. IsTrue (copy_rows_may_stand expected.sectors header.payload header.number None 0 xs) in
     subst P (sym same) object.rows_are.spelling
-read_may_stand bytes expected header Checkpoint Checkpoint wide is object = object.rows_are.spelling
-read_may_stand bytes expected header (Data rows) (Copy other) wide is object = let e = object.rows_are.kind ∙ is.0 in cc
-read_may_stand bytes expected header (Data rows) Checkpoint wide is object = let e = object.rows_are.kind ∙ is.0 in cc
-read_may_stand bytes expected header (Copy rows) (Data other) wide is object = let e = object.rows_are.kind ∙ is.0 in cc
-read_may_stand bytes expected header (Copy rows) Checkpoint wide is object = let e = object.rows_are.kind ∙ is.0 in cc
-read_may_stand bytes expected header Checkpoint (Data other) wide is object = let e = object.rows_are.kind ∙ is.0 in cc
-read_may_stand bytes expected header Checkpoint (Copy other) wide is object = let e = object.rows_are.kind ∙ is.0 in cc
+read_may_stand bytes size expected header Checkpoint Checkpoint wide is object = object.rows_are.spelling
+read_may_stand bytes size expected header (Data rows) (Copy other) wide is object = let e = object.rows_are.kind ∙ is.0 in cc
+read_may_stand bytes size expected header (Data rows) Checkpoint wide is object = let e = object.rows_are.kind ∙ is.0 in cc
+read_may_stand bytes size expected header (Copy rows) (Data other) wide is object = let e = object.rows_are.kind ∙ is.0 in cc
+read_may_stand bytes size expected header (Copy rows) Checkpoint wide is object = let e = object.rows_are.kind ∙ is.0 in cc
+read_may_stand bytes size expected header Checkpoint (Data other) wide is object = let e = object.rows_are.kind ∙ is.0 in cc
+read_may_stand bytes size expected header Checkpoint (Copy other) wide is object = let e = object.rows_are.kind ∙ is.0 in cc
 
 -- ---- the last reason
 
-pub same_header : (bytes : List ℕ) (expected : Expected) (a b : Header) → IsHeader bytes expected a → IsHeader bytes expected b → a ≡ b
-same_header bytes expected a b is_a is_b =
-    let e = header_in-IsHeader bytes expected a is_a in
-    let f = header_in-IsHeader bytes expected b is_b in
+pub same_header : (bytes : List ℕ) (size : ℕ) (expected : Expected) (a b : Header) → IsHeader bytes size expected a → IsHeader bytes size expected b → a ≡ b
+same_header bytes size expected a b is_a is_b =
+    let e = header_in-IsHeader bytes size expected a is_a in
+    let f = header_in-IsHeader bytes size expected b is_b in
     cc
 
-pub refused_as_rows : (bytes : List ℕ) (expected : Expected) (header : Header) → IsHeader bytes expected header
-    → ((rows : Rows) → IsObject bytes expected header rows → ⊥) → IsRefusedAs bytes expected reasons.Rows
-refused_as_rows bytes expected header head none = record {
-  earlier = λ other below. header_passes bytes expected header other below head;
+pub refused_as_rows : (bytes : List ℕ) (size : ℕ) (expected : Expected) (header : Header) → IsHeader bytes size expected header
+    → ((rows : Rows) → IsObject bytes size expected header rows → ⊥) → IsRefusedAs bytes size expected reasons.Rows
+refused_as_rows bytes size expected header head none = record {
+  earlier = λ other below. header_passes bytes size expected header other below head;
   failed = λ passes. fails passes.0 passes.1 passes.2;
 }
   where
-    fails : (other : Header) (rows : Rows) → IsObject bytes expected other rows → ⊥
+    fails : (other : Header) (rows : Rows) → IsObject bytes size expected other rows → ⊥
     fails other rows is =
-        let P : Header → Type 0 = λ h. IsObject bytes expected h rows in
-        none rows (subst P (same_header bytes expected other header is.head head) is)
+        let P : Header → Type 0 = λ h. IsObject bytes size expected h rows in
+        none rows (subst P (same_header bytes size expected other header is.head head) is)

@@ -43,13 +43,13 @@ u64_fits at bytes fits =
     let part = bytes_of_part at 8 bytes fits in
     omega (arith, part 0, part 1, part 2, part 3, part 4, part 5, part 6, part 7)
 
--- a front and the part behind it are a longer front
+-- a front and the part after it are a longer front
 pub front_more : (at count : ℕ) (bytes front part : List ℕ) → take at bytes ≡ front → bytes_at at count bytes ≡ part
     → take (at + count) bytes ≡ front ++ part
 front_more at count bytes front part is_front is_part =
     take-add at count bytes ∙ ap (λ xs. xs ++ take count (drop at bytes)) is_front ∙ ap (λ xs. front ++ xs) is_part
 
--- a number behind a front is that of the rest
+-- a number after a front is that of the rest
 pub number_behind : (w : Width) (size at : ℕ) (front rest : List ℕ) → length front ≡ size
     → number_at w (size + at) (front ++ rest) ≡ number_at w at rest
 number_behind w size at front rest is =

@@ -1,4 +1,4 @@
--- What writes one behind the other leave, and what an object's front has after them.
+-- What writes one after the other leave, and what an object's front has after them.
 use Rattle.std.proofs.Common.{◌≡◌, ℕ, ◌+◌, ◌-◌, ◌*◌, ◌≤◌, List, ◌++◌, length, take, drop, replicate, sym, ◌∙◌, ap, append_assoc, arith}
 use Rattle.std.proofs.lemmas.List.{length-append, length-take-le, length-drop, take_at, drop_at, drop_all, drop-drop, append-nil, take_rest}
 use Rattle.std.proofs.lemmas.Slice.{take-put_mid}
@@ -10,7 +10,7 @@ use Rattle.object_format.specs.Header.{header_bytes}
 use Rattle.object_format.specs.Rows.{rows_bytes}
 use Rattle.object_format.specs.Writing.{front_bytes}
 
--- what is written behind what was written is written with it
+-- what is written after what was written is written with it
 pub written_after : (at : ℕ) (a b old mid new : List ℕ) → at + length a + length b ≤ length old
     → mid ≡ take at old ++ a ++ drop (at + length a) old
     → new ≡ take (at + length a) mid ++ b ++ drop (at + length a + length b) mid
@@ -31,7 +31,7 @@ written_after at a b old mid new room is_mid is_new =
     ∙ ap (λ xs. front ++ b ++ xs) behind
     ∙ ap (λ xs. xs ++ drop (at + (length a + length b)) old) (append_assoc (take at old) a b)
 
--- a front with what is written behind it is a longer front
+-- a front with what is written after it is a longer front
 pub written_front : (at count : ℕ) (front value old new : List ℕ) → take at old ≡ front → length front ≡ at
     → length value ≡ count → new ≡ take at old ++ value ++ drop (at + count) old
     → take (at + count) new ≡ front ++ value
@@ -88,7 +88,7 @@ same_parts : (a b c x y z : List ℕ) → a ≡ x → b ≡ y → c ≡ z → a 
 same_parts a b c x y z first second third =
     ap (λ xs. xs ++ b ++ c) first ∙ ap (λ xs. x ++ xs ++ c) second ∙ ap (λ xs. x ++ y ++ xs) third
 
--- the header, the rows and zeros, written one behind the other, are the front of an object
+-- the header, the rows and zeros, written one after the other, are the front of an object
 pub front_if_written : (header : Header) (rows : Rows) (at : ℕ) (old head part zeros : List ℕ) → at ≡ rows_end header
     → length old ≡ 512 * front_sectors header → length head ≡ 64 → length part ≡ at - 64
     → head ≡ header_bytes header → part ≡ rows_bytes rows

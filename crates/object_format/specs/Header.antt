@@ -1,4 +1,4 @@
--- The header of an object: its bytes, and which header may stand under a number of the store.
+-- Contract: the header of an object: its bytes, and which header may stand under a number of the store.
 use Rattle.std.specs.Prelude.{ℕ, ◌≡◌, ◌==◌, ◌^◌, ◌<◌, Bool, true, ◌&&◌, nat_lt, nat_le, IsTrue, Option, Some, None, List, ◌++◌, length, take, codes}
 use Rattle.std.specs.Int.{w32, w64, to_be_bytes}
 use Rattle.std.specs.Option.{option_map}
@@ -64,7 +64,7 @@ begins_at first_seq (Some end_before) = first_seq == end_before
 abbrev pub has_due_seqs : Expected → Header → Bool
 has_due_seqs expected header = has_seqs_of_kind header header.kind && begins_at header.first_seq expected.end_before
 
--- the most rows of an object, for a volume of so many sectors
+-- the most rows of an object, for a volume of this many sectors
 abbrev pub most_rows : ℕ → Kind → ℕ
 most_rows volume Data = 65536
 most_rows volume Copy = 65536
@@ -73,10 +73,11 @@ most_rows volume Checkpoint = volume
 abbrev pub is_within_limits : Expected → Header → Bool
 is_within_limits expected header = nat_le header.rows (most_rows expected.sectors header.kind) && nat_le header.payload 131071
 
--- bytes begin with a header that may stand under the expected number, and are as many as it says
-pub record IsHeader (bytes : List ℕ) (expected : Expected) (header : Header) : Type 0 where
+-- The first bytes of an object of this many bytes have a header that may stand under the expected number, and the object is
+-- as long as it says.
+pub record IsHeader (bytes : List ℕ) (size : ℕ) (expected : Expected) (header : Header) : Type 0 where
   pub head : take 64 bytes ≡ header_bytes header
-  pub size : length bytes ≡ length_of header
+  pub has_size : size ≡ length_of header
   pub uuid : header.uuid ≡ expected.uuid
   pub number : header.number ≡ expected.number
   pub seqs : IsTrue (has_due_seqs expected header)

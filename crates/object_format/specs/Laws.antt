@@ -1,4 +1,4 @@
--- What written objects have to do with those that are read.
+-- Contract: what written objects have to do with those that are read.
 use Rattle.std.specs.Prelude.{ℕ, ◌≡◌, ◌+◌, ◌*◌, ◌^◌, ◌<◌, IsTrue, Option, Some, None, List, [], ◌∷◌, ◌++◌, length}
 use Rattle.std.specs.List.{sum_by}
 use Rattle.object_format.specs.declared.header.Header.{Header}
@@ -7,7 +7,7 @@ use Rattle.object_format.specs.declared.data_row.DataRow.{DataRow}
 use Rattle.object_format.specs.declared.copy_row.CopyRow.{CopyRow}
 use Rattle.object_format.specs.declared.rows.Rows.{Rows}
 use Rattle.object_format.specs.declared.rows.Rows.TheVariants.{Data, Copy, Checkpoint}
-use Rattle.object_format.specs.Header.{HasWidths}
+use Rattle.object_format.specs.Header.{HasWidths, IsHeader}
 use Rattle.object_format.specs.Rows.{data_payload, data_may_stand, data_rows_may_stand, copy_may_stand, copy_rows_may_stand}
 use Rattle.object_format.specs.Object.{IsObject}
 use Rattle.object_format.specs.Writing.{payload_of, header_of, MayBeWritten, front_bytes}
@@ -19,7 +19,8 @@ WritesObjects =
     → HasWidths (header_of expected first_seq end_seq rows)
     → MayBeWritten expected (header_of expected first_seq end_seq rows) rows
     → length payload ≡ 512 * payload_of rows
-    → IsObject (front_bytes (header_of expected first_seq end_seq rows) rows ++ payload) expected (header_of expected first_seq end_seq rows) rows
+    → IsObject (front_bytes (header_of expected first_seq end_seq rows) rows ++ payload)
+    (length (front_bytes (header_of expected first_seq end_seq rows) rows ++ payload)) expected (header_of expected first_seq end_seq rows) rows
 
 -- two values are the same rows
 abbrev pub AreSameRows : Rows → Rows → Type 0
@@ -31,19 +32,25 @@ AreSameRows _ _ = ⊥
 -- bytes are an object with one header and with one list of rows
 abbrev pub HasOneReading : Type 0
 HasOneReading =
-    (bytes : List ℕ) (expected : Expected) (a b : Header) (rows others : Rows) → expected.sectors < 2 ^ 64
-    → IsObject bytes expected a rows → IsObject bytes expected b others
+    (bytes : List ℕ) (size : ℕ) (expected : Expected) (a b : Header) (rows others : Rows) → expected.sectors < 2 ^ 64
+    → IsObject bytes size expected a rows → IsObject bytes size expected b others
     → (a ≡ b) × AreSameRows rows others
+
+-- no object begins another: where further bytes after those of one make another, there are none
+abbrev pub BeginsNoOther : Type 0
+BeginsNoOther =
+    (bytes more : List ℕ) (expected another : Expected) (a b : Header)
+    → IsHeader bytes (length bytes) expected a → IsHeader (bytes ++ more) (length (bytes ++ more)) another b → more ≡ []
 
 -- ---- rows that are made one after the other
 
--- the last of rows behind a row, if there is one
+-- the last of rows after a row, if there is one
 abbrev pub last_of : {R : Type 0} → Option R → List R → Option R
 last_of before [] = before
 last_of before (row ∷ rows) = last_of (Some row) rows
 
--- rows that may stand may have another at their end, which then may stand behind the last, with its payload
--- behind theirs
+-- rows that may stand may have another at their end, which then may stand after the last, with its payload
+-- after theirs
 abbrev pub DataRowsMayGoOn : Type 0
 DataRowsMayGoOn =
     (volume payload : ℕ) (rows : List DataRow) (row : DataRow)

@@ -1,4 +1,4 @@
--- Which kinds of objects there are, and how long their parts are, in bytes where nothing else is said.
+-- Contract: which kinds of objects there are, and how long their parts are, in bytes where nothing else is said.
 use Rattle.std.specs.Prelude.{ℕ, ◌+◌, ◌-◌, ◌*◌, ◌/◌, ◌==◌, Option, Some, None, if◌then◌else◌}
 use Rattle.object_format.specs.declared.kind.Kind.{Kind}
 use Rattle.object_format.specs.declared.kind.Kind.TheVariants.{Data, Copy, Checkpoint}
@@ -17,7 +17,7 @@ kind_from number =
     (if number == 2 then Some Copy else
     (if number == 3 then Some Checkpoint else None))
 
--- so many rows
+-- the bytes of this many rows
 abbrev pub rows_length : Kind → ℕ → ℕ
 rows_length Data rows = 24 * rows
 rows_length Copy rows = 44 * rows
@@ -27,11 +27,11 @@ rows_length Checkpoint rows = 36 * rows
 abbrev pub rows_end : Header → ℕ
 rows_end header = 64 + rows_length header.kind header.rows
 
--- the sectors of the header, the rows and the zeros behind them
+-- the sectors of the header, the rows and the zeros after them
 abbrev pub front_sectors : Header → ℕ
 front_sectors header = (rows_end header + 511) / 512
 
--- the zeros behind the rows
+-- the zeros after the rows
 abbrev pub padding : Header → ℕ
 padding header = 512 * front_sectors header - rows_end header
 

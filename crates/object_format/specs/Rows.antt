@@ -1,4 +1,4 @@
--- The rows of an object: their bytes, and which may stand one behind the other.
+-- Contract: the rows of an object: their bytes, and which may stand one after the other.
 use Rattle.std.specs.Prelude.{ℕ, zero, suc, ◌≡◌, ◌+◌, ◌==◌, IsTrue, not, Bool, true, false, ◌&&◌, ◌||◌, nat_lt, nat_le, Option, Some, None, List, [], ◌∷◌, ◌++◌, length, drop, if◌then◌else◌}
 use Rattle.std.specs.List.{flat_map}
 use Rattle.std.specs.Int.{w32, w64, to_be_bytes}
@@ -64,7 +64,7 @@ copy_row_in bytes = record {
   };
 }
 
--- so many rows, each of which takes so many bytes
+-- `count` rows, each of which takes `size` bytes
 abbrev pub rows_in : {R : Type 0} → ℕ → (List ℕ → R) → ℕ → List ℕ → List R
 rows_in size row_in zero bytes = []
 rows_in size row_in (suc count) bytes = row_in bytes ∷ rows_in size row_in count (drop size bytes)
@@ -102,7 +102,7 @@ data_may_follow (Some before) row =
     nat_lt (before.lba + before.sectors) row.lba
     || ((before.lba + before.sectors == row.lba) && differ before.place row.place)
 
--- a row may stand behind a row (none where it is the first), with its payload at a place of the payload
+-- a row may stand after a row (none where it is the first), with its payload at a place of the payload
 abbrev pub data_may_stand : (volume payload : ℕ) → Option DataRow → ℕ → DataRow → Bool
 data_may_stand volume payload before place row =
     is_inside volume row.lba row.sectors
@@ -110,7 +110,7 @@ data_may_stand volume payload before place row =
     && is_at place row.place
     && nat_le (place + data_payload row) payload
 
--- rows may stand behind a row, with their payload from a place on to the payload's end
+-- rows may stand after a row, with their payload from a place on to the payload's end
 abbrev pub data_rows_may_stand : (volume payload : ℕ) → Option DataRow → ℕ → List DataRow → Bool
 data_rows_may_stand volume payload before place [] = place == payload
 data_rows_may_stand volume payload before place (row ∷ rows) =
@@ -149,7 +149,7 @@ copy_rows_may_stand volume payload number before place (row ∷ rows) =
     copy_may_stand volume payload number before place row
     && copy_rows_may_stand volume payload number (Some row) (place + row.sectors) rows
 
--- the rows of an object keep their one spelling, in a volume of so many sectors
+-- the rows of an object keep their one spelling, in a volume of this many sectors
 abbrev pub may_stand : ℕ → Header → Rows → Bool
 may_stand volume header (Data rows) = data_rows_may_stand volume header.payload None 0 rows.items
 may_stand volume header (Copy rows) = copy_rows_may_stand volume header.payload header.number None 0 rows.items
@@ -167,7 +167,7 @@ count_of (Data rows) = length rows.items
 count_of (Copy rows) = length rows.items
 count_of Checkpoint = 0
 
--- the rows are those of an object with this header, in a volume of so many sectors
+-- the rows are those of an object with this header, in a volume of this many sectors
 pub record AreRowsOf (volume : ℕ) (header : Header) (rows : Rows) : Type 0 where
   pub kind : kind_of rows ≡ header.kind
   pub count : count_of rows ≡ header.rows

@@ -1,5 +1,5 @@
--- For which reason bytes are no object: the tests, and their order.
-use Rattle.std.specs.Prelude.{ℕ, ◌≡◌, ◌==◌, ◌%◌, ◌<◌, Bool, ◌&&◌, nat_le, IsTrue, IsSome, IsSomeAnd, Option, Some, None, List, length, take, codes}
+-- Contract: for which reason bytes are no object: the tests, and their order.
+use Rattle.std.specs.Prelude.{ℕ, ◌≡◌, ◌==◌, ◌<◌, Bool, nat_le, IsTrue, IsSome, IsSomeAnd, Option, Some, None, List, take, codes}
 use Rattle.std.specs.Int.{w64}
 use Rattle.lsvd_bytes.specs.Places.{bytes_at, number_at}
 use Rattle.object_format.specs.declared.header.Header.{Header}
@@ -24,28 +24,28 @@ code_of reasons.Seqs = 6
 code_of reasons.Counts = 7
 code_of reasons.Rows = 8
 
--- an object may have so many bytes: those that its header says, or where its kind is none, whole sectors
+-- an object may have this many bytes: as many as its header says, or, where its kind is unknown, at least the header's
 abbrev pub is_length : Option Header → ℕ → Bool
-is_length None size = nat_le 512 size && (size % 512 == 0)
+is_length None size = nat_le 64 size
 is_length (Some header) size = size == length_of header
 
--- the bytes pass the test that a reason stands for
-abbrev pub Passes : List ℕ → Expected → BadObject → Type 0
-Passes bytes expected reasons.Length = IsTrue (is_length (header_in (take 64 bytes)) (length bytes))
-Passes bytes expected reasons.Magic = take 8 (take 64 bytes) ≡ codes "LSVDOBJ1"
-Passes bytes expected reasons.Kind = IsSome (header_in (take 64 bytes))
-Passes bytes expected reasons.Uuid = bytes_at 12 16 (take 64 bytes) ≡ expected.uuid
-Passes bytes expected reasons.Number = number_at w64 28 (take 64 bytes) ≡ expected.number
-Passes bytes expected reasons.Seqs = IsSomeAnd (header_in (take 64 bytes)) (λ header. IsTrue (has_due_seqs expected header))
-Passes bytes expected reasons.Counts = IsSomeAnd (header_in (take 64 bytes)) (λ header. IsTrue (is_within_limits expected header))
-Passes bytes expected reasons.Rows = (header : Header) × (rows : Rows) × IsObject bytes expected header rows
+-- the first bytes of an object of this many bytes pass the test that a reason stands for
+abbrev pub PassesObjectTest : (bytes : List ℕ) (size : ℕ) → Expected → BadObject → Type 0
+PassesObjectTest bytes size expected reasons.Length = IsTrue (is_length (header_in (take 64 bytes)) size)
+PassesObjectTest bytes size expected reasons.Magic = take 8 (take 64 bytes) ≡ codes "LSVDOBJ1"
+PassesObjectTest bytes size expected reasons.Kind = IsSome (header_in (take 64 bytes))
+PassesObjectTest bytes size expected reasons.Uuid = bytes_at 12 16 (take 64 bytes) ≡ expected.uuid
+PassesObjectTest bytes size expected reasons.Number = number_at w64 28 (take 64 bytes) ≡ expected.number
+PassesObjectTest bytes size expected reasons.Seqs = IsSomeAnd (header_in (take 64 bytes)) (λ header. IsTrue (has_due_seqs expected header))
+PassesObjectTest bytes size expected reasons.Counts = IsSomeAnd (header_in (take 64 bytes)) (λ header. IsTrue (is_within_limits expected header))
+PassesObjectTest bytes size expected reasons.Rows = (header : Header) × (rows : Rows) × IsObject bytes size expected header rows
 
--- the first test that the bytes do not pass is that of this reason
-pub record IsRefusedAs (bytes : List ℕ) (expected : Expected) (reason : BadObject) : Type 0 where
-  pub earlier : (other : BadObject) → code_of other < code_of reason → Passes bytes expected other
-  pub failed : ¬ Passes bytes expected reason
+-- the first test that they do not pass is that of this reason
+pub record IsRefusedAs (bytes : List ℕ) (size : ℕ) (expected : Expected) (reason : BadObject) : Type 0 where
+  pub earlier : (other : BadObject) → code_of other < code_of reason → PassesObjectTest bytes size expected other
+  pub failed : ¬ PassesObjectTest bytes size expected reason
 
 -- what an error of a read of rows says of the bytes: the rows are the first that fails
-abbrev pub IsReasonOf : List ℕ → Expected → ReadError → Type 0
-IsReasonOf bytes expected (Bad reason) = (reason ≡ reasons.Rows) × IsRefusedAs bytes expected reason
-IsReasonOf bytes expected OutOfMemory = Unit {0}
+abbrev pub IsReasonOf : (bytes : List ℕ) (size : ℕ) → Expected → ReadError → Type 0
+IsReasonOf bytes size expected (Bad reason) = (reason ≡ reasons.Rows) × IsRefusedAs bytes size expected reason
+IsReasonOf bytes size expected OutOfMemory = Unit {0}

@@ -1,4 +1,4 @@
--- What is written of an object, and under which conditions.
+-- Contract: what is written of an object, and under which conditions.
 use Rattle.std.specs.Prelude.{ℕ, IsTrue, List, ◌++◌, replicate}
 use Rattle.std.specs.List.{sum_by}
 use Rattle.object_format.specs.declared.header.Header.{Header}

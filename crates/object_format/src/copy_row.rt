@@ -34,13 +34,13 @@ impl CopyRow {
     /// The bytes of a row.
     pub(crate) const BYTES: usize = 44;
 
-    /// Where the level of the source stands, in 4 bytes.
+    // Where the level of the source stands, in 4 bytes.
     const LEVEL_AT: usize = 24;
 
-    /// Where the number of the source stands, in 8 bytes.
+    // Where the number of the source stands, in 8 bytes.
     const SOURCE_NUMBER_AT: usize = 28;
 
-    /// Where the place of the source stands, in 8 bytes.
+    // Where the place of the source stands, in 8 bytes.
     const SOURCE_PLACE_AT: usize = 36;
 
     /// The row that the bytes begin with.
@@ -60,7 +60,7 @@ impl CopyRow {
         }
     }
 
-    /// Writes it into the 44 bytes from `at` on.
+    // Writes it into the 44 bytes from `at` on.
     fn write(&self, bytes: &mut [u8], at: usize)
         requires { at + 44 ≤ length bytes.old }
         ensures { bytes.new ≡ take at bytes.old ++ copy_row_bytes self.now ++ drop (at + 44) bytes.old }
@@ -73,8 +73,8 @@ impl CopyRow {
         write_u64(bytes, at + Self::SOURCE_PLACE_AT, self.source.place);
     }
 
-    /// Whether it may stand behind the row before it, or as the first, with its payload at a place, in the
-    /// object with this number.
+    // Whether it may stand after the row before it, or as the first, with its payload at a place, in the
+    // object with this number.
     fn may_stand(
         &self,
         volume: u64,
@@ -93,7 +93,7 @@ impl CopyRow {
             && self.has_source(number)
     }
 
-    /// Whether its source is payload of an object of the volume's own, older than the one with this number.
+    // Whether its source is payload of an object of the volume's own, older than the one with this number.
     fn has_source(&self, number: u64) -> bool
         ensures { result ≡ is_source number self.now.sectors self.now.source }
     {
@@ -103,7 +103,7 @@ impl CopyRow {
             && self.sectors <= MAX_PAYLOAD - self.source.place
     }
 
-    /// Whether it begins where the row before it ends, or past that, and is not one row with it.
+    // Whether it begins where the row before it ends, or past that, and is not one row with it.
     fn may_follow(&self, before: Option<CopyRow>) -> bool
         ensures { result ≡ copy_may_follow before self.now }
     {
@@ -116,7 +116,7 @@ impl CopyRow {
         before.sectors < gap || (before.sectors == gap && before.breaks_off(&self.source))
     }
 
-    /// Whether the source does not go on where its own ends.
+    // Whether the source does not go on where its own ends.
     fn breaks_off(&self, source: &Source) -> bool
         ensures { result ≡ breaks_off self.now source.now }
     {
@@ -126,7 +126,7 @@ impl CopyRow {
     }
 }
 
-/// Whether these may be the rows of the copy with this number, for a volume and a payload of so many sectors.
+/// Whether these may be the rows of the copy with this number, for a volume and a payload of this many sectors.
 pub(crate) fn copy_rows_may_stand(rows: &[CopyRow], volume: u64, payload: u64, number: u64) -> bool
     ensures { result ≡ copy_rows_may_stand volume payload number None 0 rows.now }
 {

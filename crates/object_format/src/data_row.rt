@@ -21,7 +21,7 @@ impl DataRow {
     /// The bytes of a row.
     pub(crate) const BYTES: usize = 24;
 
-    /// The number that stands for no place.
+    // The number that stands for no place.
     const NO_PLACE: u64 = u64::MAX;
 
     /// The row that the bytes begin with.
@@ -36,7 +36,7 @@ impl DataRow {
         }
     }
 
-    /// The place with this number.
+    // The place with this number.
     fn place_from(number: u64) -> Option<u64>
         ensures { result ≡ place_from number }
     {
@@ -47,7 +47,7 @@ impl DataRow {
         }
     }
 
-    /// Writes it into the 24 bytes from `at` on.
+    // Writes it into the 24 bytes from `at` on.
     fn write(&self, bytes: &mut [u8], at: usize)
         requires { at + 24 ≤ length bytes.old }
         ensures { bytes.new ≡ take at bytes.old ++ data_row_bytes self.now ++ drop (at + 24) bytes.old }
@@ -57,7 +57,7 @@ impl DataRow {
         write_u64(bytes, at + PLACE_AT, self.place_number());
     }
 
-    /// The number of its place.
+    // The number of its place.
     fn place_number(&self) -> u64
         ensures { result ≡ place_number self.now.place }
     {
@@ -74,7 +74,7 @@ impl DataRow {
         }
     }
 
-    /// Whether it may stand behind the row before it, or as the first, with its payload at a place.
+    // Whether it may stand after the row before it, or as the first, with its payload at a place.
     fn may_stand(&self, volume: u64, payload: u64, before: Option<DataRow>, place: u64) -> bool
         requires { place ≤ payload }
         ensures { result ≡ data_may_stand volume payload before place self.now }
@@ -85,7 +85,7 @@ impl DataRow {
             && self.payload_sectors() <= payload - place
     }
 
-    /// Whether its payload, if it has one, is at this place.
+    // Whether its payload, if it has one, is at this place.
     fn is_at(&self, place: u64) -> bool
         ensures { result ≡ is_at place self.now.place }
     {
@@ -95,7 +95,7 @@ impl DataRow {
         }
     }
 
-    /// Whether it begins where the row before it ends, or past that, and is not one row with it.
+    // Whether it begins where the row before it ends, or past that, and is not one row with it.
     fn may_follow(&self, before: Option<DataRow>) -> bool
         ensures { result ≡ data_may_follow before self.now }
     {
@@ -110,7 +110,7 @@ impl DataRow {
     }
 }
 
-/// Whether these may be the rows of a data object, for a volume and a payload of so many sectors.
+/// Whether these may be the rows of a data object, for a volume and a payload of this many sectors.
 pub(crate) fn data_rows_may_stand(rows: &[DataRow], volume: u64, payload: u64) -> bool
     ensures { result ≡ data_rows_may_stand volume payload None 0 rows.now }
 {

@@ -16,12 +16,15 @@ pub struct Expected {
     pub number: u64,
     /// The sectors of the volume.
     pub sectors: u64,
+    /// How many ancestors the volume has, 0 to 15: the greatest level that a row may name. Level 0 is the volume itself,
+    /// and the only one that a copy's rows may name.
+    pub ancestors: u32,
     /// The end seq of the object before it, where that is known.
     pub end_before: Option<u64>,
 }
 
 impl Expected {
-    /// The most rows of a data object or a copy.
+    // The most rows of a data object or a copy.
     const MAX_ROWS: u64 = 65_536;
 
     /// Whether rows may be written under this header, which is theirs: its seqs are in order for the kind and
@@ -63,7 +66,7 @@ impl Expected {
         u64::from(header.rows) <= self.most_rows(header.kind) && header.payload <= MAX_PAYLOAD
     }
 
-    /// The most rows of an object of the kind.
+    // The most rows of an object of the kind.
     fn most_rows(&self, kind: Kind) -> u64
         ensures { result ≡ most_rows self.now.sectors kind }
     {

@@ -16,7 +16,7 @@ pub struct Header {
     pub number: u64,
     /// The seq of the first entry that it holds.
     pub first_seq: u64,
-    /// The seq behind the last entry that it holds: the first seq where it holds none.
+    /// The seq after the last entry that it holds: the first seq where it holds none.
     pub end_seq: u64,
     /// How many rows it has.
     pub rows: u32,
@@ -33,19 +33,19 @@ impl Header {
         HEADER_BYTES as u64 + self.kind.rows_bytes(self.rows)
     }
 
-    /// The sectors of the header, the rows and the zeros behind them: the payload stands behind these.
+    /// The sectors of the header, the rows and the zeros after them: the payload stands after these.
     pub fn front_sectors(&self) -> u64
         ensures { result ≡ front_sectors self.now }
     {
         (self.rows_end() + (SECTOR_BYTES - 1)) / SECTOR_BYTES
     }
 
-    /// Whether an object with this header has so many bytes.
-    pub(crate) fn has_length(&self, bytes: usize) -> bool
+    /// Whether an object with this header has this many bytes.
+    pub(crate) fn has_length(&self, bytes: u64) -> bool
         ensures { result ≡ (bytes == length_of self.now) }
     {
-        let sectors = bytes as u64 / SECTOR_BYTES;
+        let sectors = bytes / SECTOR_BYTES;
         let front = self.front_sectors();
-        bytes as u64 % SECTOR_BYTES == 0 && front <= sectors && sectors - front == self.payload
+        bytes % SECTOR_BYTES == 0 && front <= sectors && sectors - front == self.payload
     }
 }

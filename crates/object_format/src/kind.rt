@@ -36,7 +36,7 @@ impl Kind {
         }
     }
 
-    /// The bytes of so many rows.
+    /// The bytes of this many rows.
     pub(crate) fn rows_bytes(self, rows: u32) -> u64
         ensures is { result ≡ rows_length self rows }
         ensures bound { result ≤ 44 * rows }

@@ -1,4 +1,4 @@
-ghost use Rattle.object_format.specs.Laws.{WritesObjects, HasOneReading, DataRowsMayGoOn, CopyRowsMayGoOn, DataRowsHavePayload, CopyRowsHavePayload};
+ghost use Rattle.object_format.specs.Laws.{WritesObjects, HasOneReading, BeginsNoOther, DataRowsMayGoOn, CopyRowsMayGoOn, DataRowsHavePayload, CopyRowsHavePayload};
 
 /// A law: what is written, with the payload that its rows have, is an object.
 pub fn what_is_written_is_an_object()
@@ -10,7 +10,12 @@ pub fn an_object_has_one_reading()
     ensures { HasOneReading }
 {}
 
-/// A law: rows that may stand may have another at their end, which may stand behind the last.
+/// A law: the bytes of no object begin those of another, of any kind.
+pub fn no_object_begins_another()
+    ensures { BeginsNoOther }
+{}
+
+/// A law: rows that may stand may have another at their end, which may stand after the last.
 pub fn rows_may_go_on()
     ensures data_rows { DataRowsMayGoOn }
     ensures copy_rows { CopyRowsMayGoOn }

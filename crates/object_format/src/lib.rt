@@ -26,7 +26,8 @@ pub use expected::Expected;
 pub use header::Header;
 pub use kind::Kind;
 pub use laws::{
-    an_object_has_one_reading, rows_have_the_payload, rows_may_go_on, what_is_written_is_an_object,
+    an_object_has_one_reading, no_object_begins_another, rows_have_the_payload, rows_may_go_on,
+    what_is_written_is_an_object,
 };
 pub use reading::read_header;
 pub use reason::BadObject;
@@ -34,38 +35,38 @@ pub use rows::Rows;
 pub use rows_reading::{ReadError, read_rows};
 pub use writing::ObjectWriter;
 
-/// The bytes that an object begins with.
+// The bytes that an object begins with.
 const MAGIC: [u8; 8] = *b"LSVDOBJ1";
 
-/// The bytes of a header.
+// The bytes of a header.
 const HEADER_BYTES: usize = 64;
 
-/// The most sectors of a payload.
+// The most sectors of a payload.
 const MAX_PAYLOAD: u64 = 131_071;
 
-/// Where the number of the kind stands, in 4 bytes, as all numbers highest byte first.
+// Where the number of the kind stands, in 4 bytes, as all numbers highest byte first.
 const KIND_AT: usize = 8;
 
-/// Where the volume's uuid stands, in 16 bytes.
+// Where the volume's uuid stands, in 16 bytes.
 const UUID_AT: usize = 12;
 
-/// Where the object's number stands, in 8 bytes.
+// Where the object's number stands, in 8 bytes.
 const NUMBER_AT: usize = 28;
 
-/// Where the first seq stands, in 8 bytes.
+// Where the first seq stands, in 8 bytes.
 const FIRST_SEQ_AT: usize = 36;
 
-/// Where the end seq stands, in 8 bytes.
+// Where the end seq stands, in 8 bytes.
 const END_SEQ_AT: usize = 44;
 
-/// Where the count of rows stands, in 4 bytes.
+// Where the count of rows stands, in 4 bytes.
 const ROWS_AT: usize = 52;
 
-/// Where the count of sectors of the payload stands, in 8 bytes.
+// Where the count of sectors of the payload stands, in 8 bytes.
 const PAYLOAD_AT: usize = 56;
 
-/// Where the count of sectors stands in a row, in 8 bytes. The first sector of the volume stands before it.
+// Where the count of sectors stands in a row, in 8 bytes. The first sector of the volume stands before it.
 const SECTORS_AT: usize = 8;
 
-/// Where the place in the payload stands in a row, in 8 bytes.
+// Where the place in the payload stands in a row, in 8 bytes.
 const PLACE_AT: usize = 16;

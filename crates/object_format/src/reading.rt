@@ -1,4 +1,4 @@
-ghost use Rattle.std.specs.Prelude.{◌≡◌, ◌<◌, ◌≤◌, ◌↔◌, IsTrue, IfOk, IfErr, OnErr, length, take, codes};
+ghost use Rattle.std.specs.Prelude.{◌≡◌, ◌<◌, ◌≤◌, ◌↔◌, IsTrue, IfOk, IfErr, OnErr, length, take, codes, min};
 ghost use Rattle.object_format.specs.Header.{header_in, IsHeader};
 ghost use Rattle.object_format.specs.Tests.{is_length, IsRefusedAs};
 ghost use Rattle.object_format.specs.declared.header.Header.{Header};
@@ -10,17 +10,18 @@ use crate::reason::BadObject;
 use crate::{
     END_SEQ_AT, FIRST_SEQ_AT, HEADER_BYTES, KIND_AT, MAGIC, NUMBER_AT, PAYLOAD_AT, ROWS_AT, UUID_AT,
 };
-use lsvd_base::SECTOR_BYTES;
 use lsvd_bytes::{read_16_bytes, read_u32, read_u64};
 
-/// Reads the header of the object with the expected number, of which the bytes are the whole. The error names
-/// the first test that they fail, and comes exactly where they do not begin with such a header.
-pub fn read_header(bytes: &[u8], expected: &Expected) -> Result<Header, BadObject>
-    ensures ok { IfOk result (IsHeader bytes.now expected.now) }
-    ensures refused { IfErr result (IsRefusedAs bytes.now expected.now) }
-    ensures none { OnErr result ((header : Header) → IsHeader bytes.now expected.now header → ⊥) }
+/// Reads the header of the object with the expected number, which has `size` bytes, from the first of its bytes: at least
+/// 64, or all where it has fewer (a condition). The error names the first test that it fails, and comes exactly where it
+/// does not begin with such a header, or is not as long as its header says.
+pub fn read_header(bytes: &[u8], size: u64, expected: &Expected) -> Result<Header, BadObject>
+    requires { min 64 size ≤ length bytes.now }
+    ensures ok { IfOk result (IsHeader bytes.now size expected.now) }
+    ensures refused { IfErr result (IsRefusedAs bytes.now size expected.now) }
+    ensures none { OnErr result ((header : Header) → IsHeader bytes.now size expected.now header → ⊥) }
 {
-    if !has_its_length(bytes) {
+    if !has_its_length(bytes, size) {
         return Err(BadObject::Length);
     }
     let head = &bytes[..HEADER_BYTES];
@@ -45,22 +46,22 @@ pub fn read_header(bytes: &[u8], expected: &Expected) -> Result<Header, BadObjec
     Ok(header)
 }
 
-/// Whether there are as many bytes as the header says, or where its kind is none, whole sectors.
-fn has_its_length(bytes: &[u8]) -> bool
-    ensures is { IsTrue result ↔ IsTrue (is_length (header_in (take 64 bytes.now)) (length bytes.now)) }
-    ensures room { IsTrue result → 512 ≤ length bytes.now }
+// Whether the object has as many bytes as its header says, or, where its kind is unknown, at least a header's.
+fn has_its_length(bytes: &[u8], size: u64) -> bool
+    requires { min 64 size ≤ length bytes.now }
+    ensures is { IsTrue result ↔ IsTrue (is_length (header_in (take 64 bytes.now)) size) }
+    ensures room { IsTrue result → 64 ≤ length bytes.now }
 {
-    let sector = SECTOR_BYTES as usize;
-    if bytes.len() < sector {
+    if size < HEADER_BYTES as u64 {
         return false;
     }
     match header_in(&bytes[..HEADER_BYTES]) {
-        Some(header) => header.has_length(bytes.len()),
-        None => bytes.len() % sector == 0,
+        Some(header) => header.has_length(size),
+        None => true,
     }
 }
 
-/// Whether the header begins with the magic.
+// Whether the header begins with the magic.
 fn has_magic(head: &[u8]) -> bool
     requires { 8 ≤ length head.now }
     ensures { IsTrue result ↔ (take 8 head.now ≡ codes "LSVDOBJ1") }
@@ -68,7 +69,7 @@ fn has_magic(head: &[u8]) -> bool
     &head[..KIND_AT] == MAGIC.as_slice()
 }
 
-/// The header with the fields of the 64 bytes. None is where the number of the kind is no kind's.
+// The header with the fields of the 64 bytes. None is where the number of the kind is no kind's.
 fn header_in(head: &[u8]) -> Option<Header>
     requires { length head.now ≡ 64 }
     ensures { result ≡ header_in head.now }

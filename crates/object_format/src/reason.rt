@@ -27,7 +27,7 @@ pub enum BadObject {
     /// It has more rows or more sectors of payload than it may have.
     #[error("counts past a limit")]
     Counts,
-    /// Its rows do not keep their one spelling, or there are no zeros behind them.
+    /// Its rows do not keep their one spelling, or there are no zeros after them.
     #[error("rows out of order")]
     Rows,
 }

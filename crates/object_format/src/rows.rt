@@ -21,7 +21,7 @@ pub enum Rows {
 }
 
 impl Rows {
-    /// Whether the rows keep their one spelling in an object with this header, for a volume of so many
+    /// Whether the rows keep their one spelling in an object with this header, for a volume of this many
     /// sectors.
     pub fn may_stand(&self, volume: u64, header: &Header) -> bool
         ensures { result ≡ may_stand volume header.now self.now }
@@ -53,7 +53,7 @@ impl Rows {
         }
     }
 
-    /// The kind of object that has such rows.
+    // The kind of object that has such rows.
     fn kind(&self) -> Kind
         ensures { result ≡ kind_of self.now }
     {
@@ -64,7 +64,7 @@ impl Rows {
         }
     }
 
-    /// How many rows there are.
+    // How many rows there are.
     fn count(&self) -> u32
         requires { count_of self.now < 2 ^ 32 }
         ensures { result ≡ count_of self.now }
@@ -76,7 +76,7 @@ impl Rows {
         }
     }
 
-    /// The sectors of their payload.
+    // The sectors of their payload.
     fn payload_sectors(&self) -> u64
         requires { payload_of self.now < 2 ^ 64 }
         ensures { result ≡ payload_of self.now }
@@ -101,7 +101,7 @@ impl Rows {
     }
 }
 
-/// Whether there are sectors, and all so many from `lba` on are inside a volume of so many.
+/// Whether there are sectors, and all of them from `lba` on are inside a volume of this many.
 pub(crate) fn is_inside(volume: u64, lba: u64, sectors: u64) -> bool
     ensures { result ≡ is_inside volume lba sectors }
 {

@@ -1,5 +1,5 @@
 ghost use Rattle.std.specs.Prelude.{◌≡◌, ◌*◌, ◌+◌, ◌<◌, ◌≤◌, ◌↔◌, IsTrue, IfOk, IfErr, length, replicate};
-ghost use Rattle.object_format.specs.Layout.{rows_length};
+ghost use Rattle.object_format.specs.Layout.{front_sectors, rows_length};
 ghost use Rattle.object_format.specs.Header.{IsHeader};
 ghost use Rattle.object_format.specs.Rows.{data_row_in, copy_row_in, rows_in, AreReadAs};
 ghost use Rattle.object_format.specs.Object.{IsObject};
@@ -16,6 +16,7 @@ use crate::kind::Kind;
 use crate::reason::BadObject;
 use crate::rows::Rows;
 use lsvd_base::SECTOR_BYTES;
+use lsvd_bytes::is_zeros;
 use std::alloc::{AllocError, Global};
 use thiserror::Error;
 
@@ -38,19 +39,22 @@ impl From<AllocError> for ReadError {
     }
 }
 
-/// Reads the rows of an object whose header was read (a condition). A checkpoint has none here (a condition):
-/// the rows of one are not of this crate. The error is want of memory, or comes exactly where the bytes are
-/// no object, with the reason `Rows`.
+/// Reads the rows of an object of `size` bytes whose header was read (a condition), from the first of its bytes: those of
+/// the header, the rows and the zeros after them at least (a condition). A checkpoint has none here (a condition): the rows
+/// of one are not of this crate. The error is that memory ran out, or comes exactly where the bytes are no object, with the
+/// reason `Rows`.
 pub fn read_rows(
     alloc: Global,
     bytes: &[u8],
+    size: u64,
     expected: &Expected,
     header: &Header,
 ) -> Result<Rows, ReadError>
-    requires header { IsHeader bytes.now expected.now header.now }
+    requires header { IsHeader bytes.now size expected.now header.now }
+    requires front { 512 * front_sectors header.now ≤ length bytes.now }
     requires without { header.now.kind ≡ Checkpoint → header.now.rows ≡ 0 }
-    ensures ok { IfOk result (IsObject bytes.now expected.now header.now) }
-    ensures refused { IfErr result (IsReasonOf bytes.now expected.now) }
+    ensures ok { IfOk result (IsObject bytes.now size expected.now header.now) }
+    ensures refused { IfErr result (IsReasonOf bytes.now size expected.now) }
 {
     let rows_end = header.rows_end() as usize;
     let front = (header.front_sectors() * SECTOR_BYTES) as usize;
@@ -64,14 +68,7 @@ pub fn read_rows(
     Ok(rows)
 }
 
-/// Whether all of the bytes are zeros.
-fn is_zeros(bytes: &[u8]) -> bool
-    ensures { IsTrue result ↔ (bytes.now ≡ replicate (length bytes.now) 0) }
-{
-    bytes.iter().all(|byte| *byte == 0)
-}
-
-/// The rows that the bytes hold, of an object with this header.
+// The rows that the bytes hold, of an object with this header.
 fn rows_in(alloc: Global, header: &Header, bytes: &[u8]) -> Result<Rows, AllocError>
     requires size { length bytes.now ≡ rows_length header.now.kind header.now.rows }
     requires without { header.now.kind ≡ Checkpoint → header.now.rows ≡ 0 }
@@ -84,7 +81,7 @@ fn rows_in(alloc: Global, header: &Header, bytes: &[u8]) -> Result<Rows, AllocEr
     }
 }
 
-/// The first so many rows of data in the bytes.
+// The first `count` rows of data in the bytes.
 fn data_rows_in(alloc: Global, bytes: &[u8], count: u32) -> Result<Vec<DataRow>, AllocError>
     requires { 24 * count ≤ length bytes.now }
     ensures { IfOk result (λ rows. rows.items ≡ rows_in 24 data_row_in count bytes.now) }
@@ -98,7 +95,7 @@ fn data_rows_in(alloc: Global, bytes: &[u8], count: u32) -> Result<Vec<DataRow>,
     Ok(rows)
 }
 
-/// The first so many rows of a copy in the bytes.
+// The first `count` rows of a copy in the bytes.
 fn copy_rows_in(alloc: Global, bytes: &[u8], count: u32) -> Result<Vec<CopyRow>, AllocError>
     requires { 44 * count ≤ length bytes.now }
     ensures { IfOk result (λ rows. rows.items ≡ rows_in 44 copy_row_in count bytes.now) }

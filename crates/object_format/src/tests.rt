@@ -4,15 +4,16 @@ use std::test::Fail;
 
 const UUID: [u8; 16] = [0, 0, 0, 0, 0, 0, 0x40, 0, 0x80, 0, 0, 0, 0, 0, 0, 1];
 
-/// Object 2 of a volume of 64 sectors, whose object 1 ends with seq 0.
+// Object 2 of a volume of 64 sectors, whose object 1 ends with seq 0.
 const EXPECTED: Expected = Expected {
     uuid: UUID,
     number: 2,
     sectors: 64,
+    ancestors: 0,
     end_before: Some(0),
 };
 
-/// The header and the row of a data object with one sector.
+// The header and the row of a data object with one sector.
 const DATA: [u8; 88] = [
     0x4c, 0x53, 0x56, 0x44, 0x4f, 0x42, 0x4a, 0x31, 0, 0, 0, 1, 0, 0, 0, 0, 0, 0, 0x40, 0, 0x80, 0,
     0, 0, 0, 0, 0, 1, 0, 0, 0, 0, 0, 0, 0, 2, 0, 0, 0, 0, 0, 0, 0, 0, 0, 0, 0, 0, 0, 0, 0, 1, 0, 0,
@@ -20,7 +21,7 @@ const DATA: [u8; 88] = [
     0, 0,
 ];
 
-/// The bytes of that object.
+// The bytes of that object.
 fn data_object() -> [u8; 1024] {
     let mut bytes = [0x41; 1024];
     bytes[..512].fill(0);
@@ -28,16 +29,17 @@ fn data_object() -> [u8; 1024] {
     bytes
 }
 
-/// The rows that are read of an object.
+// The rows that are read of an object.
 fn read(alloc: Global, bytes: &[u8], expected: &Expected) -> Result<Rows, ReadError> {
-    let header = match read_header(bytes, expected) {
+    let size = bytes.len() as u64;
+    let header = match read_header(bytes, size, expected) {
         Ok(header) => header,
         Err(reason) => return Err(ReadError::Bad(reason)),
     };
     if header.rows > 0 && matches!(header.kind, Kind::Checkpoint) {
         return Err(ReadError::OutOfMemory);
     }
-    read_rows(alloc, bytes, expected, &header)
+    read_rows(alloc, bytes, size, expected, &header)
 }
 
 #[test]
@@ -64,7 +66,9 @@ fn a_data_object_is_written_and_read(rt: HostRuntime) -> Result<(), Fail> {
         rows: 1,
         payload: 1,
     };
-    assert_eq!(rt; read_header(object.as_bytes(), &EXPECTED), Ok(wanted));
+    assert_eq!(rt; read_header(object.as_bytes(), 1024, &EXPECTED), Ok(wanted));
+    // The first bytes are enough, with the length of the whole.
+    assert_eq!(rt; read_header(&DATA[..64], 1024, &EXPECTED), Ok(wanted));
     assert!(rt; read(alloc, object.as_bytes(), &EXPECTED) == Ok(rows));
     Ok(())
 }
@@ -83,7 +87,7 @@ fn the_first_object_of_a_volume_has_one_sector(rt: HostRuntime) -> Result<(), Fa
     wanted[11] = 3;
     wanted[35] = 1;
     assert_eq!(rt; object.as_bytes(), wanted.as_slice());
-    assert!(rt; read_header(object.as_bytes(), &expected).is_ok());
+    assert!(rt; read_header(object.as_bytes(), 512, &expected).is_ok());
     Ok(())
 }
 
@@ -100,7 +104,7 @@ fn the_first_failed_test_is_the_reason(rt: HostRuntime) {
         ([(56, 0x80), (56, 0x80), (56, 0x80)], 1),
         ([(63, 2), (7, b'2'), (11, 2)], 1),
         ([(55, 0), (55, 0), (55, 0)], 8),
-        // A kind that is none has whole sectors.
+        // A kind that is unknown has any length from the header's on.
         ([(11, 4), (63, 9), (27, 2)], 3),
         ([(0, b'M'), (0, b'M'), (0, b'M')], 2),
         ([(7, b'2'), (11, 0), (27, 2)], 2),
@@ -288,4 +292,26 @@ fn errors_are_told(rt: HostRuntime) -> Result<(), Fail> {
         "out of memory"
     );
     Ok(())
+}
+
+#[test]
+fn an_object_of_an_unknown_kind_has_any_length(rt: HostRuntime) {
+    let mut bytes = data_object();
+    for (kind, length, wanted) in [
+        (4, 0, BadObject::Length),
+        (4, 63, BadObject::Length),
+        (4, 64, BadObject::Kind),
+        (4, 100, BadObject::Kind),
+        (0, 1024, BadObject::Kind),
+        (1, 100, BadObject::Length),
+        (1, 1023, BadObject::Length),
+        (3, 512, BadObject::Length),
+    ] {
+        bytes[11] = kind;
+        assert_eq!(rt;
+            read_header(&bytes[..length], length as u64, &EXPECTED),
+            Err(wanted),
+            "{kind} {length}"
+        );
+    }
 }

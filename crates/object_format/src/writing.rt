@@ -36,7 +36,7 @@ impl Model for ObjectWriter {
 
 impl ObjectWriter {
     /// Begins the expected object, with the entries from the first seq up to the end seq and with these rows,
-    /// which may stand so (a condition). It has memory for the whole object. The one error is want of memory.
+    /// which may stand so (a condition). It has memory for the whole object. The one error is that memory ran out.
     pub fn new(
         alloc: Global,
         expected: &Expected,
@@ -79,7 +79,7 @@ impl ObjectWriter {
     }
 }
 
-/// Writes the object up to its payload into the first bytes of an object.
+// Writes the object up to its payload into the first bytes of an object.
 fn write_front(header: &Header, rows: &Rows, object: &mut [u8])
     requires size { 512 * front_sectors header.now ≤ length object.old }
     requires kind { kind_of rows.now ≡ header.now.kind }
@@ -90,7 +90,7 @@ fn write_front(header: &Header, rows: &Rows, object: &mut [u8])
     fill_front(header, rows, &mut object[..front]);
 }
 
-/// Writes the object up to its payload into as many bytes.
+// Writes the object up to its payload into as many bytes.
 fn fill_front(header: &Header, rows: &Rows, front: &mut [u8])
     requires size { length front.old ≡ 512 * front_sectors header.now }
     requires kind { kind_of rows.now ≡ header.now.kind }
@@ -103,7 +103,7 @@ fn fill_front(header: &Header, rows: &Rows, front: &mut [u8])
     front[rows_end..].fill(0);
 }
 
-/// Writes the header into 64 bytes.
+// Writes the header into 64 bytes.
 fn write_header(header: &Header, head: &mut [u8])
     requires { length head.old ≡ 64 }
     ensures { head.new ≡ header_bytes header.now }

@@ -18,8 +18,8 @@ put-requires-clause-back g c =
     back_shortest g.P.Place.on g.met.P.Place.on_twice c.self.inside.rows.items c.args.lba c.args.sectors c.self.invariant.0 c.take_out-index.new.rows.items
     c.take_out-index.result c.take_out-index.ensures.rows c.take_out-index.ensures.index
 
-pub put-requires-clause-behind : goal.put-requires-clause-behind
-put-requires-clause-behind g c =
+pub put-requires-clause-after : goal.put-requires-clause-after
+put-requires-clause-after g c =
     back_starts g.P.Place.on g.met.P.Place.on_twice c.self.inside.rows.items c.args.lba c.args.sectors c.self.invariant.0 c.take_out-index.new.rows.items
     c.take_out-index.result c.take_out-index.ensures.rows c.take_out-index.ensures.index
 
