@@ -1,4 +1,4 @@
--- The last writers of sectors, when an entry comes behind a history, and the runs that they make.
+-- The last writers of sectors, when an entry comes after a history, and the runs that they make.
 use Rattle.std.proofs.Common.{length-append, length-take, length-drop, ◌≡◌, ℕ, ◌+◌, ◌-◌, ◌<◌, ◌≤◌, Option, Some, None, true, false, List, [], ◌∷◌, ◌++◌, get_or, length, take, drop, replicate, min, inl, inr, sym, ◌∙◌, ap, refl, arith, rules}
 use Rattle.std.proofs.lemmas.List.{same_lists, length-replicate, get_or-replicate, places}
 use Rattle.std.proofs.lemmas.List.FromFn.{get_or-map-range_with_len, length-map-range_with_len}
@@ -6,33 +6,33 @@ use Rattle.std.proofs.lemmas.Bool.{cases_lt}
 use Rattle.std.proofs.lemmas.Bool.Decides.{nat_tests}
 use Rattle.lsvd_base.specs.declared.entry.Entry.{Entry}
 use Rattle.lsvd_base.specs.Laws.{first_sector, sector_count}
-use Rattle.plain_disk.specs.Writers.{covers_sector, writer_of, writer_behind, writer_behind_all, last_writer, writers}
+use Rattle.plain_disk.specs.Writers.{covers_sector, writer_of, writer_after, writer_after_all, last_writer, writers}
 
--- one entry more behind others
-writer_behind_all-push : (index : ℕ) (entries : List Entry) (entry : Entry) (sector : ℕ) (before : Option ℕ)
-    → writer_behind_all index (entries ++ entry ∷ []) sector before
-    ≡ writer_behind (index + length entries) entry sector (writer_behind_all index entries sector before)
-writer_behind_all-push index [] entry sector before =
-    ap (λ n. writer_behind n entry sector before) (omega arith)
-writer_behind_all-push index (first ∷ entries) entry sector before =
-    writer_behind_all-push (index + 1) entries entry sector (writer_behind index first sector before)
-    ∙ ap (λ n. writer_behind n entry sector (writer_behind_all (index + 1) entries sector (writer_behind index first sector before)))
+-- one entry more after others
+writer_after_all-push : (index : ℕ) (entries : List Entry) (entry : Entry) (sector : ℕ) (before : Option ℕ)
+    → writer_after_all index (entries ++ entry ∷ []) sector before
+    ≡ writer_after (index + length entries) entry sector (writer_after_all index entries sector before)
+writer_after_all-push index [] entry sector before =
+    ap (λ n. writer_after n entry sector before) (omega arith)
+writer_after_all-push index (first ∷ entries) entry sector before =
+    writer_after_all-push (index + 1) entries entry sector (writer_after index first sector before)
+    ∙ ap (λ n. writer_after n entry sector (writer_after_all (index + 1) entries sector (writer_after index first sector before)))
     (omega arith)
 
 pub last_writer-push : (history : List Entry) (entry : Entry) (sector : ℕ)
-    → last_writer (history ++ entry ∷ []) sector ≡ writer_behind (length history) entry sector (last_writer history sector)
+    → last_writer (history ++ entry ∷ []) sector ≡ writer_after (length history) entry sector (last_writer history sector)
 last_writer-push history entry sector =
-    writer_behind_all-push 0 history entry sector None
-    ∙ ap (λ n. writer_behind n entry sector (last_writer history sector)) (omega arith)
+    writer_after_all-push 0 history entry sector None
+    ∙ ap (λ n. writer_after n entry sector (last_writer history sector)) (omega arith)
 
 -- a sector that the entry does not cover, and one that it covers
-writer_behind-outside : (index : ℕ) (entry : Entry) (sector : ℕ) (before : Option ℕ)
-    → covers_sector entry sector ≡ false → writer_behind index entry sector before ≡ before
-writer_behind-outside index entry sector before h = rw h refl
+writer_after-outside : (index : ℕ) (entry : Entry) (sector : ℕ) (before : Option ℕ)
+    → covers_sector entry sector ≡ false → writer_after index entry sector before ≡ before
+writer_after-outside index entry sector before h = rw h refl
 
-writer_behind-inside : (index : ℕ) (entry : Entry) (sector : ℕ) (before : Option ℕ)
-    → covers_sector entry sector ≡ true → writer_behind index entry sector before ≡ writer_of index entry
-writer_behind-inside index entry sector before h = rw h refl
+writer_after-inside : (index : ℕ) (entry : Entry) (sector : ℕ) (before : Option ℕ)
+    → covers_sector entry sector ≡ true → writer_after index entry sector before ≡ writer_of index entry
+writer_after-inside index entry sector before h = rw h refl
 
 pub is_below : (entry : Entry) (sector : ℕ) → sector < first_sector entry → covers_sector entry sector ≡ false
 is_below entry sector h = grind (arith, nat_tests)
@@ -79,30 +79,30 @@ writers-none lba sectors =
     (λ k d h. let inside : k < sectors = omega (arith, length-writers [] lba sectors) in
     get_or-writers [] lba sectors k d inside ∙ sym (get_or-replicate sectors k None d inside))
 
--- one of the sectors, before the entry, in it or behind it
+-- one of the sectors, before the entry, in it or after it
 at_sector : (history : List Entry) (entry : Entry) (lba sectors start end k : ℕ) (d : Option ℕ)
     → start ≡ min sectors (first_sector entry - lba) → end ≡ min sectors (first_sector entry + sector_count entry - lba) → k < sectors
     → get_or (filled start end (writer_of (length history) entry) (writers history lba sectors)) k d
-    ≡ writer_behind (length history) entry (lba + k) (last_writer history (lba + k))
+    ≡ writer_after (length history) entry (lba + k) (last_writer history (lba + k))
 at_sector history entry lba sectors start end k d s e h =
     let old = writers history lba sectors in
     let writer = writer_of (length history) entry in
     let size : length old ≡ sectors = length-writers history lba sectors in
     let order : start ≤ end = omega arith in
     let within : end ≤ length old = omega arith in
-    elim (cases_lt k start) as (λ _. get_or (filled start end writer old) k d ≡ writer_behind (length history) entry (lba + k) (last_writer history (lba + k))) [
+    elim (cases_lt k start) as (λ _. get_or (filled start end writer old) k d ≡ writer_after (length history) entry (lba + k) (last_writer history (lba + k))) [
       | inl below ↦
           filled-below start end writer old k d order within below
           ∙ (get_or-writers history lba sectors k d h
-          ∙ sym (writer_behind-outside (length history) entry (lba + k) (last_writer history (lba + k)) (is_below entry (lba + k) (omega arith))))
-      | inr from ↦ elim (cases_lt k end) as (λ _. get_or (filled start end writer old) k d ≡ writer_behind (length history) entry (lba + k) (last_writer history (lba + k))) [
+          ∙ sym (writer_after-outside (length history) entry (lba + k) (last_writer history (lba + k)) (is_below entry (lba + k) (omega arith))))
+      | inr from ↦ elim (cases_lt k end) as (λ _. get_or (filled start end writer old) k d ≡ writer_after (length history) entry (lba + k) (last_writer history (lba + k))) [
         | inl inside ↦
             filled-inside start end writer old k d order within from inside
-            ∙ sym (writer_behind-inside (length history) entry (lba + k) (last_writer history (lba + k)) (is_inside entry (lba + k) (omega arith) (omega arith)))
+            ∙ sym (writer_after-inside (length history) entry (lba + k) (last_writer history (lba + k)) (is_inside entry (lba + k) (omega arith) (omega arith)))
         | inr behind ↦
             filled-behind start end writer old k d order within behind (omega arith)
             ∙ (get_or-writers history lba sectors k d h
-            ∙ sym (writer_behind-outside (length history) entry (lba + k) (last_writer history (lba + k)) (is_behind entry (lba + k) (omega arith))))
+            ∙ sym (writer_after-outside (length history) entry (lba + k) (last_writer history (lba + k)) (is_behind entry (lba + k) (omega arith))))
       ]
     ]
 

@@ -4,15 +4,16 @@ use Rattle.std.proofs.lemmas.Bool.Decides.{nat_tests}
 use Rattle.std.proofs.lemmas.Grind.{common_steps}
 use Rattle.std.proofs.lemmas.List.Sums.{sum_by-append}
 use Rattle.lsvd_base.specs.declared.entry.Entry.{Entry}
-use Rattle.lsvd_device.specs.Calls.{Fuse, lowered}
+use Rattle.lsvd_device.specs.Calls.{Fuse, fuse_after}
 use Rattle.lsvd_base.specs.declared.geometry.Geometry.{Geometry}
 use Rattle.lsvd_base.specs.Range.{is_in_range}
-use Rattle.plain_disk.specs.Machine.{Mark, Device, batch_refusal, after_writes, data_sectors, IsKept, IsBrokenOff, IsDevice}
+use Rattle.plain_disk.specs.Machine.{Mark, Device, batch_refusal, after_writes, IsKept, IsBrokenOff, IsDevice}
+use Rattle.batcher.specs.Batch.{data_sectors}
 use Rattle.lsvd_device.specs.Sequence.{passed_of}
 use Rattle.plain_disk.specs.Plain.{most_left, IsPlainDisk}
 
 -- calls take of a fuse what it passes of them
-fuse_passed : (fuse : Fuse) (calls : ℕ) → passed_of fuse calls + most_left (lowered fuse calls) ≤ most_left fuse + calls
+fuse_passed : (fuse : Fuse) (calls : ℕ) → passed_of fuse calls + most_left (fuse_after fuse calls) ≤ most_left fuse + calls
 fuse_passed None calls = omega arith
 fuse_passed (Some left) calls = omega arith
 
@@ -31,7 +32,7 @@ broken_entered history entry device calls broken h =
     record {
       behind = h.behind;
       inside = omega (arith, h.inside, length-append history (entry ∷ []));
-      fuse = ap (λ f. lowered f calls) h.fuse ∙ ap Some (omega arith);
+      fuse = ap (λ f. fuse_after f calls) h.fuse ∙ ap Some (omega arith);
       pending = omega (arith, h.pending, none);
     }
 

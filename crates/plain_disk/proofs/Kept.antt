@@ -3,7 +3,7 @@ use Rattle.std.proofs.Common.{arith, ℕ, ◌≤◌, ◌≡◌, Bool, List, leng
 use Rattle.std.proofs.lemmas.Grind.{common_steps}
 use Rattle.lsvd_base.specs.declared.geometry.Geometry.{Geometry}
 use Rattle.lsvd_base.specs.declared.entry.Entry.{Entry}
-use Rattle.plain_disk.specs.declared.event.Event.{Event}
+use Rattle.volume_events.specs.declared.event.Event.{Event}
 use Rattle.plain_disk.specs.Machine.{Disk, Device, created, disk_after, stopping_after, mounted, kept_mark, IsDevice}
 use Rattle.plain_disk.specs.Laws.{HasDevice}
 

@@ -11,14 +11,15 @@ use Rattle.lsvd_base.specs.Range.{is_in_range}
 use Rattle.lsvd_base.specs.declared.entry.Entry.TheVariants.{Write, Zero}
 use Rattle.lsvd_base.specs.Image.{Image, zero_sector, blank, cut_into_sectors, overwritten, after}
 use Rattle.lsvd_base.proofs.ImageLemmas.{AllOfLength, concat-window, length-concat, concat-overwritten, All-overwritten, concat-cut, length-cut, All-cut, concat-zeros, All-zeros, IsOfLength, IsImage, IsImage-after, IsImage-blank, after-push, Write-ends, Zero-ends}
-use Rattle.plain_disk.specs.Machine.{bytes_at, AllInRange}
-use Rattle.byte_window.specs.Window.{Splices, spliced}
+use Rattle.plain_disk.specs.Machine.{sectors_at, AllInRange}
+use Rattle.lsvd_bytes.specs.Window.{Pastes}
+use Rattle.lsvd_bytes.specs.Places.{with_bytes}
 use Rattle.plain_disk.specs.Window.{Overlays}
 use Rattle.lsvd_base.specs.Laws.{EndsBy}
 
 -- how many bytes stand there
 pub length-bytes_at : (lba sectors : ℕ) (image : Image) → AllOfLength 512 image → lba + sectors ≤ length image
-    → length (bytes_at lba sectors image) ≡ 512 * sectors
+    → length (sectors_at lba sectors image) ≡ 512 * sectors
 length-bytes_at lba sectors image whole h =
     let size : length (concat image) ≡ 512 * length image = length-concat 512 image whole in
     ap length (concat-window 512 lba sectors image whole)
@@ -28,24 +29,24 @@ length-bytes_at lba sectors image whole h =
 overlaid : (lba sectors at : ℕ) (piece old new : List ℕ) (pieces image : Image)
     → AllOfLength 512 image → AllOfLength 512 pieces → concat pieces ≡ piece
     → lba + sectors ≤ length image → at + length pieces ≤ length image
-    → old ≡ bytes_at lba sectors image → Splices (512 * lba) (512 * at) piece old new
-    → new ≡ bytes_at lba sectors (overwritten at pieces image)
+    → old ≡ sectors_at lba sectors image → Pastes (512 * lba) (512 * at) piece old new
+    → new ≡ sectors_at lba sectors (overwritten at pieces image)
 overlaid lba sectors at piece old new pieces image whole whole_pieces are window inside shows splices =
     let size : length (concat image) ≡ 512 * length image = length-concat 512 image whole in
     let piece_size : length piece ≡ 512 * length pieces = ap length (sym are) ∙ length-concat 512 pieces whole_pieces in
     let old_size : length old ≡ 512 * sectors = ap length shows ∙ length-bytes_at lba sectors image whole window in
     let flat : old ≡ take (length old) (drop (512 * lba) (concat image)) =
     shows ∙ (concat-window 512 lba sectors image whole ∙ ap (λ n. take n (drop (512 * lba) (concat image))) (sym old_size)) in
-    let put : concat (overwritten at pieces image) ≡ spliced (512 * at) piece (concat image) =
-    concat-overwritten 512 at pieces image whole whole_pieces ∙ ap (λ bytes. spliced (512 * at) bytes (concat image)) are in
+    let put : concat (overwritten at pieces image) ≡ with_bytes (512 * at) piece (concat image) =
+    concat-overwritten 512 at pieces image whole whole_pieces ∙ ap (λ bytes. with_bytes (512 * at) bytes (concat image)) are in
     splices (concat image) (omega arith) (omega arith) flat
-    ∙ (ap (λ n. take n (drop (512 * lba) (spliced (512 * at) piece (concat image)))) old_size
+    ∙ (ap (λ n. take n (drop (512 * lba) (with_bytes (512 * at) piece (concat image)))) old_size
     ∙ sym (concat-window 512 lba sectors (overwritten at pieces image) (All-overwritten (IsOfLength 512) at pieces image whole whole_pieces)
     ∙ ap (λ bytes. take (512 * sectors) (drop (512 * lba) bytes)) put))
 
 -- a write is its data put into the bytes
 pub overlaid-Write : (lba at : ℕ) (body old new : List ℕ) → length body % 512 ≡ 0
-    → Splices (512 * lba) (512 * at) body old new → Overlays lba (Write at body) old new
+    → Pastes (512 * lba) (512 * at) body old new → Overlays lba (Write at body) old new
 overlaid-Write lba at body old new h splices image sectors whole window ends shows =
     let count = length body / 512 in
     let pieces = cut_into_sectors count body in
@@ -56,14 +57,14 @@ overlaid-Write lba at body old new h splices image sectors whole window ends sho
 
 -- a zeroing is zeros put into the bytes
 pub overlaid-Zero : (lba at count : ℕ) (old new : List ℕ)
-    → Splices (512 * lba) (512 * at) (replicate (512 * count) 0) old new → Overlays lba (Zero at count) old new
+    → Pastes (512 * lba) (512 * at) (replicate (512 * count) 0) old new → Overlays lba (Zero at count) old new
 overlaid-Zero lba at count old new splices image sectors whole window ends shows =
     overlaid lba sectors at (replicate (512 * count) 0) old new (replicate count zero_sector) image whole (All-zeros count)
     (concat-zeros count) window (omega (arith, length-replicate count zero_sector)) shows splices
 
 -- a disk that was just created shows zeros
-pub bytes_at-blank : (lba sectors all : ℕ) → lba + sectors ≤ all → bytes_at lba sectors (blank all) ≡ replicate (512 * sectors) 0
-bytes_at-blank lba sectors all h =
+pub sectors_at-blank : (lba sectors all : ℕ) → lba + sectors ≤ all → sectors_at lba sectors (blank all) ≡ replicate (512 * sectors) 0
+sectors_at-blank lba sectors all h =
     ap (λ rest. concat (take sectors rest)) (drop-replicate lba all zero_sector)
     ∙ (ap concat (take-replicate sectors (all - lba) zero_sector (omega arith)) ∙ concat-zeros sectors)
 
@@ -84,8 +85,8 @@ history_whole g history n h =
 -- the window after one entry more of the history
 pub one_more : (g : Geometry) (history : List Entry) (n lba sectors : ℕ) (entry : Entry) (old new : List ℕ)
     → AllInRange g history → n < length history → entry ≡ get_or history n entry → lba + sectors ≤ g.sectors
-    → old ≡ bytes_at lba sectors (after (blank g.sectors) (take n history)) → Overlays lba entry old new
-    → new ≡ bytes_at lba sectors (after (blank g.sectors) (take (n + 1) history))
+    → old ≡ sectors_at lba sectors (after (blank g.sectors) (take n history)) → Overlays lba entry old new
+    → new ≡ sectors_at lba sectors (after (blank g.sectors) (take (n + 1) history))
 one_more g history n lba sectors entry old new h inside is window shows overlays =
     let image = after (blank g.sectors) (take n history) in
     let whole : IsImage g.sectors image = history_whole g history n h in
@@ -94,8 +95,8 @@ one_more g history n lba sectors entry old new h inside is window shows overlays
     take_more history n entry inside ∙ ap (λ e. take n history ++ e ∷ []) (sym is) in
     overlays image sectors whole.whole (omega (arith, whole.count))
     (EndsBy-more g.sectors (length image) entry (EndsBy-in_range g entry range) (omega (arith, whole.count))) shows
-    ∙ sym (ap (λ entries. bytes_at lba sectors (after (blank g.sectors) entries)) next
-    ∙ ap (bytes_at lba sectors) (after-push (blank g.sectors) (take n history) entry))
+    ∙ sym (ap (λ entries. sectors_at lba sectors (after (blank g.sectors) entries)) next
+    ∙ ap (sectors_at lba sectors) (after-push (blank g.sectors) (take n history) entry))
 
 -- a read that is allowed ends inside the volume
 pub transfer_ends : (g : Geometry) (lba sectors : ℕ) → may_transfer g lba sectors ≡ true → lba + sectors ≤ g.sectors

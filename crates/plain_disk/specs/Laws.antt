@@ -1,8 +1,8 @@
--- What holds of the machine's device in each state that a script reaches.
+-- Contract: what holds of the machine's device in each state that a script reaches.
 use Rattle.std.specs.Prelude.{ℕ, ◌≡◌, ◌≤◌, Bool, None, List, length}
 use Rattle.lsvd_base.specs.declared.geometry.Geometry.{Geometry}
 use Rattle.lsvd_base.specs.declared.entry.Entry.{Entry}
-use Rattle.plain_disk.specs.declared.event.Event.{Event}
+use Rattle.volume_events.specs.declared.event.Event.{Event}
 use Rattle.plain_disk.specs.Machine.{Disk, Device, created, disk_after, stopping_after, mounted, kept_mark, IsDevice}
 
 -- the commits of the disk's device are of entries that it took
@@ -10,8 +10,8 @@ abbrev pub HasDevice : Disk → Type 0
 HasDevice disk = IsDevice disk.history disk.device
 
 -- a stop keeps what was flushed, and no more than was taken
-abbrev pub KeepsFlushed : Type 0
-KeepsFlushed =
+abbrev pub StopKeepsFlushed : Type 0
+StopKeepsFlushed =
     (history : List Entry) (device : Device) (keeps_last : Bool) → IsDevice history device
     → (device.mark.count ≤ (kept_mark keeps_last device).count) × ((kept_mark keeps_last device).count ≤ length history)
 

@@ -1,5 +1,5 @@
--- The plain disk machine: its state, and what each event answers and leaves.
-use Rattle.std.specs.Prelude.{ℕ, ◌≡◌, ◌+◌, ◌/◌, ◌≤◌, ◌==◌, Option, Some, None, is_some, IfSome, unwrap_or, Bool, true, nat_lt, nat_le, IsTrue, List, [], ◌∷◌, ◌++◌, length, take, drop, if◌then◌else◌}
+-- Contract: the plain disk machine: its state, and what each event answers and leaves.
+use Rattle.std.specs.Prelude.{ℕ, ◌≡◌, ◌+◌, ◌/◌, ◌≤◌, ◌==◌, Option, Some, None, is_some, IfSome, unwrap_or, option_map, Bool, true, nat_lt, nat_le, IsTrue, List, [], ◌∷◌, ◌++◌, length, take, drop, if◌then◌else◌}
 use Rattle.std.specs.List.{All, concat, sum_by}
 use Rattle.std.specs.Option.{option_or}
 use Rattle.lsvd_base.specs.declared.geometry.Geometry.{Geometry}
@@ -8,12 +8,15 @@ use Rattle.lsvd_base.specs.declared.entry.Entry.TheVariants as entries
 use Rattle.lsvd_base.specs.Limits.{is_within_limits, may_transfer}
 use Rattle.lsvd_base.specs.Range.{is_in_range}
 use Rattle.lsvd_base.specs.Image.{Image, blank, after}
-use Rattle.plain_disk.specs.declared.event.Event.{Event}
-use Rattle.plain_disk.specs.declared.event.Event.TheVariants.{Write, Read, Zero, Flush}
-use Rattle.plain_disk.specs.declared.event.Reply.{Reply}
-use Rattle.plain_disk.specs.declared.event.Reply.TheVariants.{Entered, Data, Flushed, BatchFull, EntriesFull, NoRoom, Range, Fault}
+use Rattle.batcher.specs.Batch.{data_sectors, fullness}
+use Rattle.batcher.specs.declared.batch.Full.{Full}
+use Rattle.batcher.specs.declared.batch.Full.TheVariants.{Sectors, Entries}
+use Rattle.volume_events.specs.declared.event.Event.{Event}
+use Rattle.volume_events.specs.declared.event.Event.TheVariants.{Write, Read, Zero, Flush}
+use Rattle.volume_events.specs.declared.event.Reply.{Reply}
+use Rattle.volume_events.specs.declared.event.Reply.TheVariants.{Entered, Data, Flushed, BatchFull, EntriesFull, NoRoom, Range, Fault}
 use Rattle.log_room.specs.Room.{Room, empty_log, after_record, need, free, pad_before, record_sectors}
-use Rattle.lsvd_device.specs.Calls.{Fuse, passes, lowered}
+use Rattle.lsvd_device.specs.Calls.{Fuse, passes, fuse_after}
 use Rattle.lsvd_device.specs.Sequence.{passed_of}
 use Rattle.plain_disk.specs.Writers.{read_calls}
 
@@ -23,7 +26,7 @@ pub record Mark : Type 0 where
   pub room : Room
 
 -- What the machine keeps of its device: the calls that it still passes, where it was told to stop; the writes since
--- the last sync; the last commit made; and the commit that was broken off behind the opening of its gate, where one was.
+-- the last sync; the last commit made; and the commit that was broken off after the opening of its gate, where one was.
 pub record Device : Type 0 where
   pub fuse : Fuse
   pub pending : ℕ
@@ -31,8 +34,8 @@ pub record Device : Type 0 where
   pub broken : Option Mark
 
 -- a device on which this commit was just made, and which fails no call
-abbrev pub settled : Mark → Device
-settled mark = record { fuse = None; pending = 0; mark = mark; broken = None }
+abbrev pub device_at : Mark → Device
+device_at mark = record { fuse = None; pending = 0; mark = mark; broken = None }
 
 -- a disk: its geometry, the entries that it took since it was created, the room of its log, and its device
 pub record Disk : Type 0 where
@@ -41,31 +44,31 @@ pub record Disk : Type 0 where
   pub room : Room
   pub device : Device
 
--- a commit of so many entries in a log with this room
+-- a commit of `count` entries in a log with this room
 abbrev pub mark_of : ℕ → Room → Mark
 mark_of count room = record { count = count; room = room }
 
 -- a disk that was just created
 abbrev pub created : Geometry → Disk
-created g = record { geometry = g; history = []; room = empty_log g.log; device = settled (mark_of 0 (empty_log g.log)) }
+created g = record { geometry = g; history = []; room = empty_log g.log; device = device_at (mark_of 0 (empty_log g.log)) }
 
 -- what the disk holds now
 abbrev pub image_of : Disk → Image
 image_of disk = after (blank disk.geometry.sectors) disk.history
 
 -- the bytes of the sectors from lba on
-abbrev pub bytes_at : ℕ → ℕ → Image → List ℕ
-bytes_at lba sectors image = concat (take sectors (drop lba image))
+abbrev pub sectors_at : ℕ → ℕ → Image → List ℕ
+sectors_at lba sectors image = concat (take sectors (drop lba image))
 
--- the device after so many reads were asked for
+-- the device after `calls` reads were asked for
 abbrev pub after_reads : Device → ℕ → Device
-after_reads device calls = record device { fuse = lowered device.fuse calls }
+after_reads device calls = record device { fuse = fuse_after device.fuse calls }
 
--- the device after so many writes were asked for: those that it passed are pending
+-- the device after `calls` writes were asked for: those that it passed are pending
 abbrev pub after_writes : Device → ℕ → Device
 after_writes device calls =
     record device {
-      fuse = lowered device.fuse calls;
+      fuse = fuse_after device.fuse calls;
       pending = device.pending + passed_of device.fuse calls;
     }
 
@@ -94,11 +97,6 @@ without_entry disk entry = record disk { device = after_writes disk.device (entr
 abbrev pub AllInRange : Geometry → List Entry → Type 0
 AllInRange geometry history = All (λ entry. is_in_range geometry entry ≡ true) history
 
--- the sectors of data that an entry carries: a zeroing carries none
-abbrev pub data_sectors : Entry → ℕ
-data_sectors (entries.Write lba body) = length body / 512
-data_sectors (entries.Zero lba sectors) = 0
-
 -- the entries that are in no object of the store; there are no objects yet, so they are the whole history
 abbrev pub unsealed : Disk → List Entry
 unsealed disk = disk.history
@@ -107,18 +105,15 @@ unsealed disk = disk.history
 abbrev pub unsealed_sectors : Disk → ℕ
 unsealed_sectors disk = sum_by data_sectors (unsealed disk)
 
--- the most entries of a batch
-abbrev pub max_entries : ℕ
-max_entries = 16384
+-- how a full batch is told
+abbrev pub reply_of_full : Full → Reply
+reply_of_full (Sectors sectors) = BatchFull sectors
+reply_of_full (Entries count) = EntriesFull count
 
--- why a batch that has so many sectors of data and so many entries takes no entry of a disk, or none where it does
+-- why a disk with these sectors of data and these entries in its batch takes no entry, or none where it does
 abbrev pub batch_refusal : Geometry → (sectors count : ℕ) → Entry → Option Reply
 batch_refusal geometry sectors count entry =
-    if is_in_range geometry entry then
-    (if nat_lt sectors geometry.batch then
-    (if nat_lt count max_entries then None else Some (EntriesFull count))
-    else Some (BatchFull sectors))
-    else Some Range
+    if is_in_range geometry entry then option_map reply_of_full (fullness geometry.batch sectors count) else Some Range
 
 -- why the log has no room for an entry, or none where it has
 abbrev pub room_refusal : Room → Entry → Option Reply
@@ -145,13 +140,13 @@ after_entry disk entry =
 -- what a read answers where these entries were taken: the sectors of the image
 abbrev pub history_reply : Geometry → List Entry → ℕ → ℕ → Reply
 history_reply geometry history lba sectors =
-    if may_transfer geometry lba sectors then Data (bytes_at lba sectors (after (blank geometry.sectors) history)) else Range
+    if may_transfer geometry lba sectors then Data (sectors_at lba sectors (after (blank geometry.sectors) history)) else Range
 
 -- what a read answers that may be made: the sectors, if the device passes its calls
 abbrev pub read_reply : Disk → ℕ → ℕ → Reply
 read_reply disk lba sectors =
     if may_transfer disk.geometry lba sectors then
-    (if passes disk.device.fuse (read_calls disk.history lba sectors) then Data (bytes_at lba sectors (image_of disk)) else Fault)
+    (if passes disk.device.fuse (read_calls disk.history lba sectors) then Data (sectors_at lba sectors (image_of disk)) else Fault)
     else Range
 
 -- what a read leaves: one that may be made takes its calls of the device
@@ -162,33 +157,33 @@ after_read disk lba sectors =
     else disk
 
 -- the calls of a commit: it writes its body, closes the next gate, syncs, opens its own gate, and syncs
-abbrev pub commit_calls : ℕ
-commit_calls = 5
+abbrev pub commit_call_count : ℕ
+commit_call_count = 5
 
 -- the commit of the disk as it is now
 abbrev pub mark_now : Disk → Mark
 mark_now disk = mark_of (length disk.history) disk.room
 
--- the pending writes when so many calls of a commit were passed: its third call syncs, and so does its fifth
+-- the pending writes when `passed` calls of a commit were passed: its third call syncs, and so does its fifth
 abbrev pub pending_after : (pending passed : ℕ) → ℕ
 pending_after pending passed = if nat_le passed 2 then pending + passed else (if passed == 4 then 1 else 0)
 
--- The device when a commit was asked for, of which it passed so many calls. The commit is made where it passed all,
--- and is broken off behind the opening of its gate where it passed all but the last.
+-- The device when a commit was asked for, of which it passed `passed` calls. The commit is made where it passed all,
+-- and is broken off after the opening of its gate where it passed all but the last.
 abbrev pub after_passed : Device → Mark → ℕ → Device
 after_passed device mark passed = record {
-  fuse = lowered device.fuse commit_calls;
+  fuse = fuse_after device.fuse commit_call_count;
   pending = pending_after device.pending passed;
   mark = if passed == 5 then mark else device.mark;
   broken = if passed == 5 then None else (if passed == 4 then Some mark else device.broken);
 }
 
 abbrev pub after_commit : Device → Mark → Device
-after_commit device mark = after_passed device mark (passed_of device.fuse commit_calls)
+after_commit device mark = after_passed device mark (passed_of device.fuse commit_call_count)
 
 -- what a flush answers: it is a commit
 abbrev pub flush_reply : Disk → Reply
-flush_reply disk = if passes disk.device.fuse commit_calls then Flushed (length disk.history) else Fault
+flush_reply disk = if passes disk.device.fuse commit_call_count then Flushed (length disk.history) else Fault
 
 abbrev pub after_flush : Disk → Disk
 after_flush disk = record disk { device = after_commit disk.device (mark_now disk) }
@@ -207,7 +202,7 @@ disk_after disk (Zero lba sectors) = after_entry disk (entries.Zero lba sectors)
 disk_after disk (Read lba sectors) = after_read disk lba sectors
 disk_after disk Flush = after_flush disk
 
--- the disk whose device passes so many calls more, and fails each later one
+-- the disk whose device passes this many calls more, and fails each later one
 abbrev pub stopping_after : ℕ → Disk → Disk
 stopping_after calls disk = record disk { device = record disk.device { fuse = Some calls } }
 
@@ -217,7 +212,7 @@ kept_mark keeps_last device = if keeps_last then unwrap_or device.broken device.
 
 -- the disk with the entries and the room of a commit, which the mount makes again
 abbrev pub cut_to : Mark → Disk → Disk
-cut_to mark disk = record disk { history = take mark.count disk.history; room = mark.room; device = settled mark }
+cut_to mark disk = record disk { history = take mark.count disk.history; room = mark.room; device = device_at mark }
 
 -- the disk when the machine stopped and was mounted again; the last pending write is kept or not
 abbrev pub mounted : Bool → Disk → Disk

@@ -1,12 +1,12 @@
 ghost use Rattle.std.specs.Prelude.{◌≡◌, ◌+◌, ◌^◌, ◌<◌, Some, is_some};
 ghost use Rattle.lsvd_device.specs.Calls.{passes};
-ghost use Rattle.plain_disk.specs.Machine.{mark_of, settled, after_reads, after_writes, pending_after, after_passed, after_commit, commit_calls, kept_mark};
+ghost use Rattle.plain_disk.specs.Machine.{mark_of, device_at, after_reads, after_writes, pending_after, after_passed, after_commit, commit_call_count, kept_mark};
 ghost use Rattle.lsvd_device.specs.Sequence.{passed_of};
 
 use log_room::LogRoom;
 use std::marker::Model;
 
-/// The calls of a commit.
+// The calls of a commit.
 const COMMIT_CALLS: u64 = 5;
 
 /// A commit: how many entries it has, and the room of the log then.
@@ -35,7 +35,7 @@ pub(crate) struct PlainDevice {
     pending: u128,
     /// The last commit made.
     mark: PlainMark,
-    /// The commit that was broken off behind the opening of its gate.
+    /// The commit that was broken off after the opening of its gate.
     broken: Option<PlainMark>,
 }
 
@@ -49,8 +49,8 @@ impl Model for PlainDevice {
 
 impl PlainDevice {
     /// A device on which this commit was just made, and which fails no call.
-    pub(crate) fn settled(mark: PlainMark) -> PlainDevice
-        ensures { result ≡ settled mark }
+    pub(crate) fn device_at(mark: PlainMark) -> PlainDevice
+        ensures { result ≡ device_at mark }
     {
         PlainDevice {
             fuse: None,
@@ -74,14 +74,14 @@ impl PlainDevice {
         self.pending
     }
 
-    /// Fails each call behind so many.
+    /// Fails each call after this many.
     pub(crate) fn stop_after(&mut self, calls: u64)
         ensures { self.new ≡ record self.old { fuse = Some calls } }
     {
         self.fuse = Some(calls);
     }
 
-    // Asks for so many calls: how many of them pass.
+    // Asks for `calls` calls: how many of them pass.
     fn pass(&mut self, calls: u64) -> u64
         ensures passed { result ≡ passed_of self.old.fuse calls }
         ensures device { self.new ≡ after_reads self.old calls }
@@ -96,7 +96,7 @@ impl PlainDevice {
         }
     }
 
-    /// Reads by so many calls: whether they all pass.
+    /// Reads by `calls` calls: whether they all pass.
     pub(crate) fn read(&mut self, calls: u64) -> bool
         ensures passed { result ≡ passes self.old.fuse calls }
         ensures device { self.new ≡ after_reads self.old calls }
@@ -104,7 +104,7 @@ impl PlainDevice {
         self.pass(calls) == calls
     }
 
-    /// Writes by so many calls: whether they all pass.
+    /// Writes by `calls` calls: whether they all pass.
     pub(crate) fn write(&mut self, calls: u64) -> bool
         requires { self.old.pending + calls < 2 ^ 128 }
         ensures passed { result ≡ passes self.old.fuse calls }
@@ -118,7 +118,7 @@ impl PlainDevice {
     /// Makes this commit: whether its calls all pass.
     pub(crate) fn commit(&mut self, mark: PlainMark) -> bool
         requires { self.old.pending + 2 < 2 ^ 128 }
-        ensures passed { result ≡ passes self.old.fuse commit_calls }
+        ensures passed { result ≡ passes self.old.fuse commit_call_count }
         ensures device { self.new ≡ after_commit self.old mark }
     {
         let passed = self.pass(COMMIT_CALLS);
@@ -143,7 +143,7 @@ impl PlainDevice {
     }
 }
 
-// The pending writes when so many calls of a commit passed.
+// The pending writes when `passed` calls of a commit passed.
 fn pending_after(pending: u128, passed: u64) -> u128
     requires { pending + 2 < 2 ^ 128 }
     ensures { result ≡ pending_after pending passed }

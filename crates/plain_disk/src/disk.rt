@@ -3,13 +3,13 @@ ghost use Rattle.lsvd_base.specs.Limits.{is_within_limits};
 ghost use Rattle.plain_disk.specs.Machine.{created, reply_of, disk_after, entry_reply, after_entry, entry_calls, read_reply, after_read, flush_reply, after_flush, stopping_after, kept_mark, cut_to, mounted};
 
 use crate::device::{PlainDevice, PlainMark};
-use crate::event::{Event, Reply};
 use crate::history::{batch_refusal, data_sectors, read_history, sum_data_sectors};
 use crate::writers::{last_writers, run_count};
 use log_room::{LogRoom, record_sectors};
 use lsvd_base::{Entry, Geometry};
 use std::alloc::{AllocError, Global};
 use std::marker::Model;
+use volume_events::{Event, Reply};
 
 /// A disk that is the list of its entries. A read costs as much as the history is long.
 #[derive(Drop)]
@@ -45,18 +45,11 @@ impl PlainDisk {
             history: Vec::new(alloc),
             data_sectors: 0,
             room,
-            device: PlainDevice::settled(PlainMark { count: 0, room }),
+            device: PlainDevice::device_at(PlainMark { count: 0, room }),
         }
     }
 
-    /// Its geometry.
-    pub fn geometry(&self) -> Geometry
-        ensures { result ≡ self.now.geometry }
-    {
-        self.geometry
-    }
-
-    /// One step of the machine. The one error is want of memory, after which the disk is as before.
+    /// One step of the machine. The one error is that memory ran out, after which the disk is as before.
     pub fn step(&mut self, event: Event) -> Result<Reply, AllocError>
         ensures reply { IfOk result (λ reply. reply ≡ reply_of self.old event) }
         ensures disk { OnOk result (self.new ≡ disk_after self.old event) }
@@ -84,7 +77,7 @@ impl PlainDisk {
         self.device.pending()
     }
 
-    /// Lets the device pass so many calls more, and fail each later one until a crash. It was not told so since
+    /// Lets the device pass this many calls more, and fail each later one until a crash. It was not told so since
     /// the last crash (a condition, which `is_stopping` tells).
     pub fn stop_after(&mut self, calls: u64)
         requires { self.old.device.fuse ≡ None }
@@ -103,12 +96,12 @@ impl PlainDisk {
         self.history.truncate(mark.count as usize);
         self.data_sectors = sum_data_sectors(&self.history);
         self.room = mark.room;
-        self.device = PlainDevice::settled(mark);
+        self.device = PlainDevice::device_at(mark);
         mark.count
     }
 
-    /// Takes the entry if it is in range, the batch is not full, the log has room, and the device passes its calls.
-    /// The one error is want of memory, after which the disk is as before.
+    // Takes the entry if it is in range, the batch is not full, the log has room, and the device passes its calls.
+    // The one error is that memory ran out, after which the disk is as before.
     fn enter(&mut self, entry: Entry) -> Result<Reply, AllocError>
         ensures reply { IfOk result (λ reply. reply ≡ entry_reply self.old entry) }
         ensures disk { OnOk result (self.new ≡ after_entry self.old entry) }
@@ -134,8 +127,8 @@ impl PlainDisk {
         Ok(Reply::Entered(self.history.len() as u64))
     }
 
-    /// Reads so many sectors from `lba` on, if one read may cover them and the device passes its calls. The one error
-    /// is want of memory, after which the disk is as before.
+    // Reads `sectors` sectors from `lba` on, if one read may cover them and the device passes its calls. The one error
+    // is that memory ran out, after which the disk is as before.
     fn read(&mut self, lba: u64, sectors: u64) -> Result<Reply, AllocError>
         ensures reply { IfOk result (λ reply. reply ≡ read_reply self.old lba sectors) }
         ensures disk { OnOk result (self.new ≡ after_read self.old lba sectors) }
@@ -154,7 +147,7 @@ impl PlainDisk {
         }
     }
 
-    /// Makes each entry so far durable by a commit, if the device passes its calls.
+    // Makes each entry so far durable by a commit, if the device passes its calls.
     fn flush(&mut self) -> Reply
         ensures reply { result ≡ flush_reply self.old }
         ensures disk { self.new ≡ after_flush self.old }
@@ -169,7 +162,7 @@ impl PlainDisk {
     }
 }
 
-/// The writes that an entry takes: its record, and the pad before it where one is needed.
+// The writes that an entry takes: its record, and the pad before it where one is needed.
 fn entry_calls(room: &LogRoom, entry: &Entry) -> u64
     ensures calls { result ≡ entry_calls room.now entry.now }
     ensures few { result ≤ 2 }
@@ -188,7 +181,7 @@ mod tests {
     use lsvd_base::Body;
     use std::test::Fail;
 
-    /// Sectors that each hold one of the bytes.
+    // Sectors that each hold one of the bytes.
     fn sectors_of(alloc: Global, bytes: &[u8]) -> Result<Vec<u8>, AllocError> {
         let mut sectors = Vec::new(alloc);
         for byte in bytes {
@@ -198,7 +191,7 @@ mod tests {
         Ok(sectors)
     }
 
-    /// Writes so many sectors of the byte: the length that the disk answers, or nothing out of range.
+    // Writes `sectors` sectors of the byte: the length that the disk answers, or nothing out of range.
     fn write(
         alloc: Global,
         disk: &mut PlainDisk,
@@ -213,7 +206,7 @@ mod tests {
         }
     }
 
-    /// Whether a read answers the data, or that it is out of range if there is none.
+    // Whether a read answers the data, or that it is out of range if there is none.
     fn reads(
         disk: &mut PlainDisk,
         lba: u64,
@@ -227,7 +220,7 @@ mod tests {
         }
     }
 
-    /// Zeros so many sectors: the length that the disk answers, or nothing out of range.
+    // Zeros `sectors` sectors: the length that the disk answers, or nothing out of range.
     fn zero(disk: &mut PlainDisk, lba: u64, sectors: u64) -> Result<Option<u64>, AllocError> {
         match disk.step(Event::Zero { lba, sectors })? {
             Reply::Entered(length) => Ok(Some(length)),
@@ -235,7 +228,7 @@ mod tests {
         }
     }
 
-    /// Zeros the first sector so many times, and says how many of these zeroings the disk took.
+    // Zeros the first sector `count` times, and says how many of these zeroings the disk took.
     fn zero_many(disk: &mut PlainDisk, count: u64) -> Result<u64, AllocError> {
         let mut taken = 0;
         for turn in 0..count {
@@ -367,7 +360,7 @@ mod tests {
         Ok(())
     }
 
-    // What a disk answers to zeroings of its first sector and, after them, to one write of so many.
+    // What a disk answers to zeroings of its first sector and, after them, to one write of some sectors.
     fn room_refused(reply: &Reply) -> Option<(u64, u64)> {
         match reply {
             Reply::NoRoom { need, free } => Some((*need, *free)),

@@ -1,19 +1,20 @@
 ghost use Rattle.std.specs.Prelude.{◌≡◌, ◌^◌, ◌<◌, IsTrue, IfOk};
 ghost use Rattle.std.specs.List.{sum_by};
 ghost use Rattle.lsvd_base.specs.Limits.{is_within_limits};
-ghost use Rattle.plain_disk.specs.Machine.{AllInRange, batch_refusal, data_sectors, history_reply};
+ghost use Rattle.plain_disk.specs.Machine.{AllInRange, batch_refusal, history_reply};
+ghost use Rattle.batcher.specs.Batch.{data_sectors};
 
-use crate::event::Reply;
 use crate::window::overlay;
 use lsvd_base::{Body, Entry, Geometry, SECTOR_BYTES, in_range};
 use std::alloc::{AllocError, Global};
+use volume_events::Reply;
 
 /// The most entries of a batch.
-pub const MAX_ENTRIES: u64 = 16_384;
+pub(crate) const MAX_ENTRIES: u64 = 16_384;
 
-/// What a volume of this geometry that took these entries answers to a read of so many sectors from `lba` on. The
-/// one error is want of memory. A read costs as much as the history is long.
-pub fn read_history(
+/// What a volume of this geometry that took these entries answers to a read of `sectors` sectors from `lba` on. The
+/// one error is that memory ran out. A read costs as much as the history is long.
+pub(crate) fn read_history(
     alloc: Global,
     geometry: &Geometry,
     history: &[Entry],
@@ -37,9 +38,9 @@ pub fn read_history(
     Ok(Reply::Data(Body::from_bytes(window)))
 }
 
-/// Why a batch that has so many sectors of data and so many entries takes no further entry. None is for one that
+/// Why a batch that has this many sectors of data and entries takes no further entry. None is for one that
 /// it takes.
-pub fn batch_refusal(
+pub(crate) fn batch_refusal(
     geometry: &Geometry,
     sectors: u64,
     entries: u64,
@@ -59,7 +60,7 @@ pub fn batch_refusal(
 }
 
 /// How many sectors of data the entry carries: a zeroing carries none.
-pub fn data_sectors(entry: &Entry) -> u64
+pub(crate) fn data_sectors(entry: &Entry) -> u64
     ensures { result ≡ data_sectors entry.now }
 {
     match entry {
@@ -69,7 +70,7 @@ pub fn data_sectors(entry: &Entry) -> u64
 }
 
 /// How many sectors of data these entries carry. Their number fits (a condition).
-pub fn sum_data_sectors(history: &[Entry]) -> u64
+pub(crate) fn sum_data_sectors(history: &[Entry]) -> u64
     requires { sum_by data_sectors history.now < 2 ^ 64 }
     ensures { result ≡ sum_by data_sectors history.now }
 {

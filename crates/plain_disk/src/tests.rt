@@ -1,7 +1,9 @@
-use crate::{Event, PlainDisk, Reply, run_count};
+use crate::PlainDisk;
+use crate::writers::run_count;
 use lsvd_base::{Body, Geometry};
 use std::alloc::{AllocError, Global};
 use std::test::Fail;
+use volume_events::{Event, Reply};
 
 const GEOMETRY: Geometry = Geometry {
     sectors: 64,
@@ -10,7 +12,7 @@ const GEOMETRY: Geometry = Geometry {
     log: 64,
 };
 
-/// Writes so many sectors of the byte: whether the disk took them.
+// Writes `sectors` sectors of the byte: whether the disk took them.
 fn write(
     alloc: Global,
     disk: &mut PlainDisk,
@@ -23,7 +25,7 @@ fn write(
     Ok(matches!(reply, Reply::Entered(_)))
 }
 
-/// The first byte of each sector that a read gives; nothing where it gives a fault.
+// The first byte of each sector that a read gives; nothing where it gives a fault.
 fn read(
     alloc: Global,
     disk: &mut PlainDisk,
@@ -43,7 +45,7 @@ fn read(
 }
 
 #[test]
-fn a_device_stops_behind_so_many_calls(rt: HostRuntime) -> Result<(), Fail> {
+fn a_device_stops_after_its_calls(rt: HostRuntime) -> Result<(), Fail> {
     let alloc = rt.alloc();
     let mut disk = PlainDisk::new(alloc, GEOMETRY);
     assert!(rt; write(alloc, &mut disk, 0, 2, 0x41)?);
@@ -71,7 +73,7 @@ fn a_device_stops_behind_so_many_calls(rt: HostRuntime) -> Result<(), Fail> {
 }
 
 #[test]
-fn a_flush_is_broken_off_behind_each_call(rt: HostRuntime) -> Result<(), Fail> {
+fn a_flush_is_broken_off_after_each_call(rt: HostRuntime) -> Result<(), Fail> {
     let alloc = rt.alloc();
     for (calls, without, with_last) in [
         (0, 1, 1),

@@ -1,50 +1,41 @@
 ghost use Rattle.std.specs.Prelude.{ℕ, ◌≡◌, ◌+◌, ◌-◌, ◌*◌, ◌%◌, ◌^◌, ◌<◌, ◌≤◌, length, min, replicate};
 ghost use Rattle.lsvd_base.specs.Laws.{EndsBy};
-ghost use Rattle.byte_window.specs.Window.{Splices};
+ghost use Rattle.lsvd_bytes.specs.Window.{Pastes};
 ghost use Rattle.plain_disk.specs.Window.{Overlays};
 
 use lsvd_base::{Entry, SECTOR_BYTES};
+use lsvd_bytes::paste;
 
 /// Puts what the entry changes over the bytes of a window: whole sectors, of which `lba` is the first.
 pub(crate) fn overlay(window: &mut [u8], lba: u64, entry: &Entry)
     requires whole { length window.old % 512 ≡ 0 }
-    requires ends { EndsBy (2 ^ 64 - 1) entry.now }
+    requires place { lba ≤ 2 ^ 54 }
+    requires ends { EndsBy (2 ^ 54) entry.now }
     ensures { Overlays lba entry.now window.old window.new }
 {
     match entry {
-        Entry::Write { lba: at, body } => paste(window, lba, *at, body.as_bytes()),
+        Entry::Write { lba: at, body } => paste(
+            window,
+            SECTOR_BYTES * lba,
+            SECTOR_BYTES * *at,
+            body.as_bytes(),
+        ),
         Entry::Zero { lba: at, sectors } => clear(window, lba, *at, *sectors),
     }
 }
 
-/// Copies that part of the piece which the window shows. The piece is whole sectors, of which `at` is
-/// the first, as `lba` is of the window.
-fn paste(window: &mut [u8], lba: u64, at: u64, piece: &[u8])
-    requires whole { length window.old % 512 ≡ 0 }
-    requires whole_piece { length piece.now % 512 ≡ 0 }
-    requires ends { 512 * at + length piece.now < 512 * 2 ^ 64 }
-    ensures { Splices (512 * lba) (512 * at) piece.now window.old window.new }
-{
-    let sectors = piece.len() as u64 / SECTOR_BYTES;
-    let (start, end) = shown(window, lba, at, sectors);
-    if start < end {
-        let skipped = (lba.saturating_sub(at) * SECTOR_BYTES) as usize;
-        window[start..end].copy_from_slice(&piece[skipped..skipped + (end - start)]);
-    }
-}
-
-/// Puts zeros at those of so many sectors from `at` on which the window shows; its first one is `lba`.
+// Puts zeros at those of `sectors` sectors from `at` on which the window shows; its first one is `lba`.
 fn clear(window: &mut [u8], lba: u64, at: u64, sectors: u64)
     requires whole { length window.old % 512 ≡ 0 }
     requires ends { at + sectors < 2 ^ 64 }
-    ensures { Splices (512 * lba) (512 * at) (replicate (512 * sectors) 0) window.old window.new }
+    ensures { Pastes (512 * lba) (512 * at) (replicate (512 * sectors) 0) window.old window.new }
 {
     let (start, end) = shown(window, lba, at, sectors);
     window[start..end].fill(0);
 }
 
-/// From which byte to which the window shows so many sectors from `at` on; its first sector is `lba`.
-/// The two are the same where it shows none of them.
+// From which byte to which the window shows `sectors` sectors from `at` on; its first sector is `lba`.
+// The two are the same where it shows none of them.
 fn shown(window: &[u8], lba: u64, at: u64, sectors: u64) -> (usize, usize)
     requires whole { length window.now % 512 ≡ 0 }
     requires ends { at + sectors < 2 ^ 64 }
@@ -59,7 +50,7 @@ fn shown(window: &[u8], lba: u64, at: u64, sectors: u64) -> (usize, usize)
     )
 }
 
-/// From which sector to which a window that holds so many shows those from `at` on; its first one is `lba`.
+/// From which sector to which a window that holds `held` sectors shows `sectors` of them from `at` on; its first one is `lba`.
 /// The two are the same where it shows none of them.
 pub(crate) fn shown_sectors(held: u64, lba: u64, at: u64, sectors: u64) -> (u64, u64)
     requires { at + sectors < 2 ^ 64 }

@@ -1,16 +1,16 @@
 ghost use Rattle.std.specs.Prelude.{◌≡◌, ◌+◌, ◌-◌, ◌^◌, ◌≤◌, IfOk, min};
 ghost use Rattle.std.specs.List.{All};
 ghost use Rattle.lsvd_base.specs.Laws.{EndsBy, first_sector, sector_count};
-ghost use Rattle.plain_disk.specs.Writers.{writers, runs, begun, Follows};
+ghost use Rattle.plain_disk.specs.Writers.{writers, runs, run_starts, Follows};
 
 use crate::window::shown_sectors;
 use lsvd_base::Entry;
 use std::alloc::{AllocError, Global};
 
-/// For each of so many sectors from `lba` on the index of the entry that wrote it last; None where the history has none
-/// that covers it, or the last that does is a zeroing. The one error is want of memory. It costs as much as the
+/// For each of `sectors` sectors from `lba` on the index of the entry that wrote it last; None where the history has none
+/// that covers it, or the last that does is a zeroing. The one error is that memory ran out. It costs as much as the
 /// history is long.
-pub fn last_writers(
+pub(crate) fn last_writers(
     alloc: Global,
     history: &[Entry],
     lba: u64,
@@ -38,7 +38,7 @@ fn follow(last: &mut [Option<u64>], lba: u64, index: u64, entry: &Entry)
     }
 }
 
-// From which to which of so many sectors from `lba` on the entry covers them. The two are the same where it covers none.
+// From which to which of `count` sectors from `lba` on the entry covers them. The two are the same where it covers none.
 fn covered(count: usize, lba: u64, entry: &Entry) -> (usize, usize)
     requires { EndsBy (2 ^ 64 - 1) entry.now }
     ensures start { result.0 ≡ min count (first_sector entry.now - lba) }
@@ -54,21 +54,21 @@ fn covered(count: usize, lba: u64, entry: &Entry) -> (usize, usize)
 
 /// How many maximal runs of sectors these last writers make: each is of one same write, and a sector without one is in
 /// none.
-pub fn run_count(last: &[Option<u64>]) -> u64
+pub(crate) fn run_count(last: &[Option<u64>]) -> u64
     ensures { result ≡ runs last.now }
 {
     let mut count = 0u64;
     let mut before = None;
     for writer in last {
-        count += begun(before, *writer);
+        count += run_starts(before, *writer);
         before = *writer;
     }
     count
 }
 
-// How many runs a sector begins behind one with that last writer.
-fn begun(before: Option<u64>, writer: Option<u64>) -> u64
-    ensures begun { result ≡ begun before writer }
+// How many runs a sector begins after one with that last writer.
+fn run_starts(before: Option<u64>, writer: Option<u64>) -> u64
+    ensures run_starts { result ≡ run_starts before writer }
     ensures most { result ≤ 1 }
 {
     match (before, writer) {

@@ -1,8 +1,8 @@
 use Rattle.std.proofs.Common.{◌≡◌, ◌+◌, ◌*◌, ◌<◌, ◌≤◌, ◌∙◌, sym, ap, arith, length, take, drop, get_or, replicate, rules}
 use Rattle.std.proofs.lemmas.List.{take_at}
 use Rattle.lsvd_base.specs.Image.{blank, after}
-use Rattle.plain_disk.specs.Machine.{bytes_at}
-use Rattle.plain_disk.proofs.Overlaid.{bytes_at-blank, transfer_ends, EndsBy-more, EndsBy-in_range, entry_in_range, one_more, sectors_limit}
+use Rattle.plain_disk.specs.Machine.{sectors_at}
+use Rattle.plain_disk.proofs.Overlaid.{sectors_at-blank, transfer_ends, EndsBy-more, EndsBy-in_range, entry_in_range, one_more, sectors_limit}
 use Rattle.plain_disk.proofs.history.read_history.Goals as goal
 
 pub loop-entry-init : goal.loop-entry-init
@@ -11,7 +11,7 @@ loop-entry-init c =
     let zeros : c.in_ok-window.window.items ≡ replicate c.in-Some.count 0 = c.in_ok-window.ensures.items_if_clones_equal (λ _ e. e) in
     let count : c.in-Some.count ≡ 512 * c.args.sectors = omega arith in
     let ends : c.args.lba + c.args.sectors ≤ g.sectors = transfer_ends g c.args.lba c.args.sectors (search rules) in
-    zeros ∙ (ap (λ n. replicate n 0) count ∙ sym (bytes_at-blank c.args.lba c.args.sectors g.sectors ends))
+    zeros ∙ (ap (λ n. replicate n 0) count ∙ sym (sectors_at-blank c.args.lba c.args.sectors g.sectors ends))
 
 pub overlay-requires-clause-ends : goal.overlay-requires-clause-ends
 overlay-requires-clause-ends c =
@@ -24,6 +24,12 @@ overlay-requires-clause-ends c =
     EndsBy-more g.sectors _ entry (EndsBy-in_range g entry (entry_in_range g history n entry c.requires.in_range inside is))
     (omega (arith, sectors_limit g c.requires.limits))
 
+pub overlay-requires-clause-place : goal.overlay-requires-clause-place
+overlay-requires-clause-place c =
+    let g = c.args.geometry.now in
+    let ends : c.args.lba + c.args.sectors ≤ g.sectors = transfer_ends g c.args.lba c.args.sectors (search rules) in
+    omega (arith, ends, sectors_limit g c.requires.limits)
+
 pub loop-entry-preserved : goal.loop-entry-preserved
 loop-entry-preserved c =
     let g = c.args.geometry.now in
@@ -35,7 +41,7 @@ loop-entry-preserved c =
     let inside : n < length history = c.loop-entry-test.true in
     let is : entry ≡ get_or history n entry = c.entry-item.is in
     let ends : c.args.lba + c.args.sectors ≤ g.sectors = transfer_ends g c.args.lba c.args.sectors (search rules) in
-    let shows : old ≡ bytes_at c.args.lba c.args.sectors (after (blank g.sectors) (take n history)) =
+    let shows : old ≡ sectors_at c.args.lba c.args.sectors (after (blank g.sectors) (take n history)) =
     c.as_mut_slice.ensures.value ∙ c.loop-entry.invariant in
     let whole : length new ≡ c.loop-entry.window.len = omega arith in
     take_at new (drop (length new) c.loop-entry.window.items) c.loop-entry.window.len whole

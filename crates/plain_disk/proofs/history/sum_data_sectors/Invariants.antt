@@ -1,6 +1,6 @@
 use Rattle.std.proofs.Common.{◌≡◌, take}
 use Rattle.std.specs.List.{sum_by}
-use Rattle.plain_disk.specs.Machine.{data_sectors}
+use Rattle.batcher.specs.Batch.{data_sectors}
 use Rattle.plain_disk.proofs.history.sum_data_sectors.Given as goal
 
 abbrev pub invariant-loop-entry : goal.invariant-loop-entry

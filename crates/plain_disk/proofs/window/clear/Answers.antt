@@ -1,6 +1,6 @@
 use Rattle.std.proofs.Common.{arith, ℕ, ◌∙◌, ◌-◌, ◌*◌, replicate}
 use Rattle.std.proofs.lemmas.List.{length-replicate}
-use Rattle.byte_window.proofs.Windows.{splice_seen}
+use Rattle.lsvd_bytes.proofs.Windows.{splice_seen}
 use Rattle.plain_disk.proofs.Zeros.{zeros_seen}
 use Rattle.plain_disk.proofs.window.clear.Goals as goal
 

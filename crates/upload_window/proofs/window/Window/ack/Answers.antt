@@ -1,0 +1,40 @@
+use Rattle.std.proofs.Common.{◌≡◌, false, Some, None, List, sym, ◌∙◌, ap, subst}
+use Rattle.std.specs.List.{position}
+use Rattle.upload_window.specs.declared.object.OpenObject.{OpenObject}
+use Rattle.upload_window.specs.Window.{WindowState, Ascends, has_number, without, acknowledged}
+use Rattle.upload_window.proofs.Order.{order_without}
+use Rattle.upload_window.proofs.Places.{first_place, nowhere, removed_at, removed_none}
+use Rattle.upload_window.proofs.window.Window.ack.Goals.{After-remove}
+use Rattle.upload_window.proofs.window.Window.ack.Goals as goal
+
+blank : OpenObject
+blank = record { number = 0; is_checkpoint = false; is_started = false }
+
+removed : (c : After-remove) → c.remove.new.self.items ≡ without c.args.number c.self.inside.objects.items
+removed c =
+    let objects = c.self.inside.objects.items in
+    let is : position (has_number c.args.number) objects ≡ Some c.in-Some.place = cc in
+    c.remove.ensures.items
+    ∙ removed_at c.args.number objects c.in-Some.place blank
+    (first_place (has_number c.args.number) objects c.in-Some.place blank is)
+
+pub invariant_of-self : goal.invariant_of-self
+invariant_of-self c =
+    let gone = removed (goal.at.invariant_of-self c).After-remove in
+    subst (λ (xs : List OpenObject). Ascends 0 xs c.self.inside.last) (sym gone)
+    (order_without 0 c.args.number c.self.inside.objects.items c.self.inside.last c.self.invariant)
+
+pub returns-in-Some-clause-acknowledged : goal.returns-in-Some-clause-acknowledged
+returns-in-Some-clause-acknowledged c done =
+    let gone = removed (goal.at.returns-in-Some-clause-acknowledged c).After-remove in
+    ap (λ (xs : List OpenObject). let w : WindowState = record { last = c.self.inside.last; objects = xs } in w) gone
+    ∙ ap (λ w. acknowledged c.args.number w) c.self.view_is
+
+pub returns-in_default-clause-acknowledged : goal.returns-in_default-clause-acknowledged
+returns-in_default-clause-acknowledged c done =
+    let objects = c.self.inside.objects.items in
+    let is : position (has_number c.args.number) objects ≡ None = cc in
+    let same = removed_none c.args.number objects blank (nowhere (has_number c.args.number) objects blank is) in
+    sym c.self.view_is
+    ∙ ap (λ (xs : List OpenObject). let w : WindowState = record { last = c.self.inside.last; objects = xs } in w) same
+    ∙ ap (λ w. acknowledged c.args.number w) c.self.view_is

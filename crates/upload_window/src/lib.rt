@@ -1,0 +1,16 @@
+//! The upload window: which objects of a log-structured disk are on their way to the store.
+//!
+//! Its contract: each object is put at its turn, a checkpoint not before all lower numbers are acknowledged, and the
+//! frontier is the greatest number up to which all are.
+//! It stands on the kit's `arrayvec` and `thiserror`, and takes no memory.
+#![tactic(auto)]
+
+mod laws;
+mod object;
+#[cfg(test)]
+mod tests;
+mod window;
+
+pub use laws::the_frontier_is_below_the_lowest_open;
+pub use object::OpenObject;
+pub use window::{Busy, Window};
