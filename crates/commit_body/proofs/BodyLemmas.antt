@@ -18,7 +18,7 @@ pub length-filler : length filler ≡ 440
 unfolding filler
 length-filler = length-replicate {A = ℕ} 440 0
 
--- what stands behind the uuid
+-- what stands after the uuid
 numbers_of : CommitBody → ℕ → List ℕ
 numbers_of body number =
     to_be_bytes w64 body.epoch ++ to_be_bytes w64 number ++ mark_bytes body.tail ++ mark_bytes body.head ++ filler
@@ -50,7 +50,7 @@ length-body body number =
 pub is_one_sector : IsOneSector
 is_one_sector body number size = omega (arith, length-body body number, size)
 
--- ---- the numbers behind the uuid
+-- ---- the numbers after the uuid
 
 epoch_of : (body : CommitBody) (number : ℕ) → body.epoch < 2 ^ 64 → number_at w64 0 (numbers_of body number) ≡ body.epoch
 unfolding numbers_of
@@ -180,7 +180,7 @@ part_of_u64 at bytes room fits =
     (length-take-le 8 (drop at bytes) (omega (arith, length-drop at bytes, room)))
     (bytes_of_part at 8 bytes fits) refl)
 
--- a front and the part behind it are a longer front
+-- a front and the part after it are a longer front
 front_more : (at count : ℕ) (bytes front part : List ℕ) → take at bytes ≡ front → take count (drop at bytes) ≡ part
     → take (at + count) bytes ≡ front ++ part
 front_more at count bytes front part is_front is_part =
@@ -269,7 +269,7 @@ no_place sector log slot size fits failed body number is =
     let P : CommitBody → Type 0 = λ b. MayStand b log in
     failed (subst P (is_read sector log slot body number size fits is).0 is.may_stand)
 
--- ---- the zeros behind the numbers
+-- ---- the zeros after the numbers
 
 -- the rest of a sector, as a slice of it shows it
 abbrev pub rest : List ℕ → List ℕ
@@ -291,7 +291,7 @@ zeros-from_filler sector size is_filler = take_rest sector 72 ∙ is_filler ∙ 
 
 -- ---- writing
 
--- what is written behind what was written is written with it
+-- what is written after what was written is written with it
 pub written_after : (at : ℕ) (a b old mid new : List ℕ) → at + length a + length b ≤ length old
     → mid ≡ take at old ++ a ++ drop (at + length a) old
     → new ≡ take (at + length a) mid ++ b ++ drop (at + length a + length b) mid
@@ -312,7 +312,7 @@ written_after at a b old mid new room is_mid is_new =
     ∙ ap (λ xs. front ++ b ++ xs) behind
     ∙ ap (λ xs. xs ++ drop (at + (length a + length b)) old) (append_assoc (take at old) a b)
 
--- a front with what is written behind it is a longer front
+-- a front with what is written after it is a longer front
 pub written_front : (at count : ℕ) (front value old new : List ℕ) → take at old ≡ front → length front ≡ at
     → length value ≡ count → new ≡ take at old ++ value ++ drop (at + count) old
     → take (at + count) new ≡ front ++ value
@@ -330,7 +330,7 @@ written_to_end at list part room =
     ap (λ xs. take at list ++ (part ++ xs)) (drop_all (length list - at) (drop at list) (omega (arith, length-drop at list)))
     ∙ ap (λ xs. take at list ++ xs) (append-nil part)
 
--- zeros behind the numbers make the body
+-- zeros after the numbers make the body
 pub filled_body : (body : CommitBody) (number : ℕ) (bytes zeros : List ℕ) → length bytes ≡ 512
     → take 72 bytes ≡ head_of body number
     → zeros ≡ replicate (length (rest bytes)) 0

@@ -1,4 +1,4 @@
--- The body of a commit: its sector, and which bodies may stand in a slot.
+-- Contract: the body of a commit: its sector, and which bodies may stand in a slot.
 use Rattle.std.specs.Prelude.{ℕ, ◌%◌, ◌^◌, ◌<◌, ◌≤◌, ◌≡◌, List, ◌++◌, replicate, codes}
 use Rattle.std.specs.Int.{w64, to_be_bytes}
 use Rattle.commit_body.specs.declared.body.Mark.{Mark}
@@ -23,7 +23,7 @@ body_bytes body number =
     ++ mark_bytes body.head
     ++ filler
 
--- tail and head are places of a log of so many sectors, in their order, and one place where their seqs are one
+-- tail and head are places of a log of this many sectors, in their order, and one place where their seqs are one
 pub record MayStand (body : CommitBody) (log : ℕ) : Type 0 where
   pub tail_inside : body.tail.position < log
   pub head_inside : body.head.position < log
@@ -42,7 +42,7 @@ pub record HasNumbersOf64Bits (body : CommitBody) (number : ℕ) : Type 0 where
   pub tail : IsMarkOf64Bits body.tail
   pub head : IsMarkOf64Bits body.head
 
--- a sector is, in this one of the three slots, the body of the commit with this number, for a log of so many
+-- a sector is, in this one of the three slots, the body of the commit with this number, for a log of this many
 -- sectors
 pub record IsBody (sector : List ℕ) (log slot : ℕ) (body : CommitBody) (number : ℕ) : Type 0 where
   pub bytes : sector ≡ body_bytes body number

@@ -1,4 +1,4 @@
--- Where the parts of a body stand in its sector.
+-- For this crate's own clauses: where the parts of a body stand in its sector.
 use Rattle.std.specs.Prelude.{ℕ, ◌+◌, List}
 use Rattle.std.specs.Int.{w64}
 use Rattle.lsvd_bytes.specs.Places.{bytes_at, number_at}

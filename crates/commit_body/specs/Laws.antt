@@ -1,4 +1,4 @@
--- What bodies have to do with sectors.
+-- Contract: what bodies have to do with sectors.
 use Rattle.std.specs.Prelude.{ℕ, ◌≡◌, length}
 use Rattle.commit_body.specs.declared.body.CommitBody.{CommitBody}
 use Rattle.commit_body.specs.Body.{body_bytes, HasNumbersOf64Bits}

@@ -19,11 +19,11 @@ pub struct CommitBody {
     pub epoch: u64,
     /// Where the first record of the log stands.
     pub tail: Mark,
-    /// Where the record behind the last one will stand.
+    /// Where the record after the last one will stand.
     pub head: Mark,
 }
 
-/// Whether the body may stand for a log of so many sectors: both positions are inside the log, the tail's seq
+/// Whether the body may stand for a log of this many sectors: both positions are inside the log, the tail's seq
 /// is not past the head's, and tail and head with one seq are at one position.
 pub fn is_within(body: &CommitBody, log: u64) -> bool
     ensures { IsTrue result ↔ MayStand body.now log }

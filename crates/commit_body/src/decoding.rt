@@ -5,9 +5,9 @@ ghost use Rattle.commit_body.specs.Fields.{mark_in, body_in};
 
 use crate::body::{CommitBody, Mark, is_within};
 use crate::{EPOCH_AT, FILLER_AT, HEAD_AT, MAGIC, NUMBER_AT, SLOTS, TAIL_AT, UUID_AT};
-use lsvd_bytes::{read_16_bytes, read_u64};
+use lsvd_bytes::{is_zeros, read_16_bytes, read_u64};
 
-/// Reads a sector of 512 bytes (a condition) as the body of a slot, for a log of so many sectors: what the
+/// Reads a sector of 512 bytes (a condition) as the body of a slot, for a log of this many sectors: what the
 /// commit says, and its number. None is for a sector that is no such body, and for a slot but 0, 1 and 2.
 pub fn read_body(sector: &[u8], log: u64, slot: u64) -> Option<(CommitBody, u64)>
     requires { length sector.now ≡ 512 }
@@ -25,7 +25,7 @@ pub fn read_body(sector: &[u8], log: u64, slot: u64) -> Option<(CommitBody, u64)
     Some((body, number))
 }
 
-/// Whether the sector begins with the magic.
+// Whether the sector begins with the magic.
 fn has_magic(sector: &[u8]) -> bool
     requires { 8 ≤ length sector.now }
     ensures { IsTrue result ↔ (take 8 sector.now ≡ codes "LSVDCMT1") }
@@ -33,7 +33,7 @@ fn has_magic(sector: &[u8]) -> bool
     &sector[..UUID_AT] == MAGIC.as_slice()
 }
 
-/// Whether the bytes behind the head are all zeros.
+// Whether the bytes after the head are all zeros.
 fn has_filler(sector: &[u8]) -> bool
     requires { length sector.now ≡ 512 }
     ensures { IsTrue result ↔ (drop 72 sector.now ≡ filler) }
@@ -41,14 +41,7 @@ fn has_filler(sector: &[u8]) -> bool
     is_zeros(&sector[FILLER_AT..])
 }
 
-/// Whether all of the bytes are zeros.
-fn is_zeros(bytes: &[u8]) -> bool
-    ensures { IsTrue result ↔ (bytes.now ≡ replicate (length bytes.now) 0) }
-{
-    bytes.iter().all(|byte| *byte == 0)
-}
-
-/// The body with the bytes and the numbers of the sector.
+// The body with the bytes and the numbers of the sector.
 fn body_in(sector: &[u8]) -> CommitBody
     requires { 72 ≤ length sector.now }
     ensures { result ≡ body_in sector.now }
@@ -61,7 +54,7 @@ fn body_in(sector: &[u8]) -> CommitBody
     }
 }
 
-/// The mark with the numbers in the 16 bytes from `at` on.
+// The mark with the numbers in the 16 bytes from `at` on.
 fn mark_in(sector: &[u8], at: usize) -> Mark
     requires { at + 16 ≤ length sector.now }
     ensures { result ≡ mark_in at sector.now }

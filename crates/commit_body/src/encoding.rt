@@ -19,7 +19,7 @@ pub fn write_body(body: &CommitBody, number: u64, sector: &mut [u8])
     sector[FILLER_AT..].fill(0);
 }
 
-/// Puts the position and the seq into the 16 bytes from `at` on.
+// Puts the position and the seq into the 16 bytes from `at` on.
 fn write_mark(sector: &mut [u8], at: usize, mark: &Mark)
     requires { at + 16 ≤ length sector.old }
     ensures { sector.new ≡ take at sector.old ++ mark_bytes mark.now ++ drop (at + 16) sector.old }

@@ -17,26 +17,26 @@ pub use decoding::read_body;
 pub use encoding::write_body;
 pub use laws::{a_body_is_one_sector, a_sector_is_one_body};
 
-/// The bytes that a body begins with.
+// The bytes that a body begins with.
 const MAGIC: [u8; 8] = *b"LSVDCMT1";
 
 /// How many slots commits are written to in turn.
-const SLOTS: u64 = 3;
+pub const SLOTS: u64 = 3;
 
-/// Where the volume's uuid stands, in 16 bytes.
+// Where the volume's uuid stands, in 16 bytes.
 const UUID_AT: usize = 8;
 
-/// Where the epoch stands, in 8 bytes, as all numbers highest byte first.
+// Where the epoch stands, in 8 bytes, as all numbers highest byte first.
 const EPOCH_AT: usize = 24;
 
-/// Where the commit's number stands, in 8 bytes.
+// Where the commit's number stands, in 8 bytes.
 const NUMBER_AT: usize = 32;
 
-/// Where the tail stands, in 16 bytes: its position, then its seq.
+// Where the tail stands, in 16 bytes: its position, then its seq.
 const TAIL_AT: usize = 40;
 
-/// Where the head stands, in 16 bytes as the tail.
+// Where the head stands, in 16 bytes as the tail.
 const HEAD_AT: usize = 56;
 
-/// Where the zeros begin that fill the sector.
+// Where the zeros begin that fill the sector.
 const FILLER_AT: usize = 72;

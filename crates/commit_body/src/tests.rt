@@ -1,9 +1,9 @@
 use super::*;
 
-/// The length of the log in sectors.
+// The length of the log in sectors.
 const LOG: u64 = 64;
 
-/// Commit 7, in slot 1: the tail is at 5 with the seq 9, the head at 11 with the seq 12.
+// Commit 7, in slot 1: the tail is at 5 with the seq 9, the head at 11 with the seq 12.
 const BODY: CommitBody = CommitBody {
     uuid: [0xa1, 1, 2, 3, 4, 5, 6, 7, 8, 9, 10, 11, 12, 13, 14, 15],
     epoch: 2,
@@ -17,21 +17,21 @@ const BODY: CommitBody = CommitBody {
     },
 };
 
-/// Its bytes up to the zeros.
+// Its bytes up to the zeros.
 const BYTES: [u8; 72] = [
     0x4c, 0x53, 0x56, 0x44, 0x43, 0x4d, 0x54, 0x31, 0xa1, 1, 2, 3, 4, 5, 6, 7, 8, 9, 10, 11, 12,
     13, 14, 15, 0, 0, 0, 0, 0, 0, 0, 2, 0, 0, 0, 0, 0, 0, 0, 7, 0, 0, 0, 0, 0, 0, 0, 5, 0, 0, 0, 0,
     0, 0, 0, 9, 0, 0, 0, 0, 0, 0, 0, 11, 0, 0, 0, 0, 0, 0, 0, 12,
 ];
 
-/// The first commit of a new volume with the uuid 00000000-0000-4000-8000-000000000001.
+// The first commit of a new volume with the uuid 00000000-0000-4000-8000-000000000001.
 const FIRST: [u8; 72] = [
     0x4c, 0x53, 0x56, 0x44, 0x43, 0x4d, 0x54, 0x31, 0, 0, 0, 0, 0, 0, 0x40, 0, 0x80, 0, 0, 0, 0, 0,
     0, 1, 0, 0, 0, 0, 0, 0, 0, 0, 0, 0, 0, 0, 0, 0, 0, 0, 0, 0, 0, 0, 0, 0, 0, 0, 0, 0, 0, 0, 0, 0,
     0, 0, 0, 0, 0, 0, 0, 0, 0, 0, 0, 0, 0, 0, 0, 0, 0, 0,
 ];
 
-/// A commit with another byte at each place: its number is 0x1112131415161718, in slot 2.
+// A commit with another byte at each place: its number is 0x1112131415161718, in slot 2.
 const DISTINCT: [u8; 72] = [
     0x4c, 0x53, 0x56, 0x44, 0x43, 0x4d, 0x54, 0x31, 0xf0, 0xf1, 0xf2, 0xf3, 0xf4, 0xf5, 0xf6, 0xf7,
     0xf8, 0xf9, 0xfa, 0xfb, 0xfc, 0xfd, 0xfe, 0xff, 0x01, 0x02, 0x03, 0x04, 0x05, 0x06, 0x07, 0x08,
@@ -40,7 +40,7 @@ const DISTINCT: [u8; 72] = [
     0x51, 0x52, 0x53, 0x54, 0x55, 0x56, 0x57, 0x58,
 ];
 
-/// The sector that begins with these bytes, with zeros behind them.
+// The sector that begins with these bytes, with zeros after them.
 fn sector_of(bytes: &[u8; 72]) -> [u8; 512] {
     let mut sector = [0; 512];
     sector[..72].copy_from_slice(bytes);

@@ -3,12 +3,12 @@ use Rattle.std.proofs.Common.{◌≡◌, ℕ, ◌+◌, ◌-◌, ◌<◌, ◌≤�
 use Rattle.std.specs.List.{All}
 use Rattle.std.proofs.lemmas.List.{ext_get_or, drop-drop, drop-take, take-take, length-take-le, length-drop, get_or-take, get_or-drop}
 use Rattle.std.proofs.lemmas.List.Elements.{All-cons, All-nil}
-use Rattle.lsvd_bytes.specs.Places.{bytes_at}
+use Rattle.lsvd_bytes.specs.Places.{with_bytes, bytes_at}
 use Rattle.lsvd_bytes.proofs.PlaceLemmas.{keeps_other_bytes}
-use Rattle.lsvd_device.specs.Medium.{Medium, Span, LiesOutside, MayLeave, after_write, after_sync, overwritten, IsTorn}
+use Rattle.lsvd_device.specs.Medium.{Medium, Span, LiesOutside, MayLeave, after_write, after_sync, IsTorn}
 use Rattle.commit_slot.specs.Lasting.{MayStandAt, Lasts}
 
--- so many bytes from a place on end before others, or begin behind them
+-- this many bytes from a place on end before others, or begin after them
 abbrev pub Apart : (at count there many : ℕ) → Type 0
 Apart at count there many = (there + many ≤ at) ⊎ (at + count ≤ there)
 
@@ -19,25 +19,25 @@ part_before there many at bytes before =
     ∙ ap (drop there) (sym (take-take (there + many) at bytes before))
     ∙ drop-take there many (take at bytes)
 
--- a part of the bytes behind one
-part_behind : (there many at : ℕ) (bytes : List ℕ) → at ≤ there → bytes_at there many bytes ≡ bytes_at (there - at) many (drop at bytes)
-part_behind there many at bytes behind =
-    let e : at + (there - at) ≡ there = omega (arith, behind) in
+-- a part of the bytes after one
+part_past : (there many at : ℕ) (bytes : List ℕ) → at ≤ there → bytes_at there many bytes ≡ bytes_at (there - at) many (drop at bytes)
+part_past there many at bytes log_area =
+    let e : at + (there - at) ≡ there = omega (arith, log_area) in
     ap (λ n. take many (drop n bytes)) (sym e) ∙ ap (take many) (sym (drop-drop (there - at) at bytes))
 
 -- what a write that failed keeps
 torn_keeps : (at count there many : ℕ) (old new : Medium) → Apart at count there many → IsTorn at count old new → bytes_at there many new.bytes ≡ bytes_at there many old.bytes
 torn_keeps at count there many old new (inl before) torn =
     part_before there many at new.bytes before ∙ ap (bytes_at there many) torn.before ∙ sym (part_before there many at old.bytes before)
-torn_keeps at count there many old new (inr behind) torn =
-    part_behind there many (at + count) new.bytes behind
+torn_keeps at count there many old new (inr log_area) torn =
+    part_past there many (at + count) new.bytes log_area
     ∙ ap (bytes_at (there - (at + count)) many) torn.behind
-    ∙ sym (part_behind there many (at + count) old.bytes behind)
+    ∙ sym (part_past there many (at + count) old.bytes log_area)
 
 -- a byte of a range lies outside those apart from it
 outside : (at count there many i : ℕ) → Apart at count there many → i < many → LiesOutside (there + i) (record { at = at; count = count })
 outside at count there many i (inl before) inside = inl (omega (arith, before, inside))
-outside at count there many i (inr behind) inside = inr (omega (arith, behind))
+outside at count there many i (inr log_area) inside = inr (omega (arith, log_area))
 
 -- one range more that was written apart from some bytes leaves them no other
 fewer : (at count there many : ℕ) (old new : Medium) (bytes : List ℕ) → Apart at count there many → new.synced ≡ old.synced → new.pending ≡ record { at = at; count = count } ∷ old.pending
@@ -53,7 +53,7 @@ fewer at count there many old new bytes apart synced pending may = record {
 
 -- bytes apart from a write are as before
 pub still_there : (at : ℕ) (piece bytes : List ℕ) (there many : ℕ) → at + length piece ≤ length bytes → Apart at (length piece) there many
-    → bytes_at there many (overwritten at piece bytes) ≡ bytes_at there many bytes
+    → bytes_at there many (with_bytes at piece bytes) ≡ bytes_at there many bytes
 still_there at piece bytes there many within apart = keeps_other_bytes at piece bytes there many within apart
 
 pub lasts_write : (at : ℕ) (piece : List ℕ) (there many : ℕ) (P : List ℕ → Type 0) (medium : Medium) → at + length piece ≤ length medium.bytes → Apart at (length piece) there many
@@ -69,11 +69,11 @@ lasts_torn at count there many P old new apart torn lasts = record {
   left = λ bytes may. lasts.left bytes (fewer at count there many old new bytes apart torn.synced torn.pending may);
 }
 
--- a byte of so many from a place on
+-- a byte of a range
 byte_at : (at count i : ℕ) (bytes : List ℕ) → i < count → get_or (bytes_at at count bytes) i 0 ≡ get_or bytes (at + i) 0
 byte_at at count i bytes inside = get_or-take count (drop at bytes) i 0 inside ∙ get_or-drop at bytes i 0
 
--- there are so many
+-- there are this many
 bytes_there : (at count : ℕ) (bytes : List ℕ) → at + count ≤ length bytes → length (bytes_at at count bytes) ≡ count
 bytes_there at count bytes within = length-take-le count (drop at bytes) (let e = length-drop at bytes in omega (arith, e, within))
 

@@ -4,14 +4,18 @@ pub mod Passing
 mod SlotStates
 mod Steps
 mod Readings
-mod Kept
-mod Composed
-mod Formatted
+mod HalfLemmas
+mod CommitLemmas
+mod FormatLemmas
 mod Newest
-mod Lent
-pub mod BehindLemmas
-mod Committing
-pub mod Performed
+mod WriteLemmas
+pub mod LogAreaLemmas
+mod CrashSafeCommit
+mod CallLemmas
 mod NewestKept
-mod Mended
-mod Loaded
+mod MendLemmas
+mod LoadLemmas
+mod WithDisk
+mod CommitPaths
+mod MendPaths
+mod LoadPaths

@@ -6,7 +6,8 @@ use Rattle.lsvd_device.specs.Medium.{Medium}
 use Rattle.lsvd_device.specs.Device.{HoldsNow}
 use Rattle.commit_body.specs.declared.body.CommitBody.{CommitBody}
 use Rattle.commit_slot.specs.Slots.{IsOpenSlot}
-use Rattle.commit_slot.specs.Reading.{SlotHas, ReadsAs, IsAtMost, IsNewer}
+use Rattle.commit_slot.specs.Reading.{ReadsAs}
+use Rattle.commit_slot.specs.Newer.{SlotHas, IsAtMost, IsNewer}
 use Rattle.commit_slot.proofs.SlotStates.{same_number}
 
 abbrev Found : Type 0
@@ -72,7 +73,7 @@ newest_reads log bytes first second third newer newest inner outer a b c =
       | inr e ↦ subst P (sym e) inside
     ] in
     reads_as log bytes newest stands
-    (each_slot log bytes first second third newest a b c outer.first' (at_most_then second newer newest inner.first' outer.second') (at_most_then third newer newest inner.second' outer.second'))
+    (each_slot log bytes first second third newest a b c outer.first_at_most (at_most_then second newer newest inner.first_at_most outer.second_at_most) (at_most_then third newer newest inner.second_at_most outer.second_at_most))
 
 pub newest_now : (log : ℕ) (moments : List Medium) (first second third newer newest : Found) → IsNewer second third newer → IsNewer first newer newest
     → HoldsNow (λ now. SlotHas log now.bytes 0 first) moments → HoldsNow (λ now. SlotHas log now.bytes 1 second) moments → HoldsNow (λ now. SlotHas log now.bytes 2 third) moments

@@ -5,16 +5,18 @@ use Rattle.std.proofs.lemmas.Bool.{cases_eq}
 use Rattle.lsvd_bytes.specs.Places.{bytes_at}
 use Rattle.lsvd_device.specs.Medium.{Medium, after_write, after_sync}
 use Rattle.lsvd_device.specs.Device.{HasSize, HoldsNow, moments_after, FailsToWrite}
-use Rattle.lsvd_device.specs.Memory.{IsStill}
+use Rattle.lsvd_device.specs.Memory.{IsSynced}
 use Rattle.commit_body.specs.declared.body.CommitBody.{CommitBody}
 use Rattle.commit_body.specs.Body.{IsBody}
-use Rattle.commit_slot.specs.Lasting.{Lasts}
 use Rattle.commit_slot.specs.Slots.{body_at, gate_at, IsOpenSlot, Reads}
-use Rattle.commit_slot.specs.Commits.{IsOpen, IsClosed, IsOlder, IsSettled}
-use Rattle.commit_slot.specs.Loading.{IsPassedOver, IsNewest, NextIsClosed, ThirdIsOlder, LeavesRead}
+use Rattle.commit_slot.specs.Lasting.{Lasts}
+use Rattle.commit_slot.specs.Commits.{IsOlder}
+use Rattle.commit_slot.specs.States.{IsOpen, IsClosed, IsSettled}
+use Rattle.commit_slot.specs.Loading.{LeavesRead}
+use Rattle.commit_slot.specs.Mending.{IsPassedOver, IsNewest, NextIsClosed, ThirdIsOlder}
 use Rattle.commit_slot.proofs.LastingLemmas.{Apart}
 use Rattle.commit_slot.proofs.Passing.{PassesTo, to_as, after_step, failed_write}
-use Rattle.commit_slot.proofs.SlotStates.{LiesIn, body_lies, gate_lies, gate_behind, body_before, slots_apart, Keeps, written_keeps, torn_keeps_lasting, sync_keeps, same_number}
+use Rattle.commit_slot.proofs.SlotStates.{LiesIn, body_lies, gate_lies, gate_past, body_before, slots_apart, Keeps, written_keeps, torn_keeps_lasting, sync_keeps, same_number}
 use Rattle.commit_slot.proofs.Readings.{one_byte, not_open, slot_below, left_there}
 use Rattle.commit_slot.proofs.Steps.{next_of, third_of}
 
@@ -108,10 +110,10 @@ newest_settled size log number body medium least has newest closed older =
     }
 
 -- a sync of a medium of which nothing is pending changes nothing
-pub clean_is_synced : (medium : Medium) → IsStill medium → after_sync medium ≡ medium
-clean_is_synced medium clean =
-    ap (λ s. record { bytes = medium.bytes; synced = s; pending = [] }) (sym clean.synced)
-    ∙ ap (λ p. record { bytes = medium.bytes; synced = medium.synced; pending = p }) (sym clean.pending)
+pub synced_is_same : (medium : Medium) → IsSynced medium → after_sync medium ≡ medium
+synced_is_same medium synced =
+    ap (λ s. record { bytes = medium.bytes; synced = s; pending = [] }) (sym synced.synced)
+    ∙ ap (λ p. record { bytes = medium.bytes; synced = medium.synced; pending = p }) (sym synced.pending)
 
 -- ---- a write to another slot
 
@@ -136,7 +138,7 @@ pub body_spared : (log number slot n : ℕ) (body b : CommitBody) (medium : Medi
 body_spared log number slot n body b medium below differ is newer newest = record {
   newest = newest;
   other = elim (newest.others slot below differ) [
-    | inl closed ↦ inl (gate_behind slot, closed)
+    | inl closed ↦ inl (gate_past slot, closed)
     | inr older ↦ (let less = older.now b n is in absurd (omega (arith, less, newer)))
   ];
 }

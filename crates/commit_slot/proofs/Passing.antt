@@ -2,12 +2,11 @@
 use Rattle.std.proofs.Common.{◌≡◌, ℕ, List, [], ◌∷◌, ◌++◌, refl, sym, ◌∙◌, ap, subst, inl, inr, append_assoc}
 use Rattle.std.specs.List.{AllByRecursion}
 use Rattle.lsvd_device.specs.Medium.{Medium, IsTorn}
-use Rattle.lsvd_device.specs.Device.{HasSize, HoldsNow, moments_after, FailsToWrite}
-use Rattle.commit_slot.specs.Commits.{Passes}
+use Rattle.lsvd_device.specs.Device.{HoldsSince, HasSize, HoldsNow, moments_after, FailsToWrite}
 
 -- the moments pass with P, and the newest one has Q
 abbrev pub PassesTo : (P Q : Medium → Type 0) → List Medium → List Medium → Type 0
-PassesTo P Q old new = Passes P old new × HoldsNow Q new
+PassesTo P Q old new = HoldsSince P old new × HoldsNow Q new
 
 -- the newest moment after a call of which there was a newest one before
 holds_as : (P Q : Medium → Type 0) (moments : List Medium) → ((medium : Medium) → P medium → Q medium) → HoldsNow P moments → HoldsNow Q moments
@@ -19,7 +18,7 @@ each_as : (P Q : Medium → Type 0) (media : List Medium) → ((medium : Medium)
 each_as P Q [] follows all = tt
 each_as P Q (now ∷ past) follows all = (follows now all.0, each_as P Q past follows all.1)
 
-pub passes_as : (P Q : Medium → Type 0) (old new : List Medium) → ((medium : Medium) → P medium → Q medium) → Passes P old new → Passes Q old new
+pub passes_as : (P Q : Medium → Type 0) (old new : List Medium) → ((medium : Medium) → P medium → Q medium) → HoldsSince P old new → HoldsSince Q old new
 passes_as P Q old new follows passes = record { since = passes.since; moments = passes.moments; each = each_as P Q passes.since follows passes.each }
 
 pub to_as : (P Q R S : Medium → Type 0) (old new : List Medium) → ((medium : Medium) → P medium → R medium) → ((medium : Medium) → Q medium → S medium)
@@ -31,7 +30,7 @@ each_of_both : (P : Medium → Type 0) (some more : List Medium) → AllByRecurs
 each_of_both P [] more all others = others
 each_of_both P (now ∷ past) more all others = (all.0, each_of_both P past more all.1 others)
 
-pub passes_on : (P : Medium → Type 0) (old middle new : List Medium) → Passes P old middle → Passes P middle new → Passes P old new
+pub passes_on : (P : Medium → Type 0) (old middle new : List Medium) → HoldsSince P old middle → HoldsSince P middle new → HoldsSince P old new
 passes_on P old middle new first second = record {
   since = second.since ++ first.since;
   moments = second.moments ∙ ap (λ m. second.since ++ m) first.moments ∙ sym (append_assoc second.since first.since old);

@@ -7,10 +7,11 @@ use Rattle.lsvd_device.specs.Medium.{Medium, MayLeave}
 use Rattle.lsvd_device.specs.Device.{HasSize}
 use Rattle.commit_body.specs.declared.body.CommitBody.{CommitBody}
 use Rattle.commit_body.specs.Body.{IsBody}
-use Rattle.commit_slot.specs.Lasting.{Lasts}
 use Rattle.commit_slot.specs.Slots.{body_at, gate_at, IsOpenSlot, Reads}
-use Rattle.commit_slot.specs.Commits.{IsOpen, IsClosed, IsOlder, IsSettled, IsSettledIn, IsHalfMade, IsHalfMadeIn, ReadsSettled}
-use Rattle.commit_slot.specs.Behind.{ReadsWithGate, HasGate}
+use Rattle.commit_slot.specs.Lasting.{Lasts}
+use Rattle.commit_slot.specs.Commits.{IsOlder, ReadsSettled}
+use Rattle.commit_slot.specs.States.{IsOpen, IsClosed, IsSettled, IsSettledIn, IsHalfMade, IsHalfMadeIn}
+use Rattle.commit_slot.specs.OnDisk.{ReadsWithGate, HasGate}
 use Rattle.commit_slot.proofs.LastingLemmas.{lasts_left}
 use Rattle.commit_slot.proofs.SlotStates.{AreThree, three, LiesIn, body_lies, gate_lies, same_number, own_is_older}
 

@@ -1,16 +1,17 @@
 -- The two halves of a commit: what stands in the slots over their writes and syncs.
 use Rattle.std.proofs.Common.{◌≡◌, ℕ, ◌+◌, ◌%◌, ◌<◌, ◌≤◌, ◌≢◌, List, [], ◌∷◌, length, get_or, refl, sym, ◌∙◌, ap, subst, inl, inr, arith}
 use Rattle.std.proofs.lemmas.Bool.{cases_lt}
-use Rattle.lsvd_bytes.specs.Places.{bytes_at}
+use Rattle.lsvd_bytes.specs.Places.{with_bytes, bytes_at}
 use Rattle.lsvd_bytes.proofs.PlaceLemmas.{reads_bytes_again}
-use Rattle.lsvd_device.specs.Medium.{Medium, IsTorn, after_write, after_sync, overwritten}
+use Rattle.lsvd_device.specs.Medium.{Medium, IsTorn, after_write, after_sync}
 use Rattle.lsvd_device.specs.Device.{HasSize}
 use Rattle.commit_body.specs.declared.body.CommitBody.{CommitBody}
 use Rattle.commit_body.specs.Body.{IsBody}
 use Rattle.commit_body.proofs.BodyLemmas.{determines_body}
-use Rattle.commit_slot.specs.Lasting.{Lasts}
 use Rattle.commit_slot.specs.Slots.{body_at, gate_at}
-use Rattle.commit_slot.specs.Commits.{IsOpen, IsClosed, IsOlder, IsSettledIn, IsHalfMadeIn}
+use Rattle.commit_slot.specs.Lasting.{Lasts}
+use Rattle.commit_slot.specs.Commits.{IsOlder}
+use Rattle.commit_slot.specs.States.{IsOpen, IsClosed, IsSettledIn, IsHalfMadeIn}
 use Rattle.commit_slot.proofs.LastingLemmas.{Apart, lasts_write, lasts_torn, lasts_sync, still_there}
 
 -- ---- places in the slots
@@ -34,7 +35,7 @@ three number = record {
   both = λ e. omega (arith, e);
 }
 
--- so many bytes from a byte on lie in a slot
+-- this many bytes from a byte on lie in a slot
 pub record LiesIn (slot at count : ℕ) : Type 0 where
   pub from : body_at slot ≤ at
   pub to : at + count ≤ body_at slot + 1024
@@ -53,16 +54,16 @@ slots_apart slot other at count there many differ a b =
       | inr more ↦ (let above : other < slot = omega (arith, more, differ) in inl (omega (arith, above, a.from, b.to)))
     ]
 
--- a slot's gate lies behind its body
-pub gate_behind : (slot : ℕ) → Apart (body_at slot) 512 (gate_at slot) 1
-gate_behind slot = inr (omega arith)
+-- a slot's gate lies after its body
+pub gate_past : (slot : ℕ) → Apart (body_at slot) 512 (gate_at slot) 1
+gate_past slot = inr (omega arith)
 
 pub body_before : (slot : ℕ) → Apart (gate_at slot) 1 (body_at slot) 512
 body_before slot = inl (omega arith)
 
 -- ---- what a change keeps
 
--- a change of so many bytes from a byte on keeps what lasts apart from them
+-- a change of a range keeps what lasts apart from it
 abbrev pub Keeps : (at count : ℕ) → (old new : Medium) → Type 1
 Keeps at count old new = (there many : ℕ) (P : List ℕ → Type 0) → Apart at count there many → Lasts there many P old → Lasts there many P new
 
@@ -81,7 +82,7 @@ body_keeps_settled log last next third number body old new slots keeps settled =
     record {
       sector = keeps (body_at last) 512 _ (slots_apart next last (body_at next) 512 (body_at last) 512 backward (body_lies next) (body_lies last)) settled.sector;
       gate = keeps (gate_at last) 1 _ (slots_apart next last (body_at next) 512 (gate_at last) 1 backward (body_lies next) (gate_lies last)) settled.gate;
-      closed = keeps (gate_at next) 1 _ (gate_behind next) settled.closed;
+      closed = keeps (gate_at next) 1 _ (gate_past next) settled.closed;
       older = keeps (body_at third) 512 _ (slots_apart next third (body_at next) 512 (body_at third) 512 slots.second (body_lies next) (body_lies third)) settled.older;
     }
 
@@ -143,8 +144,8 @@ pub record IsGateClosed (log last next third number : ℕ) (body : CommitBody) (
   pub gate : bytes_at (gate_at third) 1 medium.bytes ≡ 0 ∷ []
 
 -- a piece that was written stands there
-pub written_there : (at count : ℕ) (piece bytes : List ℕ) → length piece ≡ count → at + length piece ≤ length bytes → bytes_at at count (overwritten at piece bytes) ≡ piece
-written_there at count piece bytes whole within = ap (λ n. bytes_at at n (overwritten at piece bytes)) (sym whole) ∙ reads_bytes_again at piece bytes within
+pub written_there : (at count : ℕ) (piece bytes : List ℕ) → length piece ≡ count → at + length piece ≤ length bytes → bytes_at at count (with_bytes at piece bytes) ≡ piece
+written_there at count piece bytes whole within = ap (λ n. bytes_at at n (with_bytes at piece bytes)) (sym whole) ∙ reads_bytes_again at piece bytes within
 
 pub write_body : (size log last next third number : ℕ) (body : CommitBody) (piece : List ℕ) (medium : Medium) → AreThree last next third → 4096 ≤ size → length piece ≡ 512
     → HasSize size medium → IsSettledIn log last next third number body medium → IsBodyWritten log last next third number body piece (after_write (body_at next) piece medium)

@@ -7,11 +7,11 @@ use Rattle.lsvd_device.specs.Device.{DiskState, IsDisk, HasSize, HoldsNow, momen
 use Rattle.commit_body.specs.declared.body.CommitBody.{CommitBody}
 use Rattle.commit_body.specs.Body.{IsBody}
 use Rattle.commit_slot.specs.Slots.{log_of, body_at, gate_at}
-use Rattle.commit_slot.specs.Commits.{IsSettled, IsSettledIn, IsHalfMade, IsFirstHalf, FailsFirstHalf, IsSecondHalf, FailsSecondHalf}
+use Rattle.commit_slot.specs.States.{IsSettled, IsSettledIn, IsHalfMade, IsFirstHalf, FailsFirstHalf, IsSecondHalf, FailsSecondHalf}
 use Rattle.commit_slot.proofs.Passing.{PassesTo, to_as, passes_on, after_step, same_moments, failed_write}
 use Rattle.commit_slot.proofs.SlotStates.{three, torn_keeps_lasting, body_keeps_settled, gate_keeps_settled, gate_keeps_half, IsBodyWritten, IsGateClosed, IsReady, IsGateOpened, write_body, close_gate, sync_first, open_gate, IsMade, sync_made}
 
--- the slots of a commit, the next one and the one behind that
+-- the slots of a commit, the next one and the third one
 abbrev pub next_of : ℕ → ℕ
 next_of number = (number + 1) % 3
 
@@ -89,57 +89,65 @@ now_as P Q (now ∷ past) follows holds = follows now holds
 pub body_failed : (number : ℕ) (old new : DiskState) → FailsToWrite (body_at (next_of number)) 512 old.moments new.moments → FailsFirstHalf number old new
 body_failed number old new fails = λ body holds. settled_after_failed_body (log_of old.size) number body old new holds fails
 
-pub closing_failed : (number : ℕ) (piece : List ℕ) (old middle new : DiskState) → 4096 ≤ old.size → length piece ≡ 512 → IsDisk old
-    → middle.moments ≡ moments_after (after_write (body_at (next_of number)) piece) old.moments
-    → FailsToWrite (gate_at (third_of number)) 1 middle.moments new.moments → FailsFirstHalf number old new
-closing_failed number piece old middle new least whole is moments fails = λ body holds.
-    let log : ℕ = log_of old.size in
-    let Q : Medium → Type 0 = IsBodyWritten log (number % 3) (next_of number) (third_of number) number body piece in
-    on (IsSettled log number body) Q (IsSettled log number body) old.moments middle.moments new.moments
-    (first_written old.size log number body piece old middle least whole (record { is_disk = is; size' = refl }) moments holds)
-    (λ written. settled_after_failed_gate log number body middle new (now_as Q (IsSettled log number body) middle.moments (λ medium q. q.settled) written) fails)
-
--- both writes
-both_written : (size number : ℕ) (body : CommitBody) (piece : List ℕ) (old middle behind : DiskState) → 4096 ≤ old.size → length piece ≡ 512 → IsDisk old → IsDisk middle → middle.size ≡ old.size
-    → middle.moments ≡ moments_after (after_write (body_at (next_of number)) piece) old.moments
-    → behind.moments ≡ moments_after (after_write (gate_at (third_of number)) (0 ∷ [])) middle.moments
-    → HoldsNow (IsSettled (log_of old.size) number body) old.moments
-    → PassesTo (IsSettled (log_of old.size) number body) (IsGateClosed (log_of old.size) (number % 3) (next_of number) (third_of number) number body piece) old.moments behind.moments
-both_written size number body piece old middle behind least whole is is' same moments moments' holds =
-    let log : ℕ = log_of old.size in
-    let Q : Medium → Type 0 = IsBodyWritten log (number % 3) (next_of number) (third_of number) number body piece in
-    on (IsSettled log number body) Q (IsGateClosed log (number % 3) (next_of number) (third_of number) number body piece) old.moments middle.moments behind.moments
-    (first_written old.size log number body piece old middle least whole (record { is_disk = is; size' = refl }) moments holds)
-    (λ written. then_closed old.size log number body piece middle behind least (record { is_disk = is'; size' = same }) moments' written)
-
--- both writes were made, and then the sync, or it failed
-pub record AreWritten (number : ℕ) (piece : List ℕ) (old middle behind : DiskState) : Type 0 where
+-- the body was written
+pub record IsBodyMade (number : ℕ) (piece : List ℕ) (old middle : DiskState) : Type 0 where
   pub least : 4096 ≤ old.size
   pub whole : length piece ≡ 512
   pub is_disk : IsDisk old
   pub is_disk' : IsDisk middle
-  pub is_disk'' : IsDisk behind
   pub size : middle.size ≡ old.size
-  pub size' : behind.size ≡ middle.size
   pub moments : middle.moments ≡ moments_after (after_write (body_at (next_of number)) piece) old.moments
-  pub moments' : behind.moments ≡ moments_after (after_write (gate_at (third_of number)) (0 ∷ [])) middle.moments
 
-pub first_half : (number : ℕ) (more : CommitBody) (piece : List ℕ) (old middle behind new : DiskState) → AreWritten number piece old middle behind
-    → IsBody piece (log_of old.size) (next_of number) more (number + 1) → new.moments ≡ moments_after after_sync behind.moments → IsFirstHalf number more old new
-first_half number more piece old middle behind new are is_body moments = λ body holds.
+pub closing_failed : (number : ℕ) (piece : List ℕ) (old middle new : DiskState) → IsBodyMade number piece old middle
+    → FailsToWrite (gate_at (third_of number)) 1 middle.moments new.moments → FailsFirstHalf number old new
+closing_failed number piece old middle new made fails = λ body holds.
+    let log : ℕ = log_of old.size in
+    let Q : Medium → Type 0 = IsBodyWritten log (number % 3) (next_of number) (third_of number) number body piece in
+    on (IsSettled log number body) Q (IsSettled log number body) old.moments middle.moments new.moments
+    (first_written old.size log number body piece old middle made.least made.whole (record { is_disk = made.is_disk; size' = refl }) made.moments holds)
+    (λ written. settled_after_failed_gate log number body middle new (now_as Q (IsSettled log number body) middle.moments (λ medium q. q.settled) written) fails)
+
+-- both writes
+both_written : (size number : ℕ) (body : CommitBody) (piece : List ℕ) (old middle next : DiskState) → 4096 ≤ old.size → length piece ≡ 512 → IsDisk old → IsDisk middle → middle.size ≡ old.size
+    → middle.moments ≡ moments_after (after_write (body_at (next_of number)) piece) old.moments
+    → next.moments ≡ moments_after (after_write (gate_at (third_of number)) (0 ∷ [])) middle.moments
+    → HoldsNow (IsSettled (log_of old.size) number body) old.moments
+    → PassesTo (IsSettled (log_of old.size) number body) (IsGateClosed (log_of old.size) (number % 3) (next_of number) (third_of number) number body piece) old.moments next.moments
+both_written size number body piece old middle next least whole is is' same moments moments' holds =
+    let log : ℕ = log_of old.size in
+    let Q : Medium → Type 0 = IsBodyWritten log (number % 3) (next_of number) (third_of number) number body piece in
+    on (IsSettled log number body) Q (IsGateClosed log (number % 3) (next_of number) (third_of number) number body piece) old.moments middle.moments next.moments
+    (first_written old.size log number body piece old middle least whole (record { is_disk = is; size' = refl }) moments holds)
+    (λ written. then_closed old.size log number body piece middle next least (record { is_disk = is'; size' = same }) moments' written)
+
+-- both writes were made, and then the sync, or it failed
+pub record AreWritten (number : ℕ) (piece : List ℕ) (old middle next : DiskState) : Type 0 where
+  pub least : 4096 ≤ old.size
+  pub whole : length piece ≡ 512
+  pub is_disk : IsDisk old
+  pub is_disk' : IsDisk middle
+  pub is_disk'' : IsDisk next
+  pub size : middle.size ≡ old.size
+  pub size' : next.size ≡ middle.size
+  pub moments : middle.moments ≡ moments_after (after_write (body_at (next_of number)) piece) old.moments
+  pub moments' : next.moments ≡ moments_after (after_write (gate_at (third_of number)) (0 ∷ [])) middle.moments
+
+pub first_half : (number : ℕ) (more : CommitBody) (piece : List ℕ) (old middle next new : DiskState) → AreWritten number piece old middle next
+    → IsBody piece (log_of old.size) (next_of number) more (number + 1) → new.moments ≡ moments_after after_sync next.moments → IsFirstHalf number more old new
+first_half number more piece old middle next new are is_body moments = λ body holds.
     let log : ℕ = log_of old.size in
     let Q : Medium → Type 0 = IsGateClosed log (number % 3) (next_of number) (third_of number) number body piece in
-    on (IsSettled log number body) Q (IsHalfMade log number body more) old.moments behind.moments new.moments
-    (both_written old.size number body piece old middle behind are.least are.whole are.is_disk are.is_disk' are.size are.moments are.moments' holds)
-    (λ closed. then_synced old.size log number body more piece behind new are.least is_body (record { is_disk = are.is_disk''; size' = are.size' ∙ are.size }) moments closed)
+    on (IsSettled log number body) Q (IsHalfMade log number body more) old.moments next.moments new.moments
+    (both_written old.size number body piece old middle next are.least are.whole are.is_disk are.is_disk' are.size are.moments are.moments' holds)
+    (λ closed. then_synced old.size log number body more piece next new are.least is_body (record { is_disk = are.is_disk''; size' = are.size' ∙ are.size }) moments closed)
 
-pub first_sync_failed : (number : ℕ) (piece : List ℕ) (old middle behind new : DiskState) → AreWritten number piece old middle behind → new.moments ≡ behind.moments → FailsFirstHalf number old new
-first_sync_failed number piece old middle behind new are same = λ body holds.
+pub first_sync_failed : (number : ℕ) (piece : List ℕ) (old middle next new : DiskState) → AreWritten number piece old middle next → new.moments ≡ next.moments → FailsFirstHalf number old new
+first_sync_failed number piece old middle next new are same = λ body holds.
     let log : ℕ = log_of old.size in
     let Q : Medium → Type 0 = IsGateClosed log (number % 3) (next_of number) (third_of number) number body piece in
-    on (IsSettled log number body) Q (IsSettled log number body) old.moments behind.moments new.moments
-    (both_written old.size number body piece old middle behind are.least are.whole are.is_disk are.is_disk' are.size are.moments are.moments' holds)
-    (λ closed. same_moments (IsSettled log number body) behind.moments new.moments (now_as Q (IsSettled log number body) behind.moments (λ medium q. q.settled) closed) same)
+    on (IsSettled log number body) Q (IsSettled log number body) old.moments next.moments new.moments
+    (both_written old.size number body piece old middle next are.least are.whole are.is_disk are.is_disk' are.size are.moments are.moments' holds)
+    (λ closed. same_moments (IsSettled log number body) next.moments new.moments (now_as Q (IsSettled log number body) next.moments (λ medium q. q.settled) closed) same)
 
 -- ---- the second half
 

@@ -1,8 +1,15 @@
-pub mod Lasting
 pub mod Slots
 pub mod Commits
-pub mod Behind
+pub mod LogArea
+pub mod OnDisk
 pub mod Sequence
+pub mod Committing
 pub mod Formatting
 pub mod Reading
 pub mod Loading
+pub mod Lending
+pub mod Lasting
+pub mod States
+pub mod Clearing
+pub mod Newer
+pub mod Mending

@@ -1,10 +1,10 @@
--- The three slots of a cache device, and the commit that its bytes read as.
+-- Contract: the three slots of a cache device, and the commit that its bytes read as.
 use Rattle.std.specs.Prelude.{◌≡◌, ℕ, ◌+◌, ◌*◌, ◌-◌, ◌/◌, ◌≤◌, List, slice_index}
 use Rattle.lsvd_bytes.specs.Places.{bytes_at}
 use Rattle.commit_body.specs.declared.body.CommitBody.{CommitBody}
 use Rattle.commit_body.specs.Body.{IsBody}
 
--- the sectors of the log on a device of so many bytes
+-- the sectors of the log on a device of this many bytes
 abbrev pub log_of : ℕ → ℕ
 log_of size = (size - 4096) / 512
 

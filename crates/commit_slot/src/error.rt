@@ -7,9 +7,9 @@ use thiserror::Error;
 /// Why commits were not loaded.
 #[derive(Clone, Copy, Debug, PartialEq, Eq, Error)]
 pub enum LoadError {
-    /// No slot is open; the device was not formatted to its end.
+    /// No slot is open: the device, whose log has this many sectors, was not formatted to its end.
     #[error("no slot of the device is open")]
-    NoSlot,
+    NoSlot { log: u64 },
     /// A call of the device failed, and was counted by it.
     #[error("the device failed")]
     DeviceFault,

@@ -1,27 +1,30 @@
 ghost use Rattle.std.specs.Prelude.{◌≡◌, ◌≤◌, OnOk, OnErr, is_ok};
-ghost use Rattle.lsvd_device.specs.Device.{IsDisk, HoldsNow, MakesCalls};
-ghost use Rattle.lsvd_device.specs.Memory.{IsStill};
-ghost use Rattle.lsvd_device.specs.Sequence.{MakesThosePassed};
+ghost use Rattle.lsvd_device.specs.Device.{IsDisk, HoldsNow};
+ghost use Rattle.lsvd_device.specs.Memory.{IsSynced};
 ghost use Rattle.commit_body.specs.Body.{MayStand, HasNumbersOf64Bits};
 ghost use Rattle.commit_slot.specs.Slots.{log_of};
-ghost use Rattle.commit_slot.specs.Commits.{IsSettled, first_half_cost, second_half_cost};
-ghost use Rattle.commit_slot.specs.Formatting.{clear_bytes, clear_cost, format_cost, clear_calls, first_body_calls, first_open_calls, format_calls, IsClear, WritesFirst, OpensFirst};
+ghost use Rattle.commit_slot.specs.Commits.{first_half_cost, second_half_cost};
+ghost use Rattle.commit_slot.specs.States.{IsSettled};
+ghost use Rattle.commit_slot.specs.Sequence.{Costs};
+ghost use Rattle.commit_slot.specs.Formatting.{clear_bytes, clear_cost, format_cost, clear_calls, first_body_calls, first_open_calls, format_calls};
+ghost use Rattle.commit_slot.specs.Clearing.{IsClear, WritesFirst, OpensFirst};
 
-use crate::slot::{CLOSED, OPEN, SECTOR_BYTES, SLOTS_BYTES, body_at, gate_at};
+use crate::slot::{CLOSED, OPEN, SLOTS_BYTES, body_at, gate_at};
 use commit_body::{CommitBody, write_body};
+use lsvd_base::SECTOR_BYTES;
 use lsvd_device::Disk;
 use lsvd_fault::Failed;
 
-/// Clears the three slots, and makes the first commit, with the number 0 and this body.
+// Clears the three slots, and makes the first commit, with the number 0 and this body.
 pub(crate) fn format_slots<D: Disk>(disk: &mut D, body: CommitBody) -> Result<(), Failed>
     requires size { 4096 ≤ (D.state disk.old).size }
     requires is_disk { IsDisk (D.state disk.old) }
     requires numbers { HasNumbersOf64Bits body 0 }
     requires may_stand { MayStand body (log_of (D.state disk.old).size) }
-    ensures ok { OnOk result (HoldsNow (IsSettled (log_of (D.state disk.old).size) 0 body) (D.state disk.new).moments) }
-    ensures calls { MakesCalls format_cost (is_ok result) (D.state disk.old) (D.state disk.new) }
-    ensures performed { MakesThosePassed (format_calls body) (D.state disk.old) (D.state disk.new) }
-    ensures still { OnOk result (HoldsNow IsStill (D.state disk.new).moments) }
+    ensures ok { OnOk result (
+        HoldsNow (IsSettled (log_of (D.state disk.old).size) 0 body) (D.state disk.new).moments) }
+    ensures costs { Costs format_cost (format_calls body) (is_ok result) (D.state disk.old) (D.state disk.new) }
+    ensures synced { OnOk result (HoldsNow IsSynced (D.state disk.new).moments) }
     ensures is_disk { IsDisk (D.state disk.new) }
 {
     clear_slots(disk)?;
@@ -34,8 +37,7 @@ fn clear_slots<D: Disk>(disk: &mut D) -> Result<(), Failed>
     requires size { 4096 ≤ (D.state disk.old).size }
     requires is_disk { IsDisk (D.state disk.old) }
     ensures ok { OnOk result (HoldsNow IsClear (D.state disk.new).moments) }
-    ensures calls { MakesCalls clear_cost (is_ok result) (D.state disk.old) (D.state disk.new) }
-    ensures performed { MakesThosePassed clear_calls (D.state disk.old) (D.state disk.new) }
+    ensures costs { Costs clear_cost clear_calls (is_ok result) (D.state disk.old) (D.state disk.new) }
     ensures is_disk { IsDisk (D.state disk.new) }
 {
     disk.write(0, &clear_bytes())?;
@@ -57,8 +59,8 @@ fn write_first_body<D: Disk>(disk: &mut D, body: &CommitBody) -> Result<(), Fail
     requires numbers { HasNumbersOf64Bits body.now 0 }
     requires may_stand { MayStand body.now (log_of (D.state disk.old).size) }
     ensures ok { OnOk result (WritesFirst body.now (D.state disk.old) (D.state disk.new)) }
-    ensures calls { MakesCalls first_half_cost (is_ok result) (D.state disk.old) (D.state disk.new) }
-    ensures performed { MakesThosePassed (first_body_calls body.now) (D.state disk.old) (D.state disk.new) }
+    ensures costs { Costs first_half_cost (first_body_calls body.now) (is_ok result) (D.state disk.old)
+        (D.state disk.new) }
     ensures is_disk { IsDisk (D.state disk.new) }
 {
     let mut sector = [0; SECTOR_BYTES as usize];
@@ -73,9 +75,8 @@ fn open_first_slot<D: Disk>(disk: &mut D) -> Result<(), Failed>
     requires size { 4096 ≤ (D.state disk.old).size }
     requires is_disk { IsDisk (D.state disk.old) }
     ensures ok { OnOk result (OpensFirst (D.state disk.old) (D.state disk.new)) }
-    ensures calls { MakesCalls second_half_cost (is_ok result) (D.state disk.old) (D.state disk.new) }
-    ensures performed { MakesThosePassed first_open_calls (D.state disk.old) (D.state disk.new) }
-    ensures still { OnOk result (HoldsNow IsStill (D.state disk.new).moments) }
+    ensures costs { Costs second_half_cost first_open_calls (is_ok result) (D.state disk.old) (D.state disk.new) }
+    ensures synced { OnOk result (HoldsNow IsSynced (D.state disk.new).moments) }
     ensures is_disk { IsDisk (D.state disk.new) }
 {
     disk.write(gate_at(0), &[OPEN])?;

@@ -1,39 +1,44 @@
 ghost use Rattle.std.specs.Prelude.{◌≡◌, ℕ, ◌+◌, ◌%◌, ◌<◌, ◌≤◌, true, false, length, IfOk, IfErr, OnOk, IsTrue, is_ok};
 ghost use Rattle.lsvd_device.specs.Device.{IsDisk, HoldsNow};
-ghost use Rattle.lsvd_device.specs.Memory.{IsStill};
+ghost use Rattle.lsvd_device.specs.Memory.{IsSynced};
 ghost use Rattle.commit_body.specs.declared.body.CommitBody.{CommitBody as Body};
 ghost use Rattle.commit_body.specs.Body.{IsBody, MayStand};
 ghost use Rattle.commit_slot.specs.Slots.{log_of};
-ghost use Rattle.commit_slot.specs.Commits.{IsSettled};
-ghost use Rattle.commit_slot.specs.Behind.{StaysBehind, IsFirmBehind, HasFirmBehind};
-ghost use Rattle.commit_slot.specs.Loading.{KeepsNewest, NextIsClosed, ThirdIsOlder, Mends, MakesAtMost, close_cost, clear_third_cost, mend_cost, load_cost, AreRead, FailsToLoad, LoadsCleanly};
+ghost use Rattle.commit_slot.specs.States.{IsSettled};
+ghost use Rattle.commit_slot.specs.LogArea.{KeepsLogAreaSince, MakesLogAreaDurable, HasDurableLogArea};
+ghost use Rattle.commit_slot.specs.Loading.{MakesAtMost, load_cost, AreRead, FailsToLoad, IsCrashSafeLoad};
+ghost use Rattle.commit_slot.specs.Mending.{KeepsNewest, NextIsClosed, ThirdIsOlder, Mends, close_cost, clear_third_cost, mend_cost};
 
 use crate::error::LoadError;
 use crate::reading::read_newest;
-use crate::slot::{CLOSED, LOG_START, OPEN, SECTOR_BYTES, body_at, gate_at, slot_behind, slot_of};
+use crate::slot::{CLOSED, OPEN, body_at, gate_at, log_of, slot_after, slot_of};
 use commit_body::{CommitBody, read_body};
+use lsvd_base::SECTOR_BYTES;
 use lsvd_device::Disk;
 use lsvd_fault::Failed;
 
-/// Syncs the device, reads its newest commit, and mends the other slots.
+// Syncs the device, reads its newest commit, and mends the other slots.
 pub(crate) fn load_slots<D: Disk>(disk: &mut D) -> Result<(CommitBody, u64), LoadError>
     requires size { 4096 ≤ (D.state disk.old).size }
     requires is_disk { IsDisk (D.state disk.old) }
     ensures read { IfOk result (λ found. AreRead found.1 found.0 (D.state disk.old)) }
     ensures may_stand { IfOk result (λ found. MayStand found.0 (log_of (D.state disk.old).size)) }
-    ensures settled { IfOk result (λ found. HoldsNow (IsSettled (log_of (D.state disk.old).size) found.1 found.0) (D.state disk.new).moments) }
-    ensures made { OnOk result (MakesAtMost load_cost true (D.state disk.old) (D.state disk.new)) }
+    ensures settled { IfOk result (λ found.
+        HoldsNow (IsSettled (log_of (D.state disk.old).size) found.1 found.0)
+        (D.state disk.new).moments) }
+    ensures costs { OnOk result (MakesAtMost load_cost true (D.state disk.old) (D.state disk.new)) }
     ensures err { IfErr result (λ error. FailsToLoad error (D.state disk.old) (D.state disk.new)) }
-    ensures clean { LoadsCleanly (D.state disk.old) (D.state disk.new) }
-    ensures behind { StaysBehind (D.state disk.old).moments (D.state disk.new).moments }
-    ensures firm { OnOk result (IsFirmBehind (D.state disk.old).moments (D.state disk.new).moments) }
-    ensures firm_now { OnOk result (HasFirmBehind (D.state disk.new).moments) }
-    ensures still { OnOk result (HoldsNow IsStill (D.state disk.new).moments) }
+    ensures crash_safe { IsCrashSafeLoad (D.state disk.old) (D.state disk.new) }
+    ensures durable { OnOk result (MakesLogAreaDurable (D.state disk.old).moments (D.state disk.new).moments) }
+    ensures durable_now { OnOk result (HasDurableLogArea (D.state disk.new).moments) }
+    ensures synced { OnOk result (HoldsNow IsSynced (D.state disk.new).moments) }
     ensures is_disk { IsDisk (D.state disk.new) }
 {
     disk.sync()?;
     let Some((body, number)) = read_newest(disk)? else {
-        return Err(LoadError::NoSlot);
+        return Err(LoadError::NoSlot {
+            log: log_of(disk.len()),
+        });
     };
     mend_slots(disk, number)?;
     Ok((body, number))
@@ -45,10 +50,12 @@ fn mend_slots<D: Disk>(disk: &mut D, number: u64) -> Result<(), Failed>
     requires size { 4096 ≤ (D.state disk.old).size }
     requires is_disk { IsDisk (D.state disk.old) }
     ensures mended { OnOk result (Mends number (D.state disk.old) (D.state disk.new)) }
-    ensures still { OnOk result (HoldsNow IsStill (D.state disk.old).moments → HoldsNow IsStill (D.state disk.new).moments) }
+    ensures synced { OnOk result (
+        HoldsNow IsSynced (D.state disk.old).moments
+        → HoldsNow IsSynced (D.state disk.new).moments) }
     ensures newest { KeepsNewest number (D.state disk.old) (D.state disk.new) }
-    ensures behind { StaysBehind (D.state disk.old).moments (D.state disk.new).moments }
-    ensures calls { MakesAtMost mend_cost (is_ok result) (D.state disk.old) (D.state disk.new) }
+    ensures log_area { KeepsLogAreaSince (D.state disk.old).moments (D.state disk.new).moments }
+    ensures costs { MakesAtMost mend_cost (is_ok result) (D.state disk.old) (D.state disk.new) }
     ensures is_disk { IsDisk (D.state disk.new) }
 {
     let closed = close_next(disk, number)?;
@@ -59,18 +66,19 @@ fn mend_slots<D: Disk>(disk: &mut D, number: u64) -> Result<(), Failed>
     disk.sync()
 }
 
-// Closes the slot behind that of the newest commit, and answers whether it was open.
+// Closes the slot after that of the newest commit, and answers whether it was open.
 fn close_next<D: Disk>(disk: &mut D, number: u64) -> Result<bool, Failed>
     requires size { 4096 ≤ (D.state disk.old).size }
     requires is_disk { IsDisk (D.state disk.old) }
     ensures closed { OnOk result (HoldsNow (NextIsClosed number) (D.state disk.new).moments) }
-    ensures same { IfOk result (λ written. written ≡ false → (D.state disk.new).moments ≡ (D.state disk.old).moments) }
+    ensures same { IfOk result (λ written.
+        written ≡ false → (D.state disk.new).moments ≡ (D.state disk.old).moments) }
     ensures newest { KeepsNewest number (D.state disk.old) (D.state disk.new) }
-    ensures behind { StaysBehind (D.state disk.old).moments (D.state disk.new).moments }
-    ensures calls { MakesAtMost close_cost (is_ok result) (D.state disk.old) (D.state disk.new) }
+    ensures log_area { KeepsLogAreaSince (D.state disk.old).moments (D.state disk.new).moments }
+    ensures costs { MakesAtMost close_cost (is_ok result) (D.state disk.old) (D.state disk.new) }
     ensures is_disk { IsDisk (D.state disk.new) }
 {
-    let at = gate_at(slot_behind(slot_of(number)));
+    let at = gate_at(slot_after(slot_of(number)));
     let mut gate = [CLOSED];
     disk.read(at, &mut gate)?;
     if gate[0] != OPEN {
@@ -80,20 +88,24 @@ fn close_next<D: Disk>(disk: &mut D, number: u64) -> Result<bool, Failed>
     Ok(true)
 }
 
-// Fills the body of the slot behind that with zeros where it is newer, and answers whether it was.
+// Fills the body of the third slot with zeros where it is newer, and answers whether it was.
 fn clear_third<D: Disk>(disk: &mut D, number: u64) -> Result<bool, Failed>
     requires size { 4096 ≤ (D.state disk.old).size }
     requires is_disk { IsDisk (D.state disk.old) }
-    ensures older { OnOk result (HoldsNow (ThirdIsOlder (log_of (D.state disk.old).size) number) (D.state disk.new).moments) }
-    ensures same { IfOk result (λ written. written ≡ false → (D.state disk.new).moments ≡ (D.state disk.old).moments) }
-    ensures closed { OnOk result (HoldsNow (NextIsClosed number) (D.state disk.old).moments → HoldsNow (NextIsClosed number) (D.state disk.new).moments) }
+    ensures older { OnOk result (
+        HoldsNow (ThirdIsOlder (log_of (D.state disk.old).size) number) (D.state disk.new).moments) }
+    ensures same { IfOk result (λ written.
+        written ≡ false → (D.state disk.new).moments ≡ (D.state disk.old).moments) }
+    ensures closed { OnOk result (
+        HoldsNow (NextIsClosed number) (D.state disk.old).moments
+        → HoldsNow (NextIsClosed number) (D.state disk.new).moments) }
     ensures newest { KeepsNewest number (D.state disk.old) (D.state disk.new) }
-    ensures behind { StaysBehind (D.state disk.old).moments (D.state disk.new).moments }
-    ensures calls { MakesAtMost clear_third_cost (is_ok result) (D.state disk.old) (D.state disk.new) }
+    ensures log_area { KeepsLogAreaSince (D.state disk.old).moments (D.state disk.new).moments }
+    ensures costs { MakesAtMost clear_third_cost (is_ok result) (D.state disk.old) (D.state disk.new) }
     ensures is_disk { IsDisk (D.state disk.new) }
 {
-    let log = (disk.len() - LOG_START) / SECTOR_BYTES;
-    let slot = slot_behind(slot_behind(slot_of(number)));
+    let log = log_of(disk.len());
+    let slot = slot_after(slot_after(slot_of(number)));
     let mut sector = [0; SECTOR_BYTES as usize];
     disk.read(body_at(slot), &mut sector)?;
     if !is_newer(&sector, log, slot, number) {

@@ -1,10 +1,12 @@
 ghost use Rattle.std.specs.Prelude.{◌≡◌, ◌<◌, ◌≤◌, IfOk, is_ok};
 ghost use Rattle.lsvd_device.specs.Device.{IsDisk, HoldsNow, MakesCalls};
 ghost use Rattle.commit_slot.specs.Slots.{log_of};
-ghost use Rattle.commit_slot.specs.Reading.{MayStandFor, SlotHas, ReadsAs, IsNewer, slot_cost, reading_cost};
+ghost use Rattle.commit_slot.specs.Reading.{MayStandFor, ReadsAs, reading_cost};
+ghost use Rattle.commit_slot.specs.Newer.{SlotHas, IsNewer, slot_cost};
 
-use crate::slot::{CLOSED, LOG_START, OPEN, SECTOR_BYTES, body_at, gate_at};
+use crate::slot::{CLOSED, OPEN, body_at, gate_at, log_of};
 use commit_body::{CommitBody, read_body};
+use lsvd_base::SECTOR_BYTES;
 use lsvd_device::Disk;
 use lsvd_fault::Failed;
 
@@ -13,13 +15,15 @@ use lsvd_fault::Failed;
 /// failed.
 pub fn read_newest<D: Disk>(disk: &mut D) -> Result<Option<(CommitBody, u64)>, Failed>
     requires { 4096 ≤ (D.state disk.old).size }
-    ensures newest { IfOk result (λ found. HoldsNow (λ now. ReadsAs (log_of (D.state disk.old).size) now.bytes found) (D.state disk.old).moments) }
+    ensures ok { IfOk result (λ found.
+        HoldsNow (λ now. ReadsAs (log_of (D.state disk.old).size) now.bytes found)
+        (D.state disk.old).moments) }
     ensures may_stand { IfOk result (λ found. MayStandFor (log_of (D.state disk.old).size) found) }
     ensures moments { (D.state disk.new).moments ≡ (D.state disk.old).moments }
-    ensures calls { MakesCalls reading_cost (is_ok result) (D.state disk.old) (D.state disk.new) }
+    ensures costs { MakesCalls reading_cost (is_ok result) (D.state disk.old) (D.state disk.new) }
     ensures is_disk { IsDisk (D.state disk.new) }
 {
-    let log = (disk.len() - LOG_START) / SECTOR_BYTES;
+    let log = log_of(disk.len());
     let first = read_slot(disk, log, 0)?;
     let second = read_slot(disk, log, 1)?;
     let third = read_slot(disk, log, 2)?;
@@ -34,10 +38,11 @@ fn read_slot<D: Disk>(
 ) -> Result<Option<(CommitBody, u64)>, Failed>
     requires size { 4096 ≤ (D.state disk.old).size }
     requires slot { slot < 3 }
-    ensures found { IfOk result (λ found. HoldsNow (λ now. SlotHas log now.bytes slot found) (D.state disk.old).moments) }
+    ensures ok { IfOk result (λ found.
+        HoldsNow (λ now. SlotHas log now.bytes slot found) (D.state disk.old).moments) }
     ensures may_stand { IfOk result (λ found. MayStandFor log found) }
     ensures moments { (D.state disk.new).moments ≡ (D.state disk.old).moments }
-    ensures calls { MakesCalls slot_cost (is_ok result) (D.state disk.old) (D.state disk.new) }
+    ensures costs { MakesCalls slot_cost (is_ok result) (D.state disk.old) (D.state disk.new) }
     ensures is_disk { IsDisk (D.state disk.new) }
 {
     let mut sector = [0; SECTOR_BYTES as usize];

@@ -1,9 +1,10 @@
 use Rattle.std.proofs.Common.{rules, ◌≡◌}
 use Rattle.lsvd_device.specs.Medium.{after_write, after_sync}
 use Rattle.lsvd_device.specs.Device.{DiskState, HoldsNow, moments_after}
-use Rattle.commit_slot.specs.Formatting.{clear_bytes, IsClear}
+use Rattle.commit_slot.specs.Formatting.{clear_bytes}
+use Rattle.commit_slot.specs.Clearing.{IsClear}
 use Rattle.commit_slot.proofs.Outcomes.{on_ok_as}
-use Rattle.commit_slot.proofs.Formatted.{clears}
+use Rattle.commit_slot.proofs.FormatLemmas.{clears}
 use Rattle.commit_slot.proofs.formatting.clear_slots.Goals as goal
 
 pub returns-clause-ok : goal.returns-clause-ok

@@ -3,9 +3,9 @@ use Rattle.lsvd_device.specs.Medium.{after_sync}
 use Rattle.lsvd_device.specs.Device.{DiskState, moments_after}
 use Rattle.commit_body.specs.Body.{IsBody}
 use Rattle.commit_slot.specs.Slots.{log_of}
-use Rattle.commit_slot.specs.Formatting.{WritesFirst}
+use Rattle.commit_slot.specs.Clearing.{WritesFirst}
 use Rattle.commit_slot.proofs.Outcomes.{on_ok_as}
-use Rattle.commit_slot.proofs.Formatted.{AreFirstWritten, writes_first}
+use Rattle.commit_slot.proofs.FormatLemmas.{AreFirstWritten, writes_first}
 use Rattle.commit_slot.proofs.formatting.write_first_body.Goals as goal
 
 pub returns-clause-ok : goal.returns-clause-ok

@@ -1,101 +1,74 @@
-use Rattle.std.proofs.Common.{rules, ◌≡◌, ◌≤◌, true, ◌∙◌, sym, subst, arith}
+use Rattle.std.proofs.Common.{rules, ◌≡◌, true, false, sym, subst}
 use Rattle.std.specs.Prelude.{is_ok}
-use Rattle.lsvd_device.specs.Medium.{after_sync}
-use Rattle.lsvd_device.specs.Calls.{sync_cost}
-use Rattle.lsvd_device.specs.Device.{DiskState, HoldsNow, moments_after}
-use Rattle.commit_slot.specs.Slots.{log_of}
-use Rattle.commit_slot.specs.Behind.{StaysBehind}
-use Rattle.commit_slot.specs.Loading.{KeepsNewest, NextIsClosed, ThirdIsOlder, Mends, MakesAtMost, close_cost, clear_third_cost, mend_cost}
-use Rattle.commit_slot.proofs.Outcomes.{on_ok_as, on_both}
-use Rattle.commit_slot.proofs.BehindLemmas.{stays_then, same_stays, sync_stays}
-use Rattle.commit_slot.proofs.Mended.{keeps_then, keeps_same, keeps_synced, mends_none, mends_synced, most_then, most_of}
+use Rattle.commit_slot.specs.Loading.{MakesAtMost}
+use Rattle.commit_slot.specs.Mending.{mend_cost}
+use Rattle.commit_slot.proofs.MendPaths.{IsMending, mending_newest, mending_stays, mending_costs, mended_none, mended, mended_newest, mended_stays, mended_costs}
+use Rattle.commit_slot.proofs.loading.mend_slots.Given as given
 use Rattle.commit_slot.proofs.loading.mend_slots.Goals as goal
+use Rattle.commit_slot.proofs.loading.mend_slots.Goals.{In_ok-cleared, After-from_residual-in_err-cleared}
+
+-- the third slot was not cleared, since a call failed
+clear_failed : (g : given.Over) (c : After-from_residual-in_err-cleared g) → IsMending c.args.number false (g.D.Disk.state c.args.disk.now) (g.D.Disk.state c.close_next.new.disk) (g.D.Disk.state c.clear_third.new.disk)
+clear_failed g c = record {
+  least = c.requires.size;
+  is_disk = c.requires.is_disk;
+  is_disk' = c.clear_third.ensures.is_disk;
+  close = c.in_ok-closed.ensures.costs;
+  clear = c.in_err-cleared.ensures.costs;
+  close_newest = c.close_next.ensures.newest;
+  clear_newest = c.clear_third.ensures.newest;
+  close_log_area = c.close_next.ensures.log_area;
+  clear_log_area = c.clear_third.ensures.log_area;
+}
+
+-- both slots are as they are to be
+both : (g : given.Over) (c : In_ok-cleared g) → IsMending c.args.number true (g.D.Disk.state c.args.disk.now) (g.D.Disk.state c.close_next.new.disk) (g.D.Disk.state c.clear_third.new.disk)
+both g c = record {
+  least = c.requires.size;
+  is_disk = c.requires.is_disk;
+  is_disk' = c.clear_third.ensures.is_disk;
+  close = c.in_ok-closed.ensures.costs;
+  clear = c.in_ok-cleared.ensures.costs;
+  close_newest = c.close_next.ensures.newest;
+  clear_newest = c.clear_third.ensures.newest;
+  close_log_area = c.close_next.ensures.log_area;
+  clear_log_area = c.clear_third.ensures.log_area;
+}
 
 pub returns-in_err-cleared-clause-newest : goal.returns-in_err-cleared-clause-newest
-returns-in_err-cleared-clause-newest g c =
-    keeps_then c.args.number (g.D.Disk.state c.args.disk.now) (g.D.Disk.state c.close_next.new.disk) (g.D.Disk.state c.clear_third.new.disk)
-    c.close_next.ensures.calls.calls.size c.close_next.ensures.newest c.clear_third.ensures.newest
+returns-in_err-cleared-clause-newest g c = mending_newest _ _ _ _ _ (clear_failed g c)
 
-pub returns-in_err-cleared-clause-behind : goal.returns-in_err-cleared-clause-behind
-returns-in_err-cleared-clause-behind g c = stays_then _ _ _ c.close_next.ensures.behind c.clear_third.ensures.behind
+pub returns-in_err-cleared-clause-log_area : goal.returns-in_err-cleared-clause-log_area
+returns-in_err-cleared-clause-log_area g c = mending_stays _ _ _ _ _ (clear_failed g c)
 
-pub returns-in_err-cleared-clause-calls : goal.returns-in_err-cleared-clause-calls
-returns-in_err-cleared-clause-calls g c =
-    let old : DiskState = g.D.Disk.state c.args.disk.now in
-    let middle : DiskState = g.D.Disk.state c.close_next.new.disk in
-    let new : DiskState = g.D.Disk.state c.clear_third.new.disk in
-    let first : MakesAtMost close_cost true old middle = search rules in
-    let second : MakesAtMost clear_third_cost (is_ok c.from_residual-in_err-cleared.result) middle new = search rules in
-    most_then close_cost clear_third_cost mend_cost _ old middle new (omega arith) (omega arith) (omega arith) first second
+pub returns-in_err-cleared-clause-costs : goal.returns-in_err-cleared-clause-costs
+returns-in_err-cleared-clause-costs g c =
+    let failed : is_ok c.from_residual-in_err-cleared.result ≡ false = search rules in
+    subst (λ made. MakesAtMost mend_cost made (g.D.Disk.state c.args.disk.now) (g.D.Disk.state c.clear_third.new.disk)) (sym failed) (mending_costs _ _ _ _ _ (clear_failed g c))
 
 pub returns-then-not-cleared-clause-mended : goal.returns-then-not-cleared-clause-mended
 returns-then-not-cleared-clause-mended g c =
-    let old : DiskState = g.D.Disk.state c.args.disk.now in
-    let middle : DiskState = g.D.Disk.state c.close_next.new.disk in
-    let new : DiskState = g.D.Disk.state c.clear_third.new.disk in
-    let same : middle.moments ≡ old.moments = search rules in
-    let same' : new.moments ≡ middle.moments = search rules in
-    let closed : HoldsNow (NextIsClosed c.args.number) middle.moments = search rules in
-    let older : HoldsNow (ThirdIsOlder (log_of middle.size) c.args.number) new.moments = search rules in
-    mends_none c.args.number old new c.requires.size c.requires.is_disk (same' ∙ same) (subst (HoldsNow (NextIsClosed c.args.number)) (sym same') closed)
-    (subst (λ n. HoldsNow (ThirdIsOlder (log_of n) c.args.number) new.moments) c.close_next.ensures.calls.calls.size older)
+    mended_none _ _ _ _ (both g (goal.at.returns-then-not-cleared-clause-mended g c).In_ok-cleared) (search rules) (search rules) c.in_ok-closed.ensures.closed c.in_ok-cleared.ensures.older
 
-pub returns-then-not-cleared-clause-calls : goal.returns-then-not-cleared-clause-calls
-returns-then-not-cleared-clause-calls g c =
-    let old : DiskState = g.D.Disk.state c.args.disk.now in
-    let middle : DiskState = g.D.Disk.state c.close_next.new.disk in
-    let new : DiskState = g.D.Disk.state c.clear_third.new.disk in
-    let first : MakesAtMost close_cost true old middle = search rules in
-    let second : MakesAtMost clear_third_cost true middle new = search rules in
-    most_then close_cost clear_third_cost mend_cost true old middle new (omega arith) (omega arith) (omega arith) first second
+pub returns-then-not-cleared-clause-newest : goal.returns-then-not-cleared-clause-newest
+returns-then-not-cleared-clause-newest g c = mending_newest _ _ _ _ _ (both g (goal.at.returns-then-not-cleared-clause-mended g c).In_ok-cleared)
+
+pub returns-then-not-cleared-clause-log_area : goal.returns-then-not-cleared-clause-log_area
+returns-then-not-cleared-clause-log_area g c = mending_stays _ _ _ _ _ (both g (goal.at.returns-then-not-cleared-clause-mended g c).In_ok-cleared)
+
+pub returns-then-not-cleared-clause-costs : goal.returns-then-not-cleared-clause-costs
+returns-then-not-cleared-clause-costs g c = mending_costs _ _ _ _ _ (both g (goal.at.returns-then-not-cleared-clause-mended g c).In_ok-cleared)
 
 pub returns-clause-mended : goal.returns-clause-mended
 returns-clause-mended g c =
-    let old : DiskState = g.D.Disk.state c.args.disk.now in
-    let middle : DiskState = g.D.Disk.state c.close_next.new.disk in
-    let next : DiskState = g.D.Disk.state c.clear_third.new.disk in
-    let new : DiskState = g.D.Disk.state c.sync.new.self in
-    let size : middle.size ≡ old.size = c.close_next.ensures.calls.calls.size in
-    let closed : HoldsNow (NextIsClosed c.args.number) middle.moments = search rules in
-    let keeps : HoldsNow (NextIsClosed c.args.number) middle.moments → HoldsNow (NextIsClosed c.args.number) next.moments = search rules in
-    let older : HoldsNow (ThirdIsOlder (log_of middle.size) c.args.number) next.moments = search rules in
-    on_ok_as c.sync.result (new.moments ≡ moments_after after_sync next.moments) (Mends c.args.number old new)
-    (λ moments. mends_synced c.args.number old next new c.requires.size (c.clear_third.ensures.calls.calls.size ∙ size) c.clear_third.ensures.is_disk
-    (keeps_then c.args.number old middle next size c.close_next.ensures.newest c.clear_third.ensures.newest) moments (keeps closed)
-    (subst (λ n. HoldsNow (ThirdIsOlder (log_of n) c.args.number) next.moments) size older)) c.sync.ensures.ok
+    mended c.sync.result _ _ _ _ (g.D.Disk.state c.sync.new.self) (both g (goal.at.returns-clause-mended g c).In_ok-cleared) (c.in_ok-cleared.ensures.closed c.in_ok-closed.ensures.closed) c.in_ok-cleared.ensures.older
+    c.sync.ensures.ok
 
 pub returns-clause-newest : goal.returns-clause-newest
-returns-clause-newest g c =
-    let old : DiskState = g.D.Disk.state c.args.disk.now in
-    let middle : DiskState = g.D.Disk.state c.close_next.new.disk in
-    let next : DiskState = g.D.Disk.state c.clear_third.new.disk in
-    let new : DiskState = g.D.Disk.state c.sync.new.self in
-    let size : middle.size ≡ old.size = c.close_next.ensures.calls.calls.size in
-    let size' : next.size ≡ old.size = c.clear_third.ensures.calls.calls.size ∙ size in
-    let least : 4096 ≤ next.size = (let l = c.requires.size in omega (arith, size', l)) in
-    keeps_then c.args.number old next new size' (keeps_then c.args.number old middle next size c.close_next.ensures.newest c.clear_third.ensures.newest)
-    (on_both c.sync.result (new.moments ≡ moments_after after_sync next.moments) (new.moments ≡ next.moments) (KeepsNewest c.args.number next new)
-    (keeps_synced c.args.number next new least c.clear_third.ensures.is_disk) (keeps_same c.args.number next new) c.sync.ensures.ok c.sync.ensures.err)
+returns-clause-newest g c = mended_newest c.sync.result _ _ _ _ (g.D.Disk.state c.sync.new.self) (both g (goal.at.returns-clause-mended g c).In_ok-cleared) c.sync.ensures.ok c.sync.ensures.err
 
-pub returns-clause-behind : goal.returns-clause-behind
-returns-clause-behind g c =
-    let old : DiskState = g.D.Disk.state c.args.disk.now in
-    let middle : DiskState = g.D.Disk.state c.close_next.new.disk in
-    let next : DiskState = g.D.Disk.state c.clear_third.new.disk in
-    let new : DiskState = g.D.Disk.state c.sync.new.self in
-    stays_then old.moments next.moments new.moments (stays_then old.moments middle.moments next.moments c.close_next.ensures.behind c.clear_third.ensures.behind)
-    (on_both c.sync.result (new.moments ≡ moments_after after_sync next.moments) (new.moments ≡ next.moments) (StaysBehind next.moments new.moments)
-    (sync_stays next.moments new.moments) (same_stays next.moments new.moments) c.sync.ensures.ok c.sync.ensures.err)
+pub returns-clause-log_area : goal.returns-clause-log_area
+returns-clause-log_area g c = mended_stays c.sync.result _ _ _ _ (g.D.Disk.state c.sync.new.self) (both g (goal.at.returns-clause-mended g c).In_ok-cleared) c.sync.ensures.ok c.sync.ensures.err
 
-pub returns-clause-calls : goal.returns-clause-calls
-returns-clause-calls g c =
-    let old : DiskState = g.D.Disk.state c.args.disk.now in
-    let middle : DiskState = g.D.Disk.state c.close_next.new.disk in
-    let next : DiskState = g.D.Disk.state c.clear_third.new.disk in
-    let new : DiskState = g.D.Disk.state c.sync.new.self in
-    let first : MakesAtMost close_cost true old middle = search rules in
-    let second : MakesAtMost clear_third_cost true middle next = search rules in
-    let both : MakesAtMost (record { calls = 4; changes = 2; bytes = 513 }) true old next =
-    most_then close_cost clear_third_cost (record { calls = 4; changes = 2; bytes = 513 }) true old middle next (omega arith) (omega arith) (omega arith) first second in
-    most_then (record { calls = 4; changes = 2; bytes = 513 }) sync_cost mend_cost _ old next new (omega arith) (omega arith) (omega arith) both
-    (most_of sync_cost sync_cost _ next new (omega arith) (omega arith) (omega arith) c.sync.ensures.call)
+pub returns-clause-costs : goal.returns-clause-costs
+returns-clause-costs g c = mended_costs _ (is_ok c.sync.result) _ _ _ (g.D.Disk.state c.sync.new.self) (both g (goal.at.returns-clause-mended g c).In_ok-cleared) c.sync.ensures.call

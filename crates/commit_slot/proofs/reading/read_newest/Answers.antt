@@ -2,12 +2,12 @@ use Rattle.std.proofs.Common.{rules, ℕ, ◌∙◌, subst, List}
 use Rattle.lsvd_device.specs.Medium.{Medium}
 use Rattle.lsvd_device.specs.Device.{DiskState, HoldsNow}
 use Rattle.commit_slot.specs.Slots.{log_of}
-use Rattle.commit_slot.specs.Reading.{SlotHas}
+use Rattle.commit_slot.specs.Newer.{SlotHas}
 use Rattle.commit_slot.proofs.Newest.{newest_now}
 use Rattle.commit_slot.proofs.reading.read_newest.Goals as goal
 
-pub returns-clause-newest : goal.returns-clause-newest
-returns-clause-newest g c =
+pub returns-clause-ok : goal.returns-clause-ok
+returns-clause-ok g c =
     let old : DiskState = g.D.Disk.state c.args.disk.now in
     let middle : DiskState = g.D.Disk.state c.read_slot.new.disk in
     let next : DiskState = g.D.Disk.state c.read_slot-2.new.disk in

@@ -7,18 +7,19 @@ use Rattle.lsvd_device.specs.Medium.{Medium, after_write, after_sync}
 use Rattle.lsvd_device.specs.Calls.{Cost, together}
 use Rattle.lsvd_device.specs.Device.{DiskState, IsDisk, HasSize, HoldsNow, MakesCalls, moments_after, FailsToWrite}
 use Rattle.lsvd_device.proofs.Together.{made_then}
-use Rattle.lsvd_device.specs.Memory.{IsStill}
+use Rattle.lsvd_device.specs.Memory.{IsSynced}
 use Rattle.commit_body.specs.declared.body.CommitBody.{CommitBody}
 use Rattle.commit_body.specs.Body.{IsBody}
 use Rattle.commit_slot.specs.Slots.{log_of, body_at, gate_at}
-use Rattle.commit_slot.specs.Commits.{IsClosed, IsSettled}
-use Rattle.commit_slot.specs.Loading.{IsNewest, KeepsNewest, NextIsClosed, ThirdIsOlder, Mends, MakesAtMost}
+use Rattle.commit_slot.specs.States.{IsClosed, IsSettled}
+use Rattle.commit_slot.specs.Loading.{MakesAtMost}
+use Rattle.commit_slot.specs.Mending.{IsNewest, KeepsNewest, NextIsClosed, ThirdIsOlder, Mends}
 use Rattle.commit_slot.proofs.LastingLemmas.{Apart, still_there}
 use Rattle.commit_slot.proofs.Passing.{passes_on, after_step, same_moments}
 use Rattle.commit_slot.proofs.SlotStates.{body_lies, gate_lies, slots_apart, written_there}
 use Rattle.commit_slot.proofs.Steps.{next_of, third_of, media_of}
-use Rattle.commit_slot.proofs.Formatted.{zeros_are_none}
-use Rattle.commit_slot.proofs.NewestKept.{PassesNewest, newest_synced, newest_settled, clean_is_synced, IsSpared, gate_spared, body_spared, spared_failed, spared_written, holds_with}
+use Rattle.commit_slot.proofs.FormatLemmas.{zeros_are_none}
+use Rattle.commit_slot.proofs.NewestKept.{PassesNewest, newest_synced, newest_settled, synced_is_same, IsSpared, gate_spared, body_spared, spared_failed, spared_written, holds_with}
 
 -- ---- places
 
@@ -45,7 +46,7 @@ next_not_third number = λ e. omega (arith, e)
 
 -- ---- what was read
 
--- so many bytes from a byte on were read as these
+-- this many bytes from a byte on were read as these
 abbrev pub AreThere : (at count : ℕ) → List ℕ → List Medium → Type 0
 AreThere at count bytes moments = HoldsNow (λ now. bytes ≡ bytes_at at count now.bytes) moments
 
@@ -169,24 +170,24 @@ keeps_synced number old new least is_disk moments = λ body newest.
     let P : Medium → Type 0 = IsNewest (log_of old.size) number body in
     after_step P P old.size after_sync old.moments new.moments (λ medium has is. newest_synced old.size (log_of old.size) number body medium least has is) is_disk.media newest moments
 
-settled_in : (size number : ℕ) (body : CommitBody) (moments : List Medium) → 4096 ≤ size → AllByRecursion (HasSize size) moments → HoldsNow IsStill moments → HoldsNow (IsNewest (log_of size) number body) moments
+settled_in : (size number : ℕ) (body : CommitBody) (moments : List Medium) → 4096 ≤ size → AllByRecursion (HasSize size) moments → HoldsNow IsSynced moments → HoldsNow (IsNewest (log_of size) number body) moments
     → HoldsNow (NextIsClosed number) moments → HoldsNow (ThirdIsOlder (log_of size) number) moments → HoldsNow (IsSettled (log_of size) number body) moments
-settled_in size number body [] least sizes clean newest closed older = tt
-settled_in size number body (now ∷ past) least sizes clean newest closed older =
-    subst (IsSettled (log_of size) number body) (clean_is_synced now clean) (newest_settled size (log_of size) number body now least sizes.0 newest closed older)
+settled_in size number body [] least sizes synced newest closed older = tt
+settled_in size number body (now ∷ past) least sizes synced newest closed older =
+    subst (IsSettled (log_of size) number body) (synced_is_same now synced) (newest_settled size (log_of size) number body now least sizes.0 newest closed older)
 
 -- nothing was written
 pub mends_none : (number : ℕ) (old new : DiskState) → 4096 ≤ old.size → IsDisk old → new.moments ≡ old.moments → HoldsNow (NextIsClosed number) new.moments
     → HoldsNow (ThirdIsOlder (log_of old.size) number) new.moments → Mends number old new
-mends_none number old new least is_disk same closed older = λ body clean newest.
+mends_none number old new least is_disk same closed older = λ body synced newest.
     let log : ℕ = log_of old.size in
     subst (HoldsNow (IsSettled log number body)) (sym same)
-    (settled_in old.size number body old.moments least is_disk.media clean newest (subst (HoldsNow (NextIsClosed number)) same closed) (subst (HoldsNow (ThirdIsOlder log number)) same older))
+    (settled_in old.size number body old.moments least is_disk.media synced newest (subst (HoldsNow (NextIsClosed number)) same closed) (subst (HoldsNow (ThirdIsOlder log number)) same older))
 
 -- it was synced
 pub mends_synced : (number : ℕ) (old middle new : DiskState) → 4096 ≤ old.size → middle.size ≡ old.size → IsDisk middle → KeepsNewest number old middle
     → new.moments ≡ moments_after after_sync middle.moments → HoldsNow (NextIsClosed number) middle.moments → HoldsNow (ThirdIsOlder (log_of old.size) number) middle.moments → Mends number old new
-mends_synced number old middle new least size is_disk keeps moments closed older = λ body clean newest.
+mends_synced number old middle new least size is_disk keeps moments closed older = λ body synced newest.
     let log : ℕ = log_of old.size in
     let P : Medium → Type 0 = λ medium. IsNewest log number body medium × (NextIsClosed number medium × ThirdIsOlder log number medium) in
     let slots = holds_with (NextIsClosed number) (ThirdIsOlder log number) (λ medium. NextIsClosed number medium × ThirdIsOlder log number medium) middle.moments (λ medium a b. (a, b)) closed older in
@@ -202,35 +203,35 @@ pub two_calls : (a b most : Cost) (is_made : Bool) (old middle new : DiskState) 
     → MakesCalls a true old middle → MakesCalls b is_made middle new → MakesAtMost most is_made old new
 two_calls a b most is_made old middle new calls changes bytes first second = record {
   cost = together a b;
-  calls' = calls;
-  changes = changes;
-  bytes = bytes;
+  most_calls = calls;
+  most_changes = changes;
+  most_bytes = bytes;
   calls = made_then a b is_made old middle new first second;
 }
 
 pub most_then : (a b most : Cost) (is_made : Bool) (old middle new : DiskState) → a.calls + b.calls ≤ most.calls → a.changes + b.changes ≤ most.changes → a.bytes + b.bytes ≤ most.bytes
     → MakesAtMost a true old middle → MakesAtMost b is_made middle new → MakesAtMost most is_made old new
 most_then a b most is_made old middle new calls changes bytes first second =
-    let c = first.calls' in
-    let c' = second.calls' in
-    let d = first.changes in
-    let d' = second.changes in
-    let e = first.bytes in
-    let e' = second.bytes in
+    let c = first.most_calls in
+    let c' = second.most_calls in
+    let d = first.most_changes in
+    let d' = second.most_changes in
+    let e = first.most_bytes in
+    let e' = second.most_bytes in
     record {
       cost = together first.cost second.cost;
-      calls' = omega (arith, calls, c, c');
-      changes = omega (arith, changes, d, d');
-      bytes = omega (arith, bytes, e, e');
+      most_calls = omega (arith, calls, c, c');
+      most_changes = omega (arith, changes, d, d');
+      most_bytes = omega (arith, bytes, e, e');
       calls = made_then first.cost second.cost is_made old middle new first.calls second.calls;
     }
 
 pub most_as : (a most : Cost) (is_made : Bool) (old new : DiskState) → a.calls ≤ most.calls → a.changes ≤ most.changes → a.bytes ≤ most.bytes → MakesAtMost a is_made old new → MakesAtMost most is_made old new
 most_as a most is_made old new calls changes bytes first =
-    let c = first.calls' in
-    let d = first.changes in
-    let e = first.bytes in
-    record { cost = first.cost; calls' = omega (arith, calls, c); changes = omega (arith, changes, d); bytes = omega (arith, bytes, e); calls = first.calls }
+    let c = first.most_calls in
+    let d = first.most_changes in
+    let e = first.most_bytes in
+    record { cost = first.cost; most_calls = omega (arith, calls, c); most_changes = omega (arith, changes, d); most_bytes = omega (arith, bytes, e); calls = first.calls }
 
 pub most_of : (a most : Cost) (is_made : Bool) (old new : DiskState) → a.calls ≤ most.calls → a.changes ≤ most.changes → a.bytes ≤ most.bytes → MakesCalls a is_made old new → MakesAtMost most is_made old new
-most_of a most is_made old new calls changes bytes first = record { cost = a; calls' = calls; changes = changes; bytes = bytes; calls = first }
+most_of a most is_made old new calls changes bytes first = record { cost = a; most_calls = calls; most_changes = changes; most_bytes = bytes; calls = first }

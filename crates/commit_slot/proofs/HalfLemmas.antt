@@ -3,12 +3,13 @@ use Rattle.std.proofs.Common.{◌≡◌, ℕ, ◌+◌, ◌%◌, ◌^◌, ◌<◌
 use Rattle.std.specs.Prelude.{◌≢◌, Option, Some, None, IfSome, IfNone, slice_index}
 use Rattle.std.specs.List.{AllByRecursion}
 use Rattle.lsvd_device.specs.Medium.{Medium}
-use Rattle.lsvd_device.specs.Device.{DiskState, IsDisk, HasSize, HoldsNow}
+use Rattle.lsvd_device.specs.Device.{HoldsSince, DiskState, IsDisk, HasSize, HoldsNow}
 use Rattle.commit_body.specs.declared.body.CommitBody.{CommitBody}
 use Rattle.commit_body.specs.Body.{MayStand}
 use Rattle.commit_slot.specs.Slots.{log_of, gate_at}
-use Rattle.commit_slot.specs.Commits.{IsSettled, IsHalfMade, Stands, AreCommits, Passes, Leaves, LeavesSince, LeavesNow, IsFirstHalf, FailsFirstHalf, IsSecondHalf, FailsSecondHalf}
-use Rattle.commit_slot.specs.Behind.{HasGate}
+use Rattle.commit_slot.specs.Commits.{Leaves, LeavesSince, LeavesNow}
+use Rattle.commit_slot.specs.States.{IsSettled, IsHalfMade, Stands, AreCommits, IsFirstHalf, FailsFirstHalf, IsSecondHalf, FailsSecondHalf}
+use Rattle.commit_slot.specs.OnDisk.{HasGate}
 use Rattle.commit_slot.proofs.Readings.{one_byte, settled_reads, half_reads, half_gate}
 
 -- ---- what a stop leaves
@@ -24,7 +25,7 @@ each_of size P Q (now ∷ past) follows sizes all = (follows now sizes.0 all.0, 
 
 -- moments of a disk that pass with P pass with what follows of it there
 pub passes_of : (P Q : Medium → Type 0) (old new : DiskState) → new.size ≡ old.size → IsDisk new → ((medium : Medium) → HasSize old.size medium → P medium → Q medium)
-    → Passes P old.moments new.moments → Passes Q old.moments new.moments
+    → HoldsSince P old.moments new.moments → HoldsSince Q old.moments new.moments
 passes_of P Q old new size is_disk follows passes =
     let media : AllByRecursion (HasSize old.size) new.moments = (let M : ℕ → Type 0 = λ n. AllByRecursion (HasSize n) new.moments in subst M size is_disk.media) in
     let all : AllByRecursion (HasSize old.size) (passes.since ++ old.moments) = subst (AllByRecursion (HasSize old.size)) passes.moments media in
@@ -57,7 +58,7 @@ pub record IsLeft (old new : DiskState) : Type 0 where
   pub size : new.size ≡ old.size
   pub is_disk : IsDisk new
 
--- what holds of the bodies of commits for a log of so many sectors
+-- what holds of the bodies of commits for a log of this many sectors
 pub record MayBoth (log number : ℕ) (body : CommitBody) (unfinished : Option CommitBody) : Type 0 where
   pub may_stand : MayStand body log
   pub next : IfSome unfinished (λ more. (number + 1 < 2 ^ 64) × MayStand more log)

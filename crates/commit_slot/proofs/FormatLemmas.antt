@@ -1,25 +1,29 @@
 -- The calls of formatting.
 use Rattle.std.proofs.Common.{◌≡◌, ◌≢◌, ℕ, ◌+◌, ◌-◌, ◌<◌, ◌≤◌, List, [], ◌∷◌, ◌++◌, length, take, replicate, get_or, refl, sym, ◌∙◌, ap, subst, inl, inr, arith}
-use Rattle.std.specs.Prelude.{codes, true, false}
+use Rattle.std.specs.Prelude.{codes, Bool, true, false}
 use Rattle.std.proofs.lemmas.List.{length-replicate, take-replicate, drop-replicate}
-use Rattle.lsvd_bytes.specs.Places.{bytes_at}
-use Rattle.lsvd_device.specs.Medium.{Medium, after_write, after_sync, overwritten}
+use Rattle.lsvd_bytes.specs.Places.{with_bytes, bytes_at}
+use Rattle.lsvd_device.specs.Medium.{Medium, after_write, after_sync}
 use Rattle.lsvd_device.specs.Calls.{write_cost, sync_cost, together}
-use Rattle.lsvd_device.specs.Device.{DiskState, IsDisk, HasSize, HoldsNow, MakesCalls, moments_after}
-use Rattle.lsvd_device.specs.Sequence.{Call, Write, Sync, MakesThosePassed}
+use Rattle.lsvd_device.specs.Device.{DiskState, IsDisk, HasSize, HoldsNow, moments_after}
+use Rattle.lsvd_device.specs.Sequence.{Call, Write, Sync}
 use Rattle.commit_body.specs.declared.body.CommitBody.{CommitBody}
 use Rattle.commit_body.specs.Body.{IsBody, body_bytes}
-use Rattle.commit_body.proofs.BodyLemmas.{magic-body}
-use Rattle.commit_slot.specs.Lasting.{Lasts}
+use Rattle.commit_body.proofs.BodyLemmas.{magic-body, is_one_sector}
 use Rattle.commit_slot.specs.Slots.{log_of, body_at, gate_at}
-use Rattle.commit_slot.specs.Commits.{IsOpen, IsClosed, IsOlder, IsSettled, first_half_cost}
-use Rattle.commit_slot.specs.Formatting.{clear_cost, clear_calls, first_body_calls, first_open_calls, format_calls, clear_bytes, IsNoCommit, IsClear, IsClearSlot, IsFirstWritten, WritesFirst, OpensFirst}
+use Rattle.commit_slot.specs.Lasting.{Lasts}
+use Rattle.commit_slot.specs.Commits.{IsOlder, first_half_cost, second_half_cost}
+use Rattle.commit_slot.specs.States.{IsOpen, IsClosed, IsSettled}
+use Rattle.commit_slot.specs.Sequence.{Costs}
+use Rattle.commit_slot.specs.Formatting.{clear_cost, format_cost, clear_calls, first_body_calls, first_open_calls, format_calls, clear_bytes}
+use Rattle.commit_slot.specs.Clearing.{IsNoCommit, IsClear, IsClearSlot, IsFirstWritten, WritesFirst, OpensFirst}
 use Rattle.commit_slot.proofs.LastingLemmas.{Apart, part_before, still_there}
 use Rattle.commit_slot.proofs.Passing.{after_step}
 use Rattle.commit_slot.proofs.SlotStates.{body_lies, gate_lies, written_keeps, written_there, sync_keeps, zero_is_closed, one_is_open}
 use Rattle.commit_slot.proofs.Steps.{media_of}
 use Rattle.lsvd_device.proofs.Passed.{Asks, passed_then, passed_failed}
-use Rattle.commit_slot.proofs.Performed.{costs_then, write_costs, sync_costs}
+use Rattle.lsvd_device.proofs.Together.{made_then, failed_then}
+use Rattle.commit_slot.proofs.CallLemmas.{costs_then, write_costs, sync_costs}
 
 -- ---- zeros
 
@@ -35,9 +39,9 @@ unfolding clear_bytes
 clear_in at count within = zeros_in 3072 at count within
 
 -- what was cleared is zeros
-cleared : (at count : ℕ) (bytes : List ℕ) → at + count ≤ 3072 → 3072 ≤ length bytes → bytes_at at count (overwritten 0 clear_bytes bytes) ≡ replicate count 0
+cleared : (at count : ℕ) (bytes : List ℕ) → at + count ≤ 3072 → 3072 ≤ length bytes → bytes_at at count (with_bytes 0 clear_bytes bytes) ≡ replicate count 0
 cleared at count bytes within fits =
-    let new : List ℕ = overwritten 0 clear_bytes bytes in
+    let new : List ℕ = with_bytes 0 clear_bytes bytes in
     let front : take 3072 new ≡ clear_bytes = written_there 0 3072 clear_bytes bytes length-clear (omega (arith, length-clear, fits)) in
     part_before at count 3072 new within ∙ ap (bytes_at at count) front ∙ clear_in at count within
 
@@ -130,27 +134,27 @@ first_written size log body piece medium least is has first = record {
   older = sync_keeps size 2 (body_at 2) 512 (IsOlder log 2 0) medium has least (omega arith) (body_lies 2) (none_is_older log _ first.third.now);
 }
 
-pub record AreFirstWritten (piece : List ℕ) (old middle behind : DiskState) : Type 0 where
+pub record AreFirstWritten (piece : List ℕ) (old middle next : DiskState) : Type 0 where
   pub least : 4096 ≤ old.size
   pub whole : length piece ≡ 512
   pub is_disk : IsDisk old
   pub is_disk' : IsDisk middle
-  pub is_disk'' : IsDisk behind
+  pub is_disk'' : IsDisk next
   pub size : middle.size ≡ old.size
-  pub size' : behind.size ≡ middle.size
+  pub size' : next.size ≡ middle.size
   pub moments : middle.moments ≡ moments_after (after_write (body_at 0) piece) old.moments
-  pub moments' : behind.moments ≡ moments_after (after_write (gate_at 1) (0 ∷ [])) middle.moments
+  pub moments' : next.moments ≡ moments_after (after_write (gate_at 1) (0 ∷ [])) middle.moments
 
-pub writes_first : (body : CommitBody) (piece : List ℕ) (old middle behind new : DiskState) → AreFirstWritten piece old middle behind → IsBody piece (log_of old.size) 0 body 0
-    → new.moments ≡ moments_after after_sync behind.moments → WritesFirst body old new
-writes_first body piece old middle behind new are is_body moments = λ clear.
+pub writes_first : (body : CommitBody) (piece : List ℕ) (old middle next new : DiskState) → AreFirstWritten piece old middle next → IsBody piece (log_of old.size) 0 body 0
+    → new.moments ≡ moments_after after_sync next.moments → WritesFirst body old new
+writes_first body piece old middle next new are is_body moments = λ clear.
     let size : ℕ = old.size in
     let first = after_step IsClear (IsFirstBody piece) size (after_write (body_at 0) piece) old.moments middle.moments (λ medium has holds. first_body size piece medium are.least are.whole has holds)
     (media_of size old (record { is_disk = are.is_disk; size' = refl })) clear are.moments in
-    let second = after_step (IsFirstBody piece) (IsFirstClosed piece) size (after_write (gate_at 1) (0 ∷ [])) middle.moments behind.moments (λ medium has holds. first_closed size piece medium are.least has holds)
+    let second = after_step (IsFirstBody piece) (IsFirstClosed piece) size (after_write (gate_at 1) (0 ∷ [])) middle.moments next.moments (λ medium has holds. first_closed size piece medium are.least has holds)
     (media_of size middle (record { is_disk = are.is_disk'; size' = are.size })) first.1 are.moments' in
-    let third = after_step (IsFirstClosed piece) (IsFirstWritten (log_of size) body) size after_sync behind.moments new.moments (λ medium has holds. first_written size (log_of size) body piece medium are.least is_body has holds)
-    (media_of size behind (record { is_disk = are.is_disk''; size' = are.size' ∙ are.size })) second.1 moments in
+    let third = after_step (IsFirstClosed piece) (IsFirstWritten (log_of size) body) size after_sync next.moments new.moments (λ medium has holds. first_written size (log_of size) body piece medium are.least is_body has holds)
+    (media_of size next (record { is_disk = are.is_disk''; size' = are.size' ∙ are.size })) second.1 moments in
     third.1
 
 -- ---- its second half
@@ -194,11 +198,11 @@ opens_first old middle new least is_disk is_disk' same moments moments' = λ bod
 
 -- ---- all of it
 
-pub formats : (body : CommitBody) (old middle behind new : DiskState) → middle.size ≡ old.size → behind.size ≡ middle.size → HoldsNow IsClear middle.moments → WritesFirst body middle behind → OpensFirst behind new
+pub formats : (body : CommitBody) (old middle next new : DiskState) → middle.size ≡ old.size → next.size ≡ middle.size → HoldsNow IsClear middle.moments → WritesFirst body middle next → OpensFirst next new
     → HoldsNow (IsSettled (log_of old.size) 0 body) new.moments
-formats body old middle behind new size size' clear writes opens =
-    let first : HoldsNow (IsFirstWritten (log_of behind.size) body) behind.moments =
-    (let P : ℕ → Type 0 = λ n. HoldsNow (IsFirstWritten (log_of n) body) behind.moments in subst P (sym size') (writes clear)) in
+formats body old middle next new size size' clear writes opens =
+    let first : HoldsNow (IsFirstWritten (log_of next.size) body) next.moments =
+    (let P : ℕ → Type 0 = λ n. HoldsNow (IsFirstWritten (log_of n) body) next.moments in subst P (sym size') (writes clear)) in
     let Q : ℕ → Type 0 = λ n. HoldsNow (IsSettled (log_of n) 0 body) new.moments in
     subst Q (size' ∙ size) (opens body first)
 
@@ -214,17 +218,24 @@ first_costs body whole =
     costs_then (w ∷ []) (v ∷ Sync ∷ []) (write_cost 512) (together (write_cost 1) sync_cost) (write_costs _ _ 512 whole)
     (costs_then (v ∷ []) (Sync ∷ []) (write_cost 1) sync_cost (write_costs _ _ 1 refl) sync_costs)
 
-pub clear_failed : (body : CommitBody) (old new : DiskState) → MakesCalls clear_cost false old new → MakesThosePassed clear_calls old new → MakesThosePassed (format_calls body) old new
-clear_failed body old new calls first = passed_failed clear_calls (first_body_calls body ++ first_open_calls) clear_cost old new clear_costs calls first
+pub clear_failed : (body : CommitBody) (old new : DiskState) → Costs clear_cost clear_calls false old new → Costs format_cost (format_calls body) false old new
+clear_failed body old new clear = record {
+  calls = failed_then clear_cost (together first_half_cost second_half_cost) old new clear.calls;
+  performed = passed_failed clear_calls (first_body_calls body ++ first_open_calls) clear_cost old new clear_costs clear.calls clear.performed;
+}
 
-pub first_failed : (body : CommitBody) (old middle new : DiskState) → length (body_bytes body 0) ≡ 512 → MakesCalls clear_cost true old middle → MakesThosePassed clear_calls old middle
-    → MakesCalls first_half_cost false middle new → MakesThosePassed (first_body_calls body) middle new → MakesThosePassed (format_calls body) old new
-first_failed body old middle new whole calls first calls' second =
-    passed_then clear_calls (first_body_calls body ++ first_open_calls) clear_cost old middle new clear_costs calls first
-    (passed_failed (first_body_calls body) first_open_calls first_half_cost middle new (first_costs body whole) calls' second)
+pub first_failed : (body : CommitBody) (old middle new : DiskState) → length body.uuid ≡ 16 → Costs clear_cost clear_calls true old middle → Costs first_half_cost (first_body_calls body) false middle new
+    → Costs format_cost (format_calls body) false old new
+first_failed body old middle new uuid clear first = record {
+  calls = made_then clear_cost (together first_half_cost second_half_cost) false old middle new clear.calls (failed_then first_half_cost second_half_cost middle new first.calls);
+  performed = passed_then clear_calls (first_body_calls body ++ first_open_calls) clear_cost old middle new clear_costs clear.calls clear.performed
+      (passed_failed (first_body_calls body) first_open_calls first_half_cost middle new (first_costs body (is_one_sector body 0 uuid)) first.calls first.performed);
+}
 
-pub all_formats : (body : CommitBody) (old middle next new : DiskState) → length (body_bytes body 0) ≡ 512 → MakesCalls clear_cost true old middle → MakesThosePassed clear_calls old middle
-    → MakesCalls first_half_cost true middle next → MakesThosePassed (first_body_calls body) middle next → MakesThosePassed first_open_calls next new → MakesThosePassed (format_calls body) old new
-all_formats body old middle next new whole calls first calls' second third =
-    passed_then clear_calls (first_body_calls body ++ first_open_calls) clear_cost old middle new clear_costs calls first
-    (passed_then (first_body_calls body) first_open_calls first_half_cost middle next new (first_costs body whole) calls' second third)
+pub all_formats : (body : CommitBody) (is_made : Bool) (old middle next new : DiskState) → length body.uuid ≡ 16 → Costs clear_cost clear_calls true old middle
+    → Costs first_half_cost (first_body_calls body) true middle next → Costs second_half_cost first_open_calls is_made next new → Costs format_cost (format_calls body) is_made old new
+all_formats body is_made old middle next new uuid clear first opens = record {
+  calls = made_then clear_cost (together first_half_cost second_half_cost) is_made old middle new clear.calls (made_then first_half_cost second_half_cost is_made middle next new first.calls opens.calls);
+  performed = passed_then clear_calls (first_body_calls body ++ first_open_calls) clear_cost old middle new clear_costs clear.calls clear.performed
+      (passed_then (first_body_calls body) first_open_calls first_half_cost middle next new (first_costs body (is_one_sector body 0 uuid)) first.calls first.performed opens.performed);
+}

@@ -66,11 +66,11 @@ pub finish_of : (number : ℕ) (more : CommitBody) (unfinished : Option CommitBo
 finish_of number more unfinished old new is passed = (let P : Option CommitBody → Type 0 = λ u. MakesThosePassed (finish_calls number u) old new in subst P (sym is) passed)
 
 -- the first half of the next commit failed
-pub begin_failed : (old : CommitsState) (body : CommitBody) (middle new : DiskState) → length (body_bytes body (finished_number old.number old.unfinished + 1)) ≡ 512
+pub passed_to_begin : (old : CommitsState) (body : CommitBody) (middle new : DiskState) → length (body_bytes body (finished_number old.number old.unfinished + 1)) ≡ 512
     → MakesCalls (finish_cost old.unfinished) true old.disk middle → MakesThosePassed (finish_calls old.number old.unfinished) old.disk middle
     → MakesCalls first_half_cost false middle new → MakesThosePassed (first_half_calls (finished_number old.number old.unfinished) body) middle new
     → MakesThosePassed (commit_calls old.number old.unfinished body) old.disk new
-begin_failed old body middle new whole calls first calls' second =
+passed_to_begin old body middle new whole calls first calls' second =
     let n : ℕ = finished_number old.number old.unfinished in
     passed_then (finish_calls old.number old.unfinished) (first_half_calls n body ++ second_half_calls n) (finish_cost old.unfinished) old.disk middle new
     (finish_costs old.number old.unfinished) calls first
