@@ -1,12 +1,15 @@
 mod Places
 mod Records
-mod Appended
-mod Reading
+mod RowLemmas
+mod LogAreaLemmas
 mod Stops
-pub mod Opened
-pub mod ReadsMade
-mod Far
 mod CommittedLemmas
-mod AppendCalls
-pub mod MadeLog
-mod CommitMade
+mod ReadCounts
+mod ReadLemmas
+mod ReadRowsLemmas
+mod WriteLemmas
+mod AppendLemmas
+mod FormatLemmas
+mod OpenLemmas
+mod CommitLemmas
+pub mod ForCallers

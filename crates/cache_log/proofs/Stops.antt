@@ -4,13 +4,13 @@ use Rattle.std.specs.List.{All}
 use Rattle.std.proofs.lemmas.Bool.{cases_lt}
 use Rattle.std.proofs.lemmas.List.{length-take-le, length-drop, get_or-take, get_or-drop}
 use Rattle.std.proofs.lemmas.List.Elements.{All-cons}
-use Rattle.lsvd_bytes.specs.Places.{bytes_at}
+use Rattle.lsvd_bytes.specs.Places.{with_bytes, bytes_at}
 use Rattle.lsvd_bytes.proofs.PlaceLemmas.{keeps_length, keeps_other_bytes, reads_bytes_again}
-use Rattle.lsvd_device.specs.Medium.{Medium, LiesOutside, MayLeave, overwritten}
+use Rattle.lsvd_device.specs.Medium.{Medium, LiesOutside, MayLeave}
 use Rattle.lsvd_base.specs.declared.entry.Entry.{Entry}
 use Rattle.cache_log.specs.declared.row.Row.{Row}
 use Rattle.cache_log.specs.Rows.{byte_of}
-use Rattle.cache_log.specs.Log.{RecordsLast}
+use Rattle.cache_log.specs.Invariant.{RecordsLast}
 use Rattle.cache_log.proofs.Places.{LieApart}
 use Rattle.cache_log.proofs.Records.{Keeps, keeps_written, keeps_records}
 
@@ -20,20 +20,20 @@ byte_at : (at count i : ℕ) (bytes : List ℕ) → i < count → get_or (bytes_
 byte_at at count i bytes inside = get_or-take count (drop at bytes) i 0 inside ∙ get_or-drop at bytes i 0
 
 -- a byte of a piece that was put among others, and one of the others
-byte_put : (at : ℕ) (piece bytes : List ℕ) (i : ℕ) → at + length piece ≤ length bytes → at ≤ i → i < at + length piece → get_or (overwritten at piece bytes) i 0 ≡ get_or piece (i - at) 0
+byte_put : (at : ℕ) (piece bytes : List ℕ) (i : ℕ) → at + length piece ≤ length bytes → at ≤ i → i < at + length piece → get_or (with_bytes at piece bytes) i 0 ≡ get_or piece (i - at) 0
 byte_put at piece bytes i fits from to =
     let place : at + (i - at) ≡ i = omega (arith, from) in
-    ap (λ n. get_or (overwritten at piece bytes) n 0) (sym place)
-    ∙ sym (byte_at at (length piece) (i - at) (overwritten at piece bytes) (omega (arith, from, to)))
+    ap (λ n. get_or (with_bytes at piece bytes) n 0) (sym place)
+    ∙ sym (byte_at at (length piece) (i - at) (with_bytes at piece bytes) (omega (arith, from, to)))
     ∙ ap (λ xs. get_or xs (i - at) 0) (reads_bytes_again at piece bytes fits)
 
-byte_apart : (at : ℕ) (piece bytes : List ℕ) (i : ℕ) → at + length piece ≤ length bytes → LiesOutside i (record { at = at; count = length piece }) → get_or (overwritten at piece bytes) i 0 ≡ get_or bytes i 0
+byte_apart : (at : ℕ) (piece bytes : List ℕ) (i : ℕ) → at + length piece ≤ length bytes → LiesOutside i (record { at = at; count = length piece }) → get_or (with_bytes at piece bytes) i 0 ≡ get_or bytes i 0
 byte_apart at piece bytes i fits apart =
-    let same : bytes_at i 1 (overwritten at piece bytes) ≡ bytes_at i 1 bytes =
-    keeps_other_bytes at piece bytes i 1 fits (elim apart [ inl before ↦ inl (omega (arith, before)) | inr behind ↦ inr behind ]) in
+    let same : bytes_at i 1 (with_bytes at piece bytes) ≡ bytes_at i 1 bytes =
+    keeps_other_bytes at piece bytes i 1 fits (elim apart [ inl before ↦ inl (omega (arith, before)) | inr after ↦ inr after ]) in
     let place : i + 0 ≡ i = omega arith in
-    ap (λ n. get_or (overwritten at piece bytes) n 0) (sym place)
-    ∙ sym (byte_at i 1 0 (overwritten at piece bytes) (omega arith))
+    ap (λ n. get_or (with_bytes at piece bytes) n 0) (sym place)
+    ∙ sym (byte_at i 1 0 (with_bytes at piece bytes) (omega arith))
     ∙ ap (λ xs. get_or xs 0 0) same
     ∙ byte_at i 1 0 bytes (omega arith)
     ∙ ap (λ n. get_or bytes n 0) place
@@ -48,7 +48,7 @@ pub record IsWritten (at count : ℕ) (old new : Medium) : Type 0 where
 
 -- what a stop leaves, with what stood at the last sync put into that range
 abbrev pub restored : (at count : ℕ) → Medium → List ℕ → List ℕ
-restored at count old left = overwritten at (bytes_at at count old.synced) left
+restored at count old left = with_bytes at (bytes_at at count old.synced) left
 
 restored_count : (at count : ℕ) (old : Medium) → at + count ≤ length old.synced → length (bytes_at at count old.synced) ≡ count
 restored_count at count old inside = length-take-le count (drop at old.synced) (let e = length-drop at old.synced in omega (arith, e, inside))
@@ -71,7 +71,7 @@ restored_byte at count old new left is may i all =
             byte_put at piece left i fits (omega (arith, from)) (omega (arith, many, inside))
             ∙ byte_at at count (i - at) old.synced (omega (arith, from, inside))
             ∙ ap (λ n. get_or old.synced n 0) place
-        | inr behind ↦ outside (inr (omega (arith, behind)))
+        | inr after ↦ outside (inr (omega (arith, after)))
       ]
     ]
 

@@ -1,14 +1,22 @@
--- What a stop leaves of a log: the entries up to the head of a commit.
-use Rattle.std.specs.Prelude.{◌≡◌, ℕ, IfSome, List, map}
+-- Contract: what a stop leaves of a log, which is the entries up to the head of a commit, and what formatting a log and
+-- committing its entries promises.
+use Rattle.std.specs.Prelude.{◌≡◌, ℕ, ◌+◌, None, IfSome, List, [], map}
 use Rattle.lsvd_base.specs.declared.entry.Entry.{Entry}
 use Rattle.lsvd_device.specs.Medium.{Medium, MayLeave}
-use Rattle.lsvd_device.specs.Device.{DiskState, HoldsNow}
+use Rattle.lsvd_device.specs.Memory.{IsSynced}
+use Rattle.lsvd_device.specs.Device.{HoldsSince, DiskState, HoldsNow}
 use Rattle.commit_body.specs.declared.body.CommitBody.{CommitBody}
-use Rattle.commit_slot.specs.Commits.{Passes, IsLast, ReadsSettled}
+use Rattle.commit_slot.specs.Slots.{log_of}
+use Rattle.commit_slot.specs.Commits.{IsAt, IsAsBefore, IsCommit, IsLast, ReadsSettled, finished_number}
+use Rattle.commit_slot.specs.Committing.{IsCommitted}
+use Rattle.commit_slot.specs.OnDisk.{AreOnDisk}
+use Rattle.log_room.specs.Room.{empty_log}
 use Rattle.cache_log.specs.declared.row.Row.{Row}
 use Rattle.cache_log.specs.Rows.{entry_of}
-use Rattle.cache_log.specs.Opening.{AreRecords}
-use Rattle.cache_log.specs.Log.{LogState, next_seq, up_to}
+use Rattle.cache_log.specs.Log.{LogState, next_seq, entries_in, up_to}
+use Rattle.cache_log.specs.Opening.{AreRecords, sectors_between}
+
+-- ---- what a stop leaves
 
 -- a device's bytes have these entries between a commit's tail and head
 abbrev pub HasRecords : (log : ℕ) → CommitBody → List Entry → List ℕ → Type 0
@@ -28,7 +36,7 @@ HoldsCommitted log list medium =
 
 -- where the entries are told, a stop leaves so at each moment since the log was as it is here
 abbrev pub LeavesEntriesSince : LogState → (ℕ → CommitBody → Type 0) → DiskState → Type 0
-LeavesEntriesSince log P new = IfSome log.entries (λ list. Passes (LeavesEntries log.room.log list P) log.commits.disk.moments new.moments)
+LeavesEntriesSince log P new = IfSome log.entries (λ list. HoldsSince (LeavesEntries log.room.log list P) log.commits.disk.moments new.moments)
 
 -- and so it does now
 abbrev pub LeavesEntriesNow : LogState → (ℕ → CommitBody → Type 0) → Type 0
@@ -36,6 +44,24 @@ LeavesEntriesNow log P = IfSome log.entries (λ list. HoldsNow (LeavesEntries lo
 
 abbrev pub HoldsCommittedNow : LogState → Type 0
 HoldsCommittedNow log = IfSome log.entries (λ list. HoldsNow (HoldsCommitted log list) log.commits.disk.moments)
+
+-- ---- what every log promises
+
+-- the body of a commit of all entries of a log
+abbrev pub body_of : LogState → CommitBody
+body_of log = record log.commits.body { head = record { position = log.room.head; seq = next_seq log } }
+
+-- The log fills the device past the slots, and a stop now leaves the entries up to the head of the last commit or of the
+-- unfinished one.
+pub record IsOnDisk (log : LogState) : Type 0 where
+  pub commits : AreOnDisk log.commits
+  pub sectors : log.room.log ≡ log_of log.commits.disk.size
+  pub used : log.room.used ≡ sectors_between log.room.log (body_of log)
+  pub entries : log.entries ≡ entries_in log.rows log.commits.disk.moments
+  pub stands : LeavesEntriesNow log (IsLast log.commits)
+  pub holds : HoldsCommittedNow log
+
+-- ---- formatting
 
 -- the body of the first commit of a volume with this uuid and epoch: its log is empty
 abbrev pub first_body : (uuid : List ℕ) → (epoch : ℕ) → CommitBody
@@ -46,6 +72,24 @@ first_body uuid epoch = record {
   head = record { position = 0; seq = 0 };
 }
 
--- the body of a commit of all entries of a log
-abbrev pub body_of : LogState → CommitBody
-body_of log = record log.commits.body { head = record { position = log.room.head; seq = next_seq log } }
+-- the log has no entry, and the first commit is made, which each stop leaves
+pub record IsFormattedLog (uuid : List ℕ) (epoch : ℕ) (old : DiskState) (log : LogState) : Type 0 where
+  pub room : log.room ≡ empty_log (log_of old.size)
+  pub first : log.first ≡ 0
+  pub rows : log.rows ≡ []
+  pub entries : log.entries ≡ entries_in [] log.commits.disk.moments
+  pub commits : IsAt 0 (first_body uuid epoch) None log.commits
+  pub stands : LeavesEntriesNow log (IsCommit 0 (first_body uuid epoch))
+  pub synced : HoldsNow IsSynced log.commits.disk.moments
+
+-- ---- appending and committing
+
+-- the commits are as before, and at each moment since a stop leaves one of them with its entries
+pub record KeepsCommits (old new : LogState) : Type 0 where
+  pub commits : IsAsBefore old.commits new.commits
+  pub stands : LeavesEntriesSince old (IsLast old.commits) new.commits.disk
+
+-- all entries are committed, and each stop leaves them
+pub record IsCommittedLog (old new : LogState) : Type 0 where
+  pub commits : IsCommitted (body_of old) old.commits new.commits
+  pub stands : LeavesEntriesNow new (IsCommit (finished_number old.commits.number old.commits.unfinished + 1) (body_of old))

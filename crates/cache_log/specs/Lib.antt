@@ -1,5 +1,9 @@
 pub mod Rows
+pub mod Reads
 pub mod Log
 pub mod Opening
 pub mod Committed
 pub mod Laws
+pub mod Headers
+pub mod Writing
+pub mod Invariant

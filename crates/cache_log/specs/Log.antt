@@ -1,23 +1,23 @@
--- What contracts see of a log on a device.
-use Rattle.std.specs.Prelude.{◌≡◌, ℕ, ◌+◌, ◌*◌, ◌-◌, ◌/◌, ◌^◌, ◌<◌, ◌≤◌, ◌⊎◌, ◌==◌, if◌then◌else◌, Option, Some, None, IfSome, List, [], ◌∷◌, ◌++◌, length, map, take, drop, true, false}
-use Rattle.std.specs.List.{AllByRecursion}
+-- Contract: a log on a device as a list of entries, and what appending to it and reading it promises.
+use Rattle.std.specs.Prelude.{◌≡◌, ℕ, ◌+◌, ◌-◌, ◌*◌, ◌/◌, ◌<◌, ◌≤◌, ◌⊎◌, ◌==◌, if◌then◌else◌, Option, Some, None, IfSome, Bool, List, [], ◌∷◌, ◌++◌, length, map, take, drop, true, false}
 use Rattle.lsvd_base.specs.declared.entry.Entry.{Entry}
 use Rattle.lsvd_base.specs.declared.entry.Entry.TheVariants as entries
-use Rattle.lsvd_device.specs.Medium.{Medium, MayLeave, after_write}
-use Rattle.lsvd_device.specs.Calls.{Cost, write_cost, together}
-use Rattle.lsvd_device.specs.Device.{DiskState, IsDisk, HoldsNow, moments_after, FailsToWrite, MakesCalls}
-use Rattle.lsvd_device.specs.Sequence.{Call, Write, MakesThosePassed}
+use Rattle.lsvd_device.specs.Medium.{Medium}
+use Rattle.lsvd_device.specs.Calls.{Cost, read_cost, write_cost, together, PassesNone}
+use Rattle.lsvd_device.specs.Device.{DiskState, MakesCalls, FailsAlone}
+use Rattle.lsvd_device.specs.Sequence.{Call, Write}
 use Rattle.commit_body.specs.declared.body.CommitBody.{CommitBody}
-use Rattle.commit_slot.specs.Slots.{log_of}
-use Rattle.commit_slot.specs.Commits.{CommitsState, IsAsBefore, IsLast, LeavesSince}
-use Rattle.log_room.specs.Room.{Room, IsRoom, pad_before, position, after_record, record_sectors, need, free}
-use Rattle.log_record.specs.Grammar.{header_of, data_of, record_of}
+use Rattle.commit_slot.specs.Commits.{CommitsState, IsAsBefore}
+use Rattle.commit_slot.specs.Sequence.{Costs}
+use Rattle.log_room.specs.Room.{Room, sector_bytes, pad_before, position, after_record, record_sectors, need, free}
+use Rattle.log_record.specs.Grammar.{data_of, IsHeaderOf, IsRecordOf}
 use Rattle.log_record.specs.declared.head.Head.TheVariants.{Pad}
 use Rattle.cache_log.specs.declared.error.AppendError.{AppendError}
 use Rattle.cache_log.specs.declared.error.AppendError.TheVariants.{NoRoom, DeviceFault}
 use Rattle.cache_log.specs.declared.row.Row.{Row}
 use Rattle.cache_log.specs.declared.row.Row.TheVariants as row_kinds
-use Rattle.cache_log.specs.Rows.{byte_of, entry_of, position_of, size_of, AreDataOf, Follow, behind_rows, HaveRecords, IsFurther}
+use Rattle.cache_log.specs.Rows.{byte_of, entry_of, position_of, AreDataOfRow}
+use Rattle.cache_log.specs.Reads.{AreReadOnly}
 
 -- a log on a device
 pub record LogState : Type 0 where
@@ -45,25 +45,13 @@ entries_in rows (now ∷ past) = Some (map (entry_of now.bytes) rows)
 
 -- the row of an entry whose record stands at a sector
 abbrev pub row_of : ℕ → Entry → Row
-row_of at (entries.Write lba body) = row_kinds.Write at lba (length body / 512)
+row_of at (entries.Write lba body) = row_kinds.Write at lba (length body / sector_bytes)
 row_of at (entries.Zero lba sectors) = row_kinds.Zero at lba sectors
 
 -- some entries, and one more
-abbrev pub with_entry : Option (List Entry) → Entry → Option (List Entry)
-with_entry None entry = None
-with_entry (Some list) entry = Some (list ++ entry ∷ [])
-
--- The log has one entry more, and room for it was in use. Nothing is reserved for a further one, and nothing committed.
-pub record IsAppended (entry : Entry) (old new : LogState) : Type 0 where
-  pub entries : new.entries ≡ with_entry old.entries entry
-  pub rows : new.rows ≡ old.rows ++ row_of (position old.room (record_sectors entry)) entry ∷ []
-  pub room : new.room ≡ after_record old.room (record_sectors entry)
-  pub first : new.first ≡ old.first
-
--- whatever a stop leaves has the records, with these entries
-abbrev pub RecordsLast : (log from seq : ℕ) → List Row → List Entry → Medium → Type 0
-RecordsLast log from seq rows list medium =
-    (left : List ℕ) → MayLeave medium left → HaveRecords log from seq rows left × (map (entry_of left) rows ≡ list)
+abbrev pub with_appended : Option (List Entry) → Entry → Option (List Entry)
+with_appended None entry = None
+with_appended (Some list) entry = Some (list ++ entry ∷ [])
 
 -- the log is as before, but for its commits and their disk, and for what is reserved
 pub record HasSameEntries (old new : LogState) : Type 0 where
@@ -72,70 +60,74 @@ pub record HasSameEntries (old new : LogState) : Type 0 where
   pub room : new.room ≡ old.room
   pub first : new.first ≡ old.first
 
--- Behind the slots a piece was written, and the commits are as before: whenever the disk stops it reads as before.
-pub record IsWrittenAt (at : ℕ) (piece : List ℕ) (old new : CommitsState) : Type 0 where
-  pub moments : new.disk.moments ≡ moments_after (after_write at piece) old.disk.moments
-  pub same : IsAsBefore old new
-  pub leaves : LeavesSince (IsLast old) old.disk new.disk
-  pub calls : MakesCalls (write_cost (length piece)) true old.disk new.disk
-  pub passed : MakesThosePassed (Write at piece ∷ []) old.disk new.disk
-  pub disk : IsDisk new.disk
+-- the first N of a list, as many as a commit has records between its tail and its head
+abbrev pub up_to : {A : Type 0} → CommitBody → List A → List A
+up_to body list = take (body.head.seq - body.tail.seq) list
 
--- that write failed
-pub record IsNotWrittenAt (at : ℕ) (piece : List ℕ) (old new : CommitsState) : Type 0 where
-  pub moments : FailsToWrite at (length piece) old.disk.moments new.disk.moments
-  pub same : IsAsBefore old new
-  pub leaves : LeavesSince (IsLast old) old.disk new.disk
-  pub calls : MakesCalls (write_cost (length piece)) false old.disk new.disk
-  pub passed : MakesThosePassed (Write at piece ∷ []) old.disk new.disk
-  pub disk : IsDisk new.disk
+-- ---- appending
 
--- what the write of a record of so many sectors takes, and before it that of a pad, of which the header alone is
--- written
-abbrev pub append_cost : Room → ℕ → Cost
+-- what the write of a record of N sectors takes, and before it that of a pad, of which the header alone is written
+abbrev pub append_cost : Room → (sectors : ℕ) → Cost
 append_cost room sectors =
-    if pad_before room sectors == 0 then write_cost (512 * sectors) else together (write_cost 512) (write_cost (512 * sectors))
+    if pad_before room sectors == 0 then write_cost (sector_bytes * sectors)
+    else together (write_cost sector_bytes) (write_cost (sector_bytes * sectors))
 
--- the calls that it makes: the write of the pad's header, where one is needed, and that of the record
-abbrev pub append_calls : Room → Entry → (seq : ℕ) → List Call
-append_calls room entry seq =
-    (if pad_before room (record_sectors entry) == 0 then []
-    else Write (byte_of room.head) (header_of (Pad (pad_before room (record_sectors entry) - 1)) seq) ∷ [])
-    ++ Write (byte_of (position room (record_sectors entry))) (record_of entry seq) ∷ []
+-- the writes of these bytes: of the pad's header, where a pad is needed, and of the record
+abbrev pub append_writes : Room → (sectors : ℕ) → (pad bytes : List ℕ) → List Call
+append_writes room sectors pad bytes =
+    (if pad_before room sectors == 0 then [] else Write (byte_of room.head) pad ∷ [])
+    ++ Write (byte_of (position room sectors)) bytes ∷ []
 
--- the header of the pad before a record of so many sectors was written, where one is needed
-abbrev pub IsPadded : Room → (sectors seq : ℕ) → CommitsState → CommitsState → Type 0
-IsPadded room sectors seq old new =
-    ((pad_before room sectors ≡ 0) × (new ≡ old))
-    ⊎ ((0 < pad_before room sectors) × IsWrittenAt (byte_of room.head) (header_of (Pad (pad_before room sectors - 1)) seq) old new)
+-- the writes of the pad that an entry's record needs and of the record were made, or one of them failed
+pub record CostsAppend (room : Room) (entry : Entry) (seq : ℕ) (are_made : Bool) (old new : DiskState) : Type 0 where
+  pub pad : List ℕ
+  pub bytes : List ℕ
+  pub is_pad : 0 < pad_before room (record_sectors entry) → IsHeaderOf (Pad (pad_before room (record_sectors entry) - 1)) seq pad
+  pub pad_size : length pad ≤ sector_bytes
+  pub is_record : IsRecordOf entry seq bytes
+  pub size : length bytes ≡ sector_bytes * record_sectors entry
+  pub costs : Costs (append_cost room (record_sectors entry)) (append_writes room (record_sectors entry) pad bytes) are_made old new
 
--- that write failed
-abbrev pub FailsToPad : Room → (sectors seq : ℕ) → CommitsState → CommitsState → Type 0
-FailsToPad room sectors seq old new =
-    (0 < pad_before room sectors) × IsNotWrittenAt (byte_of room.head) (header_of (Pad (pad_before room sectors - 1)) seq) old new
+-- The log has one entry more, and room for it was in use. Nothing is reserved for a further one.
+pub record IsAppended (entry : Entry) (at : ℕ) (old new : LogState) : Type 0 where
+  pub at_head : at ≡ position old.room (record_sectors entry)
+  pub had_room : need old.room (record_sectors entry) ≤ free old.room
+  pub entries : new.entries ≡ with_appended old.entries entry
+  pub rows : new.rows ≡ old.rows ++ row_of (position old.room (record_sectors entry)) entry ∷ []
+  pub room : new.room ≡ after_record old.room (record_sectors entry)
+  pub first : new.first ≡ old.first
+  pub calls : CostsAppend old.room entry (next_seq old) true old.commits.disk new.commits.disk
 
--- why an entry whose record has so many sectors was not appended: it needs more than is free, by exactly these
--- numbers, or there was room and the device failed
-abbrev pub IsRefusedFor : Room → ℕ → AppendError → Type 0
-IsRefusedFor room sectors (NoRoom lacking left) = (lacking ≡ need room sectors) × (left ≡ free room) × (left < lacking)
-IsRefusedFor room sectors DeviceFault = need room sectors ≤ free room
+-- its record needs more than is free, by exactly these numbers, and nothing was done
+pub record HasNoRoomFor (entry : Entry) (needed left : ℕ) (old new : LogState) : Type 0 where
+  pub needed_is : needed ≡ need old.room (record_sectors entry)
+  pub left_is : left ≡ free old.room
+  pub too_few : left < needed
+  pub untouched : new ≡ old
 
--- the record of a row lies inside the log, and the log inside the disk
-abbrev pub LiesInside : Row → DiskState → Type 0
-LiesInside row disk = (position_of row + size_of row ≤ 2 ^ 31) × (byte_of (position_of row + size_of row) ≤ disk.size)
+-- there was room, and a call of the device failed
+pub record FailsByFault (entry : Entry) (old new : LogState) : Type 0 where
+  pub had_room : need old.room (record_sectors entry) ≤ free old.room
+  pub same : HasSameEntries old new
+  pub calls : CostsAppend old.room entry (next_seq old) false old.commits.disk new.commits.disk
 
-abbrev pub LieInside : List Row → DiskState → Type 0
-LieInside rows disk = AllByRecursion (λ row. LiesInside row disk) rows
+-- why an entry was not appended
+abbrev pub FailsToAppend : Entry → AppendError → LogState → LogState → Type 0
+FailsToAppend entry (NoRoom needed left) old new = HasNoRoomFor entry needed left old new
+FailsToAppend entry DeviceFault old new = FailsByFault entry old new
+
+-- ---- reading
 
 -- these are data sectors of one of the records
 abbrev pub AreData : List Row → (sector count : ℕ) → Type 0
 AreData [] sector count = ⊥
-AreData (row ∷ rows) sector count = AreDataOf row sector count ⊎ AreData rows sector count
+AreData (row ∷ rows) sector count = AreDataOfRow row sector count ⊎ AreData rows sector count
 
 -- what was read from a sector on is the data of the entry whose record has it
 abbrev pub AgreesWith : List Row → List Entry → ℕ → List ℕ → Type 0
 AgreesWith (row ∷ rows) (entry ∷ more) sector bytes =
-    (AreDataOf row sector (length bytes) → bytes ≡ take (length bytes) (drop (512 * (sector - (position_of row + 1))) (data_of entry)))
+    (AreDataOfRow row sector (length bytes)
+    → bytes ≡ take (length bytes) (drop (sector_bytes * (sector - (position_of row + 1))) (data_of entry)))
     × AgreesWith rows more sector bytes
 AgreesWith rows list sector bytes = Unit {0}
 
@@ -143,40 +135,15 @@ AgreesWith rows list sector bytes = Unit {0}
 abbrev pub IsReadFrom : LogState → ℕ → List ℕ → Type 0
 IsReadFrom log sector bytes = IfSome log.entries (λ list. AgreesWith log.rows list sector bytes)
 
--- so many of the first of a list as records stand between a commit's tail and its head
-abbrev pub up_to : {A : Type 0} → CommitBody → List A → List A
-up_to body list = take (body.head.seq - body.tail.seq) list
+-- one read was made, or it failed, and nothing else was done
+pub record ReadsOnce (is_made : Bool) (old new : LogState) : Type 0 where
+  pub same : HasSameEntries old new
+  pub commits : IsAsBefore old.commits new.commits
+  pub moments : new.commits.disk.moments ≡ old.commits.disk.moments
+  pub call : MakesCalls read_cost is_made old.commits.disk new.commits.disk
+  pub blown : PassesNone old.commits.disk.budget → FailsAlone is_made old.commits.disk new.commits.disk
 
--- the last commit has P, and so has the one of which the second half was left
-abbrev pub EachCommitted : (CommitBody → Type 0) → CommitsState → Type 0
-EachCommitted P commits = P commits.body × IfSome commits.unfinished P
-
--- a commit stands for the first so many rows of a log: it has the log's tail, and its head behind those
-pub record StandsFor (log tail first : ℕ) (rows : List Row) (body : CommitBody) : Type 0 where
-  pub tail' : body.tail.position ≡ tail
-  pub first' : body.tail.seq ≡ first
-  pub in_order : body.tail.seq ≤ body.head.seq
-  pub most : body.head.seq - body.tail.seq ≤ length rows
-  pub end : body.head.position ≡ behind_rows log tail (up_to body rows)
-
--- the records up to a commit's head last, with the first so many of these entries
-abbrev pub Holds : (log tail first : ℕ) → List Row → List Entry → Medium → CommitBody → Type 0
-Holds log tail first rows list medium body = RecordsLast log tail first (up_to body rows) (up_to body list) medium
-
--- what a log keeps
-pub record IsLog (place : Room) (first : ℕ) (rows : List Row) (commits : CommitsState) : Type 0 where
-  pub room : IsRoom place
-  -- its records follow one another from the tail to the head
-  pub tail : ℕ
-  pub inside : tail < place.log
-  pub further : IsFurther place.log tail place.used place.head
-  pub follow : Follow place.log tail place.used rows
-  -- where the disk tells what it holds, they stand there
-  pub records : HoldsNow (λ now. HaveRecords place.log tail first rows now.bytes) commits.disk.moments
-  -- the commits stand for some of the rows, whose records last
-  pub committed : EachCommitted (StandsFor place.log tail first rows) commits
-  pub last : HoldsNow (λ now. EachCommitted (Holds place.log tail first rows (map (entry_of now.bytes) rows) now) commits) commits.disk.moments
-  pub disk : IsDisk commits.disk
-  pub sectors : place.log ≡ log_of commits.disk.size
-  pub fits : byte_of place.log ≤ commits.disk.size
-  pub numbers : first + length rows < 2 ^ 64
+-- at most this many reads were made, or one of them failed, and nothing else was done
+pub record IsReadOnly (most : ℕ) (are_made : Bool) (old new : LogState) : Type 0 where
+  pub same : HasSameEntries old new
+  pub commits : AreReadOnly most are_made old.commits new.commits

@@ -33,8 +33,8 @@ pub enum ReadError {
     /// A call of the device failed, and was counted by it.
     #[error("the device failed")]
     DeviceFault,
-    /// Memory lacked.
-    #[error("want of memory")]
+    /// Memory ran out.
+    #[error("out of memory")]
     OutOfMemory,
 }
 
@@ -65,14 +65,15 @@ impl<T: Drop> From<AllocFailed<T>> for ReadError {
 /// Why a log was not opened.
 #[derive(Clone, Copy, Debug, PartialEq, Eq, Error)]
 pub enum OpenError {
-    /// The record with this seq, or the pad before it, is none: the first test that its header fails.
+    /// The record with this seq, or the pad before it, is none: the first test that its header
+    /// fails.
     #[error("bad record {seq}: {reason}")]
     BadRecord { seq: u64, reason: Reason },
     /// A call of the device failed, and was counted by it.
     #[error("the device failed")]
     DeviceFault,
-    /// Memory lacked.
-    #[error("want of memory")]
+    /// Memory ran out.
+    #[error("out of memory")]
     OutOfMemory,
 }
 

@@ -1,10 +1,12 @@
 //! The circular log of a volume on its cache device.
 //!
-//! Its contract: the log is a list of entries, each a record on the device. `append` adds one, and is refused
-//! exactly where the record, with the pad before it, has no room. `commit` makes all entries so far outlast a stop:
-//! whatever a stop leaves reads as a commit, and has the entries up to its head. A log is opened with the records up
-//! to the head of its commit, exactly where they stand.
-//! It stands on `commit_slot` for its device and its commits, on `log_record` and `log_room` for its records.
+//! Its contract: the log is a list of entries, each a record on the device. `append` adds one, and
+//! is refused exactly where the record, with the pad before it, has no room. `commit` makes all
+//! entries so far outlast a stop: whatever a stop leaves reads as a commit, and has the entries up
+//! to its head. A log is opened with the records up to the head of its commit, exactly where they
+//! stand.
+//! It stands on `commit_slot` for its device and its commits, on `log_record` and `log_room` for
+//! its records.
 #![tactic(auto)]
 
 mod error;
@@ -17,7 +19,9 @@ mod tests;
 mod transfer;
 
 pub use error::{AppendError, OpenError, ReadError};
-pub use laws::{bytes_have_one_list_of_records, records_are_read_again};
+pub use laws::{
+    at_most_two_headers_are_read_for_each_record, bytes_have_one_list_of_records,
+    records_are_read_again,
+};
 pub use log::CacheLog;
 pub use row::Row;
-pub use transfer::LOG_START;

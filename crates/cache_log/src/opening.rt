@@ -1,10 +1,18 @@
-ghost use Rattle.std.specs.Prelude.{◌≡◌, ℕ, ◌+◌, ◌*◌, ◌-◌, ◌^◌, ◌<◌, ◌≤◌, IsTrue, IfOk, IfErr, OnOk, OnErr, IfSome, IfNone, length, true};
+ghost use Rattle.std.specs.Prelude.{◌≡◌, ◌+◌, ◌*◌, ◌-◌, ◌^◌, ◌<◌, ◌≤◌, IsTrue, IfOk, IfErr, OnOk};
+ghost use Rattle.std.specs.Prelude.{IfSome, IfNone, length, true};
 ghost use Rattle.lsvd_base.specs.Limits.{is_within_limits};
-ghost use Rattle.lsvd_device.specs.Device.{HoldsNow, IsDisk};
+ghost use Rattle.lsvd_device.specs.Device.{HoldsNow};
+ghost use Rattle.log_room.specs.Room.{max_log};
 ghost use Rattle.log_record.specs.Grammar.{is_in_range, fits, IsHeader};
 ghost use Rattle.commit_body.specs.Body.{MayStand};
+ghost use Rattle.commit_slot.specs.OnDisk.{AreOnDisk};
 ghost use Rattle.cache_log.specs.Rows.{byte_of, log_sectors, position_of};
-ghost use Rattle.cache_log.specs.Opening.{AreRead, IsBadRecord, IsRefusedAt, HasRow, FitsFrom, AreRowsOf, head_of_row, sectors_between, behind_pad, AreReadOnly, is_without_fault, IsPad, IsBadHeader, IsBadRow, IsBadLog};
+ghost use Rattle.cache_log.specs.Reads.{headers_of, headers_of_rows, AreReadOnly};
+ghost use Rattle.cache_log.specs.Reads.{opens_without_fault};
+ghost use Rattle.cache_log.specs.Opening.{entry_count, AreRecordsInRange, AreRowsOfLog};
+ghost use Rattle.cache_log.specs.Opening.{sectors_between, IsBadLog};
+ghost use Rattle.cache_log.specs.Headers.{head_of_row, IsPad, HasRow, FitsFrom, IsBadHeader};
+ghost use Rattle.cache_log.specs.Headers.{IsBadRow, AreReadTimes};
 
 use crate::error::OpenError;
 use crate::row::Row;
@@ -17,7 +25,7 @@ use lsvd_device::Disk;
 use std::alloc::Global;
 use std::collections::VecDeque;
 
-/// Reads the rows of the log of some commits: from the last one's tail up to its head.
+// Reads the rows of the log of some commits: from the last one's tail up to its head.
 pub(crate) fn read_rows<D: Disk>(
     alloc: Global,
     commits: &mut Commits<D>,
@@ -26,12 +34,19 @@ pub(crate) fn read_rows<D: Disk>(
     requires limits { IsTrue (is_within_limits geometry.now) }
     requires inside { byte_of geometry.now.log ≤ commits.old.disk.size }
     requires may_stand { MayStand commits.old.body geometry.now.log }
-    requires disk { IsDisk commits.old.disk }
-    ensures rows { IfOk result (λ rows. AreRowsOf geometry.now commits.old.body rows.items) }
-    ensures records { IfOk result (λ rows. HoldsNow (λ now. AreRead geometry.now commits.old.body rows.items now.bytes) commits.old.disk.moments) }
-    ensures bad { IfErr result (λ e. IsBadLog geometry.now commits.old.body commits.old.disk.moments e) }
-    ensures read { OnOk result (AreReadOnly true commits.old commits.new) }
-    ensures err { IfErr result (λ e. AreReadOnly (is_without_fault e) commits.old commits.new) }
+    requires on_disk { AreOnDisk commits.old }
+    ensures rows { IfOk result (λ rows. AreRowsOfLog geometry.now commits.old.body rows.items) }
+    ensures records { IfOk result (λ rows. HoldsNow
+        (λ now. AreRecordsInRange geometry.now commits.old.body rows.items now.bytes)
+        commits.old.disk.moments) }
+    ensures read { IfOk result (λ rows. AreReadTimes
+        (headers_of_rows geometry.now.log commits.old.body.tail.position rows.items)
+        commits.old commits.new) }
+    ensures bad { IfErr result (λ e.
+        IsBadLog geometry.now commits.old.body commits.old.disk.moments e) }
+    ensures err { IfErr result (λ e.
+        AreReadOnly (2 * entry_count commits.old.body) (opens_without_fault e)
+        commits.old commits.new) }
 {
     let body = commits.body();
     let mut rows = VecDeque::new(alloc);
@@ -45,16 +60,16 @@ pub(crate) fn read_rows<D: Disk>(
             is_last,
         };
         let row = read_row(commits, geometry, &place, seq)?;
-        to_head -= row.taken(geometry.log, position);
+        to_head -= row.sectors_taken(geometry.log, position);
         position = row.next(geometry.log);
         rows.push_back(row)?;
     }
     Ok(rows)
 }
 
-/// The sectors from the body's tail on to its head, round the end of a log of so many.
+// The sectors from the body's tail on to its head, round the end of a log of `log` sectors.
 pub(crate) fn sectors_between(body: &CommitBody, log: u64) -> u64
-    requires log { log ≤ 2 ^ 31 }
+    requires log { log ≤ max_log }
     requires may_stand { MayStand body.now log }
     ensures sectors { result ≡ sectors_between log body.now }
     ensures seq { body.now.head.seq < 2 ^ 64 }
@@ -68,7 +83,7 @@ pub(crate) fn sectors_between(body: &CommitBody, log: u64) -> u64
     }
 }
 
-/// Reads the row of the record with this seq at a place, or behind the pad that stands there.
+// Reads the row of the record with this seq at a place, or after the pad that stands there.
 fn read_row<D: Disk>(
     commits: &mut Commits<D>,
     geometry: &Geometry,
@@ -80,28 +95,32 @@ fn read_row<D: Disk>(
     requires position { place.now.position < geometry.now.log }
     requires to_head { place.now.to_head ≤ geometry.now.log }
     ensures fits { IfOk result (λ row. FitsFrom geometry.now place.now row) }
-    ensures row { IfOk result (λ row. HoldsNow (λ now. HasRow geometry.now place.now seq now.bytes row) commits.old.disk.moments) }
-    ensures bad { IfErr result (λ e. IsBadRow geometry.now place.now seq commits.old.disk.moments e) }
-    ensures read { OnOk result (AreReadOnly true commits.old commits.new) }
-    ensures err { IfErr result (λ e. AreReadOnly (is_without_fault e) commits.old commits.new) }
+    ensures row { IfOk result (λ row. HoldsNow
+        (λ now. HasRow geometry.now place.now seq now.bytes row) commits.old.disk.moments) }
+    ensures read { IfOk result (λ row.
+        AreReadTimes (headers_of place.now.position row) commits.old commits.new) }
+    ensures bad { IfErr result (λ e.
+        IsBadRow geometry.now place.now seq commits.old.disk.moments e) }
+    ensures err { IfErr result (λ e.
+        AreReadOnly 2 (opens_without_fault e) commits.old commits.new) }
 {
     let head = read_head(commits, geometry, place, seq)?;
     if let Some(row) = row_at(place.position, &head) {
         return Ok(row);
     }
-    let behind = Place {
+    let after_pad = Place {
         position: 0,
         to_head: place.to_head - (geometry.log - place.position),
         is_last: place.is_last,
     };
-    let head = read_head(commits, geometry, &behind, seq)?;
+    let head = read_head(commits, geometry, &after_pad, seq)?;
     match row_at(0, &head) {
         Some(row) => Ok(row),
         None => unreachable!(),
     }
 }
 
-/// The row of the record whose header says this at a sector; none where it is a pad's.
+// The row of the record whose header says this at a sector; none where it is a pad's.
 fn row_at(at: u64, head: &Head) -> Option<Row>
     ensures some { IfSome result (λ row. (position_of row ≡ at) × (head_of_row row ≡ head.now)) }
     ensures none { IfNone result (IsPad head.now) }
@@ -121,7 +140,7 @@ fn row_at(at: u64, head: &Head) -> Option<Row>
     }
 }
 
-/// Reads the header with this seq at a place.
+// Reads the header with this seq at a place.
 fn read_head<D: Disk>(
     commits: &mut Commits<D>,
     geometry: &Geometry,
@@ -131,12 +150,17 @@ fn read_head<D: Disk>(
     requires limits { IsTrue (is_within_limits geometry.now) }
     requires inside { byte_of geometry.now.log ≤ commits.old.disk.size }
     requires position { place.now.position < geometry.now.log }
-    ensures in_range { IfOk result (λ head. IsTrue (is_in_range geometry.now place.now.position head)) }
+    ensures in_range { IfOk result (λ head.
+        IsTrue (is_in_range geometry.now place.now.position head)) }
     ensures fits { IfOk result (λ head. IsTrue (fits geometry.now place.now head)) }
-    ensures head { IfOk result (λ head. HoldsNow (λ now. IsHeader (log_sectors place.now.position 1 now.bytes) seq geometry.now place.now head) commits.old.disk.moments) }
-    ensures bad { IfErr result (λ e. IsBadHeader geometry.now place.now seq commits.old.disk.moments e) }
-    ensures read { OnOk result (AreReadOnly true commits.old commits.new) }
-    ensures err { IfErr result (λ e. AreReadOnly (is_without_fault e) commits.old commits.new) }
+    ensures head { IfOk result (λ head. HoldsNow
+        (λ now. IsHeader (log_sectors place.now.position 1 now.bytes) seq
+        geometry.now place.now head) commits.old.disk.moments) }
+    ensures read { OnOk result (AreReadTimes 1 commits.old commits.new) }
+    ensures bad { IfErr result (λ e.
+        IsBadHeader geometry.now place.now seq commits.old.disk.moments e) }
+    ensures err { IfErr result (λ e.
+        AreReadOnly 1 (opens_without_fault e) commits.old commits.new) }
 {
     let mut header = [0; SECTOR_BYTES as usize];
     commits.read(byte_of(place.position), &mut header)?;

@@ -1,5 +1,6 @@
 ghost use Rattle.std.specs.Prelude.{◌≡◌, ◌+◌, ◌-◌, ◌^◌, ◌<◌, ◌≤◌};
-ghost use Rattle.cache_log.specs.Rows.{position_of, size_of, taken, next};
+ghost use Rattle.log_room.specs.Room.{max_log};
+ghost use Rattle.cache_log.specs.Rows.{position_of, record_size, sectors_taken, next};
 ghost use Rattle.cache_log.specs.Log.{row_of};
 
 use lsvd_base::Entry;
@@ -7,15 +8,15 @@ use lsvd_base::Entry;
 /// What the log keeps in memory of a record: all but its data.
 #[derive(Clone, Copy, Debug, PartialEq, Eq)]
 pub enum Row {
-    /// The record of a write of so many sectors from `lba` on. Its header stands at the sector `at` of the log,
-    /// and its data behind it.
+    /// The record of a write of `sectors` sectors from `lba` on. Its header stands at the sector
+    /// `at` of the log, and its data after it.
     Write { at: u64, lba: u64, sectors: u64 },
-    /// The record of a zeroing of so many sectors from `lba` on, at the sector `at` of the log.
+    /// The record of a zeroing of `sectors` sectors from `lba` on, at the sector `at` of the log.
     Zero { at: u64, lba: u64, sectors: u64 },
 }
 
 impl Row {
-    /// The row of an entry whose record stands at a sector of the log.
+    // The row of an entry whose record stands at a sector of the log.
     pub(crate) fn of(at: u64, entry: &Entry) -> Row
         ensures { result ≡ row_of at entry.now }
     {
@@ -33,7 +34,7 @@ impl Row {
         }
     }
 
-    /// The sector of the log at which the record stands.
+    // The sector of the log at which the record stands.
     fn position(&self) -> u64
         ensures { result ≡ position_of self.now }
     {
@@ -42,10 +43,10 @@ impl Row {
         }
     }
 
-    /// The sectors of the log that the record takes.
+    // The sectors of the log that the record has.
     fn size(&self) -> u64
-        requires { size_of self.now ≤ 2 ^ 31 }
-        ensures { result ≡ size_of self.now }
+        requires { record_size self.now ≤ max_log }
+        ensures { result ≡ record_size self.now }
     {
         match self {
             Row::Write { sectors, .. } => 1 + *sectors,
@@ -53,12 +54,13 @@ impl Row {
         }
     }
 
-    /// The sectors of a log of so many that the record takes from a sector on, with the pad before it.
-    pub(crate) fn taken(&self, log: u64, from: u64) -> u64
-        requires log { log ≤ 2 ^ 31 }
+    // The sectors of a log of `log` sectors that the record takes from a sector on, with the pad
+    // before it.
+    pub(crate) fn sectors_taken(&self, log: u64, from: u64) -> u64
+        requires log { log ≤ max_log }
         requires from { from < log }
-        requires size { size_of self.now ≤ log }
-        ensures { result ≡ taken log from self.now }
+        requires size { record_size self.now ≤ log }
+        ensures { result ≡ sectors_taken log from self.now }
     {
         if self.position() < from {
             log - from + self.size()
@@ -67,10 +69,10 @@ impl Row {
         }
     }
 
-    /// The sector of a log of so many behind the record: the log's end is its beginning.
+    // The sector of a log of `log` sectors after the record: the log's end is its beginning.
     pub(crate) fn next(&self, log: u64) -> u64
-        requires log { log ≤ 2 ^ 31 }
-        requires inside { position_of self.now + size_of self.now ≤ log }
+        requires log { log ≤ max_log }
+        requires inside { position_of self.now + record_size self.now ≤ log }
         ensures { result ≡ next log self.now }
     {
         let end = self.position() + self.size();

@@ -1,12 +1,16 @@
-ghost use Rattle.std.specs.Prelude.{◌≡◌, ◌+◌, ◌*◌, ◌-◌, ◌^◌, ◌<◌, ◌≤◌, OnOk, OnErr, IfOk, IfErr, map, drop, length, true};
-ghost use Rattle.lsvd_device.specs.Device.{HoldsNow, IsDisk};
-ghost use Rattle.cache_log.specs.Log.{IsPadded, FailsToPad, IsWrittenAt, IsNotWrittenAt, LiesInside, LieInside};
-ghost use Rattle.cache_log.specs.Opening.{AreReadOnly, is_read_without_fault};
+ghost use Rattle.std.specs.Prelude.{◌≡◌, ◌+◌, ◌*◌, ◌-◌, ◌<◌, ◌≤◌, OnOk, OnErr, IfOk, IfErr, map};
+ghost use Rattle.std.specs.Prelude.{drop, length, true};
+ghost use Rattle.lsvd_device.specs.Device.{HoldsNow};
+ghost use Rattle.log_room.specs.Room.{max_log};
+ghost use Rattle.commit_slot.specs.OnDisk.{AreOnDisk};
 ghost use Rattle.cache_log.specs.Rows.{byte_of, entry_of};
+ghost use Rattle.cache_log.specs.Reads.{AreReadOnly, reads_without_fault};
+ghost use Rattle.cache_log.specs.Writing.{IsPadded, FailsToPad, IsWrittenAt, IsNotWrittenAt};
+ghost use Rattle.cache_log.specs.Writing.{RowLiesInside, RowsLieInside};
 
 use crate::error::ReadError;
 use crate::row::Row;
-use commit_slot::Commits;
+use commit_slot::{Commits, LOG_START};
 use log_record::encode_pad;
 use log_room::LogRoom;
 use lsvd_base::{Body, Entry, SECTOR_BYTES};
@@ -15,24 +19,21 @@ use lsvd_fault::Failed;
 use std::alloc::Global;
 use std::collections::VecDeque;
 
-/// The byte of the device at which the log begins.
-pub const LOG_START: u64 = 4_096;
-
-/// The byte of the device at which a sector of the log stands.
+// The byte of the device at which a sector of the log stands.
 pub(crate) fn byte_of(sector: u64) -> u64
-    requires { sector ≤ 2 ^ 31 }
+    requires { sector ≤ max_log }
     ensures { result ≡ byte_of sector }
 {
     LOG_START + SECTOR_BYTES * sector
 }
 
-/// Writes a piece at a sector of the log.
+// Writes a piece at a sector of the log.
 pub(crate) fn write_at<D: Disk>(
     commits: &mut Commits<D>,
     sector: u64,
     piece: &[u8],
 ) -> Result<(), Failed>
-    requires sector { sector ≤ 2 ^ 31 }
+    requires sector { sector ≤ max_log }
     requires inside { byte_of sector + length piece.now ≤ commits.old.disk.size }
     ensures ok { OnOk result (IsWrittenAt (byte_of sector) piece.now commits.old commits.new) }
     ensures err { OnErr result (IsNotWrittenAt (byte_of sector) piece.now commits.old commits.new) }
@@ -40,8 +41,8 @@ pub(crate) fn write_at<D: Disk>(
     commits.write(byte_of(sector), piece)
 }
 
-/// Writes the header of the pad that the next record, of so many sectors, needs before it; the sectors behind it
-/// keep what they have. Nothing is written where it needs none.
+// Writes the header of the pad that the next record, of `sectors` sectors, needs before it; the
+// sectors after the header keep what they have. Nothing is written where it needs none.
 pub(crate) fn write_pad_before<D: Disk>(
     commits: &mut Commits<D>,
     room: &LogRoom,
@@ -61,18 +62,23 @@ pub(crate) fn write_pad_before<D: Disk>(
     write_at(commits, head, &header)
 }
 
-/// Reads the entries whose records stand at these rows' sectors, but for the first ones.
+// Reads the entries whose records stand at these rows' sectors, but for the first ones.
 pub(crate) fn read_entries<D: Disk>(
     alloc: Global,
     commits: &mut Commits<D>,
     rows: &VecDeque<Row>,
     skipped: usize,
 ) -> Result<Vec<Entry>, ReadError>
-    requires inside { LieInside rows.now.items commits.old.disk }
-    requires disk { IsDisk commits.old.disk }
-    ensures entries { IfOk result (λ list. HoldsNow (λ now. list.items ≡ map (entry_of now.bytes) (drop skipped rows.now.items)) commits.old.disk.moments) }
-    ensures read { OnOk result (AreReadOnly true commits.old commits.new) }
-    ensures err { IfErr result (λ e. AreReadOnly (is_read_without_fault e) commits.old commits.new) }
+    requires inside { RowsLieInside rows.now.items commits.old.disk }
+    requires on_disk { AreOnDisk commits.old }
+    ensures entries { IfOk result (λ list. HoldsNow
+        (λ now. list.items ≡ map (entry_of now.bytes) (drop skipped rows.now.items))
+        commits.old.disk.moments) }
+    ensures read { OnOk result
+        (AreReadOnly (length rows.now.items - skipped) true commits.old commits.new) }
+    ensures err { IfErr result (λ e.
+        AreReadOnly (length rows.now.items - skipped) (reads_without_fault e)
+        commits.old commits.new) }
 {
     let mut entries = Vec::new(alloc);
     for index in skipped..rows.len() {
@@ -81,17 +87,19 @@ pub(crate) fn read_entries<D: Disk>(
     Ok(entries)
 }
 
-/// Reads the entry whose record stands at a row's sectors.
+// Reads the entry whose record stands at a row's sectors.
 fn read_entry<D: Disk>(
     alloc: Global,
     commits: &mut Commits<D>,
     row: Row,
 ) -> Result<Entry, ReadError>
-    requires inside { LiesInside row commits.old.disk }
-    requires disk { IsDisk commits.old.disk }
-    ensures entry { IfOk result (λ entry. HoldsNow (λ now. entry ≡ entry_of now.bytes row) commits.old.disk.moments) }
-    ensures read { OnOk result (AreReadOnly true commits.old commits.new) }
-    ensures err { IfErr result (λ e. AreReadOnly (is_read_without_fault e) commits.old commits.new) }
+    requires inside { RowLiesInside row commits.old.disk }
+    requires on_disk { AreOnDisk commits.old }
+    ensures entry { IfOk result (λ entry.
+        HoldsNow (λ now. entry ≡ entry_of now.bytes row) commits.old.disk.moments) }
+    ensures read { OnOk result (AreReadOnly 1 true commits.old commits.new) }
+    ensures err { IfErr result (λ e.
+        AreReadOnly 1 (reads_without_fault e) commits.old commits.new) }
 {
     match row {
         Row::Write { at, lba, sectors } => {

@@ -9,7 +9,17 @@ use Rattle.std.specs.Int.{w32, w64, from_be_bytes, to_be_bytes}
 use Rattle.log_record.specs.declared.head.Head.{Head}
 use Rattle.log_record.specs.declared.head.Head.TheVariants.{Write, Zero, Pad}
 use Rattle.log_record.specs.Numbers.{kind_of, lba_of, sectors_of, kind_in, seq_in, lba_in, sectors_in, HasNumbers, filler}
-use Rattle.log_record.specs.Grammar.{header, header_of}
+use Rattle.log_record.specs.Grammar.{header, header_of, IsHeaderOf}
+
+-- ---- the one spelling of a header
+
+pub spelled : (head : Head) (seq : ℕ) (sector : List ℕ) → IsHeaderOf head seq sector → sector ≡ header_of head seq
+unfolding IsHeaderOf
+spelled head seq sector is = is
+
+pub is_spelled : (head : Head) (seq : ℕ) (sector : List ℕ) → sector ≡ header_of head seq → IsHeaderOf head seq sector
+unfolding IsHeaderOf
+is_spelled head seq sector is = is
 
 -- ---- lengths
 
@@ -112,7 +122,7 @@ part_of_u64 : (at number : ℕ) (bytes : List ℕ) → at + 8 ≤ length bytes �
 part_of_u64 at number bytes room fits read =
     sym (be_bytes_8 (take 8 (drop at bytes)) number (length_of_part at 8 bytes room) (bytes_of_part at 8 bytes fits) (sym read))
 
--- a front and the part behind it are a longer front
+-- a front and the part after it are a longer front
 front_more : (at count : ℕ) (bytes front part : List ℕ) → take at bytes ≡ front → take count (drop at bytes) ≡ part
     → take (at + count) bytes ≡ front ++ part
 front_more at count bytes front part is_front is_part =
@@ -137,7 +147,7 @@ header_of_parts sector kind seq lba sectors size fits parts =
     let to_sectors = front_more 28 8 sector _ _ to_lba (part_of_u64 28 sectors sector (omega (arith, size)) fits parts.of_sectors) in
     sym (take-append-drop 36 sector) ∙ ap (λ xs. xs ++ drop 36 sector) to_sectors ∙ ap (λ xs. front kind seq lba sectors ++ xs) parts.of_zeros
 
--- ---- the zeros behind the numbers
+-- ---- the zeros after the numbers
 
 -- the rest of a sector, as a slice of it shows it
 abbrev pub rest : List ℕ → List ℕ
@@ -159,7 +169,7 @@ zeros-from_filler sector size is_filler = take_rest sector 36 ∙ is_filler ∙ 
 
 -- ---- writing
 
--- a front with what is written behind it is a longer front
+-- a front with what is written after it is a longer front
 pub written_front : (at : ℕ) (front value old new : List ℕ) → take at old ≡ front → length front ≡ at
     → new ≡ take at old ++ value ++ drop (at + length value) old
     → take (at + length value) new ≡ front ++ value
@@ -176,7 +186,7 @@ written_to_end at list part room =
     ap (λ xs. take at list ++ (part ++ xs)) (drop_all (length list - at) (drop at list) (omega (arith, length-drop at list)))
     ∙ ap (λ xs. take at list ++ xs) (append-nil part)
 
--- zeros behind the numbers make the header
+-- zeros after the numbers make the header
 pub filled_header : (kind seq lba sectors : ℕ) (bytes zeros : List ℕ) → length bytes ≡ 512
     → take 36 bytes ≡ front kind seq lba sectors
     → zeros ≡ replicate (length (rest bytes)) 0

@@ -1,3 +1,4 @@
 pub mod HeaderLemmas
 pub mod TestLemmas
 pub mod RecordLemmas
+pub mod ForCallers

@@ -9,8 +9,8 @@ use Rattle.log_record.specs.declared.reason.Reason.{Reason}
 use Rattle.log_record.specs.declared.reason.Reason.TheVariants as reasons
 use Rattle.log_record.specs.Numbers.{kind_of, lba_of, sectors_of, kind_in, seq_in, HasNumbers, filler}
 use Rattle.log_record.specs.Grammar.{header_of, is_in_range, fits, IsHeader}
-use Rattle.log_record.specs.Tests.{code_of, Passes, IsRefusedAs}
-use Rattle.log_record.proofs.HeaderLemmas.{HasNumbers-header_of, one_head, magic-header, filler-header, seq_in-header, IsBytes, HasParts, header_of_parts}
+use Rattle.log_record.specs.Tests.{code_of, PassesRecordTest, IsRefusedAs}
+use Rattle.log_record.proofs.HeaderLemmas.{spelled, is_spelled, HasNumbers-header_of, one_head, magic-header, filler-header, seq_in-header, IsBytes, HasParts, header_of_parts}
 use Rattle.log_record.specs.Laws.{DeterminesHead}
 use Rattle.std.proofs.lemmas.Bool.{both_ways}
 
@@ -37,7 +37,7 @@ HasNumbers-from_IsHeader sector seq geometry place head limits is =
     let P : List ℕ → Type 0 = λ bytes. HasNumbers bytes head in
     let lba = lba_fits geometry place.position head limits is.in_range in
     let sectors = sectors_fit geometry place.position head limits is.in_range in
-    subst P (sym is.bytes) (HasNumbers-header_of head seq lba sectors)
+    subst P (sym (spelled head seq sector is.says)) (HasNumbers-header_of head seq lba sectors)
 
 known_kind : (head : Head) (kind : ℕ) → kind ≡ kind_of head → (1 ≤ kind) × (kind ≤ 3)
 known_kind (Write lba sectors) kind e = (omega (arith, e), omega (arith, e))
@@ -46,24 +46,24 @@ known_kind (Pad sectors) kind e = (omega (arith, e), omega (arith, e))
 
 pub header_passes : (sector : List ℕ) (seq : ℕ) (geometry : Geometry) (place : Place) (head : Head) (reason : Reason)
     → seq < 2 ^ 64 → IsTrue (is_within_limits geometry) → IsHeader sector seq geometry place head
-    → Passes sector seq geometry place reason
+    → PassesRecordTest sector seq geometry place reason
 header_passes sector seq geometry place head reasons.Magic fits limits is =
-    ap (take 8) is.bytes ∙ magic-header (kind_of head) seq (lba_of head) (sectors_of head)
+    ap (take 8) (spelled head seq sector is.says) ∙ magic-header (kind_of head) seq (lba_of head) (sectors_of head)
 header_passes sector seq geometry place head reasons.Kind fits limits is =
     known_kind head (kind_in sector) (HasNumbers-from_IsHeader sector seq geometry place head limits is).kind
 header_passes sector seq geometry place head reasons.Seq fits limits is =
-    ap seq_in (is.bytes ∙ sym (append-nil (header_of head seq)))
+    ap seq_in (spelled head seq sector is.says ∙ sym (append-nil (header_of head seq)))
     ∙ seq_in-header (kind_of head) seq (lba_of head) (sectors_of head) [] fits
 header_passes sector seq geometry place head reasons.Range fits limits is =
     (head, HasNumbers-from_IsHeader sector seq geometry place head limits is, is.in_range)
 header_passes sector seq geometry place head reasons.Zeros fits limits is =
-    ap (drop 36) is.bytes ∙ filler-header (kind_of head) seq (lba_of head) (sectors_of head)
+    ap (drop 36) (spelled head seq sector is.says) ∙ filler-header (kind_of head) seq (lba_of head) (sectors_of head)
 header_passes sector seq geometry place head reasons.Place fits limits is =
     (head, HasNumbers-from_IsHeader sector seq geometry place head limits is, is.fits)
 
 -- a sector that fails a test is no header of the place
 pub no_header : (sector : List ℕ) (seq : ℕ) (geometry : Geometry) (place : Place) (reason : Reason)
-    → seq < 2 ^ 64 → IsTrue (is_within_limits geometry) → (Passes sector seq geometry place reason → ⊥)
+    → seq < 2 ^ 64 → IsTrue (is_within_limits geometry) → (PassesRecordTest sector seq geometry place reason → ⊥)
     → (head : Head) → IsHeader sector seq geometry place head → ⊥
 no_header sector seq geometry place reason seq_fits limits failed head is =
     failed (header_passes sector seq geometry place head reason seq_fits limits is)
@@ -79,9 +79,9 @@ determines_head sector seq geometry place a b limits is_a is_b =
 
 -- what the first four tests found
 pub record HasHead (sector : List ℕ) (seq : ℕ) (geometry : Geometry) (place : Place) (head : Head) : Type 0 where
-  pub magic : Passes sector seq geometry place reasons.Magic
-  pub kind : Passes sector seq geometry place reasons.Kind
-  pub seq_is : Passes sector seq geometry place reasons.Seq
+  pub magic : PassesRecordTest sector seq geometry place reasons.Magic
+  pub kind : PassesRecordTest sector seq geometry place reasons.Kind
+  pub seq_is : PassesRecordTest sector seq geometry place reasons.Seq
   pub numbers : HasNumbers sector head
   pub in_range : IsTrue (is_in_range geometry place.position head)
 
@@ -99,7 +99,7 @@ header_if_passes sector seq geometry place head size bytes found zeros is_fit =
       of_zeros = zeros;
     } in
     record {
-      bytes = header_of_parts sector (kind_of head) seq (lba_of head) (sectors_of head) size bytes parts;
+      says = is_spelled head seq sector (header_of_parts sector (kind_of head) seq (lba_of head) (sectors_of head) size bytes parts);
       in_range = found.in_range;
       fits = is_fit;
     }
@@ -111,7 +111,7 @@ pub refused_as_zeros : (sector : List ℕ) (seq : ℕ) (geometry : Geometry) (pl
     → IsRefusedAs sector seq geometry place reasons.Zeros
 refused_as_zeros sector seq geometry place head found failed = record { earlier = earlier; failed = failed }
   where
-    earlier : (other : Reason) → code_of other < 5 → Passes sector seq geometry place other
+    earlier : (other : Reason) → code_of other < 5 → PassesRecordTest sector seq geometry place other
     earlier reasons.Magic h = found.magic
     earlier reasons.Kind h = found.kind
     earlier reasons.Seq h = found.seq_is
@@ -128,7 +128,7 @@ unfit sector geometry place head other numbers failed other_numbers is_fit =
 
 pub not_at_place : (sector : List ℕ) (seq : ℕ) (geometry : Geometry) (place : Place) (head : Head)
     → HasNumbers sector head → fits geometry place head ≡ false
-    → Passes sector seq geometry place reasons.Place → ⊥
+    → PassesRecordTest sector seq geometry place reasons.Place → ⊥
 not_at_place sector seq geometry place head numbers failed passes =
     unfit sector geometry place head passes.0 numbers failed passes.1 passes.2
 
@@ -138,7 +138,7 @@ pub refused_as_place : (sector : List ℕ) (seq : ℕ) (geometry : Geometry) (pl
 refused_as_place sector seq geometry place head found zeros failed =
     record { earlier = earlier; failed = not_at_place sector seq geometry place head found.numbers failed }
   where
-    earlier : (other : Reason) → code_of other < 6 → Passes sector seq geometry place other
+    earlier : (other : Reason) → code_of other < 6 → PassesRecordTest sector seq geometry place other
     earlier reasons.Magic h = found.magic
     earlier reasons.Kind h = found.kind
     earlier reasons.Seq h = found.seq_is

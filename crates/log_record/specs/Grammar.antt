@@ -1,10 +1,11 @@
--- The records of the log: a header sector, and behind that of a write its data.
+-- Contract: the records of the log, which are a header sector and, after that of a write, its data.
 use Rattle.std.specs.Prelude.{ℕ, ◌+◌, ◌/◌, ◌==◌, Bool, true, ◌&&◌, ◌||◌, not, nat_lt, nat_le, IsTrue, ◌≡◌, List, [], ◌++◌, length, codes}
 use Rattle.std.specs.Int.{w32, w64, to_be_bytes}
 use Rattle.lsvd_base.specs.declared.entry.Entry.{Entry}
 use Rattle.lsvd_base.specs.declared.entry.Entry.TheVariants as entries
 use Rattle.lsvd_base.specs.declared.geometry.Geometry.{Geometry}
 use Rattle.lsvd_base.specs.Limits.{covers, may_transfer}
+use Rattle.log_room.specs.Room.{sector_bytes}
 use Rattle.log_record.specs.declared.head.Head.{Head}
 use Rattle.log_record.specs.declared.head.Head.TheVariants.{Write, Zero, Pad}
 use Rattle.log_record.specs.declared.head.Place.{Place}
@@ -26,10 +27,10 @@ header_of head seq = header (kind_of head) seq (lba_of head) (sectors_of head)
 
 -- what an entry's header says
 abbrev pub head_of : Entry → Head
-head_of (entries.Write lba body) = Write lba (length body / 512)
+head_of (entries.Write lba body) = Write lba (length body / sector_bytes)
 head_of (entries.Zero lba sectors) = Zero lba sectors
 
--- what stands behind an entry's header
+-- what stands after an entry's header
 abbrev pub data_of : Entry → List ℕ
 data_of (entries.Write lba body) = body
 data_of (entries.Zero lba sectors) = []
@@ -37,6 +38,14 @@ data_of (entries.Zero lba sectors) = []
 -- the record of an entry
 abbrev pub record_of : Entry → ℕ → List ℕ
 record_of entry seq = header_of (head_of entry) seq ++ data_of entry
+
+-- a sector is a header that says this, with this seq
+unfoldable pub IsHeaderOf : Head → (seq : ℕ) → (sector : List ℕ) → Type 0
+IsHeaderOf head seq sector = sector ≡ header_of head seq
+
+-- bytes are the record of an entry, with this seq
+unfoldable pub IsRecordOf : Entry → (seq : ℕ) → (bytes : List ℕ) → Type 0
+IsRecordOf entry seq bytes = bytes ≡ record_of entry seq
 
 -- a write may be transferred, a zeroing has at least a sector and lies inside the volume, and a pad that
 -- begins at this sector of the log reaches the log's end
@@ -65,6 +74,6 @@ fits geometry place head =
 
 -- a sector is the header, with this seq, that says this at this place
 pub record IsHeader (sector : List ℕ) (seq : ℕ) (geometry : Geometry) (place : Place) (head : Head) : Type 0 where
-  pub bytes : sector ≡ header_of head seq
+  pub says : IsHeaderOf head seq sector
   pub in_range : IsTrue (is_in_range geometry place.position head)
   pub fits : IsTrue (fits geometry place head)

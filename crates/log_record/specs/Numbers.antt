@@ -1,4 +1,4 @@
--- The numbers of a header, and where they stand in its sector.
+-- Contract: the numbers of a header, and where they stand in its sector.
 use Rattle.std.specs.Prelude.{ℕ, ◌≡◌, List, replicate}
 use Rattle.std.specs.Int.{w32, w64}
 use Rattle.lsvd_bytes.specs.Places.{number_at}
@@ -17,7 +17,7 @@ lba_of (Write lba sectors) = lba
 lba_of (Zero lba sectors) = lba
 lba_of (Pad sectors) = 0
 
--- the sectors that it changes, and for a pad those of the log behind its header
+-- the sectors that it changes, and for a pad those of the log after its header
 abbrev pub sectors_of : Head → ℕ
 sectors_of (Write lba sectors) = sectors
 sectors_of (Zero lba sectors) = sectors

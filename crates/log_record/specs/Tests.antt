@@ -1,4 +1,4 @@
--- For which reason a sector is no header of a place: the tests, and their order.
+-- Contract: for which reason a sector is no header of a place, which are the tests and their order.
 use Rattle.std.specs.Prelude.{ℕ, ◌≡◌, ◌<◌, ◌≤◌, IsTrue, List, take, drop, codes}
 use Rattle.lsvd_base.specs.declared.geometry.Geometry.{Geometry}
 use Rattle.log_record.specs.declared.head.Head.{Head}
@@ -18,17 +18,17 @@ code_of reasons.Zeros = 5
 code_of reasons.Place = 6
 
 -- the sector passes the test that a reason stands for
-abbrev pub Passes : List ℕ → ℕ → Geometry → Place → Reason → Type 0
-Passes sector seq geometry place reasons.Magic = take 8 sector ≡ codes "LSVDREC1"
-Passes sector seq geometry place reasons.Kind = (1 ≤ kind_in sector) × (kind_in sector ≤ 3)
-Passes sector seq geometry place reasons.Seq = seq_in sector ≡ seq
-Passes sector seq geometry place reasons.Range =
+abbrev pub PassesRecordTest : List ℕ → ℕ → Geometry → Place → Reason → Type 0
+PassesRecordTest sector seq geometry place reasons.Magic = take 8 sector ≡ codes "LSVDREC1"
+PassesRecordTest sector seq geometry place reasons.Kind = (1 ≤ kind_in sector) × (kind_in sector ≤ 3)
+PassesRecordTest sector seq geometry place reasons.Seq = seq_in sector ≡ seq
+PassesRecordTest sector seq geometry place reasons.Range =
     (head : Head) × HasNumbers sector head × IsTrue (is_in_range geometry place.position head)
-Passes sector seq geometry place reasons.Zeros = drop 36 sector ≡ filler
-Passes sector seq geometry place reasons.Place =
+PassesRecordTest sector seq geometry place reasons.Zeros = drop 36 sector ≡ filler
+PassesRecordTest sector seq geometry place reasons.Place =
     (head : Head) × HasNumbers sector head × IsTrue (fits geometry place head)
 
 -- the first test that the sector does not pass is that of this reason
 pub record IsRefusedAs (sector : List ℕ) (seq : ℕ) (geometry : Geometry) (place : Place) (reason : Reason) : Type 0 where
-  pub earlier : (other : Reason) → code_of other < code_of reason → Passes sector seq geometry place other
-  pub failed : ¬ Passes sector seq geometry place reason
+  pub earlier : (other : Reason) → code_of other < code_of reason → PassesRecordTest sector seq geometry place other
+  pub failed : ¬ PassesRecordTest sector seq geometry place reason

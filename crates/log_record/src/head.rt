@@ -8,11 +8,11 @@ use lsvd_base::Entry;
 /// What a header says.
 #[derive(Clone, Copy, Debug, PartialEq, Eq)]
 pub enum Head {
-    /// The data of so many sectors, from `lba` of the volume on, stand behind the header.
+    /// The data of `sectors` sectors, from `lba` of the volume on, follow the header.
     Write { lba: u64, sectors: u64 },
-    /// So many sectors, from `lba` of the volume on, are zeros.
+    /// `sectors` sectors, from `lba` of the volume on, are zeros.
     Zero { lba: u64, sectors: u64 },
-    /// So many sectors of the log behind the header, up to the log's end, have no record.
+    /// `sectors` sectors of the log after the header, up to the log's end, have no record.
     Pad { sectors: u64 },
 }
 
@@ -33,8 +33,8 @@ impl Head {
         }
     }
 
-    /// The sectors of the log that the header and what belongs to it take. It names fewer than 2^63 (a
-    /// condition).
+    /// The sectors of the log that the header and what belongs to it take. It names fewer than 2^63
+    /// (a condition).
     pub fn size(&self) -> u64
         requires { sectors_of self.now < 2 ^ 63 }
         ensures { result ≡ size_of self.now }
@@ -45,7 +45,7 @@ impl Head {
         }
     }
 
-    /// The number of its kind.
+    // The number of its kind.
     pub(crate) fn kind(&self) -> u32
         ensures { result ≡ kind_of self.now }
     {
@@ -56,7 +56,7 @@ impl Head {
         }
     }
 
-    /// The first sector of the volume that it changes, and 0 for a pad.
+    // The first sector of the volume that it changes, and 0 for a pad.
     pub(crate) fn lba(&self) -> u64
         ensures { result ≡ lba_of self.now }
     {
@@ -66,7 +66,7 @@ impl Head {
         }
     }
 
-    /// How many sectors it names.
+    // How many sectors it names.
     pub(crate) fn sectors(&self) -> u64
         ensures { result ≡ sectors_of self.now }
     {
@@ -83,8 +83,8 @@ impl Head {
 pub struct Place {
     /// The sector of the log at which the header stands.
     pub position: u64,
-    /// The sectors from there on to the committed head, round the log's end (the whole log where the log is
-    /// full).
+    /// The sectors from there on to the committed head, round the log's end (the whole log where
+    /// the log is full).
     pub to_head: u64,
     /// Whether the record expected here is the last before the committed head.
     pub is_last: bool,

@@ -18,7 +18,7 @@ pub enum Reason {
     /// It names sectors that no entry or no pad may have there.
     #[error("sectors out of range")]
     Range,
-    /// The bytes behind the numbers are not all zeros.
+    /// The bytes after the numbers are not all zeros.
     #[error("bytes behind the header")]
     Zeros,
     /// It passes the log's end or the committed head, or is the last record and does not end there.

@@ -1,5 +1,7 @@
 use super::*;
-use lsvd_base::{Body, Entry, Geometry};
+use log_room::record_sectors;
+use lsvd_base::{Body, Entry, Geometry, SECTOR_BYTES};
+use std::alloc::{AllocError, Global};
 use std::test::Fail;
 
 const GEOMETRY: Geometry = Geometry {
@@ -9,7 +11,7 @@ const GEOMETRY: Geometry = Geometry {
     log: 64,
 };
 
-/// The numbers of a header of each kind: seq 0 and 0x0102030405060708, and two places of the volume.
+// The numbers of a header of each kind: seq 0 and 0x0102030405060708, and two places of the volume.
 const WRITE: [u8; 36] = [
     0x4c, 0x53, 0x56, 0x44, 0x52, 0x45, 0x43, 0x31, 0, 0, 0, 1, 0, 0, 0, 0, 0, 0, 0, 0, 0, 0, 0, 0,
     0, 0, 0, 0, 0, 0, 0, 0, 0, 0, 0, 1,
@@ -25,11 +27,21 @@ const PAD: [u8; 36] = [
     0, 0, 0, 0, 0, 0, 0, 0, 0, 0, 0, 3,
 ];
 
-/// The bytes of a header with these numbers.
+// The bytes of a header with these numbers.
 fn sector_of(numbers: &[u8; 36]) -> [u8; 512] {
     let mut sector = [0; 512];
     sector[..36].copy_from_slice(numbers);
     sector
+}
+
+// The record of the entry with this seq.
+fn encode(alloc: Global, entry: &Entry, seq: u64) -> Result<Vec<u8>, AllocError> {
+    let Some(count) = record_sectors(entry).checked_mul(SECTOR_BYTES) else {
+        return Err(AllocError);
+    };
+    let mut bytes = vec![in alloc; 0u8; count as usize]?;
+    encode_into(entry, seq, bytes.as_mut_slice());
+    Ok(bytes)
 }
 
 #[test]
@@ -52,7 +64,7 @@ fn records_are_written(rt: HostRuntime) -> Result<(), Fail> {
     Ok(())
 }
 
-/// What is read at a place, as the number of the reason or the head.
+// What is read at a place, as the number of the reason or the head.
 fn read(
     sector: &[u8; 512],
     seq: u64,

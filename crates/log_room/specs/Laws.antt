@@ -1,10 +1,10 @@
--- What those who write records rely on.
+-- Contract: what those who write records rely on.
 use Rattle.std.specs.Prelude.{ℕ, ◌≡◌, ◌+◌, ◌-◌, ◌≤◌, nat_lt, if◌then◌else◌}
 use Rattle.log_room.specs.Room.{Room, IsRoom, need, free, position, after_record}
 
 -- a record that is no longer than the log lies inside it, and is not split
-abbrev pub LiesInside : Type 0
-LiesInside =
+abbrev pub RecordLiesInside : Type 0
+RecordLiesInside =
     (room : Room) (sectors : ℕ) → IsRoom room → sectors ≤ room.log
     → position room sectors + sectors ≤ room.log
 
@@ -14,13 +14,13 @@ KeepsRoom =
     (room : Room) (sectors : ℕ) → IsRoom room → need room sectors ≤ free room
     → IsRoom (after_record room sectors)
 
--- as many sectors less are free as were needed
+-- what was needed is no longer free
 abbrev pub TakesNeed : Type 0
 TakesNeed =
     (room : Room) (sectors : ℕ) → IsRoom room → need room sectors ≤ free room
     → free (after_record room sectors) + need room sectors ≡ free room
 
--- the sector so many further on, round the log's end
+-- the sector N further on, round the log's end
 abbrev pub further : Room → ℕ → ℕ
 further room sectors =
     if nat_lt (room.head + sectors) room.log then room.head + sectors else room.head + sectors - room.log

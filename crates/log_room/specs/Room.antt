@@ -1,7 +1,15 @@
--- The room of a circular log, in sectors.
+-- Contract: the room of a circular log, in sectors.
 use Rattle.std.specs.Prelude.{ℕ, ◌+◌, ◌-◌, ◌/◌, ◌^◌, ◌<◌, ◌≤◌, ◌==◌, Bool, nat_le, length, if◌then◌else◌}
 use Rattle.lsvd_base.specs.declared.entry.Entry.{Entry}
 use Rattle.lsvd_base.specs.declared.entry.Entry.TheVariants.{Write, Zero}
+
+-- the most sectors that a log may have
+abbrev pub max_log : ℕ
+max_log = 2 ^ 31
+
+-- the bytes of a sector
+abbrev pub sector_bytes : ℕ
+sector_bytes = 512
 
 -- how long a log is, where its head is, and how many sectors are in use, from the tail to the head
 pub record Room : Type 0 where
@@ -11,11 +19,11 @@ pub record Room : Type 0 where
 
 -- the head is a sector of the log, and no more are in use than there are
 pub record IsRoom (room : Room) : Type 0 where
-  pub limit : room.log ≤ 2 ^ 31
+  pub limit : room.log ≤ max_log
   pub head : room.head < room.log
   pub used : room.used ≤ room.log
 
--- a log of so many sectors, with its head and its use
+-- a log of this many sectors, with its head and its use
 abbrev pub room_of : (log head used : ℕ) → Room
 room_of log head used = record { log = log; head = head; used = used }
 
@@ -23,16 +31,16 @@ room_of log head used = record { log = log; head = head; used = used }
 abbrev pub empty_log : ℕ → Room
 empty_log log = room_of log 0 0
 
--- the room when the tail has moved on by so many sectors
+-- the room when the tail has moved on by N sectors
 abbrev pub after_release : Room → ℕ → Room
 after_release room sectors = record room { used = room.used - sectors }
 
 -- the sectors of an entry's record: its header, and the data of a write
 abbrev pub record_sectors : Entry → ℕ
-record_sectors (Write lba body) = 1 + length body / 512
+record_sectors (Write lba body) = 1 + length body / sector_bytes
 record_sectors (Zero lba sectors) = 1
 
--- a record of so many sectors fits between the head and the log's end
+-- a record of N sectors fits between the head and the log's end
 abbrev pub fits_before_end : Room → ℕ → Bool
 fits_before_end room sectors = nat_le (room.head + sectors) room.log
 
@@ -56,7 +64,7 @@ position room sectors = if fits_before_end room sectors then room.head else 0
 abbrev pub head_at : Room → ℕ → ℕ
 head_at room end = if end == room.log then 0 else end
 
--- the room after the record: its head is behind it, and what was needed is in use
+-- the room after the record: its head is the next sector, and what was needed is in use
 abbrev pub after_record : Room → ℕ → Room
 after_record room sectors =
     record room {

@@ -1,8 +1,9 @@
-ghost use Rattle.log_room.specs.Laws.{LiesInside, KeepsRoom, TakesNeed, MovesByNeed};
+ghost use Rattle.log_room.specs.Laws.{RecordLiesInside, KeepsRoom, TakesNeed, MovesByNeed};
 
-/// A law: a record lies inside the log, keeps the head below its end, and takes what it needs, round the end.
+/// A law: a record lies inside the log, keeps the head below its end, and takes what it needs,
+/// round the end.
 pub fn a_record_takes_what_it_needs()
-    ensures inside { LiesInside }
+    ensures inside { RecordLiesInside }
     ensures kept { KeepsRoom }
     ensures taken { TakesNeed }
     ensures moved { MovesByNeed }

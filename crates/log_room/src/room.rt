@@ -1,13 +1,15 @@
 ghost use Rattle.std.specs.Prelude.{◌≡◌, ◌+◌, ◌^◌, ◌<◌, ◌≤◌};
-ghost use Rattle.log_room.specs.Room.{IsRoom, room_of, empty_log, record_sectors, pad_before, need, free, position, after_record, after_release};
+ghost use Rattle.log_room.specs.Room.{max_log, IsRoom, room_of, empty_log, record_sectors};
+ghost use Rattle.log_room.specs.Room.{pad_before, need, free, position, after_record};
+ghost use Rattle.log_room.specs.Room.{after_release};
 
 use lsvd_base::{Entry, SECTOR_BYTES};
 use std::marker::Model;
 
 /// The room of a circular log, in sectors.
 ///
-/// A record is not split: where it does not fit between the head and the log's end, a pad takes those
-/// sectors, and the record stands at the log's beginning.
+/// A record is not split: where it does not fit between the head and the log's end, a pad takes
+/// those sectors, and the record stands at the log's beginning.
 #[derive(Clone, Copy, Debug, PartialEq, Eq)]
 pub struct LogRoom {
     log: u64,
@@ -28,23 +30,32 @@ impl Model for LogRoom {
 }
 
 impl LogRoom {
-    /// A log of so many sectors, at most 2^31, with nothing in it and its head at 0.
+    /// A log of `log` sectors, at least 1 and at most 2^31 (conditions), with nothing in it and its
+    /// head at 0.
     pub fn new(log: u64) -> LogRoom
         requires some { 0 < log }
-        requires limit { log ≤ 2 ^ 31 }
+        requires limit { log ≤ max_log }
         ensures { result ≡ empty_log log }
     {
         LogRoom::at(log, 0, 0)
     }
 
-    /// A log of so many sectors, at most 2^31, with its head below its end and so many sectors in use.
+    /// A log of `log` sectors, at most 2^31, with its head below its end and `used` sectors in use,
+    /// at most all (conditions).
     pub fn at(log: u64, head: u64, used: u64) -> LogRoom
-        requires limit { log ≤ 2 ^ 31 }
+        requires limit { log ≤ max_log }
         requires head { head < log }
         requires used { used ≤ log }
         ensures { result ≡ room_of log head used }
     {
         LogRoom { log, head, used }
+    }
+
+    /// How many sectors the log has.
+    pub fn sectors(&self) -> u64
+        ensures { result ≡ self.now.log }
+    {
+        self.log
     }
 
     /// The sector at which the next record stands, if it fits before the log's end.
@@ -71,7 +82,8 @@ impl LogRoom {
         self.log - self.used
     }
 
-    /// The sectors of the pad before a record of so many sectors: 0 where it fits before the log's end.
+    /// The sectors of the pad before a record of `sectors` sectors: 0 where it fits before the
+    /// log's end.
     pub fn pad_before(&self, sectors: u64) -> u64
         ensures { result ≡ pad_before self.now sectors }
     {
@@ -79,7 +91,8 @@ impl LogRoom {
         if sectors <= to_end { 0 } else { to_end }
     }
 
-    /// The sectors that a record of so many sectors takes, with the pad before it.
+    /// The sectors that a record of `sectors` sectors takes, with the pad before it. It has fewer
+    /// than 2^63 (a condition).
     pub fn need(&self, sectors: u64) -> u64
         requires { sectors < 2 ^ 63 }
         ensures { result ≡ need self.now sectors }
@@ -87,7 +100,7 @@ impl LogRoom {
         self.pad_before(sectors) + sectors
     }
 
-    /// The sector at which a record of so many sectors will stand.
+    /// The sector at which a record of `sectors` sectors will stand.
     pub fn position(&self, sectors: u64) -> u64
         ensures { result ≡ position self.now sectors }
     {
@@ -98,8 +111,8 @@ impl LogRoom {
         }
     }
 
-    /// Puts a record of so many sectors, and the pad that it needs, at the head. There is room for both (a
-    /// condition).
+    /// Puts a record of `sectors` sectors, and the pad that it needs, at the head. There is room
+    /// for both (a condition).
     pub fn enter(&mut self, sectors: u64)
         requires { need self.old sectors ≤ free self.old }
         ensures { self.new ≡ after_record self.old sectors }
@@ -109,7 +122,8 @@ impl LogRoom {
         self.head = if end == self.log { 0 } else { end };
     }
 
-    /// Moves the tail on by so many sectors that were in use (a condition), which are free from then on.
+    /// Moves the tail on by `sectors` sectors that were in use (a condition), which are free from
+    /// then on.
     pub fn release(&mut self, sectors: u64)
         requires { sectors ≤ self.old.used }
         ensures { self.new ≡ after_release self.old sectors }
@@ -138,11 +152,13 @@ mod tests {
     #[test]
     fn a_record_stands_before_the_end_or_at_the_beginning(rt: HostRuntime) {
         for (log, head, used, sectors, pad, position, after) in [
-            // The least log: a record in it, one up to its end, and a full log with its head back at 0.
+            // The least log: a record in it, one up to its end, and a full log with its head back
+            // at 0.
             (18, 0, 0, 9, 0, 0, Some((9, 9))),
             (18, 9, 9, 9, 0, 9, Some((0, 18))),
             (18, 0, 18, 1, 0, 0, None),
-            // A pad of one sector: the record does not fit behind it, or does once the tail has moved.
+            // A pad of one sector: the record does not fit after it, or does once the tail has
+            // moved.
             (18, 17, 17, 2, 1, 0, None),
             (18, 17, 15, 2, 1, 0, Some((2, 18))),
             (18, 17, 16, 1, 0, 17, Some((0, 17))),

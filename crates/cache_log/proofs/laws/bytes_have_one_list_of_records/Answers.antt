@@ -1,4 +1,4 @@
-use Rattle.cache_log.proofs.Opened.{have_one_list}
+use Rattle.cache_log.proofs.RowLemmas.{have_one_list}
 use Rattle.cache_log.proofs.laws.bytes_have_one_list_of_records.Goals as goal
 
 pub returns : goal.returns

@@ -1,130 +1,66 @@
-use Rattle.std.proofs.Common.{rules, ◌≡◌, ◌+◌, ℕ, List, length, sym, ◌∙◌, ap, subst}
-use Rattle.std.specs.Prelude.{OnOk}
+use Rattle.std.proofs.Common.{◌≡◌, ◌+◌, ℕ, length, sym, ◌∙◌, ap, subst}
 use Rattle.commit_body.specs.declared.body.CommitBody.{CommitBody}
 use Rattle.commit_body.specs.Body.{MayStand}
 use Rattle.commit_slot.specs.Slots.{log_of}
-use Rattle.commit_slot.specs.Commits.{CommitsState, IsMade, IsCommit, LeavesNow, finished_number}
+use Rattle.std.specs.Prelude.{OnOk}
+use Rattle.commit_slot.specs.Commits.{CommitsState}
+use Rattle.commit_slot.specs.Committing.{IsCommitted}
+use Rattle.cache_log.proofs.CommitLemmas.{body_with, all_may, HasTried, tried, log_after, IsCommitTried, commit_tried}
+use Rattle.cache_log.proofs.CommittedLemmas.{view_of}
 use Rattle.log_room.specs.Room.{Room}
-use Rattle.cache_log.specs.declared.row.Row.{Row}
-use Rattle.cache_log.specs.Log.{LogState}
-use Rattle.cache_log.proofs.CommitMade.{body_with, all_may, IsCommitted, committed_by, log_after, made_on_ok}
+use Rattle.cache_log.specs.Log.{next_seq}
+use Rattle.cache_log.proofs.log.CacheLog.commit.Given as given
+use Rattle.cache_log.proofs.log.CacheLog.commit.Goals.{After-commit}
 use Rattle.cache_log.proofs.log.CacheLog.commit.Goals as goal
 
-pub commit-committed-requires-clause-may_stand : goal.commit-committed-requires-clause-may_stand
-commit-committed-requires-clause-may_stand g c =
+-- the body of all entries
+body_is : (body : CommitBody) (place : Room) (read : CommitBody) (position seq number : ℕ) → read ≡ body → position ≡ place.head → number ≡ seq
+    → record read { head = record { position = position; seq = number } } ≡ body_with body place seq
+body_is body place read position seq number same at is =
+    ap (λ (b : CommitBody). record b { head = record { position = position; seq = number } }) same
+    ∙ ap (λ p. record body { head = record { position = p; seq = number } }) at
+    ∙ ap (λ n. record body { head = record { position = place.head; seq = n } }) is
+
+pub commit-requires-clause-may_stand : goal.commit-requires-clause-may_stand
+commit-requires-clause-may_stand g c =
     let place : Room = c.self.inside.room in
-    let first : ℕ = c.self.inside.first in
-    let rows : List Row = c.self.inside.rows.items in
+    let seq : ℕ = c.self.inside.first + length c.self.inside.rows.items in
     let old : CommitsState = c.self.inside.commits in
-    let body : CommitBody = body_with old.body place (first + length rows) in
-    let position : ℕ = c.head.result in
-    let seq : ℕ = c.next_seq.result in
-    let arg : CommitBody = record c.body-body.result { head = record { position = position; seq = seq } } in
-    let is_seq : seq ≡ first + length rows = search rules in
-    let is_position : position ≡ place.head = c.head.ensures.head in
-    let is : arg ≡ body =
-    ap (λ (b : CommitBody). record b { head = record { position = position; seq = seq } }) c.body-body.ensures.body
-    ∙ ap (λ p. record old.body { head = record { position = p; seq = seq } }) is_position
-    ∙ ap (λ s. record old.body { head = record { position = place.head; seq = s } }) is_seq in
-    let may : MayStand body place.log = all_may place first rows old c.self.invariant in
-    subst (λ b. MayStand b (log_of old.disk.size)) (sym is) (subst (MayStand body) c.self.invariant.sectors may)
+    let is = body_is old.body place c.body-body.result c.head.result seq c.next_seq.result c.body-body.ensures.body c.head.ensures.head (c.next_seq.ensures ∙ ap next_seq (sym c.self.view_is)) in
+    let may : MayStand (body_with old.body place seq) place.log = all_may place c.self.inside.first c.self.inside.rows.items old c.self.invariant in
+    subst (λ b. MayStand b (log_of old.disk.size)) (sym is) (subst (MayStand (body_with old.body place seq)) c.self.invariant.sectors may)
+
+-- what the commit of that body left
+left : (g : given.Over) (c : After-commit g)
+    → HasTried (body_with c.self.inside.commits.body c.self.inside.room (c.self.inside.first + length c.self.inside.rows.items)) c.self.inside.commits c.commit.new.self
+left g c =
+    let place : Room = c.self.inside.room in
+    let seq : ℕ = c.self.inside.first + length c.self.inside.rows.items in
+    let old : CommitsState = c.self.inside.commits in
+    let new : CommitsState = c.commit.new.self in
+    let is = body_is old.body place c.body-body.result c.head.result seq c.next_seq.result c.body-body.ensures.body c.head.ensures.head (c.next_seq.ensures ∙ ap next_seq (sym c.self.view_is)) in
+    let e = c.commit.ensures in
+    subst (λ b. HasTried b old new) is (tried c.commit.result _ old new e.ok e.err e.crash_safe e.log_area e.costs.calls.size e.on_disk)
+
+promised : (g : given.Over) (c : After-commit g) (after : ℕ)
+    → IsCommitTried c.commit.result c.args.self.now (view_of c.self.inside.room c.self.inside.first c.self.inside.rows.items c.commit.new.self after)
+promised g c after =
+    let place : Room = c.self.inside.room in
+    let seq : ℕ = c.self.inside.first + length c.self.inside.rows.items in
+    let old : CommitsState = c.self.inside.commits in
+    let new : CommitsState = c.commit.new.self in
+    let is = body_is old.body place c.body-body.result c.head.result seq c.next_seq.result c.body-body.ensures.body c.head.ensures.head (c.next_seq.ensures ∙ ap next_seq (sym c.self.view_is)) in
+    commit_tried c.commit.result place c.self.inside.first c.self.inside.rows.items old new _ after c.args.self.now c.self.view_is c.self.invariant (left g c)
+    (subst (λ b. OnOk c.commit.result (IsCommitted b old new)) is c.commit.ensures.ok)
 
 pub invariant_of-self : goal.invariant_of-self
-invariant_of-self g c =
-    let place : Room = c.self.inside.room in
-    let first : ℕ = c.self.inside.first in
-    let rows : List Row = c.self.inside.rows.items in
-    let old : CommitsState = c.self.inside.commits in
-    let body : CommitBody = body_with old.body place (first + length rows) in
-    let position : ℕ = c.head.result in
-    let seq : ℕ = c.next_seq.result in
-    let arg : CommitBody = record c.body-body.result { head = record { position = position; seq = seq } } in
-    let is_seq : seq ≡ first + length rows = search rules in
-    let is_position : position ≡ place.head = c.head.ensures.head in
-    let is : arg ≡ body =
-    ap (λ (b : CommitBody). record b { head = record { position = position; seq = seq } }) c.body-body.ensures.body
-    ∙ ap (λ p. record old.body { head = record { position = p; seq = seq } }) is_position
-    ∙ ap (λ s. record old.body { head = record { position = place.head; seq = s } }) is_seq in
-    let new : CommitsState = c.commit-committed.new.self in
-    let e = c.commit-committed.ensures in
-    let done : IsCommitted arg old new = committed_by c.commit-committed.result arg old new e.ok e.err e.firm e.begun e.log e.kept e.calls.size c.log.ensures.is_disk in
-    let committed : IsCommitted body old new = subst (λ b. IsCommitted b old new) is done in
-    let after = log_after place first rows old new c.self.invariant committed in
-    after.log
+invariant_of-self g c = (log_after _ _ _ _ _ c.self.invariant (left g c)).log
 
 pub returns-clause-same : goal.returns-clause-same
-returns-clause-same g c =
-    let place : Room = c.self.inside.room in
-    let first : ℕ = c.self.inside.first in
-    let rows : List Row = c.self.inside.rows.items in
-    let old : CommitsState = c.self.inside.commits in
-    let body : CommitBody = body_with old.body place (first + length rows) in
-    let position : ℕ = c.head.result in
-    let seq : ℕ = c.next_seq.result in
-    let arg : CommitBody = record c.body-body.result { head = record { position = position; seq = seq } } in
-    let is_seq : seq ≡ first + length rows = search rules in
-    let is_position : position ≡ place.head = c.head.ensures.head in
-    let is : arg ≡ body =
-    ap (λ (b : CommitBody). record b { head = record { position = position; seq = seq } }) c.body-body.ensures.body
-    ∙ ap (λ p. record old.body { head = record { position = p; seq = seq } }) is_position
-    ∙ ap (λ s. record old.body { head = record { position = place.head; seq = s } }) is_seq in
-    let new : CommitsState = c.commit-committed.new.self in
-    let e = c.commit-committed.ensures in
-    let done : IsCommitted arg old new = committed_by c.commit-committed.result arg old new e.ok e.err e.firm e.begun e.log e.kept e.calls.size c.log.ensures.is_disk in
-    let committed : IsCommitted body old new = subst (λ b. IsCommitted b old new) is done in
-    let after = log_after place first rows old new c.self.invariant committed in
-    record {
-      entries = after.entries ∙ ap (λ (l : LogState). l.entries) c.self.view_is;
-      rows = ap (λ (l : LogState). l.rows) c.self.view_is;
-      room = ap (λ (l : LogState). l.room) c.self.view_is;
-      first = ap (λ (l : LogState). l.first) c.self.view_is;
-    }
+returns-clause-same g c = (promised g c _).same
 
-pub returns-clause-moments : goal.returns-clause-moments
-returns-clause-moments g c =
-    let place : Room = c.self.inside.room in
-    let first : ℕ = c.self.inside.first in
-    let rows : List Row = c.self.inside.rows.items in
-    let old : CommitsState = c.self.inside.commits in
-    let body : CommitBody = body_with old.body place (first + length rows) in
-    let position : ℕ = c.head.result in
-    let seq : ℕ = c.next_seq.result in
-    let arg : CommitBody = record c.body-body.result { head = record { position = position; seq = seq } } in
-    let is_seq : seq ≡ first + length rows = search rules in
-    let is_position : position ≡ place.head = c.head.ensures.head in
-    let is : arg ≡ body =
-    ap (λ (b : CommitBody). record b { head = record { position = position; seq = seq } }) c.body-body.ensures.body
-    ∙ ap (λ p. record old.body { head = record { position = p; seq = seq } }) is_position
-    ∙ ap (λ s. record old.body { head = record { position = place.head; seq = s } }) is_seq in
-    let new : CommitsState = c.commit-committed.new.self in
-    let e = c.commit-committed.ensures in
-    let done : IsCommitted arg old new = committed_by c.commit-committed.result arg old new e.ok e.err e.firm e.begun e.log e.kept e.calls.size c.log.ensures.is_disk in
-    let committed : IsCommitted body old new = subst (λ b. IsCommitted b old new) is done in
-    let after = log_after place first rows old new c.self.invariant committed in
-    rw (← c.self.view_is) after.since
+pub returns-clause-ok : goal.returns-clause-ok
+returns-clause-ok g c = (promised g c _).ok
 
 pub returns-clause-stands : goal.returns-clause-stands
-returns-clause-stands g c =
-    let place : Room = c.self.inside.room in
-    let first : ℕ = c.self.inside.first in
-    let rows : List Row = c.self.inside.rows.items in
-    let old : CommitsState = c.self.inside.commits in
-    let body : CommitBody = body_with old.body place (first + length rows) in
-    let position : ℕ = c.head.result in
-    let seq : ℕ = c.next_seq.result in
-    let arg : CommitBody = record c.body-body.result { head = record { position = position; seq = seq } } in
-    let is_seq : seq ≡ first + length rows = search rules in
-    let is_position : position ≡ place.head = c.head.ensures.head in
-    let is : arg ≡ body =
-    ap (λ (b : CommitBody). record b { head = record { position = position; seq = seq } }) c.body-body.ensures.body
-    ∙ ap (λ p. record old.body { head = record { position = p; seq = seq } }) is_position
-    ∙ ap (λ s. record old.body { head = record { position = place.head; seq = s } }) is_seq in
-    let new : CommitsState = c.commit-committed.new.self in
-    let e = c.commit-committed.ensures in
-    let done : IsCommitted arg old new = committed_by c.commit-committed.result arg old new e.ok e.err e.firm e.begun e.log e.kept e.calls.size c.log.ensures.is_disk in
-    let committed : IsCommitted body old new = subst (λ b. IsCommitted b old new) is done in
-    let after = log_after place first rows old new c.self.invariant committed in
-    let number : ℕ = finished_number old.number old.unfinished + 1 in
-    let made : OnOk c.commit-committed.result (IsMade body old new) = subst (λ b. OnOk c.commit-committed.result (IsMade b old new)) is e.ok in
-    let leaves : OnOk c.commit-committed.result (LeavesNow (IsCommit number body) new.disk) = subst (λ b. OnOk c.commit-committed.result (LeavesNow (IsCommit number b) new.disk)) is e.stands in
-    rw (← c.self.view_is) (made_on_ok c.commit-committed.result place first rows old new number c.self.invariant committed made leaves)
+returns-clause-stands g c = (promised g c 0).stands

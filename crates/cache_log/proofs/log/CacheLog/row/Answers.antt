@@ -1,6 +1,6 @@
 use Rattle.std.proofs.Common.{rules, ◌≡◌, ◌<◌, List, length, get_or, arith}
 use Rattle.cache_log.specs.declared.row.Row.{Row}
-use Rattle.cache_log.proofs.Reading.{rows_inside, row_inside, matches_now}
+use Rattle.cache_log.proofs.ReadLemmas.{rows_inside, row_inside, matches_now}
 use Rattle.cache_log.proofs.log.CacheLog.row.Goals as goal
 
 pub returns-clause-inside : goal.returns-clause-inside
@@ -22,4 +22,4 @@ returns-clause-matches g c =
     let less : c.args.index < length rows = search rules in
     let is : c.index.result.now ≡ get_or rows c.args.index c.index.result.now = search rules in
     let inside = rows_inside rows place.log log.tail place.used log.inside log.room.used log.follow in
-    rw (← c.self.view_is) (matches_now rows c.args.index place.log c.self.inside.commits.disk.size c.index.result.now c.self.inside.commits.disk.moments inside log.fits log.disk.media less is)
+    rw (← c.self.view_is) (matches_now rows c.args.index place.log c.self.inside.commits.disk.size c.index.result.now c.self.inside.commits.disk.moments inside log.fits log.on_disk.is_disk.media less is)

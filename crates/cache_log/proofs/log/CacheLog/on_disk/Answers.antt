@@ -1,0 +1,7 @@
+use Rattle.std.proofs.Common.{subst}
+use Rattle.cache_log.specs.Committed.{IsOnDisk}
+use Rattle.cache_log.proofs.CommitLemmas.{is_on_disk}
+use Rattle.cache_log.proofs.log.CacheLog.on_disk.Goals as goal
+
+pub returns : goal.returns
+returns g c = subst IsOnDisk c.self.view_is (is_on_disk _ _ _ _ _ c.self.invariant)
