@@ -2,10 +2,10 @@
 use Rattle.std.proofs.Common.{◌≡◌, ℕ, ◌+◌, ◌*◌, List, [], ◌∷◌, ◌++◌, replicate, refl, sym, ◌∙◌, ap, subst, inl, inr, arith}
 use Rattle.std.specs.Prelude.{Some, None}
 use Rattle.plain_disk.specs.Machine.{Disk, reply_of}
-use Rattle.plain_disk.specs.declared.event.Event.{Event}
-use Rattle.plain_disk.specs.declared.event.Event.TheVariants as events
-use Rattle.plain_disk.specs.declared.event.Reply.{Reply}
-use Rattle.plain_disk.specs.declared.event.Reply.TheVariants.{Entered, Flushed, Data, Range, BatchFull, EntriesFull, NoRoom, Fault}
+use Rattle.volume_events.specs.declared.event.Event.{Event}
+use Rattle.volume_events.specs.declared.event.Event.TheVariants as events
+use Rattle.volume_events.specs.declared.event.Reply.{Reply}
+use Rattle.volume_events.specs.declared.event.Reply.TheVariants.{Entered, Flushed, Data, Range, BatchFull, EntriesFull, NoRoom, Fault}
 use Rattle.replay_script.specs.declared.command.Command.{Command}
 use Rattle.replay_script.specs.declared.command.Command.TheVariants.{New, Write, Zero, Read, Flush, Stop, CrashKeep}
 use Rattle.replay_script.specs.Grammar.{lines_of}

@@ -5,10 +5,10 @@ use Rattle.std.proofs.lemmas.Bool.{cases_lt}
 use Rattle.lsvd_base.specs.declared.geometry.Geometry.{Geometry}
 use Rattle.lsvd_device.specs.Calls.{Fuse}
 use Rattle.plain_disk.specs.Machine.{Disk, created, reply_of, disk_after, stopping_after, kept_mark, mounted}
-use Rattle.plain_disk.specs.declared.event.Event.{Event}
-use Rattle.plain_disk.specs.declared.event.Event.TheVariants as events
-use Rattle.plain_disk.specs.declared.event.Reply.{Reply}
-use Rattle.plain_disk.specs.declared.event.Reply.TheVariants.{Entered, Flushed, Data, Range, BatchFull, EntriesFull, NoRoom, Fault}
+use Rattle.volume_events.specs.declared.event.Event.{Event}
+use Rattle.volume_events.specs.declared.event.Event.TheVariants as events
+use Rattle.volume_events.specs.declared.event.Reply.{Reply}
+use Rattle.volume_events.specs.declared.event.Reply.TheVariants.{Entered, Flushed, Data, Range, BatchFull, EntriesFull, NoRoom, Fault}
 use Rattle.replay_script.specs.declared.command.Command.{Command}
 use Rattle.replay_script.specs.declared.command.Command.TheVariants.{New, Write, Zero, Read, Flush, Stop, CrashKeep}
 use Rattle.replay_script.specs.Grammar.{lines_of, Spells, IsUnknown, HasWrongWordCount, IsMisspelt}
@@ -19,8 +19,9 @@ use Rattle.vol_replay.specs.declared.outcome.Outcome.TheVariants.{Done, BadLine}
 use Rattle.vol_replay.specs.declared.outcome.Reason.{Reason}
 use Rattle.vol_replay.specs.declared.outcome.Reason.TheVariants.{UnknownCommand, WordCount, Form, NotAllowed, Letters, TooLong}
 use Rattle.vol_replay.specs.Answer.{IsUnfit, state_of}
-use Rattle.vol_replay.specs.Volume.{VolumeState}
-use Rattle.vol_replay.specs.Letters.{fits_writes, fits_objects, keeps_last}
+use Rattle.vol_core.specs.Volume.{VolumeState}
+use Rattle.vol_replay.specs.Letters.{fits_writes, fits_objects, fates_of}
+use Rattle.vol_core.specs.Standing.{keeps_last}
 use Rattle.vol_replay.specs.Transcript.{State, TellsReply, Steps, Answers, text_of_mount, IsAnswered, IsBad, StopsAt, Transcript, IsTranscript, IsFrontOfTranscript, line_after}
 
 -- each reply has a text
@@ -53,7 +54,7 @@ stop_answer disk calls (Some left) is = inr (inl (λ none. cc (is, none)))
 crash_answer : (disk : Disk) (device objects : List ℕ) (a b : Bool) → fits_writes disk.device.pending device ≡ a → fits_objects objects ≡ b
     → HasAnswer (Some disk) (CrashKeep device objects) ⊎ IsUnfitAtAll (Some disk) (CrashKeep device objects)
 crash_answer disk device objects true true fit also =
-    inl (text_of_mount (kept_mark (keeps_last device) disk.device).count, Some (mounted (keeps_last device) disk), ((fit, also), (refl, refl)))
+    inl (text_of_mount (kept_mark (keeps_last (fates_of disk.device.pending device)) disk.device).count, Some (mounted (keeps_last (fates_of disk.device.pending device)) disk), ((fit, also), (refl, refl)))
 crash_answer disk device objects true false fit unfit = inr (inr (tt, λ both. (let no : fits_objects objects ≡ true = both.1 in cc (unfit, no))))
 crash_answer disk device objects false b unfit other = inr (inr (tt, λ both. (let no : fits_writes disk.device.pending device ≡ true = both.0 in cc (unfit, no))))
 

@@ -1,45 +1,45 @@
--- A volume that was mounted behind a stop.
-use Rattle.std.proofs.Common.{◌≡◌, ℕ, ◌+◌, ◌^◌, ◌<◌, ◌≤◌, Bool, true, false, List, [], ◌∷◌, ◌++◌, length, take, drop, map, refl, sym, ◌∙◌, ap, subst, arith}
-use Rattle.std.specs.Prelude.{Option, Some, None, IfSome, is_some, IsTrue}
-use Rattle.std.specs.List.{AllByRecursion, sum_by}
-use Rattle.std.proofs.lemmas.List.{length-take-le, length-map, take-take, take-append-drop}
-use Rattle.std.proofs.lemmas.List.Sums.{sum_by-append}
+-- A volume that is mounted after a stop.
+use Rattle.std.proofs.Common.{◌≡◌, ℕ, ◌+◌, ◌^◌, ◌<◌, ◌≤◌, Bool, true, false, List, [], ◌∷◌, ◌++◌, length, take, map, refl, sym, ◌∙◌, ap, subst, arith}
+use Rattle.std.specs.Prelude.{Option, Some, None, IfSome, IsTrue}
+use Rattle.std.specs.List.{AllByRecursion}
+use Rattle.std.proofs.lemmas.List.{length-take-le, length-map, take-take}
 use Rattle.std.proofs.lemmas.List.Elements.{All-take, All-head, All-tail}
 use Rattle.lsvd_base.specs.declared.entry.Entry.{Entry}
 use Rattle.lsvd_base.specs.declared.geometry.Geometry.{Geometry}
 use Rattle.lsvd_base.specs.Limits.{is_within_limits}
 use Rattle.lsvd_base.specs.Range.{is_in_range}
-use Rattle.lsvd_device.specs.Calls.{Fuse, Budget, fuse_of, passes, lowered}
+use Rattle.lsvd_bytes.specs.Places.{bytes_at}
+use Rattle.lsvd_device.specs.Calls.{Fuse, Budget, Cost, Takes, fuse_of, passes, fuse_after}
 use Rattle.lsvd_device.specs.Medium.{Medium, MayLeave, durable}
 use Rattle.lsvd_device.specs.Device.{DiskState, IsDisk, HasSize, HoldsNow}
-use Rattle.lsvd_device.specs.Memory.{HasRoom, IsStill}
+use Rattle.lsvd_device.specs.Memory.{HasRoom, IsSynced}
 use Rattle.lsvd_device.specs.declared.fate.Fate.{Fate}
 use Rattle.lsvd_device.specs.Stop.{HasNow, left_in_order}
 use Rattle.lsvd_device.specs.Stop as stops
 use Rattle.log_room.specs.Room.{room_of, empty_log}
 use Rattle.commit_body.specs.declared.body.CommitBody.{CommitBody}
 use Rattle.commit_body.proofs.BodyLemmas.{determines_body}
-use Rattle.lsvd_bytes.specs.Places.{bytes_at}
 use Rattle.commit_slot.specs.Slots.{log_of, body_at, Reads, ReadsNone}
-use Rattle.commit_slot.specs.Commits.{CommitsState, IsLast}
-use Rattle.commit_slot.specs.Behind.{HasGate, ReadsByGate}
+use Rattle.commit_slot.specs.Commits.{finished_number}
+use Rattle.commit_slot.specs.Loading.{MakesAtMost}
 use Rattle.cache_log.specs.declared.row.Row.{Row}
 use Rattle.cache_log.specs.Rows.{byte_of, entry_of}
-use Rattle.cache_log.specs.Opening.{AreRead, IsBadRecord, sectors_between}
+use Rattle.cache_log.specs.Opening.{AreRecordsInRange, entry_count, sectors_between}
 use Rattle.cache_log.specs.Laws.{MayBeRead}
 use Rattle.cache_log.specs.Log.{LogState, up_to}
-use Rattle.cache_log.specs.Committed.{HasRecords, LeavesEntries, LeavesEntriesNow, HoldsCommitted, HoldsCommittedNow}
-use Rattle.cache_log.proofs.Opened.{are_read_again}
-use Rattle.plain_disk.specs.Machine.{Device, Mark, mark_of, settled, cut_to, mounted, AllInRange, data_sectors}
-use Rattle.vol_replay.specs.declared.mount.MountError.{MountError}
-use Rattle.vol_replay.specs.declared.mount.MountError.TheVariants.{NoSlot, Worn, BadRecord, DeviceFault, OutOfMemory}
-use Rattle.vol_replay.specs.Mounting.{IsMounted, MountsCleanly, FailsToMount, MakesWithin, is_without_fault}
-use Rattle.vol_replay.specs.Volume.{fuse_in, pending_in, room_behind, mark_at, broken_in, device_of, plain_of, IsStopped, IsCommitOf, IsCommitBehind, IsVolume}
-use Rattle.vol_replay.specs.Crash.{keeps_last_of, MayBeMounted}
-use Rattle.vol_replay.proofs.Volumes.{ready, HasTaken, has_taken}
-use Rattle.vol_replay.proofs.Asked.{newest_of, device_is}
-use Rattle.vol_replay.proofs.Flushed.{least_of}
-use Rattle.vol_replay.proofs.Crashed.{IsLeft, stop_in}
+use Rattle.cache_log.specs.Committed.{HasRecords}
+use Rattle.cache_log.proofs.ForCallers.{are_read_again}
+use Rattle.batcher.specs.Batch.{max_entries}
+use Rattle.plain_disk.specs.Machine.{Disk, Device, Mark, mark_of, device_at, cut_to, mounted, kept_mark, AllInRange}
+use Rattle.vol_core.specs.Volume.{VolumeState, TellsDevice, HoldsEntries, fuse_in, pending_in, room_after, mark_at, broken_in, device_of, plain_of, IsCommitOf, IsLaterCommitOf}
+use Rattle.vol_core.specs.Standing.{keeps_last, ReadsAtMark, ReadsByFates}
+use Rattle.vol_core.specs.Stepping.{HasRoomForCost}
+use Rattle.vol_recover.specs.declared.error.MountError.{MountError}
+use Rattle.vol_recover.specs.declared.error.MountError.TheVariants.{NoSlot, Worn, BadRecord, DeviceFault, OutOfMemory}
+use Rattle.vol_recover.specs.Mounting.{IsMounted, IsWorn, IsBadVolume, FailsToMount}
+use Rattle.vol_recover.specs.CrashSafety.{IsCrashSafeMount, HasVolume}
+use Rattle.vol_recover.specs.MountCosts.{mount_cost, failure_cost, mounts_without_fault, CostsFailure}
+use Rattle.vol_replay.specs.Bench.{MayBeMounted}
 
 -- ---- what is read
 
@@ -55,7 +55,7 @@ reads_same log m n a b bytes first second =
     let bytes' = first.is_open.sector.bytes in
     (same, (determines_body a b m n first.is_open.sector.numbers second.is_open.sector.numbers (sym bytes' ∙ ap (λ s. bytes_at (body_at s) 512 bytes) slot ∙ second.is_open.sector.bytes)).0)
 
--- the log on a device of so many bytes ends by its end
+-- the log on a device of this many bytes ends by its end
 log_ends : (size log : ℕ) → 4096 ≤ size → log_of size ≡ log → byte_of log ≤ size
 log_ends size log least is = omega (arith, least, is)
 
@@ -73,12 +73,12 @@ all_in_range geometry (entry ∷ list) all = (
 -- the records of a commit's entries are those that are read
 pub record IsReadAs (geometry : Geometry) (list : List Entry) (body : CommitBody) (left : List ℕ) : Type 0 where
   pub rows : List Row
-  pub read : AreRead geometry body rows left
-  pub only : (others : List Row) → AreRead geometry body others left → map (entry_of left) others ≡ list
+  pub read : AreRecordsInRange geometry body rows left
+  pub only : (others : List Row) → AreRecordsInRange geometry body others left → map (entry_of left) others ≡ list
 
-pub read_as : (geometry : Geometry) (history : List Entry) (device : Device) (keeps : Bool) (most size : ℕ) (left : List ℕ) → IsTrue (is_within_limits geometry) → AllInRange geometry history → length left ≡ size → 4096 ≤ size
-    → log_of size ≡ geometry.log → (is : IsLeft geometry history device keeps most left) → IsReadAs geometry (take is.body.head.seq history) is.body left
-read_as geometry history device keeps most size left limits in_range long least log is =
+pub read_as : (geometry : Geometry) (history : List Entry) (mark : Mark) (most size : ℕ) (left : List ℕ) → IsTrue (is_within_limits geometry) → AllInRange geometry history → length left ≡ size → 4096 ≤ size
+    → log_of size ≡ geometry.log → (is : ReadsAtMark geometry history most mark left) → IsReadAs geometry (take is.body.head.seq history) is.body left
+read_as geometry history mark most size left limits in_range long least log is =
     let list : List Entry = take is.body.head.seq history in
     let tail : is.body.tail.seq ≡ 0 = ap (λ m. m.seq) is.commit.tail in
     let upto : up_to is.body history ≡ list = ap (λ n. take n history) (omega (arith, tail)) in
@@ -92,16 +92,16 @@ read_as geometry history device keeps most size left limits in_range long least 
     record { rows = again.0.0; read = again.0.1; only = again.1 }
 
 -- a device that was stopped may be mounted
-pub may_mount : (geometry : Geometry) (history : List Entry) (device : Device) (keeps : Bool) (most size : ℕ) (left : List ℕ) (past : List Medium) (moments : List Medium) → IsTrue (is_within_limits geometry) → AllInRange geometry history
-    → length left ≡ size → 4096 ≤ size → log_of size ≡ geometry.log → most < 2 ^ 60 → moments ≡ durable left ∷ past → IsLeft geometry history device keeps most left → MayBeMounted geometry moments
-may_mount geometry history device keeps most size left past moments limits in_range long least log young is_moments is =
-    let found = read_as geometry history device keeps most size left limits in_range long least log is in
+pub may_mount : (geometry : Geometry) (history : List Entry) (mark : Mark) (most size : ℕ) (left : List ℕ) (past : List Medium) (moments : List Medium) → IsTrue (is_within_limits geometry) → AllInRange geometry history
+    → length left ≡ size → 4096 ≤ size → log_of size ≡ geometry.log → most < 2 ^ 60 → moments ≡ durable left ∷ past → ReadsAtMark geometry history most mark left → MayBeMounted geometry moments
+may_mount geometry history mark most size left past moments limits in_range long least log young is_moments is =
+    let found = read_as geometry history mark most size left limits in_range long least log is in
     record {
       number = is.number;
       body = is.body;
       rows = found.rows;
       young = (let e = is.young in omega (arith, e, young));
-      read = subst (HasNow (λ now. Reads geometry.log now.bytes is.body is.number × AreRead geometry is.body found.rows now.bytes)) (sym is_moments) (is.reads, found.read);
+      read = subst (HasNow (λ now. Reads geometry.log now.bytes is.body is.number × AreRecordsInRange geometry is.body found.rows now.bytes)) (sym is_moments) (is.reads, found.read);
     }
 
 -- ---- no refusal
@@ -113,55 +113,83 @@ newest_in : (P : Medium → Type 0) (moments : List Medium) → HasNow P moments
 newest_in P [] has = absurd has
 newest_in P (now ∷ past) has = (now, past, refl, has)
 
-no_fuse_in : (budget : Option Budget) → fuse_of budget ≡ Some None → fuse_in budget ≡ None
-no_fuse_in None e = refl
-no_fuse_in (Some budget) e = cc
+pub true_is_not_false : {P : Type 0} → ◌≡◌ {A = Bool} true false → P
+true_is_not_false e = cc
 
-faultless : (geometry : Geometry) (old new : DiskState) (budget : Budget) → old.budget ≡ Some budget → fuse_of old.budget ≡ Some None → HasRoom 9 1027 old.budget → MakesWithin 9 1027 false old new → ⊥
-faultless geometry old new budget told fuse room made =
-    let readied = ready 9 1027 old.budget old.budget budget told refl room in
-    let has = has_taken made.cost false 9 1027 old.budget old.budget new.budget readied made.changes' made.bytes' made.calls.budget in
-    let none : fuse_in old.budget ≡ None = no_fuse_in old.budget fuse in
-    let e : false ≡ true = has.made ∙ ap (λ f. passes f made.cost.calls) none in
-    cc
+-- calls of a mount on a device without a fuse and with room are all made
+record HasTook (is_made : Bool) (new : DiskState) : Type 0 where
+  made : is_made ≡ true
+  budget : Budget
+  told : new.budget ≡ Some budget
+  fuse : fuse_in new.budget ≡ None
 
-fault_in : (geometry : Geometry) (budget : Option Budget) (old new : DiskState) → old.budget ≡ budget → fuse_of old.budget ≡ Some None → HasRoom 9 1027 budget → MakesWithin 9 1027 false old new → ⊥
-fault_in geometry None old new is fuse room made = room
-fault_in geometry (Some budget) old new is fuse room made = faultless geometry old new budget is fuse (subst (HasRoom 9 1027) (sym is) room) made
+took_within : (most : Cost) (is_made : Bool) (old new : DiskState) (budget : Budget) → most.changes ≤ (mount_cost 0).changes → most.bytes ≤ (mount_cost 0).bytes → old.budget ≡ Some budget → budget.fuse ≡ None
+    → HasRoom (mount_cost 0).changes (mount_cost 0).bytes (Some budget) → MakesAtMost most is_made old new → HasTook is_made new
+took_within most is_made old new budget few short told none room made =
+    let P : Option Budget → Type 0 = λ o. Takes made.cost is_made o new.budget in
+    let of : Takes made.cost is_made (Some budget) new.budget = subst P told made.calls.budget in
+    let changes = made.most_changes in
+    let bytes = made.most_bytes in
+    let room_calls = room.0 in
+    let room_bytes = room.1 in
+    let fits = of.2 (omega (arith, changes, few, room_calls)) (omega (arith, bytes, short, room_bytes)) in
+    record {
+      made = fits.made ∙ ap (λ f. passes f made.cost.calls) none;
+      budget = of.0;
+      told = of.1;
+      fuse = ap fuse_in of.1 ∙ fits.fuse ∙ ap (λ f. fuse_after f made.cost.calls) none;
+    }
 
-fault_free : (geometry : Geometry) (old new : DiskState) → fuse_of old.budget ≡ Some None → HasRoom 9 1027 old.budget → MakesWithin 9 1027 false old new → ⊥
-fault_free geometry old new fuse room made = fault_in geometry old.budget old new refl fuse room made
+took_in : (most : Cost) (is_made : Bool) (given : Option Budget) (old new : DiskState) → most.changes ≤ (mount_cost 0).changes → most.bytes ≤ (mount_cost 0).bytes → old.budget ≡ given → fuse_of given ≡ Some None
+    → HasRoom (mount_cost 0).changes (mount_cost 0).bytes given → MakesAtMost most is_made old new → HasTook is_made new
+took_in most is_made None old new few short is fuse room made = absurd room
+took_in most is_made (Some budget) old new few short is fuse room made = (let none : budget.fuse ≡ None = cc in took_within most is_made old new budget few short is none room made)
 
--- a device that may be mounted, without a fuse and with room, is refused only for want of memory
-pub only_memory : (geometry : Geometry) (old new : DiskState) (error : MountError) → MayBeMounted geometry old.moments → fuse_of old.budget ≡ Some None → HasRoom 9 1027 old.budget
-    → FailsToMount geometry old error → MakesWithin 9 1027 (is_without_fault error) old new → error ≡ OutOfMemory
-only_memory geometry old new NoSlot may fuse room fails made =
-    let found = newest_in (λ now. Reads geometry.log now.bytes may.body may.number × AreRead geometry may.body may.rows now.bytes) old.moments may.read in
-    let none = now_is (λ now. ReadsNone geometry.log now.bytes) old.moments found.0 found.1 found.2 fails in
+took : (count : ℕ) (is_made : Bool) (old new : DiskState) → fuse_of old.budget ≡ Some None → HasRoomForCost (mount_cost 0) old → MakesAtMost (mount_cost count) is_made old new → HasTook is_made new
+took count is_made old new fuse room made = took_in (mount_cost count) is_made old.budget old new (omega arith) (omega arith) refl fuse room made
+
+-- a mount was made: what a stop leaves in it, and its calls
+pub record IsMountMade (geometry : Geometry) (old : DiskState) (log : LogState) : Type 0 where
+  pub crash_safe : IsCrashSafeMount geometry old log.commits.disk
+  pub costs : MakesAtMost (mount_cost (entry_count log.commits.body)) true old log.commits.disk
+
+device_is : (a b : Fuse) (c d : ℕ) (e f : Mark) (g h : Option Mark) → a ≡ b → c ≡ d → e ≡ f → g ≡ h
+    → ◌≡◌ {A = Device} (record { fuse = a; pending = c; mark = e; broken = g }) (record { fuse = b; pending = d; mark = f; broken = h })
+device_is a b c d e f g h p q r s =
+    ap (λ x. record { fuse = x; pending = c; mark = e; broken = g }) p
+    ∙ ap (λ x. record { fuse = b; pending = x; mark = e; broken = g }) q
+    ∙ ap (λ x. record { fuse = b; pending = d; mark = x; broken = g }) r
+    ∙ ap (λ x. record { fuse = b; pending = d; mark = f; broken = x }) s
+
+-- a device that may be mounted, without a fuse and with room, is refused only because memory ran out
+pub only_memory : (geometry : Geometry) (old new : DiskState) (error : MountError) → MayBeMounted geometry old.moments → fuse_of old.budget ≡ Some None → HasRoomForCost (mount_cost 0) old
+    → FailsToMount geometry error old → CostsFailure geometry error old new → error ≡ OutOfMemory
+only_memory geometry old new (NoSlot log) may fuse room fails made =
+    let found = newest_in (λ now. Reads geometry.log now.bytes may.body may.number × AreRecordsInRange geometry may.body may.rows now.bytes) old.moments may.read in
+    let none = now_is (λ now. ReadsNone geometry.log now.bytes) old.moments found.0 found.1 found.2 fails.1 in
     absurd (none found.3.0.slot may.body may.number found.3.0.is_open)
 only_memory geometry old new (Worn number) may fuse room fails made =
-    let found = newest_in (λ now. Reads geometry.log now.bytes may.body may.number × AreRead geometry may.body may.rows now.bytes) old.moments may.read in
-    let other = now_is (λ now. (body : CommitBody) × Reads geometry.log now.bytes body number) old.moments found.0 found.1 found.2 fails.1 in
-    let same = reads_same geometry.log number may.number other.0 may.body found.0.bytes other.1 found.3.0 in
+    let found = newest_in (λ now. Reads geometry.log now.bytes may.body may.number × AreRecordsInRange geometry may.body may.rows now.bytes) old.moments may.read in
+    let other = now_is (λ now. IsWorn geometry number now.bytes) old.moments found.0 found.1 found.2 fails.1 in
+    let same = reads_same geometry.log number may.number other.body may.body found.0.bytes other.read found.3.0 in
     let young = may.young in
     let old_enough = fails.0 in
     absurd (omega (arith, same.0, young, old_enough))
 only_memory geometry old new (BadRecord seq reason) may fuse room fails made =
-    let found = newest_in (λ now. Reads geometry.log now.bytes may.body may.number × AreRead geometry may.body may.rows now.bytes) old.moments may.read in
-    let bad = now_is (λ now. (number : ℕ) × (body : CommitBody) × Reads geometry.log now.bytes body number × (number < 2 ^ 60) × IsBadRecord geometry body seq reason now.bytes
-    × ((rows : List Row) → ¬ AreRead geometry body rows now.bytes)) old.moments found.0 found.1 found.2 fails in
-    let same = reads_same geometry.log bad.0 may.number bad.1 may.body found.0.bytes bad.2 found.3.0 in
-    let P : CommitBody → Type 0 = λ b. AreRead geometry b may.rows found.0.bytes in
-    absurd (bad.5 may.rows (subst P (sym same.1) found.3.1))
-only_memory geometry old new DeviceFault may fuse room fails made = absurd (fault_free geometry old new fuse room made)
+    let found = newest_in (λ now. Reads geometry.log now.bytes may.body may.number × AreRecordsInRange geometry may.body may.rows now.bytes) old.moments may.read in
+    let bad = now_is (λ now. IsBadVolume geometry seq reason now.bytes) old.moments found.0 found.1 found.2 fails in
+    let same = reads_same geometry.log bad.number may.number bad.body may.body found.0.bytes bad.read found.3.0 in
+    let P : CommitBody → Type 0 = λ b. AreRecordsInRange geometry b may.rows found.0.bytes in
+    absurd (bad.none may.rows (subst P (sym same.1) found.3.1))
+only_memory geometry old new DeviceFault may fuse room fails made = true_is_not_false (sym (took made.count false old new fuse room made.calls).made)
 only_memory geometry old new OutOfMemory may fuse room fails made = refl
 
 -- ---- what is mounted
 
--- what was mounted behind a stop that left a commit
+-- what was mounted after a stop that left a commit
 pub record IsRemade (geometry : Geometry) (history : List Entry) (body : CommitBody) (most : ℕ) (log : LogState) (list : List Entry) : Type 0 where
-  pub list' : list ≡ take body.head.seq history
-  pub body' : log.commits.body ≡ body
+  pub list_is : list ≡ take body.head.seq history
+  pub body_is : log.commits.body ≡ body
   pub number : log.commits.number ≤ most + 1
   pub unfinished : log.commits.unfinished ≡ None
   pub room : log.room ≡ room_of geometry.log body.head.position (sectors_between geometry.log body)
@@ -178,54 +206,44 @@ some_before : (since old : List Medium) → HasNow (λ m. Unit {0}) old → HasN
 some_before [] old has = has
 some_before (now ∷ since) old has = tt
 
-still_pending : (moments : List Medium) → HoldsNow IsStill moments → pending_in moments ≡ 0
+still_pending : (moments : List Medium) → HoldsNow IsSynced moments → pending_in moments ≡ 0
 still_pending [] still = refl
 still_pending (now ∷ past) still = ap length still.pending
 
-budget_in : (geometry : Geometry) (given : Option Budget) (old new : DiskState) → old.budget ≡ given → fuse_of old.budget ≡ Some None → HasRoom 9 1027 given → (made : MakesWithin 9 1027 true old new)
-    → HasTaken made.cost true (fuse_in old.budget) new.budget
-budget_in geometry None old new is fuse room made = absurd room
-budget_in geometry (Some budget) old new is fuse room made =
-    let readied = ready 9 1027 old.budget old.budget budget is refl (subst (HasRoom 9 1027) (sym is) room) in
-    has_taken made.cost true 9 1027 old.budget old.budget new.budget readied made.changes' made.bytes' made.calls.budget
-
-none_lowered : (fuse : Fuse) (n : ℕ) → fuse ≡ None → lowered fuse n ≡ None
-none_lowered fuse n is = ap (λ f. lowered f n) is
-
-pub remade : (geometry : Geometry) (history : List Entry) (device : Device) (keeps : Bool) (most size : ℕ) (left : List ℕ) (past : List Medium) (disk : DiskState) (log : LogState) (list : List Entry) → IsTrue (is_within_limits geometry)
-    → AllInRange geometry history → length left ≡ size → 4096 ≤ size → log_of size ≡ geometry.log → disk.moments ≡ durable left ∷ past → (is : IsLeft geometry history device keeps most left)
-    → fuse_of disk.budget ≡ Some None → HasRoom 9 1027 disk.budget → IsMounted geometry disk log list → MountsCleanly geometry disk log.commits.disk → MakesWithin 9 1027 true disk log.commits.disk
+pub remade : (geometry : Geometry) (history : List Entry) (mark : Mark) (most size : ℕ) (left : List ℕ) (past : List Medium) (disk : DiskState) (log : LogState) (list : List Entry) → IsTrue (is_within_limits geometry)
+    → AllInRange geometry history → length left ≡ size → 4096 ≤ size → log_of size ≡ geometry.log → disk.moments ≡ durable left ∷ past → (is : ReadsAtMark geometry history most mark left)
+    → fuse_of disk.budget ≡ Some None → HasRoomForCost (mount_cost 0) disk → IsMounted geometry disk log list → IsMountMade geometry disk log
     → IsRemade geometry history is.body most log list
-remade geometry history device keeps most size left past disk log list limits in_range long least log_size moments is fuse room mounted' clean made =
-    let found = read_as geometry history device keeps most size left limits in_range long least log_size is in
+remade geometry history mark most size left past disk log list limits in_range long least log_size moments is fuse room found_log made =
+    let found = read_as geometry history mark most size left limits in_range long least log_size is in
     let now : Medium = durable left in
-    let read = now_is (λ now. Reads geometry.log now.bytes mounted'.body mounted'.number) disk.moments now past moments mounted'.read in
-    let same = reads_same geometry.log mounted'.number is.number mounted'.body is.body left read is.reads in
-    let records = now_is (λ now. AreRead geometry mounted'.body log.rows now.bytes) disk.moments now past moments mounted'.records in
-    let P : CommitBody → Type 0 = λ b. AreRead geometry b log.rows left in
-    let entries = now_is (λ now. list ≡ map (entry_of now.bytes) log.rows) disk.moments now past moments mounted'.entries in
+    let read = now_is (λ now. Reads geometry.log now.bytes found_log.body found_log.number) disk.moments now past moments found_log.read in
+    let same = reads_same geometry.log found_log.number is.number found_log.body is.body left read is.reads in
+    let records = now_is (λ now. AreRecordsInRange geometry found_log.body log.rows now.bytes) disk.moments now past moments found_log.records in
+    let P : CommitBody → Type 0 = λ b. AreRecordsInRange geometry b log.rows left in
+    let entries = now_is (λ now. list ≡ map (entry_of now.bytes) log.rows) disk.moments now past moments found_log.entries in
     let Q : CommitBody → Type 0 = λ b. log.room ≡ room_of geometry.log b.head.position (sectors_between geometry.log b) in
-    let still : HoldsNow IsStill disk.moments = subst (HoldsNow IsStill) (sym moments) (record { pending = refl; synced = refl }) in
-    let reads : HoldsNow (λ now. Reads geometry.log now.bytes is.body is.number × AreRead geometry is.body found.rows now.bytes) disk.moments =
-    subst (HoldsNow (λ now. Reads geometry.log now.bytes is.body is.number × AreRead geometry is.body found.rows now.bytes)) (sym moments) (is.reads, found.read) in
-    let passes' = clean is.number is.body found.rows still reads in
-    let since = now_is _ disk.moments now past moments passes' in
+    let synced_now : HoldsNow IsSynced disk.moments = subst (HoldsNow IsSynced) (sym moments) (record { pending = refl; synced = refl }) in
+    let reads : HoldsNow (λ now. Reads geometry.log now.bytes is.body is.number × AreRecordsInRange geometry is.body found.rows now.bytes) disk.moments =
+    subst (HoldsNow (λ now. Reads geometry.log now.bytes is.body is.number × AreRecordsInRange geometry is.body found.rows now.bytes)) (sym moments) (is.reads, found.read) in
+    let passing = made.crash_safe is.number is.body found.rows synced_now reads in
+    let since = now_is _ disk.moments now past moments passing in
     let there : HasNow (λ m. Unit {0}) disk.moments = subst (HasNow (λ m. Unit {0})) (sym moments) tt in
-    let taken = budget_in geometry disk.budget disk log.commits.disk refl fuse room made in
+    let taken = took (entry_count log.commits.body) true disk log.commits.disk fuse room made.costs in
     record {
-      list' = entries ∙ found.only log.rows (subst P same.1 records);
-      body' = mounted'.commits.body' ∙ same.1;
-      number = (let a = mounted'.commits.number' in let b = same.0 in let c = is.young in omega (arith, a, b, c));
-      unfinished = mounted'.commits.unfinished';
-      room = subst Q same.1 mounted'.room;
-      first = mounted'.first ∙ ap (λ (b : CommitBody). b.tail.seq) same.1 ∙ ap (λ m. m.seq) is.commit.tail;
+      list_is = entries ∙ found.only log.rows (subst P same.1 records);
+      body_is = found_log.commits.same_body ∙ same.1;
+      number = (let a = found_log.commits.same_number in let b = same.0 in let c = is.young in omega (arith, a, b, c));
+      unfinished = found_log.commits.same_unfinished;
+      room = subst Q same.1 found_log.room;
+      first = found_log.first ∙ ap (λ (b : CommitBody). b.tail.seq) same.1 ∙ ap (λ m. m.seq) is.commit.tail;
       count = sym (ap length entries ∙ length-map log.rows (entry_of left));
-      entries = now_is (λ now. log.entries ≡ Some list) disk.moments now past moments mounted'.told;
+      entries = now_is (λ now. log.entries ≡ Some list) disk.moments now past moments found_log.same_entries;
       now = subst (HasNow (λ m. Unit {0})) (sym since.moments) (some_before since.since disk.moments there);
-      pending = still_pending log.commits.disk.moments mounted'.still;
+      pending = still_pending log.commits.disk.moments found_log.synced;
       budget = taken.budget;
       told = taken.told;
-      fuse = taken.fuse' ∙ none_lowered (fuse_in disk.budget) made.cost.calls (no_fuse_in disk.budget fuse);
+      fuse = taken.fuse;
     }
 
 -- a front of a history is kept as the history is
@@ -234,111 +252,157 @@ commit_in_front geometry history body is = record {
   uuid = is.uuid;
   tail = is.tail;
   inside = (let e = length-take-le body.head.seq history is.inside in omega (arith, e));
-  room = ap (room_behind (empty_log geometry.log)) (take-take body.head.seq body.head.seq history (omega arith)) ∙ is.room;
+  room = ap (room_after (empty_log geometry.log)) (take-take body.head.seq body.head.seq history (omega arith)) ∙ is.room;
 }
 
-pub remade_volume : (geometry : Geometry) (history : List Entry) (sectors sum most : ℕ) (is_stopping : Bool) (body : CommitBody) (old log : LogState) (list : List Entry) → IsVolume geometry history sectors is_stopping old
-    → IsCommitOf geometry history body → IsRemade geometry history body most log list → sum ≡ sum_by data_sectors list → IsVolume geometry list sum false log
-remade_volume geometry history sectors sum most is_stopping body old log list is commit made counted =
-    let front : List Entry = take body.head.seq history in
-    let count : length list ≡ body.head.seq = ap length made.list' ∙ length-take-le body.head.seq history commit.inside in
+pub remade_holds : (geometry : Geometry) (history : List Entry) (most : ℕ) (body : CommitBody) (log : LogState) (list : List Entry) → IsTrue (is_within_limits geometry) → AllInRange geometry history
+    → length history ≤ max_entries → IsCommitOf geometry history body → IsRemade geometry history body most log list → HoldsEntries geometry list log
+remade_holds geometry history most body log list limits in_range fits commit made =
+    let count : length list ≡ body.head.seq = ap length made.list_is ∙ length-take-le body.head.seq history commit.inside in
     let R : List Entry → Type 0 = λ l. IsCommitOf geometry l log.commits.body in
-    let P : Option CommitBody → Type 0 = λ u. IfSome u (IsCommitBehind geometry list log.commits.body) in
+    let P : Option CommitBody → Type 0 = λ u. IfSome u (IsLaterCommitOf geometry list log.commits.body) in
+    let Q : List Entry → Type 0 = λ l. AllInRange geometry l in
+    let number = ap (λ u. finished_number log.commits.number u) made.unfinished in
     record {
-      kept = record {
-        limits = is.kept.limits;
-        in_range = (let Q : List Entry → Type 0 = λ l. AllInRange geometry l in subst Q (sym made.list') (All-take (λ e. is_in_range geometry e ≡ true) body.head.seq history is.kept.in_range));
-        counted = counted;
+      volume = record {
+        kept = record {
+          limits = limits;
+          in_range = subst Q (sym made.list_is) (All-take (λ e. is_in_range geometry e ≡ true) body.head.seq history in_range);
+          counted = refl;
+        };
+        entries = made.entries;
+        first = made.first;
+        count = made.count;
+        most = (let b = commit.inside in omega (arith, count, fits, b));
+        log_sectors = ap (λ r. r.log) made.room;
+        room = made.room ∙ sym commit.room ∙ ap (room_after (empty_log geometry.log)) (sym made.list_is);
+        last = subst R (sym made.list_is) (subst (IsCommitOf geometry (take body.head.seq history)) (sym made.body_is) (commit_in_front geometry history body commit));
+        left = subst P (sym made.unfinished) tt;
+        budget = made.budget;
+        told = made.told;
+        now = made.now;
+        numbers = omega (arith, number);
       };
-      entries = made.entries;
-      first = made.first;
-      count = made.count;
-      most = (let a = is.most in let b = commit.inside in omega (arith, count, a, b));
-      sectors' = ap (λ r. r.log) made.room;
-      room = made.room ∙ sym commit.room ∙ ap (room_behind (empty_log geometry.log)) (sym made.list');
-      last = subst R (sym made.list') (subst (IsCommitOf geometry front) (sym made.body') (commit_in_front geometry history body commit));
-      left = subst P (sym made.unfinished) tt;
-      budget = made.budget;
-      told = made.told;
-      now = made.now;
-      stopping = sym (ap is_some made.fuse);
-      stopped = subst (IsStopped log.commits) (sym made.unfinished) tt;
+      finished = made.unfinished;
     }
 
 -- what the machine makes of it
-pub remade_plain : (geometry : Geometry) (history : List Entry) (device : Device) (keeps : Bool) (most : ℕ) (left : List ℕ) (old log : LogState) (list : List Entry) → (is : IsLeft geometry history (device_of geometry history old.commits) keeps most left)
-    → IsRemade geometry history is.body most log list → plain_of geometry list log ≡ mounted keeps (plain_of geometry history old)
-remade_plain geometry history device keeps most left old log list is made =
+pub remade_plain : (plain : Disk) (keeps : Bool) (most : ℕ) (left : List ℕ) (log : LogState) (list : List Entry) → (is : ReadsAtMark plain.geometry plain.history most (kept_mark keeps plain.device) left)
+    → IsRemade plain.geometry plain.history is.body most log list → plain_of plain.geometry list log ≡ mounted keeps plain
+remade_plain plain keeps most left log list is made =
+    let geometry : Geometry = plain.geometry in
+    let history : List Entry = plain.history in
     let body : CommitBody = is.body in
-    let front : List Entry = take body.head.seq history in
     let mark : Mark = mark_at geometry history body in
-    let mark' : mark_at geometry list log.commits.body ≡ mark =
-    ap (mark_at geometry list) made.body' ∙ ap (λ l. mark_of body.head.seq (room_behind (empty_log geometry.log) (take body.head.seq l))) made.list'
-    ∙ ap (λ l. mark_of body.head.seq (room_behind (empty_log geometry.log) l)) (take-take body.head.seq body.head.seq history (omega arith)) in
-    let device' : device_of geometry list log.commits ≡ settled mark =
+    let marked : mark_at geometry list log.commits.body ≡ mark =
+    ap (mark_at geometry list) made.body_is ∙ ap (λ l. mark_of body.head.seq (room_after (empty_log geometry.log) (take body.head.seq l))) made.list_is
+    ∙ ap (λ l. mark_of body.head.seq (room_after (empty_log geometry.log) l)) (take-take body.head.seq body.head.seq history (omega arith)) in
+    let device : device_of geometry list log.commits ≡ device_at mark =
     device_is (fuse_in log.commits.disk.budget) None (pending_in log.commits.disk.moments) 0 (mark_at geometry list log.commits.body) mark (broken_in geometry list log.commits log.commits.unfinished) None
-    made.fuse made.pending mark' (ap (broken_in geometry list log.commits) made.unfinished) in
+    made.fuse made.pending marked (ap (broken_in geometry list log.commits) made.unfinished) in
     let room : log.room ≡ mark.room = made.room ∙ sym is.commit.room in
-    ap (λ d. record { geometry = geometry; history = list; room = log.room; device = d }) device'
-    ∙ ap (λ r. record { geometry = geometry; history = list; room = r; device = settled mark }) room
-    ∙ ap (λ l. record { geometry = geometry; history = l; room = mark.room; device = settled mark }) made.list'
-    ∙ ap (λ m. cut_to m (plain_of geometry history old)) is.mark
+    ap (λ d. record { geometry = geometry; history = list; room = log.room; device = d }) device
+    ∙ ap (λ r. record { geometry = geometry; history = list; room = r; device = device_at mark }) room
+    ∙ ap (λ l. record { geometry = geometry; history = l; room = mark.room; device = device_at mark }) made.list_is
+    ∙ ap (λ m. cut_to m plain) is.is_at
 
 -- ---- a stop of a volume
 
 -- what a stop with these fates leaves of a volume
-pub record HasCrashed (geometry : Geometry) (history : List Entry) (log : LogState) (fates : List Fate) (disk : DiskState) : Type 0 where
+pub record HasCrashed (volume : VolumeState) (fates : List Fate) (disk : DiskState) : Type 0 where
   pub left : List ℕ
   pub past : List Medium
   pub moments : disk.moments ≡ durable left ∷ past
   pub size : length left ≡ disk.size
-  pub least : 4096 ≤ disk.size
-  pub log' : log_of disk.size ≡ geometry.log
-  pub is : IsLeft geometry history (device_of geometry history log.commits) (keeps_last_of fates) (log.commits.number + 1) left
+  pub is : ReadsAtMark volume.plain.geometry volume.plain.history volume.steps (kept_mark (keeps_last fates) volume.plain.device) left
 
-gate_in : (size : ℕ) (geometry : Geometry) (unfinished : Option CommitBody) (commits : CommitsState) (now : Medium) (past : List Medium) → commits.disk.moments ≡ now ∷ past → log_of commits.disk.size ≡ geometry.log
-    → IfSome unfinished (λ more. HoldsNow (HasGate (log_of commits.disk.size) commits.number commits.body more) commits.disk.moments)
-    → IfSome unfinished (λ more. HasGate geometry.log commits.number commits.body more now)
-gate_in size geometry None commits now past moments log gate = tt
-gate_in size geometry (Some more) commits now past moments log gate =
-    let P : ℕ → Type 0 = λ n. HasGate n commits.number commits.body more now in
-    subst P log (now_is (HasGate (log_of commits.disk.size) commits.number commits.body more) commits.disk.moments now past moments gate)
+newest_of : (moments : List Medium) → HasNow (λ m. Unit {0}) moments → (now : Medium) × (past : List Medium) × (moments ≡ now ∷ past)
+newest_of [] has = absurd has
+newest_of (now ∷ past) has = (now, past, refl)
 
-pub has_crashed : (geometry : Geometry) (history : List Entry) (sectors : ℕ) (is_stopping : Bool) (log : LogState) (fates : List Fate) (disk : DiskState) → IsVolume geometry history sectors is_stopping log
-    → length fates ≡ pending_in log.commits.disk.moments → IsDisk log.commits.disk → log.room.log ≡ log_of log.commits.disk.size → LeavesEntriesNow log (IsLast log.commits) → HoldsCommittedNow log → ReadsByGate log.commits
-    → disk.size ≡ log.commits.disk.size → stops.IsStopped fates log.commits.disk.moments disk.moments
-    → HoldsNow (λ now. MayLeave now (left_in_order fates log.commits.disk.moments)) log.commits.disk.moments → HasCrashed geometry history log fates disk
-has_crashed geometry history sectors is_stopping log fates disk is count is_disk of stands holds gate size stopped may =
-    let newest = newest_of log.commits.disk.moments is.now in
-    let now : Medium = newest.now in
-    let left : List ℕ = left_in_order fates log.commits.disk.moments in
-    let may' : MayLeave now left = now_is (λ now. MayLeave now left) log.commits.disk.moments now newest.past newest.is may in
-    let has : HasSize log.commits.disk.size now = (subst (AllByRecursion (HasSize log.commits.disk.size)) newest.is is_disk.media).0 in
-    let least : 4096 ≤ log.commits.disk.size = least_of geometry log is.kept.limits is.sectors' of in
-    let log_size : log_of log.commits.disk.size ≡ geometry.log = sym of ∙ is.sectors' in
-    let P : Option (List Entry) → Type 0 = λ list. IfSome list (λ l. HoldsNow (LeavesEntries log.room.log l (IsLast log.commits)) log.commits.disk.moments) in
-    let Q : Option (List Entry) → Type 0 = λ list. IfSome list (λ l. HoldsNow (HoldsCommitted log l) log.commits.disk.moments) in
-    let leaves = now_is (LeavesEntries log.room.log history (IsLast log.commits)) log.commits.disk.moments now newest.past newest.is (subst P is.entries stands) in
-    let held = now_is (HoldsCommitted log history) log.commits.disk.moments now newest.past newest.is (subst Q is.entries holds) in
-    let count' : length fates ≡ length now.pending = count ∙ ap pending_in newest.is in
+pub has_crashed : (volume : VolumeState) (fates : List Fate) (disk : DiskState) → TellsDevice volume → IsDisk volume.disk → ReadsByFates volume → length fates ≡ volume.plain.device.pending
+    → disk.size ≡ volume.disk.size → stops.IsStopped fates volume.disk.moments disk.moments
+    → HoldsNow (λ now. MayLeave now (left_in_order fates volume.disk.moments)) volume.disk.moments → HasCrashed volume fates disk
+has_crashed volume fates disk tells is_disk reads count size stopped may =
+    let newest = newest_of volume.disk.moments tells.now in
+    let left : List ℕ = left_in_order fates volume.disk.moments in
+    let may_now : MayLeave newest.0 left = now_is (λ now. MayLeave now left) volume.disk.moments newest.0 newest.1 newest.2 may in
+    let has : HasSize volume.disk.size newest.0 = (subst (AllByRecursion (HasSize volume.disk.size)) newest.2 is_disk.media).0 in
     record {
       left = left;
       past = stopped.past;
       moments = stopped.moments;
-      size = may'.count ∙ has.synced ∙ sym size;
-      least = omega (arith, size, least);
-      log' = ap log_of size ∙ log_size;
-      is =
-          stop_in log.commits.unfinished geometry history sectors is_stopping log now newest.past fates refl is newest.is (let e = has.synced in omega (arith, e, least)) count' leaves held
-          (gate_in log.commits.disk.size geometry log.commits.unfinished log.commits now newest.past newest.is log_size gate) may';
+      size = may_now.count ∙ has.synced ∙ sym size;
+      is = reads fates count may;
     }
 
--- the data of the first entries are among those of all
-pub sum_of_front : (history : List Entry) (k : ℕ) → sum_by data_sectors (take k history) ≤ sum_by data_sectors history
-sum_of_front history k =
-    let whole = ap (sum_by data_sectors) (take-append-drop k history) in
-    let parts = sum_by-append data_sectors (take k history) (drop k history) in
-    omega (arith, whole, parts)
+-- as many fates as pending writes
+pub fates_of_pending : (volume : VolumeState) (fates : List Fate) → TellsDevice volume → length fates ≡ volume.plain.device.pending → HoldsNow (λ now. length fates ≡ length now.pending) volume.disk.moments
+fates_of_pending volume fates tells count =
+    let newest = newest_of volume.disk.moments tells.now in
+    subst (HoldsNow (λ now. length fates ≡ length now.pending)) (sym newest.2) (count ∙ tells.pending ∙ ap pending_in newest.2)
 
-pub true_is_not_false : ◌≡◌ {A = Bool} true false → ⊥
-true_is_not_false e = cc
+pub pending_is : (volume : VolumeState) (n : ℕ) → TellsDevice volume → HoldsNow (λ now. n ≡ length now.pending) volume.disk.moments → n ≡ volume.plain.device.pending
+pending_is volume n tells holds =
+    let newest = newest_of volume.disk.moments tells.now in
+    now_is (λ now. n ≡ length now.pending) volume.disk.moments newest.0 newest.1 newest.2 holds ∙ sym (ap pending_in newest.2) ∙ sym tells.pending
+
+-- all that is known when a volume is mounted after a stop
+pub record IsCrash (volume : VolumeState) (fates : List Fate) (disk : DiskState) : Type 0 where
+  pub crashed : HasCrashed volume fates disk
+  pub limits : IsTrue (is_within_limits volume.plain.geometry)
+  pub in_range : AllInRange volume.plain.geometry volume.plain.history
+  pub most : length volume.plain.history ≤ max_entries
+  pub least : 4096 ≤ disk.size
+  pub log : log_of disk.size ≡ volume.plain.geometry.log
+
+pub crash_of : (volume : VolumeState) (fates : List Fate) (given disk : DiskState) → given ≡ volume.disk → TellsDevice volume → IsDisk volume.disk → ReadsByFates volume → length fates ≡ volume.plain.device.pending
+    → IsTrue (is_within_limits volume.plain.geometry) → AllInRange volume.plain.geometry volume.plain.history → length volume.plain.history ≤ max_entries → 4096 ≤ volume.disk.size → log_of volume.disk.size ≡ volume.plain.geometry.log
+    → disk.size ≡ given.size → stops.IsStopped fates given.moments disk.moments → HoldsNow (λ now. MayLeave now (left_in_order fates given.moments)) given.moments → IsCrash volume fates disk
+crash_of volume fates given disk is tells is_disk reads count limits in_range most least log size stopped may =
+    let same : disk.size ≡ volume.disk.size = size ∙ ap (λ (d : DiskState). d.size) is in
+    let P : DiskState → Type 0 = λ d. stops.IsStopped fates d.moments disk.moments in
+    let Q : DiskState → Type 0 = λ d. HoldsNow (λ now. MayLeave now (left_in_order fates d.moments)) d.moments in
+    record {
+      crashed = has_crashed volume fates disk tells is_disk reads count same (subst P is stopped) (subst Q is may);
+      limits = limits;
+      in_range = in_range;
+      most = most;
+      least = omega (arith, least, same);
+      log = ap log_of same ∙ log;
+    }
+
+-- what was left may be mounted
+pub crash_may : (volume : VolumeState) (fates : List Fate) (disk : DiskState) (geometry : Geometry) → IsCrash volume fates disk → geometry ≡ volume.plain.geometry → volume.steps < 2 ^ 59 → MayBeMounted geometry disk.moments
+crash_may volume fates disk geometry is same few =
+    let P : Geometry → Type 0 = λ g. MayBeMounted g disk.moments in
+    subst P (sym same)
+    (may_mount volume.plain.geometry volume.plain.history (kept_mark (keeps_last fates) volume.plain.device) volume.steps disk.size is.crashed.left is.crashed.past disk.moments is.limits is.in_range is.crashed.size is.least is.log
+    (omega (arith, few)) is.crashed.moments is.crashed.is)
+
+-- what is mounted then
+pub record IsMountedAgain (volume : VolumeState) (fates : List Fate) (geometry : Geometry) (log : LogState) (list : List Entry) : Type 0 where
+  pub holds : HoldsEntries geometry list log
+  pub plain : plain_of geometry list log ≡ mounted (keeps_last fates) volume.plain
+  pub count : length list ≡ (kept_mark (keeps_last fates) volume.plain.device).count
+  pub steps : log.commits.number ≤ volume.steps + 1
+
+again_at : (volume : VolumeState) (fates : List Fate) (disk : DiskState) (log : LogState) (list : List Entry) → IsCrash volume fates disk → fuse_of disk.budget ≡ Some None → HasRoomForCost (mount_cost 0) disk
+    → IsMounted volume.plain.geometry disk log list → IsMountMade volume.plain.geometry disk log → IsMountedAgain volume fates volume.plain.geometry log list
+again_at volume fates disk log list is fuse room ok made =
+    let plain : Disk = volume.plain in
+    let left = is.crashed in
+    let again =
+    remade plain.geometry plain.history (kept_mark (keeps_last fates) plain.device) volume.steps disk.size left.left left.past disk log list is.limits is.in_range left.size is.least is.log left.moments left.is fuse room ok made in
+    record {
+      holds = remade_holds plain.geometry plain.history volume.steps left.is.body log list is.limits is.in_range is.most left.is.commit again;
+      plain = remade_plain plain (keeps_last fates) volume.steps left.left log list left.is again;
+      count = ap length again.list_is ∙ length-take-le left.is.body.head.seq plain.history left.is.commit.inside ∙ ap (λ (m : Mark). m.count) left.is.is_at;
+      steps = again.number;
+    }
+
+pub mounted_again : (volume : VolumeState) (fates : List Fate) (disk : DiskState) (geometry : Geometry) (log : LogState) (list : List Entry) → IsCrash volume fates disk → geometry ≡ volume.plain.geometry
+    → fuse_of disk.budget ≡ Some None → HasRoomForCost (mount_cost 0) disk → IsMounted geometry disk log list → IsMountMade geometry disk log → IsMountedAgain volume fates geometry log list
+mounted_again volume fates disk geometry log list is same fuse room ok made =
+    let P : Geometry → Type 0 = λ g. IsMounted g disk log list → IsMountMade g disk log → IsMountedAgain volume fates g log list in
+    (subst P (sym same) (again_at volume fates disk log list is fuse room)) ok made

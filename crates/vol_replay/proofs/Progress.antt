@@ -120,7 +120,7 @@ written_stopped old mid new script pending rest line after number reason state r
     let P : Outcome → Type 0 = λ o. WritesText old new script o in
     subst P (sym h.0) (r.written ++ take h.1.0 pending, appends_more old mid new r.written (take h.1.0 pending) r.taken h.1.2, front_of_transcript script r.written pending rest number state h.1.0 short r.under_way)
 
--- memory lacked before the next line was answered
+-- memory ran out before the next line was answered
 pub written_so_far : (old mid : Option (List ℕ)) (script pending rest : List ℕ) (number : ℕ) (state : State)
     → length script ≤ 2 ^ 24 → IsRun old mid script pending rest number state → WritesText old mid script OutOfMemory
 written_so_far old mid script pending rest number state short r =

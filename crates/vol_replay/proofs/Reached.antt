@@ -3,15 +3,16 @@ use Rattle.std.proofs.Common.{◌≡◌, ℕ, ◌+◌, ◌*◌, List, [], ◌∷
 use Rattle.std.specs.Prelude.{Some, None, Bool}
 use Rattle.plain_disk.specs.Machine.{Disk}
 use Rattle.plain_disk.specs.Laws.{HasDevice}
-use Rattle.plain_disk.specs.declared.event.Event.TheVariants as events
+use Rattle.volume_events.specs.declared.event.Event.TheVariants as events
 use Rattle.plain_disk.proofs.Kept.{created_has, event_keeps, stop_keeps, mount_keeps, keeps_flushed}
 use Rattle.replay_script.specs.declared.command.Command.{Command}
 use Rattle.replay_script.specs.declared.command.Command.TheVariants.{New, Write, Zero, Read, Flush, Stop, CrashKeep}
 use Rattle.replay_script.specs.Grammar.{lines_of}
 use Rattle.vol_replay.specs.declared.outcome.Outcome.{Outcome}
 use Rattle.vol_replay.specs.declared.outcome.Outcome.TheVariants.{Done, BadLine}
-use Rattle.vol_replay.specs.Letters.{keeps_last}
-use Rattle.vol_replay.specs.Reached.{Reaches, KeepsFlushed}
+use Rattle.vol_replay.specs.Letters.{fates_of}
+use Rattle.vol_core.specs.Standing.{keeps_last}
+use Rattle.vol_replay.specs.Reached.{Reaches, IsKeptByStops}
 use Rattle.vol_replay.specs.Transcript.{State, Answers, Transcript, IsTranscript}
 
 -- the commits of the device are of entries that the disk took, where there is a disk
@@ -37,7 +38,7 @@ answer_keeps (Some disk) (Zero lba sectors) text next s h = along next _ s.1 (ev
 answer_keeps (Some disk) (Read lba sectors) text next s h = along next _ s.1 (event_keeps disk (events.Read lba sectors) h)
 answer_keeps (Some disk) Flush text next s h = along next _ s.1 (event_keeps disk events.Flush h)
 answer_keeps (Some disk) (Stop calls) text next s h = along next _ s.2 (stop_keeps disk calls s.0 h)
-answer_keeps (Some disk) (CrashKeep device objects) text next s h = along next _ s.1.1 (mount_keeps disk (keeps_last device) h)
+answer_keeps (Some disk) (CrashKeep device objects) text next s h = along next _ s.1.1 (mount_keeps disk (keeps_last (fates_of disk.device.pending device)) h)
 
 -- an outcome with a disk has such a one
 abbrev OutcomeHas : Outcome → Type 0
@@ -58,7 +59,7 @@ script_keeps script text disk (inl t) = lines_keep (lines_of script) 1 None text
 script_keeps script text disk (inr t) = cc
 
 -- in each state that a script reaches, a stop keeps what was flushed, and no more than was taken
-pub reached_keeps : (script : List ℕ) (disk : Disk) (keeps : Bool) → Reaches script disk → KeepsFlushed disk keeps
+pub reached_keeps : (script : List ℕ) (disk : Disk) (keeps : Bool) → Reaches script disk → IsKeptByStops disk keeps
 reached_keeps script disk keeps (text, t) =
     let both = keeps_flushed disk.history disk.device keeps (script_keeps script text disk t) in
     record { flushed = both.0; taken = both.1 }

@@ -7,6 +7,7 @@ use Rattle.std.proofs.lemmas.List.{take-append-le}
 use Rattle.vol_replay.specs.declared.outcome.Outcome.{Outcome}
 use Rattle.vol_replay.specs.declared.outcome.Outcome.TheVariants.{Done, BadLine, ReadFault, WriteFault, OutOfMemory}
 use Rattle.vol_replay.specs.declared.outcome.Reason.TheVariants.{TooLong}
+use Rattle.lsvd_fault.specs.Faults.{Counts}
 use Rattle.lsvd_fault.proofs.Streams.{appends_nothing}
 use Rattle.vol_replay.proofs.Existence.{nothing_written}
 use Rattle.vol_replay.specs.Transcript.{IsTranscript, IsFrontOfTranscript, IsWritten, line_after}
@@ -20,6 +21,11 @@ at_error (Err x) e p = p
 pub at_success : {T E P : Type 0} (r : Result T E) → is_err r ≡ false → OnOk r P → P
 at_success (Ok x) e p = p
 at_success (Err x) e p = cc
+
+-- nothing was counted where there is none
+pub not_counted : {T E : Type 0} (r : Result T E) → is_err r ≡ false → (before now : ℕ) → Counts (is_err r) before now → now ≡ before
+not_counted (Ok x) e before now counts = counts
+not_counted (Err x) e before now counts = cc
 
 -- a list that is empty by its test
 pub is_nothing : (xs : List ℕ) → (length xs == 0) ≡ true → xs ≡ []

@@ -1,4 +1,4 @@
--- What the steps of a replay do to the answers that are still to be written.
+-- For this crate's own clauses: what the steps of a replay do to the answers that are still to be written.
 use Rattle.std.specs.Prelude.{◌≡◌, ℕ, ◌≤◌, ◌⊎◌, Option, Some, None, List, ◌++◌, length, take}
 use Rattle.std.specs.Io.KnownBytes.{Appends}
 use Rattle.replay_script.specs.declared.error.LineError.{LineError}
@@ -11,17 +11,17 @@ use Rattle.vol_replay.specs.declared.outcome.Reason.{Reason}
 use Rattle.vol_replay.specs.declared.outcome.Reason.TheVariants.{UnknownCommand, WordCount, Form, NotAllowed, Letters, TooLong}
 use Rattle.replay_script.specs.declared.command.Command.{Command}
 use Rattle.vol_replay.specs.Transcript.{State, IsAllowed, FitsLetters, IsBad}
-use Rattle.vol_replay.specs.Volume.{VolumeState}
+use Rattle.vol_core.specs.Volume.{VolumeState}
 
 -- where a replay stands that has this volume, or none yet
 abbrev pub state_of : Option VolumeState → State
 state_of None = None
 state_of (Some volume) = Some volume.plain
 
--- the number of the last commit; there is none before the line `new`
-abbrev pub number_of : Option VolumeState → ℕ
-number_of None = 0
-number_of (Some volume) = volume.log.commits.number
+-- the steps of the volume; there are none before the line `new`
+abbrev pub steps_of : Option VolumeState → ℕ
+steps_of None = 0
+steps_of (Some volume) = volume.steps
 
 -- how the error that a line gives is told
 abbrev pub refusal_of : LineError → Refusal

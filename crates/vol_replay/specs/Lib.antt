@@ -1,10 +1,6 @@
 pub mod Answer
-pub mod Crash
+pub mod Bench
 pub mod Letters
-pub mod Mounting
 pub mod Reached
-pub mod Reading
 pub mod Reason
-pub mod Standing
 pub mod Transcript
-pub mod Volume

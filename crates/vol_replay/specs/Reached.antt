@@ -1,4 +1,4 @@
--- What holds in each state that a script reaches.
+-- Contract: what holds in each state that a script reaches.
 use Rattle.std.specs.Prelude.{ℕ, ◌≤◌, Some, Bool, List, length}
 use Rattle.plain_disk.specs.Machine.{Disk, kept_mark}
 use Rattle.vol_replay.specs.declared.outcome.Outcome.TheVariants.{Done}
@@ -9,6 +9,6 @@ abbrev pub Reaches : List ℕ → Disk → Type 0
 Reaches script disk = (text : List ℕ) × IsTranscript script text (Done (Some disk))
 
 -- a stop of the machine now keeps each entry that was flushed, and no more than were taken
-pub record KeepsFlushed (disk : Disk) (keeps_last : Bool) : Type 0 where
+pub record IsKeptByStops (disk : Disk) (keeps_last : Bool) : Type 0 where
   pub flushed : disk.device.mark.count ≤ (kept_mark keeps_last disk.device).count
   pub taken : (kept_mark keeps_last disk.device).count ≤ length disk.history

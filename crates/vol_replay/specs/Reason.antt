@@ -1,4 +1,4 @@
--- The numbers that are told for bad lines.
+-- Contract: the numbers that are told for bad lines.
 use Rattle.std.specs.Prelude.{ℕ}
 use Rattle.vol_replay.specs.declared.outcome.Reason.{Reason}
 use Rattle.vol_replay.specs.declared.outcome.Reason.TheVariants.{UnknownCommand, WordCount, Form, NotAllowed, Letters, TooLong}

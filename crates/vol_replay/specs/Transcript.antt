@@ -1,10 +1,10 @@
--- The transcript of a script: which text answers its lines, and how a replay of it ends.
-use Rattle.std.specs.Prelude.{◌≡◌, ℕ, ◌+◌, ◌*◌, ◌^◌, ◌<◌, ◌≤◌, ◌⊎◌, Option, Some, None, Bool, List, [], ◌∷◌, ◌++◌, ◌==◌, IsTrue, length, take, replicate, count_by, codes, decimal}
+-- Contract: the transcript of a script: which text answers its lines, and how a replay of it ends.
+use Rattle.std.specs.Prelude.{◌≡◌, ℕ, ◌+◌, ◌*◌, ◌^◌, ◌<◌, ◌≤◌, ◌⊎◌, Option, Some, None, Bool, true, false, List, [], ◌∷◌, ◌++◌, ◌==◌, IsTrue, length, take, replicate, count_by, codes, decimal}
 use Rattle.plain_disk.specs.Machine.{Disk, created, reply_of, disk_after, stopping_after, kept_mark, mounted}
-use Rattle.plain_disk.specs.declared.event.Event.{Event}
-use Rattle.plain_disk.specs.declared.event.Event.TheVariants as events
-use Rattle.plain_disk.specs.declared.event.Reply.{Reply}
-use Rattle.plain_disk.specs.declared.event.Reply.TheVariants.{Entered, Flushed, Data, Range, BatchFull, EntriesFull, NoRoom, Fault}
+use Rattle.volume_events.specs.declared.event.Event.{Event}
+use Rattle.volume_events.specs.declared.event.Event.TheVariants as events
+use Rattle.volume_events.specs.declared.event.Reply.{Reply}
+use Rattle.volume_events.specs.declared.event.Reply.TheVariants.{Entered, Flushed, Data, Range, BatchFull, EntriesFull, NoRoom, Fault}
 use Rattle.replay_script.specs.declared.command.Command.{Command}
 use Rattle.replay_script.specs.declared.command.Command.TheVariants.{New, Write, Zero, Read, Flush, Stop, CrashKeep}
 use Rattle.replay_script.specs.Grammar.{lines_of, Spells, IsUnknown, HasWrongWordCount, IsMisspelt}
@@ -13,7 +13,8 @@ use Rattle.vol_replay.specs.declared.outcome.Outcome.{Outcome}
 use Rattle.vol_replay.specs.declared.outcome.Outcome.TheVariants.{Done, BadLine, ReadFault, WriteFault, OutOfMemory}
 use Rattle.vol_replay.specs.declared.outcome.Reason.{Reason}
 use Rattle.vol_replay.specs.declared.outcome.Reason.TheVariants.{UnknownCommand, WordCount, Form, NotAllowed, Letters, TooLong}
-use Rattle.vol_replay.specs.Letters.{fits_writes, fits_objects, keeps_last}
+use Rattle.vol_core.specs.Standing.{keeps_last}
+use Rattle.vol_replay.specs.Letters.{fits_writes, fits_objects, fates_of}
 
 -- where a replay stands: there is no disk before the line `new`
 abbrev pub State : Type 0
@@ -93,7 +94,7 @@ Answers (Some disk) (Read lba sectors) text next = Steps disk (events.Read lba s
 Answers (Some disk) Flush text next = Steps disk events.Flush text next
 Answers (Some disk) (Stop calls) text next =
     (disk.device.fuse ≡ None) × (text ≡ codes "stop " ++ decimal calls) × (next ≡ Some (stopping_after calls disk))
-Answers (Some disk) (CrashKeep device objects) text next = FitDisk disk device objects × Mounts disk (keeps_last device) text next
+Answers (Some disk) (CrashKeep device objects) text next = FitDisk disk device objects × Mounts disk (keeps_last (fates_of disk.device.pending device)) text next
 
 -- the line spells a command that this state does not allow
 abbrev pub IsMisplaced : State → List ℕ → Type 0
@@ -133,7 +134,7 @@ Transcript number state (line ∷ lines) text outcome =
     × (text ≡ answer ++ 10 ∷ more) × Transcript (number + 1) next lines more outcome)
     ⊎ ((text ≡ []) × StopsAt number state line outcome)
 
--- the number of the line in which the byte after so many bytes stands, counted from 1
+-- the number of the line in which the byte after N bytes stands, counted from 1
 unfoldable pub line_after : ℕ → List ℕ → ℕ
 line_after count script = 1 + count_by (λ b. b == 10) (take count script)
 
@@ -152,7 +153,7 @@ pub record IsFrontOfTranscript (script text : List ℕ) : Type 0 where
   pub transcript : IsTranscript script (text ++ rest) outcome
 
 -- what was written when a replay ended: the whole transcript where each line was answered or a line is
--- bad, and a front of it after a fault or where memory lacked
+-- bad, and a front of it after a fault or where memory ran out
 abbrev pub IsWritten : List ℕ → List ℕ → Outcome → Type 0
 IsWritten script text (Done state) = IsTranscript script text (Done state)
 IsWritten script text (BadLine number reason) = IsTranscript script text (BadLine number reason)
@@ -167,3 +168,18 @@ IsDone (BadLine number reason) = ⊥
 IsDone ReadFault = ⊥
 IsDone WriteFault = ⊥
 IsDone OutOfMemory = ⊥
+
+-- whether a replay ended by a fault of the source, and by one of the sink
+abbrev pub ends_by_read_fault : Outcome → Bool
+ends_by_read_fault (Done state) = false
+ends_by_read_fault (BadLine number reason) = false
+ends_by_read_fault ReadFault = true
+ends_by_read_fault WriteFault = false
+ends_by_read_fault OutOfMemory = false
+
+abbrev pub ends_by_write_fault : Outcome → Bool
+ends_by_write_fault (Done state) = false
+ends_by_write_fault (BadLine number reason) = false
+ends_by_write_fault ReadFault = false
+ends_by_write_fault WriteFault = true
+ends_by_write_fault OutOfMemory = false

@@ -2,16 +2,16 @@ ghost use Rattle.std.specs.Prelude.{◌≡◌, ℕ, List, [], ◌∷◌, ◌++�
 ghost use Rattle.vol_replay.specs.Transcript.{TellsReply, Answers, IsAnswered, text_of_mount};
 ghost use Rattle.lsvd_base.specs.Limits.{is_within_limits};
 ghost use Rattle.replay_script.specs.Grammar.{Fits};
-ghost use Rattle.vol_replay.specs.Answer.{IsRefused, IsUnanswered, refusal_of, state_of, number_of};
+ghost use Rattle.vol_replay.specs.Answer.{IsRefused, IsUnanswered, refusal_of, state_of, steps_of};
 ghost use Rattle.vol_replay.specs.declared.answer.Refusal.TheVariants as refusals;
 
+use crate::bench::Bench;
 use crate::letters::{fates_of, fits_objects, fits_writes};
 use crate::outcome::Reason;
-use crate::volume::Volume;
 use lsvd_base::Geometry;
-use plain_disk::Reply;
 use replay_script::{Command, LINE_LIMIT, LineError, command_of, push_decimal, push_run_text};
 use std::alloc::{AllocError, Global};
+use volume_events::Reply;
 
 /// Why a line was not answered.
 #[derive(Clone, Copy, Debug, PartialEq, Eq)]
@@ -101,88 +101,82 @@ fn push_mount(answers: &mut Vec<u8>, count: u64) -> Result<(), AllocError>
 // Makes the volume, and appends the line that tells it.
 fn create(
     alloc: Global,
-    volume: &mut Option<Volume>,
+    bench: &mut Option<Bench>,
     geometry: Geometry,
     answers: &mut Vec<u8>,
 ) -> Result<(), AllocError>
-    requires none { IsNone volume.old }
+    requires none { IsNone bench.old }
     requires limits { IsTrue (is_within_limits geometry) }
-    ensures told { OnOk result ((text : List ℕ) × Answers (state_of volume.old) (Command.New geometry) text (state_of volume.new)
+    ensures told { OnOk result ((text : List ℕ) × Answers (state_of bench.old) (Command.New geometry) text (state_of bench.new)
         × (answers.new.items ≡ answers.old.items ++ (text ++ 10 ∷ []))) }
-    ensures number { number_of volume.new ≡ 0 }
+    ensures steps { steps_of bench.new ≡ 0 }
 {
     push_counted(answers, b"new ", geometry.sectors)?;
     answers.push(b'\n')?;
-    *volume = Some(Volume::new(alloc, geometry)?);
+    *bench = Some(Bench::new(alloc, geometry)?);
     Ok(())
 }
 
 // Tells the device of a volume to stop, and appends the line that tells it.
-fn stop(volume: &mut Volume, calls: u64, answers: &mut Vec<u8>) -> Result<(), Refusal>
-    ensures ok { OnOk result ((text : List ℕ) × Answers (Some volume.old.plain) (Command.Stop calls) text (Some volume.new.plain)
+fn stop(bench: &mut Bench, calls: u64, answers: &mut Vec<u8>) -> Result<(), Refusal>
+    ensures ok { OnOk result ((text : List ℕ) × Answers (Some bench.old.plain) (Command.Stop calls) text (Some bench.new.plain)
         × (answers.new.items ≡ answers.old.items ++ (text ++ 10 ∷ []))) }
-    ensures refused { IfErr result (IsUnanswered (Some volume.old.plain) (Command.Stop calls) answers.old.items answers.new.items) }
-    ensures number { volume.new.log.commits.number ≡ volume.old.log.commits.number }
+    ensures refused { IfErr result (IsUnanswered (Some bench.old.plain) (Command.Stop calls) answers.old.items answers.new.items) }
+    ensures steps { bench.new.steps ≡ bench.old.steps }
 {
-    if volume.is_stopping() {
+    if bench.is_stopping() {
         return Err(Refusal::Bad(Reason::NotAllowed));
     }
     push_stop(answers, calls)?;
-    volume.stop(calls);
+    bench.stop(calls);
     Ok(())
 }
 
 // Stops the machine and mounts the volume again, and appends the line that tells it.
 fn crash(
     alloc: Global,
-    volume: &mut Volume,
+    bench: &mut Bench,
     device: &[u8],
     objects: &[u8],
     answers: &mut Vec<u8>,
 ) -> Result<(), Refusal>
-    requires { volume.old.log.commits.number < 2 ^ 59 }
-    ensures ok { OnOk result ((text : List ℕ) × Answers (Some volume.old.plain) (Command.CrashKeep device.now objects.now) text (Some volume.new.plain)
+    requires { bench.old.steps < 2 ^ 59 }
+    ensures ok { OnOk result ((text : List ℕ) × Answers (Some bench.old.plain) (Command.CrashKeep device.now objects.now) text (Some bench.new.plain)
         × (answers.new.items ≡ answers.old.items ++ (text ++ 10 ∷ []))) }
-    ensures refused { IfErr result (IsUnanswered (Some volume.old.plain) (Command.CrashKeep device.now objects.now) answers.old.items answers.new.items) }
-    ensures number { volume.new.log.commits.number ≤ volume.old.log.commits.number + 2 }
+    ensures refused { IfErr result (IsUnanswered (Some bench.old.plain) (Command.CrashKeep device.now objects.now) answers.old.items answers.new.items) }
+    ensures steps { bench.new.steps ≤ bench.old.steps + 1 }
 {
-    if !fits_writes(volume, device) || !fits_objects(objects) {
+    if !fits_writes(bench, device) || !fits_objects(objects) {
         return Err(Refusal::Bad(Reason::Letters));
     }
-    let fates = fates_of(alloc, device, volume.pending())?;
-    let kept = volume.crash(alloc, &fates)?;
+    let fates = fates_of(alloc, device, bench.pending())?;
+    let kept = bench.crash(alloc, &fates)?;
     Ok(push_mount(answers, kept)?)
 }
 
 // Answers a command where there is a volume.
 fn answer_on(
     alloc: Global,
-    volume: &mut Volume,
+    bench: &mut Bench,
     command: Command,
     answers: &mut Vec<u8>,
 ) -> Result<(), Refusal>
-    requires { volume.old.log.commits.number < 2 ^ 59 }
-    ensures ok { OnOk result ((text : List ℕ) × Answers (Some volume.old.plain) command text (Some volume.new.plain)
+    requires { bench.old.steps < 2 ^ 59 }
+    ensures ok { OnOk result ((text : List ℕ) × Answers (Some bench.old.plain) command text (Some bench.new.plain)
         × (answers.new.items ≡ answers.old.items ++ (text ++ 10 ∷ []))) }
-    ensures refused { IfErr result (IsUnanswered (Some volume.old.plain) command answers.old.items answers.new.items) }
-    ensures number { volume.new.log.commits.number ≤ volume.old.log.commits.number + 2 }
+    ensures refused { IfErr result (IsUnanswered (Some bench.old.plain) command answers.old.items answers.new.items) }
+    ensures steps { bench.new.steps ≤ bench.old.steps + 1 }
 {
     let reply = match command {
         Command::New(_) => return Err(Refusal::Bad(Reason::NotAllowed)),
-        Command::Stop { calls } => return stop(volume, calls, answers),
+        Command::Stop { calls } => return stop(bench, calls, answers),
         Command::CrashKeep { device, objects } => {
-            return crash(
-                alloc,
-                volume,
-                device.as_bytes(),
-                objects.as_bytes(),
-                answers,
-            );
+            return crash(alloc, bench, device.as_bytes(), objects.as_bytes(), answers);
         }
-        Command::Write { lba, sectors, byte } => volume.write(alloc, lba, sectors, byte)?,
-        Command::Zero { lba, sectors } => volume.zero(lba, sectors)?,
-        Command::Read { lba, sectors } => volume.read(alloc, lba, sectors)?,
-        Command::Flush => volume.flush()?,
+        Command::Write { lba, sectors, byte } => bench.write(alloc, lba, sectors, byte)?,
+        Command::Zero { lba, sectors } => bench.zero(lba, sectors)?,
+        Command::Read { lba, sectors } => bench.read(alloc, lba, sectors)?,
+        Command::Flush => bench.flush()?,
     };
     Ok(push_reply(answers, &reply)?)
 }
@@ -190,43 +184,43 @@ fn answer_on(
 // Appends the answer to a command, or tells why the state does not answer it.
 fn answer_command(
     alloc: Global,
-    volume: &mut Option<Volume>,
+    bench: &mut Option<Bench>,
     command: Command,
     answers: &mut Vec<u8>,
 ) -> Result<(), Refusal>
     requires fits { Fits command }
-    requires number { number_of volume.old < 2 ^ 59 }
-    ensures ok { OnOk result ((text : List ℕ) × Answers (state_of volume.old) command text (state_of volume.new)
+    requires steps { steps_of bench.old < 2 ^ 59 }
+    ensures ok { OnOk result ((text : List ℕ) × Answers (state_of bench.old) command text (state_of bench.new)
         × (answers.new.items ≡ answers.old.items ++ (text ++ 10 ∷ []))) }
-    ensures refused { IfErr result (IsUnanswered (state_of volume.old) command answers.old.items answers.new.items) }
-    ensures number { number_of volume.new ≤ number_of volume.old + 2 }
+    ensures refused { IfErr result (IsUnanswered (state_of bench.old) command answers.old.items answers.new.items) }
+    ensures steps { steps_of bench.new ≤ steps_of bench.old + 1 }
 {
-    match volume {
+    match bench {
         None => match command {
-            Command::New(geometry) => Ok(create(alloc, volume, geometry, answers)?),
+            Command::New(geometry) => Ok(create(alloc, bench, geometry, answers)?),
             _ => Err(Refusal::Bad(Reason::NotAllowed)),
         },
-        Some(volume) => answer_on(alloc, volume, command, answers),
+        Some(bench) => answer_on(alloc, bench, command, answers),
     }
 }
 
-/// Answers one line, and appends the answer with its newline. Fewer than 2^59 commits were made (a condition); a line makes
-/// two at most.
+/// Answers one line, and appends the answer with its newline. Fewer than 2^59 steps were made (a condition); a line makes
+/// one at most.
 pub(crate) fn answer_line(
     alloc: Global,
-    volume: &mut Option<Volume>,
+    bench: &mut Option<Bench>,
     line: &[u8],
     answers: &mut Vec<u8>,
 ) -> Result<(), Refusal>
-    requires { number_of volume.old < 2 ^ 59 }
-    ensures ok { OnOk result ((answer : List ℕ) × IsAnswered (state_of volume.old) line.now answer (state_of volume.new)
+    requires { steps_of bench.old < 2 ^ 59 }
+    ensures ok { OnOk result ((answer : List ℕ) × IsAnswered (state_of bench.old) line.now answer (state_of bench.new)
         × (answers.new.items ≡ answers.old.items ++ (answer ++ 10 ∷ []))) }
-    ensures refused { IfErr result (IsRefused (state_of volume.old) line.now answers.old.items answers.new.items) }
-    ensures number { number_of volume.new ≤ number_of volume.old + 2 }
+    ensures refused { IfErr result (IsRefused (state_of bench.old) line.now answers.old.items answers.new.items) }
+    ensures steps { steps_of bench.new ≤ steps_of bench.old + 1 }
 {
     if line.len() > LINE_LIMIT {
         return Err(Refusal::Bad(Reason::TooLong));
     }
     let command = command_of(alloc, line)?;
-    answer_command(alloc, volume, command, answers)
+    answer_command(alloc, bench, command, answers)
 }

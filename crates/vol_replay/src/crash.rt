@@ -3,47 +3,50 @@ ghost use Rattle.lsvd_base.specs.Limits.{is_within_limits};
 ghost use Rattle.lsvd_device.specs.Calls.{fuse_of};
 ghost use Rattle.lsvd_device.specs.Medium.{MayLeave};
 ghost use Rattle.lsvd_device.specs.Device.{IsDisk, HoldsNow};
-ghost use Rattle.lsvd_device.specs.Memory.{HasRoom};
 ghost use Rattle.lsvd_device.specs.Stop.{left_in_order, IsStopped};
 ghost use Rattle.commit_slot.specs.Slots.{log_of};
-ghost use Rattle.vol_replay.specs.Mounting.{IsMounted, MountsCleanly, MakesWithin};
-ghost use Rattle.vol_replay.specs.Crash.{MayBeMounted};
+ghost use Rattle.vol_core.specs.Stepping.{HasRoomForCost};
+ghost use Rattle.vol_recover.specs.Mounting.{IsMounted};
+ghost use Rattle.vol_recover.specs.CrashSafety.{IsCrashSafeMount};
+ghost use Rattle.vol_recover.specs.MountCosts.{mount_cost};
+ghost use Rattle.commit_slot.specs.Loading.{MakesAtMost};
+ghost use Rattle.cache_log.specs.Opening.{entry_count};
+ghost use Rattle.vol_replay.specs.Bench.{MayBeMounted};
 
-use crate::mount::{MountError, Mounted, mount};
-use cache_log::CacheLog;
 use lsvd_base::Geometry;
-use lsvd_device::{Disk, Fate, FuseDisk, MemDisk};
+use lsvd_device::{Disk, Fate, FuseDisk, MemDisk, StoppedDisk};
 use std::alloc::{AllocError, Global};
+use vol_recover::{MountError, Mounted, mount};
 
-/// The writes and syncs of a mount at most, and the bytes that they write.
+// The writes and syncs of a mount at most, and the bytes that they write.
 const MOUNT_CALLS: u64 = 9;
 
 const MOUNT_BYTES: u64 = 1_027;
 
-/// The disk of a log after a stop of the machine, where each write that was not synced has met its fate: it has no fuse, and
-/// room for a mount. The fates are as many as `pending` says (a condition). The one error is want of memory.
+/// What a stop of the machine leaves of a disk, where each write that was not synced has met its fate: it has no fuse, and
+/// room for a mount. The fates are as many as `pending` says (a condition). The one error is out of memory.
 pub(crate) fn stopped_disk(
     alloc: Global,
-    log: &CacheLog<FuseDisk<MemDisk>>,
+    disk: &FuseDisk<MemDisk>,
     fates: &[Fate],
 ) -> Result<FuseDisk<MemDisk>, AllocError>
-    requires { HoldsNow (λ now. length fates.now ≡ length now.pending) log.now.commits.disk.moments }
-    ensures size { IfOk result (λ disk. disk.size ≡ log.now.commits.disk.size) }
-    ensures left { IfOk result (λ disk. IsStopped fates.now log.now.commits.disk.moments disk.moments) }
-    ensures may_leave { OnOk result (HoldsNow (λ now. MayLeave now (left_in_order fates.now log.now.commits.disk.moments)) log.now.commits.disk.moments) }
-    ensures fuse { IfOk result (λ disk. fuse_of disk.budget ≡ Some None) }
-    ensures room { IfOk result (λ disk. HasRoom 9 1027 disk.budget) }
+    requires { HoldsNow (λ now. length fates.now ≡ length now.pending) disk.now.moments }
+    ensures size { IfOk result (λ left. left.size ≡ disk.now.size) }
+    ensures left { IfOk result (λ left. IsStopped fates.now disk.now.moments left.moments) }
+    ensures may_leave { OnOk result (HoldsNow (λ now. MayLeave now (left_in_order fates.now disk.now.moments)) disk.now.moments) }
+    ensures fuse { IfOk result (λ left. fuse_of left.budget ≡ Some None) }
+    ensures room { IfOk result (HasRoomForCost (mount_cost 0)) }
     ensures is_disk { IfOk result IsDisk }
 {
-    let disk = log.stopped(alloc, fates)?;
-    let _ = disk.len();
-    let mut disk = FuseDisk::new(disk, None);
-    disk.reserve(MOUNT_CALLS, MOUNT_BYTES)?;
-    let _ = disk.len();
-    Ok(disk)
+    let left = disk.stopped(alloc, fates)?;
+    let _ = left.len();
+    let mut left = FuseDisk::new(left, None);
+    left.reserve(MOUNT_CALLS, MOUNT_BYTES)?;
+    let _ = left.len();
+    Ok(left)
 }
 
-/// Mounts the volume of a device that may be mounted, has no fuse, and has room for it (conditions). The one error is want
+/// Mounts the volume of a device that may be mounted, has no fuse, and has room for it (conditions). The one error is out
 /// of memory.
 pub(crate) fn mount_again(
     alloc: Global,
@@ -56,10 +59,10 @@ pub(crate) fn mount_again(
     requires log { log_of disk.size ≡ geometry.now.log }
     requires may { MayBeMounted geometry.now disk.moments }
     requires fuse { fuse_of disk.budget ≡ Some None }
-    requires room { HasRoom 9 1027 disk.budget }
+    requires room { HasRoomForCost (mount_cost 0) disk }
     ensures ok { IfOk result (λ mounted. IsMounted geometry.now disk mounted.log mounted.entries.items) }
-    ensures clean { IfOk result (λ mounted. MountsCleanly geometry.now disk mounted.log.commits.disk) }
-    ensures calls { IfOk result (λ mounted. MakesWithin 9 1027 true disk mounted.log.commits.disk) }
+    ensures crash_safe { IfOk result (λ mounted. IsCrashSafeMount geometry.now disk mounted.log.commits.disk) }
+    ensures costs { IfOk result (λ mounted. MakesAtMost (mount_cost (entry_count mounted.log.commits.body)) true disk mounted.log.commits.disk) }
 {
     match mount(alloc, disk, geometry) {
         Ok(mounted) => Ok(mounted),

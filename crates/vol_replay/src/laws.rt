@@ -1,7 +1,7 @@
 ghost use Rattle.std.specs.Prelude.{◌≡◌, ℕ, Bool, List};
 ghost use Rattle.plain_disk.specs.Machine.{Disk};
 ghost use Rattle.vol_replay.specs.declared.outcome.Outcome.{Outcome};
-ghost use Rattle.vol_replay.specs.Reached.{Reaches, KeepsFlushed};
+ghost use Rattle.vol_replay.specs.Reached.{Reaches, IsKeptByStops};
 ghost use Rattle.vol_replay.specs.Transcript.{IsTranscript};
 
 /// The transcript of a script and its outcome are determined by the script.
@@ -17,5 +17,5 @@ pub fn each_script_has_a_transcript()
 /// In each state that a script reaches, a stop of the machine keeps each entry that was flushed, and no more than were
 /// taken.
 pub fn what_was_flushed_is_kept()
-    ensures { (script : List ℕ) (disk : Disk) (keeps_last : Bool) → Reaches script disk → KeepsFlushed disk keeps_last }
+    ensures { (script : List ℕ) (disk : Disk) (keeps_last : Bool) → Reaches script disk → IsKeptByStops disk keeps_last }
 {}

@@ -2,15 +2,15 @@ ghost use Rattle.std.specs.Prelude.{◌≡◌, IfOk, IsTrue, length, map};
 ghost use Rattle.std.specs.List.{list_all};
 ghost use Rattle.vol_replay.specs.Letters.{is_letter, is_dash, fits_writes, fits_objects, fate_of, fates_of};
 
-use crate::volume::Volume;
+use crate::bench::Bench;
 use lsvd_device::Fate;
 use std::alloc::{AllocError, Global};
 
 /// Whether the word keeps all, or has a letter for each write that was not synced.
-pub(crate) fn fits_writes(volume: &Volume, word: &[u8]) -> bool
-    ensures { result ≡ fits_writes volume.now.plain.device.pending word.now }
+pub(crate) fn fits_writes(bench: &Bench, word: &[u8]) -> bool
+    ensures { result ≡ fits_writes bench.now.plain.device.pending word.now }
 {
-    is_dash(word) || (word.len() == volume.pending() && are_letters(word))
+    is_dash(word) || (word.len() == bench.pending() && are_letters(word))
 }
 
 /// Whether the word keeps all, or is empty.
@@ -20,7 +20,7 @@ pub(crate) fn fits_objects(word: &[u8]) -> bool
     is_dash(word) || word.is_empty()
 }
 
-/// The fates of so many writes that were not synced, which the word fits (a condition). The one error is want of memory.
+/// The fates of `pending` writes that were not synced, which the word fits (a condition). The one error is out of memory.
 pub(crate) fn fates_of(alloc: Global, word: &[u8], pending: usize) -> Result<Vec<Fate>, AllocError>
     requires { IsTrue (fits_writes pending word.now) }
     ensures fates { IfOk result (λ fates. fates.items ≡ fates_of pending word.now) }

@@ -49,6 +49,6 @@ pub enum Outcome {
     ReadFault,
     /// The sink failed, and took a front of the transcript.
     WriteFault,
-    /// Memory lacked, and the sink took a front of the transcript.
+    /// Memory ran out, and the sink took a front of the transcript.
     OutOfMemory,
 }

@@ -1,12 +1,13 @@
 ghost use Rattle.std.specs.Prelude.{◌≡◌};
 
-use crate::volume::Volume;
+use crate::bench::Bench;
 use std::marker::Model;
 
-/// What a script ran on: the volume that its last line left. Contracts see the plain disk that it stands for.
+/// What a script ran on: the volume that its last line left, with its machine. Contracts see the plain disk that it stands
+/// for.
 #[derive(Drop)]
 pub struct Rig {
-    volume: Volume,
+    bench: Bench,
 }
 
 impl Model for Rig {
@@ -14,14 +15,14 @@ impl Model for Rig {
 
     ghost Value = { Disk };
 
-    ghost view = { λ r. r.volume.plain };
+    ghost view = { λ r. r.bench.plain };
 }
 
 impl Rig {
     /// The rig with this volume.
-    pub(crate) fn new(volume: Volume) -> Rig
-        ensures { result ≡ volume.plain }
+    pub(crate) fn new(bench: Bench) -> Rig
+        ensures { result ≡ bench.plain }
     {
-        Rig { volume }
+        Rig { bench }
     }
 }

@@ -1,18 +1,18 @@
-ghost use Rattle.std.specs.Prelude.{◌≡◌, ◌≢◌, ℕ, ◌^◌, ◌≤◌, List, length, IfSome, OnOk, OnErr};
+ghost use Rattle.std.specs.Prelude.{◌≡◌, ◌≢◌, ℕ, ◌^◌, ◌≤◌, List, false, length, is_err, IfSome, OnOk, OnErr};
 ghost use Rattle.std.specs.Io.KnownBytes.{Appends, IsAtEnd};
-ghost use Rattle.lsvd_fault.specs.Faults.{HasRisen};
+ghost use Rattle.lsvd_fault.specs.Faults.{Counts};
 ghost use Rattle.vol_replay.specs.Answer.{TakesFront, MovesOn, IsHandedOver, state_of};
-ghost use Rattle.vol_replay.specs.Transcript.{IsWritten, IsDone};
+ghost use Rattle.vol_replay.specs.Transcript.{IsWritten, IsDone, ends_by_read_fault, ends_by_write_fault};
 
 use crate::answer::{Refusal, answer_line};
+use crate::bench::Bench;
 use crate::outcome::{Outcome, Reason};
 use crate::rig::Rig;
-use crate::volume::Volume;
 use lsvd_fault::{Failed, ReadError, Sink, Source, read_past_limit, write_all};
 use replay_script::{SCRIPT_LIMIT, line_number, split_line};
 use std::alloc::Global;
 
-/// The answers are handed to the sink each time that there are so many bytes of them.
+// The answers are handed to the sink each time that there are this many bytes of them.
 const BATCH: usize = 65_536;
 
 /// Reads a script to its end, and writes the answers to its lines.
@@ -23,11 +23,9 @@ pub fn replay<I: Source, O: Sink>(alloc: Global, source: &mut I, sink: &mut O) -
     ensures end { IsDone result → IsAtEnd (I.remaining source.new) }
     ensures nothing_run { result ≡ Outcome.ReadFault → O.contents sink.new ≡ O.contents sink.old }
 
-    // A fault is answered only where its count rose.
-    ensures read_fault { result ≡ Outcome.ReadFault → HasRisen (I.faults source.old) (I.faults source.new) }
-    ensures write_fault { result ≡ Outcome.WriteFault → HasRisen (O.faults sink.old) (O.faults sink.new) }
-    ensures source_kept { I.faults source.old ≤ I.faults source.new }
-    ensures sink_kept { O.faults sink.old ≤ O.faults sink.new }
+    // A fault of either end was counted once and ended the replay as just that fault; else none was counted.
+    ensures source_count { Counts (ends_by_read_fault result) (I.faults source.old) (I.faults source.new) }
+    ensures sink_count { Counts (ends_by_write_fault result) (O.faults sink.old) (O.faults sink.new) }
 {
     match read_past_limit(alloc, source, SCRIPT_LIMIT) {
         Ok(script) => run_script(alloc, script.as_slice(), sink),
@@ -41,8 +39,7 @@ fn run_script<O: Sink>(alloc: Global, script: &[u8], sink: &mut O) -> Outcome
     ensures transcript { (text : List ℕ) × Appends (O.contents sink.old) (O.contents sink.new) text × IsWritten script.now text result }
     ensures within { IsDone result → length script.now ≤ 2 ^ 24 }
     ensures no_read { result ≢ Outcome.ReadFault }
-    ensures write_fault { result ≡ Outcome.WriteFault → HasRisen (O.faults sink.old) (O.faults sink.new) }
-    ensures kept { O.faults sink.old ≤ O.faults sink.new }
+    ensures count { Counts (ends_by_write_fault result) (O.faults sink.old) (O.faults sink.new) }
 {
     if script.len() > SCRIPT_LIMIT {
         Outcome::BadLine {
@@ -59,16 +56,15 @@ fn run_lines<O: Sink>(alloc: Global, script: &[u8], sink: &mut O) -> Outcome
     requires { length script.now ≤ 2 ^ 24 }
     ensures transcript { (text : List ℕ) × Appends (O.contents sink.old) (O.contents sink.new) text × IsWritten script.now text result }
     ensures no_read { result ≢ Outcome.ReadFault }
-    ensures write_fault { result ≡ Outcome.WriteFault → HasRisen (O.faults sink.old) (O.faults sink.new) }
-    ensures kept { O.faults sink.old ≤ O.faults sink.new }
+    ensures count { Counts (ends_by_write_fault result) (O.faults sink.old) (O.faults sink.new) }
 {
-    let mut volume = None;
+    let mut bench = None;
     let mut answers = Vec::new(alloc);
     let mut rest = script;
     let mut number = 1u64;
     while !rest.is_empty() {
         let (line, after) = split_line(rest);
-        match answer_line(alloc, &mut volume, line, &mut answers) {
+        match answer_line(alloc, &mut bench, line, &mut answers) {
             Ok(()) => {}
             Err(Refusal::Bad(reason)) => {
                 let outcome = Outcome::BadLine { number, reason };
@@ -82,16 +78,16 @@ fn run_lines<O: Sink>(alloc: Global, script: &[u8], sink: &mut O) -> Outcome
         rest = after;
         number += 1;
     }
-    hand_over(sink, answers.as_slice(), done(volume))
+    hand_over(sink, answers.as_slice(), done(bench))
 }
 
 // Each line was answered, and left this volume.
-fn done(volume: Option<Volume>) -> Outcome
-    ensures { result ≡ Outcome.Done (state_of volume) }
+fn done(bench: Option<Bench>) -> Outcome
+    ensures { result ≡ Outcome.Done (state_of bench) }
 {
-    match volume {
+    match bench {
         None => Outcome::Done(None),
-        Some(volume) => Outcome::Done(Some(Rig::new(volume))),
+        Some(bench) => Outcome::Done(Some(Rig::new(bench))),
     }
 }
 
@@ -99,8 +95,7 @@ fn done(volume: Option<Volume>) -> Outcome
 fn flush_full<O: Sink>(sink: &mut O, answers: &mut Vec<u8>) -> Result<(), Failed>
     ensures ok { OnOk result (MovesOn (O.contents sink.old) (O.contents sink.new) answers.old.items answers.new.items) }
     ensures err { OnErr result (TakesFront (O.contents sink.old) (O.contents sink.new) answers.old.items) }
-    ensures cause { OnErr result (HasRisen (O.faults sink.old) (O.faults sink.new)) }
-    ensures kept { O.faults sink.old ≤ O.faults sink.new }
+    ensures count { Counts (is_err result) (O.faults sink.old) (O.faults sink.new) }
 {
     if answers.len() >= BATCH {
         write_all(sink, answers.as_slice())?;
@@ -111,10 +106,9 @@ fn flush_full<O: Sink>(sink: &mut O, answers: &mut Vec<u8>) -> Result<(), Failed
 
 // Writes the last answers, and then that is the outcome.
 fn hand_over<O: Sink>(sink: &mut O, answers: &[u8], outcome: Outcome) -> Outcome
-    requires { outcome ≢ Outcome.WriteFault }
+    requires { ends_by_write_fault outcome ≡ false }
     ensures handed { IsHandedOver (O.contents sink.old) (O.contents sink.new) answers.now outcome result }
-    ensures write_fault { result ≡ Outcome.WriteFault → HasRisen (O.faults sink.old) (O.faults sink.new) }
-    ensures kept { O.faults sink.old ≤ O.faults sink.new }
+    ensures count { Counts (ends_by_write_fault result) (O.faults sink.old) (O.faults sink.new) }
 {
     match write_all(sink, answers) {
         Ok(()) => outcome,

@@ -280,7 +280,7 @@ fn letters_are_judged_where_they_stand(rt: HostRuntime) -> Result<(), Fail> {
             b"mounted 0 1\nstop 3\nmounted 0 1\nstop 0\n",
             Ending::Done,
         ),
-        // A commit is broken off behind its opening, and then one write is pending.
+        // A commit is broken off after its opening, and then one write is pending.
         (
             b"f\ncrash keep k -\n",
             b"fault\nmounted 1 1\n",
@@ -322,7 +322,7 @@ fn letters_are_judged_where_they_stand(rt: HostRuntime) -> Result<(), Fail> {
     Ok(())
 }
 
-// A first piece, so many lines of 65,536 bytes with their newlines, and a last piece.
+// A first piece, this many lines of 65,536 bytes with their newlines, and a last piece.
 fn long_script(
     alloc: Global,
     first: &[u8],

@@ -7,7 +7,7 @@ use Rattle.vol_replay.proofs.answer.crash.Goals as goal
 pub returns-clause-ok : goal.returns-clause-ok
 returns-clause-ok c = (
   text_of_mount c.in_ok-kept.kept,
-  crash_answers c.args.volume.now.plain c.crash.new.self.plain c.args.device.now c.args.objects.now c.deref.result.now c.in_ok-kept.kept c.pending.result (search rules) (search rules)
-      c.pending.ensures.count c.pending.ensures.single (c.deref.ensures.value ∙ c.in_ok-fates.ensures.fates) c.in_ok-kept.ensures.kept c.in_ok-kept.ensures.plain,
+  crash_answers c.args.bench.now.plain c.crash.new.self.plain c.args.device.now c.args.objects.now c.deref.result.now c.in_ok-kept.kept c.pending.result (search rules) (search rules)
+      c.pending.ensures (c.deref.ensures.value ∙ c.in_ok-fates.ensures.fates) c.in_ok-kept.ensures.kept c.in_ok-kept.ensures.plain,
   grind (arith, common_steps),
 )

@@ -7,6 +7,6 @@ use Rattle.vol_replay.proofs.answer.create.Goals as goal
 pub returns-clause-told : goal.returns-clause-told
 returns-clause-told c = (
   codes "new " ++ decimal c.args.geometry.sectors,
-  new_answered c.args.volume.now c.args.geometry c.in_ok-new.field-0 c.requires.none c.in_ok-new.ensures.plain,
+  new_answered c.args.bench.now c.args.geometry c.in_ok-new.field-0 c.requires.none c.in_ok-new.ensures.plain,
   grind (arith, common_steps),
 )

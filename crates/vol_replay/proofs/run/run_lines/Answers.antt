@@ -1,6 +1,6 @@
-use Rattle.std.proofs.Common.{arith, refl, sym}
+use Rattle.std.proofs.Common.{arith, refl, sym, ◌∙◌}
 use Rattle.vol_replay.proofs.Progress.{run_more, written_stopped, written_so_far, written_broken, written_done}
-use Rattle.vol_replay.proofs.Results.{at_error, at_success, is_nothing}
+use Rattle.vol_replay.proofs.Results.{at_error, at_success, is_nothing, not_counted}
 use Rattle.vol_replay.specs.Answer.{state_of}
 use Rattle.vol_replay.proofs.run.run_lines.Goals as goal
 
@@ -8,17 +8,17 @@ pub returns-in-Err-Bad-clause-transcript : goal.returns-in-Err-Bad-clause-transc
 returns-in-Err-Bad-clause-transcript g c =
     let refused = rw c.in-Err-Bad.field-0-is at c.in-Err-Bad.ensures.refused in
     let handed = rw (c.in-Err-Bad.reason-is, c.as_slice.ensures.value, refused.0) at c.hand_over.ensures.handed in
-    written_stopped _ _ _ _ _ _ _ c.split_line.result.1.now c.loop-rest.number c.in-Err-Bad.reason (state_of c.loop-rest.volume) c.hand_over.result
+    written_stopped _ _ _ _ _ _ _ c.split_line.result.1.now c.loop-rest.number c.in-Err-Bad.reason (state_of c.loop-rest.bench) c.hand_over.result
     c.requires c.loop-rest.invariant.run c.split_line.ensures.line (c.in-Err-Bad.reason, refused.1, refl) handed
 
 pub returns-in-Err-OutOfMemory-clause-transcript : goal.returns-in-Err-OutOfMemory-clause-transcript
 returns-in-Err-OutOfMemory-clause-transcript g c =
-    written_so_far _ _ _ _ _ c.loop-rest.number (state_of c.loop-rest.volume) c.requires c.loop-rest.invariant.run
+    written_so_far _ _ _ _ _ c.loop-rest.number (state_of c.loop-rest.bench) c.requires c.loop-rest.invariant.run
 
 pub returns-then-is_err-clause-transcript : goal.returns-then-is_err-clause-transcript
 returns-then-is_err-clause-transcript g c =
     let ok = c.in-Ok.ensures.ok in
-    written_broken _ _ _ _ _ _ _ c.split_line.result.1.now ok.0 _ c.loop-rest.number (state_of c.loop-rest.volume) (state_of c.answer_line.new.volume)
+    written_broken _ _ _ _ _ _ _ c.split_line.result.1.now ok.0 _ c.loop-rest.number (state_of c.loop-rest.bench) (state_of c.answer_line.new.bench)
     c.requires c.loop-rest.invariant.run c.split_line.ensures.line ok.1 ok.2
     (at_error c.flush_full.result (sym c.if-is_err.ensures.value) c.flush_full.ensures.err)
 
@@ -26,16 +26,16 @@ pub loop-rest-preserved : goal.loop-rest-preserved
 loop-rest-preserved g c =
     let ok = c.in-Ok.ensures.ok in
     record {
-      run = run_more _ _ _ _ _ _ _ c.split_line.result.1.now ok.0 _ _ c.loop-rest.number (state_of c.loop-rest.volume) (state_of c.answer_line.new.volume)
+      run = run_more _ _ _ _ _ _ _ c.split_line.result.1.now ok.0 _ _ c.loop-rest.number (state_of c.loop-rest.bench) (state_of c.answer_line.new.bench)
           c.loop-rest.invariant.run c.split_line.ensures.line ok.1 ok.2
           (at_success c.flush_full.result (sym c.if-is_err.ensures.value) c.flush_full.ensures.ok);
       counted = omega (arith, c.loop-rest.invariant.counted, c.split_line.ensures.shorter);
-      young = omega (arith, c.loop-rest.invariant.young, c.answer_line.ensures.number);
-      kept = omega (arith, c.loop-rest.invariant.kept, c.flush_full.ensures.kept);
+      young = omega (arith, c.loop-rest.invariant.young, c.answer_line.ensures.steps);
+      none = not_counted c.flush_full.result (sym c.if-is_err.ensures.value) _ _ c.flush_full.ensures.count ∙ c.loop-rest.invariant.none;
     }
 
 pub returns-clause-transcript : goal.returns-clause-transcript
 returns-clause-transcript g c =
     let handed = rw (c.as_slice-2.ensures.value, c.done.ensures) at c.hand_over-2.ensures.handed in
-    written_done _ _ _ _ _ _ c.loop-rest.number (state_of c.loop-rest.volume) c.hand_over-2.result
+    written_done _ _ _ _ _ _ c.loop-rest.number (state_of c.loop-rest.bench) c.hand_over-2.result
     c.requires c.loop-rest.invariant.run (is_nothing c.loop-rest.rest.now (sym c.loop-rest-test.ensures)) handed

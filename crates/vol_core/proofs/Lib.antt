@@ -1,0 +1,13 @@
+mod Asked
+mod Crashed
+mod Entered
+mod Flushed
+mod Followed
+mod LastData
+mod Lending
+mod RunsRead
+mod Stopping
+mod Sums
+mod ThroughLog
+mod Volumes
+mod WindowRead

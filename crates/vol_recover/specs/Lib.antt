@@ -1,0 +1,4 @@
+pub mod Mounting
+pub mod CrashSafety
+pub mod MountCosts
+pub mod Steps
