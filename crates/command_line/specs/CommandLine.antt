@@ -1,4 +1,4 @@
--- Which command lines the program takes, and what they ask for.
+-- Contract: which command lines the program takes, and what they ask for.
 use Rattle.std.specs.Prelude.{◌≡◌, ◌≢◌, ◌⊎◌, List, [], ◌∷◌, Option, Result, Err, codes, option_map}
 use Rattle.clap.specs.Walk.{Text}
 use Rattle.clap.specs.Faults.{fault_of}
@@ -31,7 +31,7 @@ command_in words = option_map (λ p. p.0) (subcommand_of lsvdctl words)
 abbrev pub name_of : Request → Text
 name_of Replay = codes "replay"
 
--- the words are told to be no command line, or memory lacked
+-- the words are told to be no command line, or it is out of memory
 abbrev pub IsRefused : Result Request CommandLineError → Type 0
 IsRefused result = (result ≡ Err Usage) ⊎ (result ≡ Err OutOfMemory)
 

@@ -1,4 +1,4 @@
--- The commands of the program, as clap reads them.
+-- Contract: the commands of the program, as clap reads them.
 use Rattle.std.specs.Prelude.{[], codes, true}
 use Rattle.clap.specs.Simple.{App, Shape, new_shape, with_subcommand}
 

@@ -7,7 +7,7 @@ use clap::error::ErrorKind;
 use std::alloc::{AllocError, Global};
 
 /// The text that the words after the program's name ask for, be it help or the version. None is for words that ask
-/// for none. The one error is want of memory.
+/// for none. The one error is out of memory.
 pub fn help_of(alloc: Global, words: &[String]) -> Result<Option<String>, AllocError>
     ensures some { IfOk result (λ text. IfSome text (λ _. AsksForHelp (map string_bytes words.now))) }
     ensures none { IfOk result (λ text. IfNone text (AsksForHelp (map string_bytes words.now) → ⊥)) }
@@ -16,6 +16,7 @@ pub fn help_of(alloc: Global, words: &[String]) -> Result<Option<String>, AllocE
         return Ok(None);
     };
     match error.kind() {
+        // No clause of clap says what the text is: the tests read it.
         ErrorKind::DisplayHelp | ErrorKind::DisplayVersion => Ok(Some(error.to_string(alloc)?)),
         ErrorKind::OutOfMemory => Err(AllocError),
         _ => Ok(None),

@@ -1,7 +1,7 @@
 //! The command line of the program `lsvdctl`: the one place from which its commands come.
 //!
 //! Its contract: words are answered with a request exactly where clap takes them, for the command that clap
-//! meets in them, unless memory lacks. It stands on `clap` and `thiserror`.
+//! meets in them, unless it is out of memory. It stands on `clap` and `thiserror`.
 #![tactic(auto)]
 
 mod help;

@@ -7,13 +7,13 @@ ghost use Rattle.command_line.specs.CommandLine.{command_in, faults_of};
 use clap::{ArgMatches, Command, Error};
 use std::alloc::{AllocError, Global};
 
-/// The program's name.
+// The program's name.
 const NAME: &str = "lsvdctl";
 
-/// The version that `--version` tells.
+// The version that `--version` tells.
 const VERSION: &str = "0.1.0";
 
-/// What clap makes of the words after the program's name.
+// What clap makes of the words after the program's name.
 pub(crate) fn matches_of(alloc: Global, words: &[String]) -> Result<ArgMatches<'_>, Error>
     ensures kinds { FailsBy (faults_of (map string_bytes words.now)) result }
     ensures command { IfOk result (λ matches. subcommand_name_of matches ≡ command_in (map string_bytes words.now)) }

@@ -22,13 +22,13 @@ pub enum CommandLineError {
     /// The words are no command line of the program. Those that ask for help or for the version are none.
     #[error("the words are no command line of the program")]
     Usage,
-    /// Memory lacked.
+    /// Out of memory.
     #[error("out of memory")]
     OutOfMemory,
 }
 
-/// Reads the words after the program's name. `Usage` comes where clap refuses them, and `OutOfMemory` where
-/// memory lacked to read them.
+/// Reads the words after the program's name. `Usage` comes where clap refuses them, and `OutOfMemory` where memory
+/// runs out while they are read.
 pub fn request_of(alloc: Global, words: &[String]) -> Result<Request, CommandLineError>
     ensures ok { IfOk result (λ request. (faults_of (map string_bytes words.now) ≡ [])
         × (command_in (map string_bytes words.now) ≡ Some (name_of request))) }

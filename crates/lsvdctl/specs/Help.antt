@@ -1,17 +1,17 @@
--- How words that ask for help or for the version are answered.
+-- Contract: how words that ask for help or for the version are answered.
 use Rattle.std.specs.Prelude.{◌≡◌, ℕ, Option, List}
 use Rattle.std.specs.Io.KnownBytes.{Appends}
 use Rattle.command_line.specs.CommandLine.{AsksForHelp}
-use Rattle.lsvd_fault.specs.Faults.{HasRisen}
+use Rattle.lsvd_fault.specs.Faults.{CountsOne}
 use Rattle.lsvdctl.specs.declared.report.Report.{Report}
 use Rattle.lsvdctl.specs.declared.report.Report.TheVariants.{Done, Fault, Usage, BadLine, Memory}
 
 -- what the output took, and its count of faults, where the answer ended so
 abbrev pub IsAnswered : List (List ℕ) → Report → Option (List ℕ) → Option (List ℕ) → ℕ → ℕ → Type 0
--- some text was added
-IsAnswered words Done old new before now = AsksForHelp words × ((text : List ℕ) × Appends old new text)
+-- some text was added, and no write failed
+IsAnswered words Done old new before now = AsksForHelp words × (now ≡ before) × ((text : List ℕ) × Appends old new text)
 -- a write failed, after some text
-IsAnswered words Fault old new before now = AsksForHelp words × HasRisen before now × ((text : List ℕ) × Appends old new text)
+IsAnswered words Fault old new before now = AsksForHelp words × CountsOne before now × ((text : List ℕ) × Appends old new text)
 -- nothing was written
 IsAnswered words Memory old new before now = (new ≡ old) × (now ≡ before)
 IsAnswered words Usage old new before now = ⊥

@@ -1,7 +1,7 @@
--- How a run of the program is reported.
+-- Contract: how a run of the program is reported.
 use Rattle.std.specs.Prelude.{◌≡◌, ℕ, ◌≤◌, ◌⊎◌, Option, List, [], ◌∷◌, ◌++◌, length, take, codes, decimal}
 use Rattle.std.specs.Io.KnownBytes.{Appends}
-use Rattle.lsvd_fault.specs.Faults.{HasRisen}
+use Rattle.lsvd_fault.specs.Faults.{CountsOne}
 use Rattle.vol_replay.specs.Reason.{code_of}
 use Rattle.lsvdctl.specs.declared.report.Report.{Report}
 use Rattle.lsvdctl.specs.declared.report.Report.TheVariants.{Done, Fault, Usage, BadLine, Memory}
@@ -22,7 +22,8 @@ line_of Usage = codes "usage\n"
 line_of (BadLine number reason) = codes "line " ++ decimal number ++ codes " reason " ++ decimal (code_of reason) ++ codes "\n"
 line_of Memory = codes "memory\n"
 
--- the sink took the line, or, where a write failed, a front of it
+-- the sink took the line; or a write failed, which was counted, and it took a front of the line
 abbrev pub IsTold : Option (List ℕ) → Option (List ℕ) → ℕ → ℕ → List ℕ → Type 0
 IsTold old new before now line =
-    Appends old new line ⊎ (HasRisen before now × ((n : ℕ) × (n ≤ length line) × Appends old new (take n line)))
+    ((now ≡ before) × Appends old new line)
+    ⊎ (CountsOne before now × ((n : ℕ) × (n ≤ length line) × Appends old new (take n line)))

@@ -1,5 +1,6 @@
--- What a run of the program says of its input, of its output and of its status.
-use Rattle.std.specs.Prelude.{◌≡◌, ℕ, List, []}
+-- Contract: what a run of the program says of its input, of its output and of its status.
+use Rattle.std.specs.Prelude.{◌≡◌, ◌⊎◌, ℕ, List, []}
+use Rattle.lsvd_fault.specs.Faults.{CountsOne}
 use Rattle.vol_replay.specs.declared.outcome.Outcome.{Outcome}
 use Rattle.vol_replay.specs.declared.outcome.Outcome.TheVariants as outcomes
 use Rattle.vol_replay.specs.Transcript.{State, IsTranscript, IsFrontOfTranscript}
@@ -25,3 +26,12 @@ IsReported script text Fault = IsFrontOfTranscript script text
 IsReported script text Memory = IsFrontOfTranscript script text
 -- nothing was run
 IsReported script text Usage = text ≡ []
+
+-- one call failed: one of the input, or one of the output
+abbrev pub CountsOneOf : (in_before in_now out_before out_now : ℕ) → Type 0
+CountsOneOf in_before in_now out_before out_now =
+    (CountsOne in_before in_now × (out_now ≡ out_before)) ⊎ ((in_now ≡ in_before) × CountsOne out_before out_now)
+
+-- no call failed
+abbrev pub CountsNone : (in_before in_now out_before out_now : ℕ) → Type 0
+CountsNone in_before in_now out_before out_now = (in_now ≡ in_before) × (out_now ≡ out_before)

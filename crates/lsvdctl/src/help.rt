@@ -1,7 +1,7 @@
 ghost use Rattle.std.specs.Prelude.{◌≡◌, ◌⊎◌, ◌≤◌, List, ℕ, map, string_bytes, IfSome, IfNone, take, length};
 ghost use Rattle.std.specs.Io.KnownBytes.{Appends};
 ghost use Rattle.command_line.specs.CommandLine.{AsksForHelp};
-ghost use Rattle.lsvd_fault.specs.Faults.{HasRisen};
+ghost use Rattle.lsvd_fault.specs.Faults.{CountsOne};
 ghost use Rattle.lsvdctl.specs.Help.{IsAnswered};
 
 use crate::report::Report;
@@ -30,7 +30,8 @@ fn write_text<O: Sink>(out: &mut O, text: &[u8]) -> Report
     ensures done { result ≡ Report.Done → Appends (O.contents out.old) (O.contents out.new) text.now }
     ensures front { result ≡ Report.Fault
         → (n : ℕ) × (n ≤ length text.now) × Appends (O.contents out.old) (O.contents out.new) (take n text.now) }
-    ensures fault { result ≡ Report.Fault → HasRisen (O.faults out.old) (O.faults out.new) }
+    ensures none { result ≡ Report.Done → O.faults out.new ≡ O.faults out.old }
+    ensures fault { result ≡ Report.Fault → CountsOne (O.faults out.old) (O.faults out.new) }
 {
     match write_all(out, text) {
         Ok(()) => Report::Done,

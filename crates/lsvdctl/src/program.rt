@@ -1,9 +1,8 @@
 ghost use Rattle.std.specs.Prelude.{◌≡◌, ◌≢◌, ◌⊎◌, List, ℕ, [], ◌∷◌, map, codes, string_bytes, IfSome};
 ghost use Rattle.std.specs.Io.KnownBytes.{Appends, IsAtEnd};
 ghost use Rattle.command_line.specs.CommandLine.{IsFaulty};
-ghost use Rattle.lsvd_fault.specs.Faults.{HasRisen};
 ghost use Rattle.lsvdctl.specs.Report.{status_of, line_of, IsTold};
-ghost use Rattle.lsvdctl.specs.Run.{IsReported, report_of};
+ghost use Rattle.lsvdctl.specs.Run.{IsReported, CountsOneOf, CountsNone, report_of};
 
 use crate::report::Report;
 use crate::world::World;
@@ -24,7 +23,7 @@ pub fn run<W: World>(
     out: &mut W::Out,
     err: &mut W::Err,
 ) -> u8
-    // 0: each line is answered. 3: a line is bad. 1 or 4: a fault, or want of memory. The output and the line on
+    // 0: each line is answered. 3: a line is bad. 1 or 4: a fault, or memory ran out. The output and the line on
     // the error stream say so too.
     ensures report { (report : Report) × (result ≡ status_of report)
         × IsTold (W.Err.contents err.old) (W.Err.contents err.new) (W.Err.faults err.old) (W.Err.faults err.new) (line_of report)
@@ -41,12 +40,13 @@ pub fn run<W: World>(
     // Then nothing was read or written.
     ensures untouched { result ≡ 2 → (input.new ≡ input.old) × (out.new ≡ out.old) }
 
-    // Faulty words end with 2, or with 4 where memory lacked to judge them, and nothing is run of them.
+    // Faulty words end with 2, or with 4 where memory ran out while they were judged, and nothing is run of them.
     ensures faulty { IsFaulty (map string_bytes words.now)
         → ((result ≡ 2) ⊎ (result ≡ 4)) × (input.new ≡ input.old) × (out.new ≡ out.old) }
 
-    // 1 is only for a fault that was counted.
-    ensures fault { result ≡ 1 → HasRisen (W.In.faults input.old) (W.In.faults input.new) ⊎ HasRisen (W.Out.faults out.old) (W.Out.faults out.new) }
+    // 1 is for one call that failed, and every other status for none.
+    ensures fault { result ≡ 1 → CountsOneOf (W.In.faults input.old) (W.In.faults input.new) (W.Out.faults out.old) (W.Out.faults out.new) }
+    ensures no_fault { result ≢ 1 → CountsNone (W.In.faults input.old) (W.In.faults input.new) (W.Out.faults out.old) (W.Out.faults out.new) }
 {
     let report = execute::<W::In, W::Out>(alloc, words, input, out);
     report.tell(err);
@@ -68,7 +68,8 @@ fn execute<I: Source, O: Sink>(
     ensures faulty { IsFaulty (map string_bytes words.now)
         → ((result ≡ Report.Usage) ⊎ (result ≡ Report.Memory)) × (input.new ≡ input.old) × (out.new ≡ out.old) }
     ensures untouched { result ≡ Report.Usage → (input.new ≡ input.old) × (out.new ≡ out.old) }
-    ensures fault { result ≡ Report.Fault → HasRisen (I.faults input.old) (I.faults input.new) ⊎ HasRisen (O.faults out.old) (O.faults out.new) }
+    ensures fault { result ≡ Report.Fault → CountsOneOf (I.faults input.old) (I.faults input.new) (O.faults out.old) (O.faults out.new) }
+    ensures no_fault { result ≢ Report.Fault → CountsNone (I.faults input.old) (I.faults input.new) (O.faults out.old) (O.faults out.new) }
 {
     match request_of(alloc, words) {
         Ok(Request::Replay) => report_of(replay(alloc, input, out)),

@@ -1,4 +1,4 @@
-ghost use Rattle.std.specs.Prelude.{◌≡◌, ◌≤◌};
+ghost use Rattle.std.specs.Prelude.{◌≡◌};
 ghost use Rattle.lsvdctl.specs.Report.{status_of, line_of, IsTold};
 
 use arrayvec::ArrayString;
@@ -17,12 +17,12 @@ pub enum Report {
     Usage,
     /// This line of the script, counted from 1, is bad.
     BadLine { number: u64, reason: Reason },
-    /// Memory lacked.
+    /// Memory ran out.
     Memory,
 }
 
 impl Report {
-    /// The exit status: 0 done, 1 a fault, 2 usage, 3 a refusal, 4 want of memory.
+    /// The exit status: 0 done, 1 a fault, 2 usage, 3 a refusal, 4 out of memory.
     pub fn status(self) -> u8
         ensures { result ≡ status_of self }
     {
@@ -39,7 +39,6 @@ impl Report {
     /// front of the line stands there, and nothing else is done about it.
     pub fn tell<E: Sink>(self, err: &mut E)
         ensures told { IsTold (E.contents err.old) (E.contents err.new) (E.faults err.old) (E.faults err.new) (line_of self) }
-        ensures kept { E.faults err.old ≤ E.faults err.new }
     {
         let _ = match self {
             Report::Done => Ok(()),
@@ -51,13 +50,12 @@ impl Report {
     }
 }
 
-/// The most bytes of a line that tells a bad line.
+// The most bytes of a line that tells a bad line.
 const LINE_BYTES: usize = 64;
 
 // The line that tells a bad line, as one write.
 fn tell_bad_line<E: Sink>(err: &mut E, number: u64, reason: Reason) -> Result<(), Failed>
     ensures told { IsTold (E.contents err.old) (E.contents err.new) (E.faults err.old) (E.faults err.new) (line_of (Report.BadLine number reason)) }
-    ensures kept { E.faults err.old ≤ E.faults err.new }
 {
     let mut line = ArrayString::<LINE_BYTES>::new();
     line.push_str("line ");

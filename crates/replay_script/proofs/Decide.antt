@@ -1,6 +1,6 @@
 -- Which command a line spells is decided, and it is one.
-use Rattle.std.proofs.Common.{◌≡◌, ℕ, ◌+◌, ◌*◌, ◌^◌, ◌<◌, ◌==◌, ◌⊎◌, inl, inr, Option, Some, None, Bool, true, false, cond, List, [], ◌∷◌, length, take, codes, refl, sym, ◌∙◌, ap, subst, arith}
-use Rattle.std.specs.Prelude.{IsTrue, IfErr, nat_le, ok_or, decimal, ◌&&◌}
+use Rattle.std.proofs.Common.{◌≡◌, ℕ, ◌+◌, ◌*◌, ◌^◌, ◌<◌, ◌==◌, ◌⊎◌, inl, inr, Option, Bool, true, false, cond, List, [], ◌∷◌, length, take, codes, refl, sym, ◌∙◌, ap, subst, arith}
+use Rattle.std.specs.Prelude.{IsTrue, nat_le, decimal, ◌&&◌}
 use Rattle.std.specs.Bool.{then_some}
 use Rattle.std.specs.Option.{IfNone}
 use Rattle.std.specs.Str.{bytes_eq}
@@ -229,12 +229,12 @@ some_word line e = omega (arith, length-slice_split (λ b. b == 32) line, ap len
 take-none : (n : ℕ) → take {A = List ℕ} n [] ≡ []
 take-none n = grind arith
 
--- words behind a name of one word
-pub begin : (name : List ℕ) (words : List (List ℕ)) → take (length (name ∷ words)) (name ∷ []) ≡ take (length (name ∷ [])) (name ∷ words)
+-- words after a name of one word
+begin : (name : List ℕ) (words : List (List ℕ)) → take (length (name ∷ words)) (name ∷ []) ≡ take (length (name ∷ [])) (name ∷ words)
 begin name words = ap (λ rest. name ∷ rest) (take-none (length words))
 
--- words behind a name of two words
-pub begin_two : (name kind : List ℕ) (words : List (List ℕ)) → take (length (name ∷ kind ∷ words)) (name ∷ kind ∷ []) ≡ take (length (name ∷ kind ∷ [])) (name ∷ kind ∷ words)
+-- words after a name of two words
+begin_two : (name kind : List ℕ) (words : List (List ℕ)) → take (length (name ∷ kind ∷ words)) (name ∷ kind ∷ []) ≡ take (length (name ∷ kind ∷ [])) (name ∷ kind ∷ words)
 begin_two name kind words = ap (λ rest. name ∷ kind ∷ rest) (take-none (length words))
 
 -- the first word of some words
@@ -307,20 +307,13 @@ miscounted words command begins other_count line e =
     miscounted_line line command (of_words words line command e begins) (λ counts. other_count (ap length (sym e) ∙ counts))
 
 -- words that begin with a command's name, as many as it has, that spell none are not in their form
-misspelt : (words : List (List ℕ)) (command : Command) → BeginAs words command → length words ≡ length (spelling command) → SpellNone words → AreRefusedAs words Form
+pub misspelt : (words : List (List ℕ)) (command : Command) → BeginAs words command → length words ≡ length (spelling command) → SpellNone words → AreRefusedAs words Form
 misspelt words command begins counts none line e = record {
   command = command;
   known = of_words words line command e begins;
   counted = ap length e ∙ counts;
   unspelled = λ other spells. none other (sym e ∙ spells.words, spells.fits);
 }
-
--- the same behind a name of one word, where a search of the command found none
-pub misspelt_if_none : (name : List ℕ) (words spelled : List (List ℕ)) (command : Command) (found : Option Command) → words ≡ spelled → name_of command ≡ name ∷ [] → length (name ∷ spelled) ≡ length (spelling command) → IfNone found (SpellNone (name ∷ spelled)) → IfErr (ok_or found Form) (AreRefusedAs (name ∷ words))
-misspelt_if_none name words spelled command None e named counts none =
-    misspelt (name ∷ words) command (rw named (begin name words)) (ap (λ (w : List (List ℕ)). length (name ∷ w)) e ∙ counts)
-    (λ other spells. none other (ap (λ (w : List (List ℕ)). name ∷ w) (sym e) ∙ spells.0, spells.1))
-misspelt_if_none name words spelled command (Some found) e named counts none = tt
 
 -- no command's name begins with another word than these seven
 no_name : (word : List ℕ) (words : List (List ℕ)) → ¬ (word ≡ codes "new") → ¬ (word ≡ codes "w") → ¬ (word ≡ codes "z") → ¬ (word ≡ codes "r") → ¬ (word ≡ codes "f") → ¬ (word ≡ codes "stop") → ¬ (word ≡ codes "crash") → (command : Command) → ¬ BeginAs (word ∷ words) command
@@ -334,7 +327,7 @@ no_name word words no_new no_write no_zero no_read no_flush no_stop no_crash (St
 no_name word words no_new no_write no_zero no_read no_flush no_stop no_crash (CrashKeep device objects) e = no_crash (begins_first word words (CrashKeep device objects) e)
 
 -- no command's name begins with `crash` and another word than `keep`
-pub no_kind : (name kind : List ℕ) (words : List (List ℕ)) → name ≡ codes "crash" → ¬ (kind ≡ codes "keep") → (command : Command) → ¬ BeginAs (name ∷ kind ∷ words) command
+no_kind : (name kind : List ℕ) (words : List (List ℕ)) → name ≡ codes "crash" → ¬ (kind ≡ codes "keep") → (command : Command) → ¬ BeginAs (name ∷ kind ∷ words) command
 unfolding first_word
 no_kind name kind words is other (New g) e = let same = sym is ∙ begins_first name (kind ∷ words) (New g) e in cc
 no_kind name kind words is other (Write lba sectors byte) e = let same = sym is ∙ begins_first name (kind ∷ words) (Write lba sectors byte) e in cc
@@ -343,22 +336,6 @@ no_kind name kind words is other (Read lba sectors) e = let same = sym is ∙ be
 no_kind name kind words is other Flush e = let same = sym is ∙ begins_first name (kind ∷ words) Flush e in cc
 no_kind name kind words is other (Stop calls) e = let same = sym is ∙ begins_first name (kind ∷ words) (Stop calls) e in cc
 no_kind name kind words is other (CrashKeep device objects) e = other (cc)
-
--- the same of the words of a line
-pub unknown_name : (word : List ℕ) (words : List (List ℕ)) → (word ≡ codes "new" → ⊥) → (word ≡ codes "w" → ⊥) → (word ≡ codes "z" → ⊥) → (word ≡ codes "r" → ⊥) → (word ≡ codes "f" → ⊥) → (word ≡ codes "stop" → ⊥) → (word ≡ codes "crash" → ⊥) → AreRefusedAs (word ∷ words) UnknownCommand
-unknown_name word words no_new no_write no_zero no_read no_flush no_stop no_crash line e command begins =
-    no_name word words no_new no_write no_zero no_read no_flush no_stop no_crash command
-    (let P : List (List ℕ) → Type 0 = λ w. BeginAs w command in subst P e begins)
-
-pub unknown_kind : (kind : List ℕ) (words : List (List ℕ)) → (kind ≡ codes "keep" → ⊥) → AreRefusedAs (codes "crash" ∷ kind ∷ words) UnknownCommand
-unknown_kind kind words other line e command begins =
-    no_kind (codes "crash") kind words refl other command (let P : List (List ℕ) → Type 0 = λ w. BeginAs w command in subst P e begins)
-
--- the word `crash` alone
-pub crash_alone : (rest : List (List ℕ)) → rest ≡ [] → AreRefusedAs (codes "crash" ∷ rest) WordCount
-crash_alone rest none =
-    let P : List (List ℕ) → Type 0 = λ words. AreRefusedAs (codes "crash" ∷ words) WordCount in
-    subst P (sym none) (miscounted (codes "crash" ∷ []) (CrashKeep [] []) refl (λ counts. omega (arith, counts)))
 
 -- a line has words
 pub no_words : (words : List (List ℕ)) → words ≡ [] → AreRefusedAs words UnknownCommand
@@ -433,7 +410,7 @@ miscounted_or_misspelt line wrong misspelt = wrong.miscounted misspelt.command m
 abbrev IsJudged : List (List ℕ) → Type 0
 IsJudged words = ((command : Command) × BeginAs words command) ⊎ ((command : Command) → ¬ BeginAs words command)
 
--- behind the word `crash` this is decided
+-- after the word `crash` this is decided
 decide_kind : (name : List ℕ) (words : List (List ℕ)) → name ≡ codes "crash" → IsJudged (name ∷ words)
 decide_kind name [] is = inl (CrashKeep [] [], ap (λ n. n ∷ []) (sym is))
 decide_kind name (kind ∷ words) is =

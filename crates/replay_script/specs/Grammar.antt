@@ -1,4 +1,4 @@
--- The grammar of scripts: which bytes are a line, and which lines spell a command.
+-- Contract: the grammar of scripts: which bytes are a line, and which lines spell a command.
 use Rattle.std.specs.Prelude.{◌≡◌, ℕ, ◌/◌, ◌%◌, ◌^◌, ◌<◌, List, [], ◌∷◌, ◌==◌, IsTrue, if◌then◌else◌, length, take, codes, decimal}
 use Rattle.std.specs.Char.{digit_char}
 use Rattle.std.specs.List.{slice_split}
@@ -95,7 +95,7 @@ pub record IsMisspelt (line : List ℕ) : Type 0 where
   pub counted : CountsAs line command
   pub unspelled : (other : Command) → ¬ Spells line other
 
--- why the line spells no command; where memory lacked, nothing is said
+-- why the line spells no command; where it is out of memory, nothing is said
 abbrev pub IsRefusedAs : List ℕ → LineError → Type 0
 IsRefusedAs line UnknownCommand = IsUnknown line
 IsRefusedAs line WordCount = HasWrongWordCount line

@@ -1,4 +1,4 @@
--- Run texts: the maximal runs of equal bytes.
+-- Contract: run texts, the maximal runs of equal bytes.
 use Rattle.std.specs.Prelude.{◌≡◌, ◌≢◌, ℕ, suc, ◌<◌, ◌==◌, if◌then◌else◌, List, [], ◌∷◌, ◌++◌, map, replicate, codes, decimal}
 use Rattle.std.specs.List.{flat_map, AllByRecursion, join_with_byte}
 use Rattle.replay_script.specs.Grammar.{hexadecimal}

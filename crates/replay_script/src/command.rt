@@ -1,11 +1,13 @@
-ghost use Rattle.std.specs.Prelude.{IsTrue, ◌↔◌, IfOk, IfErr, IfSome, IfNone, ◌≡◌, ℕ, List, [], ◌∷◌, map, codes};
+ghost use Rattle.std.specs.Prelude.{IsTrue, ◌↔◌, IfOk, IfErr, IfSome, IfNone, ◌≡◌, ℕ, List, [], ◌∷◌, map, codes, length};
 ghost use Rattle.replay_script.specs.Grammar.{Spells, IsRefusedAs, Spell, SpellNone, AreRefusedAs};
+ghost use Rattle.replay_script.specs.Names.{BeginWith, word_count_of};
+ghost use Rattle.replay_script.specs.declared.error.LineError.TheVariants.{UnknownCommand};
 
 use crate::error::LineError;
 use crate::letters::Letters;
 use crate::number::{byte_of, number_of};
 use lsvd_base::Geometry;
-use std::alloc::Global;
+use std::alloc::{AllocError, Global};
 
 /// What a line of a script asks for.
 #[derive(Debug, Drop)]
@@ -42,60 +44,116 @@ pub fn a_line_spells_one_command()
     ensures { (line : List ℕ) (a b : Command) → Spells line a → Spells line b → a ≡ b }
 {}
 
-/// The command that the words spell, or why they spell none.
+// The name of a command.
+#[derive(Clone, Copy)]
+enum Name {
+    New,
+    Write,
+    Zero,
+    Read,
+    Flush,
+    Stop,
+    CrashKeep,
+}
+
+// The command that the words spell. The reasons why they spell none come in their order: no such command, another
+// number of words, a word that is not in its form.
 fn command_from(alloc: Global, words: &[&[u8]]) -> Result<Command, LineError>
     ensures found { IfOk result (Spell (map (λ word. word.now) words.now)) }
     ensures refused { IfErr result (AreRefusedAs (map (λ word. word.now) words.now)) }
 {
-    match words {
-        [] => Err(LineError::UnknownCommand),
-        [name, rest @ ..] => named_from(alloc, name, rest),
+    let name = name_of(words).ok_or(LineError::UnknownCommand)?;
+    if words.len() != word_count(name) {
+        return Err(LineError::WordCount);
     }
+    form_of(alloc, name, words)?.ok_or(LineError::Form)
 }
 
-/// The command that begins with this word, with these words after it.
-fn named_from(alloc: Global, name: &[u8], rest: &[&[u8]]) -> Result<Command, LineError>
-    ensures found { IfOk result (Spell (name.now ∷ map (λ word. word.now) rest.now)) }
-    ensures refused { IfErr result (AreRefusedAs (name.now ∷ map (λ word. word.now) rest.now)) }
+// The name that these words begin with, or are a front of: `crash` is one of `crash keep`.
+fn name_of(words: &[&[u8]]) -> Option<Name>
+    ensures found { IfSome result (BeginWith (map (λ word. word.now) words.now)) }
+    ensures none { IfNone result (AreRefusedAs (map (λ word. word.now) words.now) UnknownCommand) }
 {
-    if is_word(name, b"new") {
-        new_from(rest)
-    } else if is_word(name, b"w") {
-        write_from(rest)
-    } else if is_word(name, b"z") {
-        zero_from(rest)
-    } else if is_word(name, b"r") {
-        read_from(rest)
-    } else if is_word(name, b"f") {
-        flush_from(rest)
-    } else if is_word(name, b"stop") {
-        stop_from(rest)
-    } else if is_word(name, b"crash") {
-        crash_from(alloc, rest)
-    } else {
-        Err(LineError::UnknownCommand)
+    match words {
+        [] => None,
+        [first, rest @ ..] => name_from(first, rest),
     }
 }
 
-/// Whether a word is this one.
+// The same of a first word, and of those after it.
+fn name_from(first: &[u8], rest: &[&[u8]]) -> Option<Name>
+    ensures found { IfSome result (BeginWith (first.now ∷ map (λ word. word.now) rest.now)) }
+    ensures none { IfNone result (AreRefusedAs (first.now ∷ map (λ word. word.now) rest.now) UnknownCommand) }
+{
+    if is_word(first, b"new") {
+        Some(Name::New)
+    } else if is_word(first, b"w") {
+        Some(Name::Write)
+    } else if is_word(first, b"z") {
+        Some(Name::Zero)
+    } else if is_word(first, b"r") {
+        Some(Name::Read)
+    } else if is_word(first, b"f") {
+        Some(Name::Flush)
+    } else if is_word(first, b"stop") {
+        Some(Name::Stop)
+    } else if is_word(first, b"crash") {
+        crash_name_from(rest)
+    } else {
+        None
+    }
+}
+
+// The same of the words after `crash`.
+fn crash_name_from(rest: &[&[u8]]) -> Option<Name>
+    ensures found { IfSome result (BeginWith (codes "crash" ∷ map (λ word. word.now) rest.now)) }
+    ensures none { IfNone result (AreRefusedAs (codes "crash" ∷ map (λ word. word.now) rest.now) UnknownCommand) }
+{
+    match rest {
+        [] => Some(Name::CrashKeep),
+        [kind, ..] => is_word(kind, b"keep").then_some(Name::CrashKeep),
+    }
+}
+
+// Whether a word is this one.
 fn is_word(word: &[u8], name: &[u8]) -> bool
     ensures { IsTrue result ↔ (word.now ≡ name.now) }
 {
     word == name
 }
 
-/// The command `new` with these words after its name.
-fn new_from(sizes: &[&[u8]]) -> Result<Command, LineError>
-    ensures found { IfOk result (Spell (codes "new" ∷ map (λ word. word.now) sizes.now)) }
-    ensures refused { IfErr result (AreRefusedAs (codes "new" ∷ map (λ word. word.now) sizes.now)) }
+// How many words a command of this name has, those of its name included.
+fn word_count(name: Name) -> usize
+    ensures { result ≡ word_count_of name }
 {
-    let [sectors, log, max_write, batch] = sizes else {
-        return Err(LineError::WordCount);
-    };
-    new_of(sectors, log, max_write, batch).ok_or(LineError::Form)
+    match name {
+        Name::Flush => 1,
+        Name::Stop => 2,
+        Name::Zero | Name::Read => 3,
+        Name::Write | Name::CrashKeep => 4,
+        Name::New => 5,
+    }
 }
 
-/// The command `new` of these sizes, if each is a number and they are within the limits of a volume.
+// The command of this name that these words spell, if each is in its form. The one error is out of memory.
+fn form_of(alloc: Global, name: Name, words: &[&[u8]]) -> Result<Option<Command>, AllocError>
+    requires begun { BeginWith (map (λ word. word.now) words.now) name }
+    requires counted { length words.now ≡ word_count_of name }
+    ensures found { IfOk result (λ read. IfSome read (Spell (map (λ word. word.now) words.now))) }
+    ensures none { IfOk result (λ read. IfNone read (SpellNone (map (λ word. word.now) words.now))) }
+{
+    Ok(match name {
+        Name::New => new_of(words[1], words[2], words[3], words[4]),
+        Name::Write => write_of(words[1], words[2], words[3]),
+        Name::Zero => zero_of(words[1], words[2]),
+        Name::Read => read_of(words[1], words[2]),
+        Name::Flush => Some(Command::Flush),
+        Name::Stop => stop_of(words[1]),
+        Name::CrashKeep => Some(crash_keep_of(alloc, words[2], words[3])?),
+    })
+}
+
+// The command `new` of these sizes, if each is a number and they are within the limits of a volume.
 fn new_of(sectors: &[u8], log: &[u8], max_write: &[u8], batch: &[u8]) -> Option<Command>
     ensures found { IfSome result (Spell (codes "new" ∷ sectors.now ∷ log.now ∷ max_write.now ∷ batch.now ∷ [])) }
     ensures none { IfNone result (SpellNone (codes "new" ∷ sectors.now ∷ log.now ∷ max_write.now ∷ batch.now ∷ [])) }
@@ -111,18 +169,7 @@ fn new_of(sectors: &[u8], log: &[u8], max_write: &[u8], batch: &[u8]) -> Option<
         .then_some(Command::New(geometry))
 }
 
-/// The command `w` with these words after its name.
-fn write_from(request: &[&[u8]]) -> Result<Command, LineError>
-    ensures found { IfOk result (Spell (codes "w" ∷ map (λ word. word.now) request.now)) }
-    ensures refused { IfErr result (AreRefusedAs (codes "w" ∷ map (λ word. word.now) request.now)) }
-{
-    let [lba, sectors, byte] = request else {
-        return Err(LineError::WordCount);
-    };
-    write_of(lba, sectors, byte).ok_or(LineError::Form)
-}
-
-/// The command `w` of these words, if they are two numbers and a byte.
+// The command `w` of these words, if they are two numbers and a byte.
 fn write_of(lba: &[u8], sectors: &[u8], byte: &[u8]) -> Option<Command>
     ensures found { IfSome result (Spell (codes "w" ∷ lba.now ∷ sectors.now ∷ byte.now ∷ [])) }
     ensures none { IfNone result (SpellNone (codes "w" ∷ lba.now ∷ sectors.now ∷ byte.now ∷ [])) }
@@ -134,18 +181,7 @@ fn write_of(lba: &[u8], sectors: &[u8], byte: &[u8]) -> Option<Command>
     })
 }
 
-/// The command `z` with these words after its name.
-fn zero_from(range: &[&[u8]]) -> Result<Command, LineError>
-    ensures found { IfOk result (Spell (codes "z" ∷ map (λ word. word.now) range.now)) }
-    ensures refused { IfErr result (AreRefusedAs (codes "z" ∷ map (λ word. word.now) range.now)) }
-{
-    let [lba, sectors] = range else {
-        return Err(LineError::WordCount);
-    };
-    zero_of(lba, sectors).ok_or(LineError::Form)
-}
-
-/// The command `z` of these words, if they are two numbers.
+// The command `z` of these words, if they are two numbers.
 fn zero_of(lba: &[u8], sectors: &[u8]) -> Option<Command>
     ensures found { IfSome result (Spell (codes "z" ∷ lba.now ∷ sectors.now ∷ [])) }
     ensures none { IfNone result (SpellNone (codes "z" ∷ lba.now ∷ sectors.now ∷ [])) }
@@ -156,18 +192,7 @@ fn zero_of(lba: &[u8], sectors: &[u8]) -> Option<Command>
     })
 }
 
-/// The command `r` with these words after its name.
-fn read_from(range: &[&[u8]]) -> Result<Command, LineError>
-    ensures found { IfOk result (Spell (codes "r" ∷ map (λ word. word.now) range.now)) }
-    ensures refused { IfErr result (AreRefusedAs (codes "r" ∷ map (λ word. word.now) range.now)) }
-{
-    let [lba, sectors] = range else {
-        return Err(LineError::WordCount);
-    };
-    read_of(lba, sectors).ok_or(LineError::Form)
-}
-
-/// The command `r` of these words, if they are two numbers.
+// The command `r` of these words, if they are two numbers.
 fn read_of(lba: &[u8], sectors: &[u8]) -> Option<Command>
     ensures found { IfSome result (Spell (codes "r" ∷ lba.now ∷ sectors.now ∷ [])) }
     ensures none { IfNone result (SpellNone (codes "r" ∷ lba.now ∷ sectors.now ∷ [])) }
@@ -178,30 +203,7 @@ fn read_of(lba: &[u8], sectors: &[u8]) -> Option<Command>
     })
 }
 
-/// The command `f` with these words after its name.
-fn flush_from(rest: &[&[u8]]) -> Result<Command, LineError>
-    ensures found { IfOk result (Spell (codes "f" ∷ map (λ word. word.now) rest.now)) }
-    ensures refused { IfErr result (AreRefusedAs (codes "f" ∷ map (λ word. word.now) rest.now)) }
-{
-    if rest.is_empty() {
-        Ok(Command::Flush)
-    } else {
-        Err(LineError::WordCount)
-    }
-}
-
-/// The command `stop` with these words after its name.
-fn stop_from(calls: &[&[u8]]) -> Result<Command, LineError>
-    ensures found { IfOk result (Spell (codes "stop" ∷ map (λ word. word.now) calls.now)) }
-    ensures refused { IfErr result (AreRefusedAs (codes "stop" ∷ map (λ word. word.now) calls.now)) }
-{
-    let [calls] = calls else {
-        return Err(LineError::WordCount);
-    };
-    stop_of(calls).ok_or(LineError::Form)
-}
-
-/// The command `stop` of this word, if it is a number.
+// The command `stop` of this word, if it is a number.
 fn stop_of(calls: &[u8]) -> Option<Command>
     ensures found { IfSome result (Spell (codes "stop" ∷ calls.now ∷ [])) }
     ensures none { IfNone result (SpellNone (codes "stop" ∷ calls.now ∷ [])) }
@@ -211,37 +213,10 @@ fn stop_of(calls: &[u8]) -> Option<Command>
     })
 }
 
-/// The command with the word `crash` and these after it.
-fn crash_from(alloc: Global, kind: &[&[u8]]) -> Result<Command, LineError>
-    ensures found { IfOk result (Spell (codes "crash" ∷ map (λ word. word.now) kind.now)) }
-    ensures refused { IfErr result (AreRefusedAs (codes "crash" ∷ map (λ word. word.now) kind.now)) }
+// The command `crash keep` of these words, which are letters of any form.
+fn crash_keep_of(alloc: Global, device: &[u8], objects: &[u8]) -> Result<Command, AllocError>
+    ensures { IfOk result (Spell (codes "crash" ∷ codes "keep" ∷ device.now ∷ objects.now ∷ [])) }
 {
-    match kind {
-        [] => Err(LineError::WordCount),
-        [kind, letters @ ..] => crash_kind_from(alloc, kind, letters),
-    }
-}
-
-/// The command with the word `crash`, this one, and these after it.
-fn crash_kind_from(alloc: Global, kind: &[u8], letters: &[&[u8]]) -> Result<Command, LineError>
-    ensures found { IfOk result (Spell (codes "crash" ∷ kind.now ∷ map (λ word. word.now) letters.now)) }
-    ensures refused { IfErr result (AreRefusedAs (codes "crash" ∷ kind.now ∷ map (λ word. word.now) letters.now)) }
-{
-    if is_word(kind, b"keep") {
-        crash_keep_from(alloc, letters)
-    } else {
-        Err(LineError::UnknownCommand)
-    }
-}
-
-/// The command `crash keep` with these words after its name.
-fn crash_keep_from(alloc: Global, letters: &[&[u8]]) -> Result<Command, LineError>
-    ensures found { IfOk result (Spell (codes "crash" ∷ codes "keep" ∷ map (λ word. word.now) letters.now)) }
-    ensures refused { IfErr result (AreRefusedAs (codes "crash" ∷ codes "keep" ∷ map (λ word. word.now) letters.now)) }
-{
-    let [device, objects] = letters else {
-        return Err(LineError::WordCount);
-    };
     Ok(Command::CrashKeep {
         device: Letters::from_word(alloc, device)?,
         objects: Letters::from_word(alloc, objects)?,

@@ -16,7 +16,7 @@ pub enum LineError {
     /// A word is not a number or a byte in its form, or the sizes of a volume are outside its limits.
     #[error("a word that is not in its form")]
     Form,
-    /// Memory lacked, and nothing is said of the line.
+    /// Out of memory, and nothing is said of the line.
     #[error("out of memory")]
     OutOfMemory,
 }

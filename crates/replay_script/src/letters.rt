@@ -19,7 +19,7 @@ impl Model for Letters {
 }
 
 impl Letters {
-    /// The letters of this word. The one error is want of memory.
+    /// The letters of this word. The one error is out of memory.
     pub fn from_word(alloc: Global, word: &[u8]) -> Result<Letters, AllocError>
         ensures { IfOk result (λ letters. letters ≡ word.now) }
     {

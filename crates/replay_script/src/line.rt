@@ -19,7 +19,7 @@ pub fn split_line(script: &[u8]) -> (&[u8], &[u8])
     }
 }
 
-/// The index of the first newline.
+// The index of the first newline.
 fn first_newline(script: &[u8]) -> Option<usize>
     ensures { result ≡ position (λ b. b == 10) script.now }
 {

@@ -8,7 +8,7 @@ use crate::decimal::push_decimal;
 use std::alloc::AllocError;
 
 /// Appends the run text of the bytes: each maximal run of equal bytes as two hexadecimal digits, `x` and its
-/// length, joined by one space. The one error is want of memory.
+/// length, joined by one space. The one error is out of memory.
 pub fn push_run_text(out: &mut Vec<u8>, bytes: &[u8]) -> Result<(), AllocError>
     ensures ok { OnOk result ((text : List ℕ) × IsRunText bytes.now text × (out.new.items ≡ out.old.items ++ text)) }
     ensures err { OnErr result (StartsWith out.new.items out.old.items) }
@@ -20,7 +20,7 @@ pub fn push_run_text(out: &mut Vec<u8>, bytes: &[u8]) -> Result<(), AllocError>
     Ok(())
 }
 
-/// Appends the first run, and a space where more runs follow. Returns the bytes after the run.
+// Appends the first run, and a space where more runs follow. Returns the bytes after the run.
 fn push_first_run<'a>(out: &mut Vec<u8>, bytes: &'a [u8]) -> Result<&'a [u8], AllocError>
     requires { 0 < length bytes.now }
     ensures ok { IfOk result (λ rest.
@@ -38,7 +38,7 @@ fn push_first_run<'a>(out: &mut Vec<u8>, bytes: &'a [u8]) -> Result<&'a [u8], Al
     Ok(rest)
 }
 
-/// How many bytes at the front equal `byte`.
+// How many bytes at the front equal `byte`.
 fn count_leading(byte: u8, bytes: &[u8]) -> usize
     ensures leading { result ≡ prefix_len (λ b. b == byte) bytes.now }
     ensures within { result ≤ length bytes.now }
@@ -46,7 +46,7 @@ fn count_leading(byte: u8, bytes: &[u8]) -> usize
     bytes.iter().take_while(|b| **b == byte).count()
 }
 
-/// Appends one run: its byte, an `x` and its length.
+// Appends one run: its byte, an `x` and its length.
 fn push_run(out: &mut Vec<u8>, byte: u8, count: usize) -> Result<(), AllocError>
     ensures ok { OnOk result (out.new.items ≡ out.old.items ++ text_of_run (record { byte = byte; count = count })) }
     ensures err { OnErr result (StartsWith out.new.items out.old.items) }
@@ -59,7 +59,7 @@ fn push_run(out: &mut Vec<u8>, byte: u8, count: usize) -> Result<(), AllocError>
     push_decimal(out, count as u64)
 }
 
-/// The digit of a value below 16, in lower case.
+// The digit of a value below 16, in lower case.
 fn hexadecimal_digit(value: u8) -> u8
     requires { value < 16 }
     ensures { result ≡ digit_char value }

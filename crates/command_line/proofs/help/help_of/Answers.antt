@@ -10,7 +10,7 @@ use Rattle.command_line.specs.CommandLine.{AsksForHelp, faults_of}
 use Rattle.command_line.proofs.Lines.{help_is_answered}
 use Rattle.command_line.proofs.help.help_of.Goals as goal
 
--- an error of another kind than help, the version or want of memory
+-- an error of another kind than help, the version or out of memory
 other_kind : (words : List Text) (error : Error) (kind : ErrorKind) → kind ≡ kind_of error → HasKind (faults_of words) error
     → (kind ≡ DisplayHelp → ⊥) → (kind ≡ DisplayVersion → ⊥) → (kind ≡ OutOfMemory → ⊥) → AsksForHelp words → ⊥
 other_kind words error kind is (inl memory) help version oom asks = oom (is ∙ memory)
