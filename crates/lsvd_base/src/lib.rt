@@ -1,7 +1,7 @@
 //! What a virtual disk holds and what a write to it means: sectors, entries, and the limits of a volume.
 //!
 //! Its contract: an entry is a change of the sectors that it covers, and of no others.
-//! It stands on the standard library alone.
+//! It stands on the kit's `bytes`, for the bytes of an object, which have many owners.
 #![tactic(auto)]
 
 mod body;

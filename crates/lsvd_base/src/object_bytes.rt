@@ -1,11 +1,16 @@
-ghost use Rattle.std.specs.Prelude.{◌≡◌};
+ghost use Rattle.std.specs.Prelude.{◌≡◌, ◌<◌, ◌^◌, IfOk, length};
 
+use bytes::Bytes;
+use std::alloc::AllocError;
 use std::marker::Model;
 
 /// The bytes of one object of the store, which contracts see as their list.
-#[derive(Debug, Drop)]
+///
+/// They are written once and have many owners: whoever made the object, a put that is under way, a store in memory and
+/// its receipts. A further owner copies no byte. Two are equal exactly where their bytes are.
+#[derive(Debug, Drop, PartialEq, Eq)]
 pub struct ObjectBytes {
-    bytes: Vec<u8>,
+    bytes: Bytes,
 }
 
 impl Model for ObjectBytes {
@@ -13,15 +18,27 @@ impl Model for ObjectBytes {
 
     ghost Value = { List ℕ };
 
-    ghost view = { λ b. b.bytes.items };
+    ghost view = { λ b. b.bytes };
+
+    ghost inverse = { λ bytes. record { bytes = bytes } };
 }
 
 impl ObjectBytes {
-    /// Takes the bytes of an object.
-    pub fn from_bytes(bytes: Vec<u8>) -> ObjectBytes
-        ensures { result ≡ bytes.items }
+    /// Takes the bytes of an object over, and copies none. The one error is that memory for the count of owners ran out.
+    pub fn from_bytes(bytes: Vec<u8>) -> Result<ObjectBytes, AllocError>
+        ensures { IfOk result (λ object. object ≡ bytes.items) }
     {
-        ObjectBytes { bytes }
+        let bytes = Bytes::from_vec(bytes)?;
+        Ok(ObjectBytes { bytes })
+    }
+
+    /// A further owner of the same bytes, of which none is copied. The one error is that there are too many owners, told
+    /// as memory that ran out.
+    pub fn share(&self) -> Result<ObjectBytes, AllocError>
+        ensures { IfOk result (λ object. object ≡ self.now) }
+    {
+        let bytes = self.bytes.clone()?;
+        Ok(ObjectBytes { bytes })
     }
 
     /// Its bytes.
@@ -29,6 +46,14 @@ impl ObjectBytes {
         ensures { result.now ≡ self.now }
     {
         self.bytes.as_slice()
+    }
+
+    /// How many bytes they are.
+    pub fn len(&self) -> u64
+        ensures count { result ≡ length self.now }
+        ensures bound { result < 2 ^ 63 }
+    {
+        self.bytes.len() as u64
     }
 }
 
@@ -38,9 +63,13 @@ mod tests {
     use std::test::Fail;
 
     #[test]
-    fn keeps_its_bytes(rt: HostRuntime) -> Result<(), Fail> {
-        let object = ObjectBytes::from_bytes([1, 2, 3].to_vec(rt.alloc())?);
-        assert_eq!(rt; object.as_bytes(), [1, 2, 3].as_slice());
+    fn its_owners_have_its_bytes(rt: HostRuntime) -> Result<(), Fail> {
+        let object = ObjectBytes::from_bytes([1, 2, 3].to_vec(rt.alloc())?)?;
+        let shared = object.share()?;
+        assert!(rt; shared == object);
+        drop(object);
+        assert_eq!(rt; shared.as_bytes(), [1, 2, 3].as_slice());
+        assert_eq!(rt; shared.len(), 3);
         Ok(())
     }
 }

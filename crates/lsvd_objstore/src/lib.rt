@@ -2,7 +2,7 @@
 //!
 //! Its contract is that of the trait `Store`: what a put, a removal, a search and a list do, acknowledged or not, and
 //! when a call fails. A receipt stands for the bytes that one object had. It stands on `lsvd_names`, `lsvd_base` and
-//! `lsvd_fault`, and on the kit's `bytes` for bytes that a store in memory and its receipts share.
+//! `lsvd_fault`. A store in memory and its receipts share the bytes of an object with whoever put it.
 #![tactic(auto)]
 
 mod error;

@@ -11,7 +11,6 @@ ghost use Rattle.lsvd_objstore.specs.Memory.{HaveNames, first_name_of, last_name
 use crate::error::StoreError;
 use crate::names::Names;
 use crate::store::{Receipt, Store};
-use bytes::Bytes;
 use lsvd_base::ObjectBytes;
 use lsvd_fault::Failed;
 use lsvd_names::{Kind, ObjName};
@@ -24,7 +23,7 @@ use uuid::Uuid;
 #[derive(Debug, Drop)]
 pub struct MemReceipt {
     name: ObjName,
-    bytes: Bytes,
+    bytes: ObjectBytes,
 }
 
 impl Model for MemReceipt {
@@ -49,11 +48,11 @@ impl Receipt for MemReceipt {
     }
 
     fn len(&self) -> u64 {
-        self.bytes.len() as u64
+        self.bytes.len()
     }
 
     fn copy(&self, _alloc: Global) -> Result<MemReceipt, AllocError> {
-        let bytes = self.bytes.clone()?;
+        let bytes = self.bytes.share()?;
         Ok(MemReceipt {
             name: self.name,
             bytes,
@@ -76,7 +75,7 @@ impl Receipt for MemReceipt {
 /// A store in memory. It tells what it holds, and none of its calls fails, other than where memory ran out.
 #[derive(Drop)]
 pub struct MemStore {
-    objects: BTreeMap<ObjName, Bytes>,
+    objects: BTreeMap<ObjName, ObjectBytes>,
 }
 
 impl Model for MemStore {
@@ -110,19 +109,21 @@ impl Store for MemStore {
 
     fn put(
         &mut self,
-        alloc: Global,
+        _alloc: Global,
         name: &ObjName,
         bytes: &ObjectBytes,
     ) -> Result<MemReceipt, StoreError> {
-        let bytes = Bytes::copy_from_slice(alloc, bytes.as_bytes())?;
-        let shared = bytes.clone()?;
-        keep(&mut self.objects, *name, shared)?;
-        Ok(MemReceipt { name: *name, bytes })
+        let receipt = MemReceipt {
+            name: *name,
+            bytes: bytes.share()?,
+        };
+        keep(&mut self.objects, *name, bytes.share()?)?;
+        Ok(receipt)
     }
 
     fn get(&mut self, receipt: &MemReceipt, from: u64, buf: &mut [u8]) -> Result<(), Failed> {
         let from = from as usize;
-        let part = &receipt.bytes.as_slice()[from..from + buf.len()];
+        let part = &receipt.bytes.as_bytes()[from..from + buf.len()];
         buf.copy_from_slice(part);
         Ok(())
     }
@@ -131,7 +132,7 @@ impl Store for MemStore {
         let Some(bytes) = self.objects.get(name) else {
             return Ok(None);
         };
-        let bytes = bytes.clone()?;
+        let bytes = bytes.share()?;
         Ok(Some(MemReceipt { name: *name, bytes }))
     }
 
@@ -152,9 +153,9 @@ impl Store for MemStore {
 
 // Keeps an object, in place of one with its name.
 fn keep(
-    objects: &mut BTreeMap<ObjName, Bytes>,
+    objects: &mut BTreeMap<ObjName, ObjectBytes>,
     name: ObjName,
-    bytes: Bytes,
+    bytes: ObjectBytes,
 ) -> Result<(), AllocError>
     requires name { IsName name }
     requires names { HaveNames objects.old.entries }
@@ -169,7 +170,7 @@ fn keep(
 // The names of a volume's objects, in ascending order.
 fn names_of(
     alloc: Global,
-    objects: &BTreeMap<ObjName, Bytes>,
+    objects: &BTreeMap<ObjName, ObjectBytes>,
     uuid: Uuid,
 ) -> Result<Vec<ObjName>, AllocError>
     requires { HaveNames objects.now.entries }
@@ -183,7 +184,7 @@ fn names_of(
 // The names of the objects from the first to the last.
 fn names_between(
     alloc: Global,
-    objects: &BTreeMap<ObjName, Bytes>,
+    objects: &BTreeMap<ObjName, ObjectBytes>,
     first: ObjName,
     last: ObjName,
 ) -> Result<Vec<ObjName>, AllocError>

@@ -37,7 +37,7 @@ fn name(text: &str) -> Result<ObjName, Fail>
 }
 
 fn object(alloc: Global, bytes: &[u8]) -> Result<ObjectBytes, Fail> {
-    Ok(ObjectBytes::from_bytes(bytes.to_vec(alloc)?))
+    Ok(ObjectBytes::from_bytes(bytes.to_vec(alloc)?)?)
 }
 
 // `count` bytes of a receipt, from a place on.

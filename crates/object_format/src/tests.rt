@@ -54,7 +54,7 @@ fn a_data_object_is_written_and_read(rt: HostRuntime) -> Result<(), Fail> {
     let mut writer = ObjectWriter::new(alloc, &EXPECTED, 0, 1, &rows)?;
     writer.append(&[0x41; 500]);
     writer.append(&[0x41; 12]);
-    let object = writer.finish();
+    let object = writer.finish()?;
     assert_eq!(rt; object.as_bytes(), data_object().as_slice());
 
     let wanted = Header {
@@ -81,7 +81,7 @@ fn the_first_object_of_a_volume_has_one_sector(rt: HostRuntime) -> Result<(), Fa
         end_before: None,
         ..EXPECTED
     };
-    let object = ObjectWriter::new(alloc, &expected, 0, 0, &Rows::Checkpoint)?.finish();
+    let object = ObjectWriter::new(alloc, &expected, 0, 0, &Rows::Checkpoint)?.finish()?;
     let mut wanted = [0; 512];
     wanted[..36].copy_from_slice(&DATA[..36]);
     wanted[11] = 3;
@@ -251,7 +251,7 @@ fn a_copy_is_written_and_read(rt: HostRuntime) -> Result<(), Fail> {
     assert!(rt; EXPECTED.may_be_written(&header, &rows));
     let mut writer = ObjectWriter::new(alloc, &EXPECTED, 0, 0, &rows)?;
     writer.append(&[0x42; 512]);
-    let object = writer.finish();
+    let object = writer.finish()?;
     let mut wanted = [0; 108];
     wanted[..64].copy_from_slice(&DATA[..64]);
     wanted[11] = 2;

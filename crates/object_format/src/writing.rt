@@ -1,4 +1,4 @@
-ghost use Rattle.std.specs.Prelude.{◌≡◌, ◌*◌, ◌+◌, ◌≤◌, ◌++◌, IfOk, length, take};
+ghost use Rattle.std.specs.Prelude.{◌≡◌, ◌*◌, ◌+◌, ◌≤◌, ◌++◌, IfOk, length};
 ghost use Rattle.object_format.specs.Layout.{front_sectors, length_of};
 ghost use Rattle.object_format.specs.Header.{header_bytes};
 ghost use Rattle.object_format.specs.Rows.{kind_of, count_of};
@@ -19,19 +19,20 @@ use std::marker::Model;
 /// the bytes so far, and how many the object will have.
 #[derive(Drop)]
 pub struct ObjectWriter {
+    // The bytes so far, with room for all of them.
     bytes: Vec<u8>,
-    filled: usize,
+    size: usize,
 }
 
 impl Model for ObjectWriter {
-    ghost use Rattle.std.specs.Prelude.{◌≤◌, length, take};
+    ghost use Rattle.std.specs.Prelude.{◌≤◌, vec_capacity};
     ghost use Rattle.object_format.specs.Writing.{Written};
 
     ghost Value = { Written };
 
-    ghost view = { λ w. record { bytes = take w.filled w.bytes.items; size = length w.bytes.items } };
+    ghost view = { λ w. record { bytes = w.bytes.items; size = w.size } };
 
-    ghost invariant = { λ w. w.filled ≤ length w.bytes.items };
+    ghost invariant = { λ w. w.size ≤ vec_capacity w.bytes };
 }
 
 impl ObjectWriter {
@@ -52,12 +53,10 @@ impl ObjectWriter {
         let header = rows.header(expected, first_seq, end_seq);
         let front = (header.front_sectors() * SECTOR_BYTES) as usize;
         let size = front + (header.payload * SECTOR_BYTES) as usize;
-        let mut bytes = vec![in alloc; 0u8; size]?;
+        let mut bytes = Vec::with_capacity(alloc, size)?;
+        bytes.resize(front, 0)?;
         write_front(&header, rows, bytes.as_mut_slice());
-        Ok(ObjectWriter {
-            bytes,
-            filled: front,
-        })
+        Ok(ObjectWriter { bytes, size })
     }
 
     /// Appends bytes of the payload, of which there are no more than are missing (a condition).
@@ -65,33 +64,20 @@ impl ObjectWriter {
         requires { length self.old.bytes + length piece.now ≤ self.old.size }
         ensures { self.new ≡ record { bytes = self.old.bytes ++ piece.now; size = self.old.size } }
     {
-        let end = self.filled + piece.len();
-        self.bytes[self.filled..end].copy_from_slice(piece);
-        self.filled = end;
+        self.bytes.extend_from_slice(piece).unwrap();
     }
 
-    /// The object, of which no bytes are missing (a condition).
-    pub fn finish(self) -> ObjectBytes
+    /// The object, of which no bytes are missing (a condition). The one error is that memory ran out.
+    pub fn finish(self) -> Result<ObjectBytes, AllocError>
         requires { length self.bytes ≡ self.size }
-        ensures { result ≡ self.bytes }
+        ensures { IfOk result (λ object. object ≡ self.bytes) }
     {
         ObjectBytes::from_bytes(self.bytes)
     }
 }
 
-// Writes the object up to its payload into the first bytes of an object.
-fn write_front(header: &Header, rows: &Rows, object: &mut [u8])
-    requires size { 512 * front_sectors header.now ≤ length object.old }
-    requires kind { kind_of rows.now ≡ header.now.kind }
-    requires count { count_of rows.now ≡ header.now.rows }
-    ensures { take (512 * front_sectors header.now) object.new ≡ front_bytes header.now rows.now }
-{
-    let front = (header.front_sectors() * SECTOR_BYTES) as usize;
-    fill_front(header, rows, &mut object[..front]);
-}
-
 // Writes the object up to its payload into as many bytes.
-fn fill_front(header: &Header, rows: &Rows, front: &mut [u8])
+fn write_front(header: &Header, rows: &Rows, front: &mut [u8])
     requires size { length front.old ≡ 512 * front_sectors header.now }
     requires kind { kind_of rows.now ≡ header.now.kind }
     requires count { count_of rows.now ≡ header.now.rows }
