@@ -3,8 +3,8 @@ use Rattle.std.proofs.Common.{ℕ, ◌≤◌, ◌≡◌, Bool, true, false, cond
 use Rattle.std.specs.List.{list_any, find, position}
 use Rattle.std.proofs.lemmas.Bool.Decides.{nat_tests, leb_tells}
 use Rattle.upload_window.specs.declared.object.OpenObject.{OpenObject}
-use Rattle.upload_window.specs.Window.{Ascends, is_ready, lowest_ready}
-use Rattle.upload_window.specs.Ready.{may_start}
+use Rattle.upload_window.specs.Window.{Ascends, has_number, is_ready, is_ready_number, lowest_ready}
+use Rattle.upload_window.specs.Ready.{may_start, number_may_start}
 use Rattle.upload_window.proofs.Places.{first_place, nowhere, found, found_none}
 
 -- no number is below `low`
@@ -41,6 +41,21 @@ module _ {X : Type 0} where
   find_same p q [] same = refl
   find_same p q (x ∷ xs) same =
       ap (λ b. cond b (Some x) (find p xs)) (same x) ∙ ap (λ rest. cond (q x) (Some x) rest) (find_same p q xs same)
+
+  pub any_same : (p q : X → Bool) (xs : List X) → ((x : X) → p x ≡ q x) → list_any p xs ≡ list_any q xs
+  any_same p q [] same = refl
+  any_same p q (x ∷ xs) same = ap (λ b. b || list_any p xs) (same x) ∙ ap (λ rest. q x || rest) (any_same p q xs same)
+
+-- whether a number is ready, by the lowest open number
+pub ready_by : (number : ℕ) (objects : List OpenObject) (last : ℕ) (first : OpenObject) → Ascends 0 objects last
+    → slice_get objects 0 ≡ Some first → number_may_start number first.number objects ≡ is_ready_number number objects
+ready_by number [] last first order is = cc
+ready_by number (object ∷ objects) last first order is =
+    let all = object ∷ objects in
+    let e : first ≡ object = cc in
+    subst (λ (o : OpenObject). number_may_start number o.number all ≡ is_ready_number number all) (sym e)
+    (any_same (λ x. has_number number x && may_start object.number x) (λ x. has_number number x && is_ready all x) all
+    (λ x. ap (λ b. has_number number x && b) (sym (same_ready 0 object objects last order x))))
 
 lowest_by : (first : OpenObject) (objects : List OpenObject) (last : ℕ) → Ascends 0 (first ∷ objects) last
     → lowest_ready (first ∷ objects) ≡ option_map (λ object. object.number) (find (may_start first.number) (first ∷ objects))

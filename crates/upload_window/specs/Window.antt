@@ -56,6 +56,10 @@ is_ready objects object =
     not object.is_started
     && (not object.is_checkpoint || not (list_any (λ other. nat_lt other.number object.number) objects))
 
+-- a number is open, and its object is ready
+abbrev pub is_ready_number : ℕ → List OpenObject → Bool
+is_ready_number number objects = list_any (λ object. has_number number object && is_ready objects object) objects
+
 -- the lowest ready number: the objects ascend, so it is that of the first that is ready
 abbrev pub lowest_ready : List OpenObject → Option ℕ
 lowest_ready objects = option_map (λ object. object.number) (find (is_ready objects) objects)

@@ -1,6 +1,6 @@
 ghost use Rattle.std.specs.Prelude.{◌≡◌, position};
 ghost use Rattle.upload_window.specs.Window.{has_number, is_started_with, is_started, with_started};
-ghost use Rattle.upload_window.specs.Ready.{may_start};
+ghost use Rattle.upload_window.specs.Ready.{may_start, number_may_start};
 
 /// An object that is not acknowledged.
 #[derive(Clone, Copy, Default)]
@@ -18,6 +18,13 @@ fn may_start(object: &OpenObject, lowest: u64) -> bool
     ensures { result ≡ may_start lowest object.now }
 {
     !object.is_started && (!object.is_checkpoint || object.number <= lowest)
+}
+
+// Whether the number is open and its object may start, where the lowest open number is this one.
+pub(crate) fn number_may_start(objects: &[OpenObject], number: u64, lowest: u64) -> bool
+    ensures { result ≡ number_may_start number lowest objects.now }
+{
+    objects.iter().any(|object| object.number == number && may_start(object, lowest))
 }
 
 // Whether the object has this number and is started.

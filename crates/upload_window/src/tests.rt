@@ -69,18 +69,27 @@ fn plain_frontier(numbers: &[Plain]) -> u64 {
     place.unwrap_or(numbers.len()) as u64
 }
 
+// The state of a number, and whether it is a checkpoint, where it was entered.
+fn plain_at(numbers: &[Plain], number: u64) -> Option<Plain> {
+    numbers.get(number.wrapping_sub(1) as usize).copied()
+}
+
+// Whether the put of a number is under way.
+fn plain_is_started(numbers: &[Plain], number: u64) -> bool {
+    plain_at(numbers, number).is_some_and(|plain| plain.state == Started)
+}
+
+// Whether the put of a number may start, where the numbers up to the frontier are acknowledged.
+fn plain_is_ready(numbers: &[Plain], number: u64, frontier: u64) -> bool {
+    plain_at(numbers, number).is_some_and(|plain| {
+        plain.state == Ready && (!plain.is_checkpoint || number == frontier.wrapping_add(1))
+    })
+}
+
 // The lowest number whose put may start.
-fn plain_ready(numbers: &[Plain]) -> Option<u64> {
-    let mut all_acknowledged = true;
-    let mut number = 0u64;
-    for plain in numbers {
-        number = number.wrapping_add(1);
-        if plain.state == Ready && (all_acknowledged || !plain.is_checkpoint) {
-            return Some(number);
-        }
-        all_acknowledged = all_acknowledged && plain.state == Acknowledged;
-    }
-    None
+fn plain_next(numbers: &[Plain]) -> Option<u64> {
+    let frontier = plain_frontier(numbers);
+    (frontier..=numbers.len() as u64).find(|number| plain_is_ready(numbers, *number, frontier))
 }
 
 // Moves a number from a state to another, where it is in that state.
@@ -108,11 +117,11 @@ fn make_plainly(numbers: &mut Vec<Plain>, call: Call) -> Result<Answer, AllocErr
             Entered(is_free)
         }
         Take => {
-            let ready = plain_ready(numbers);
-            if let Some(number) = ready {
+            let lowest = plain_next(numbers);
+            if let Some(number) = lowest {
                 plain_move(numbers, number, Ready, Started);
             }
-            Number(ready)
+            Number(lowest)
         }
         Ack(number) => WasStarted(plain_move(numbers, number, Started, Acknowledged)),
         PutFails(number) => WasStarted(plain_move(numbers, number, Started, Ready)),
@@ -138,6 +147,20 @@ fn next_call(state: &mut u64, frontier: u64) -> Call {
     }
 }
 
+// Whether a window is as the plain program has it. Of one number it is asked whether it is ready, and whether it is
+// started.
+fn is_plain(window: &Window, numbers: &[Plain], number: u64) -> bool {
+    let frontier = plain_frontier(numbers);
+    let open = plain_open(numbers);
+    window.frontier() == frontier
+        && window.last() == numbers.len() as u64
+        && window.open() == open
+        && window.is_full() == (open == PLACES)
+        && window.next() == plain_next(numbers)
+        && window.ready(number) == plain_is_ready(numbers, number, frontier)
+        && window.is_started(number) == plain_is_started(numbers, number)
+}
+
 #[test]
 fn many_calls_are_those_of_the_plain_program(rt: HostRuntime) -> Result<(), Fail> {
     let alloc = rt.alloc();
@@ -157,14 +180,8 @@ fn many_calls_are_those_of_the_plain_program(rt: HostRuntime) -> Result<(), Fail
             let answer = make(&mut window, call)?;
             let wanted = make_plainly(&mut numbers, call)?;
             assert_eq!(rt; answer, wanted, "{step}: {call:?}");
-            assert_eq!(rt;
-                window.frontier(),
-                plain_frontier(&numbers),
-                "{step}: {call:?}"
-            );
-            assert_eq!(rt; window.ready(), plain_ready(&numbers), "{step}: {call:?}");
-            assert_eq!(rt; window.last(), numbers.len() as u64, "{step}: {call:?}");
-            assert_eq!(rt; window.open(), plain_open(&numbers), "{step}: {call:?}");
+            let number = window.frontier().wrapping_add(next(&mut state, 18));
+            assert!(rt; is_plain(&window, &numbers, number), "{step}: {call:?}");
             busy = busy.wrapping_add((answer == Entered(false)) as u64);
         }
         assert!(rt; 10 < busy && 100 < window.frontier());
@@ -174,42 +191,48 @@ fn many_calls_are_those_of_the_plain_program(rt: HostRuntime) -> Result<(), Fail
 
 #[test]
 fn calls_answer_and_move_the_frontier(rt: HostRuntime) -> Result<(), Fail> {
-    // Each call with its answer, the frontier after it, and the lowest ready number then.
-    let steps = [
-        (Take, Number(None), 7, None),
-        (Ack(7), WasStarted(false), 7, None),
-        (Enter(false), Entered(true), 7, Some(8)),
-        (Enter(false), Entered(true), 7, Some(8)),
-        (Enter(true), Entered(true), 7, Some(8)),
-        (Enter(false), Entered(true), 7, Some(8)),
-        (Ack(8), WasStarted(false), 7, Some(8)),
-        (Take, Number(Some(8)), 7, Some(9)),
-        (Take, Number(Some(9)), 7, Some(11)),
+    // Each call with its answer, the frontier after it, and the ready numbers then.
+    let steps: [(Call, Answer, u64, &[u64]); 22] = [
+        (Take, Number(None), 7, &[]),
+        (Ack(7), WasStarted(false), 7, &[]),
+        (Enter(false), Entered(true), 7, &[8]),
+        (Enter(false), Entered(true), 7, &[8, 9]),
+        (Enter(true), Entered(true), 7, &[8, 9]),
+        (Enter(false), Entered(true), 7, &[8, 9, 11]),
+        (Ack(8), WasStarted(false), 7, &[8, 9, 11]),
+        (Take, Number(Some(8)), 7, &[9, 11]),
+        (Take, Number(Some(9)), 7, &[11]),
         // The checkpoint 10 waits, and 11 does not.
-        (Take, Number(Some(11)), 7, None),
-        (Take, Number(None), 7, None),
-        (Ack(9), WasStarted(true), 7, None),
-        (Ack(9), WasStarted(false), 7, None),
-        (PutFails(8), WasStarted(true), 7, Some(8)),
-        (PutFails(8), WasStarted(false), 7, Some(8)),
-        (Ack(8), WasStarted(false), 7, Some(8)),
-        (Take, Number(Some(8)), 7, None),
-        (Ack(11), WasStarted(true), 7, None),
-        (Ack(8), WasStarted(true), 9, Some(10)),
-        (PutFails(12), WasStarted(false), 9, Some(10)),
-        (Take, Number(Some(10)), 9, None),
-        (Ack(10), WasStarted(true), 11, None),
+        (Take, Number(Some(11)), 7, &[]),
+        (Take, Number(None), 7, &[]),
+        (Ack(9), WasStarted(true), 7, &[]),
+        (Ack(9), WasStarted(false), 7, &[]),
+        (PutFails(8), WasStarted(true), 7, &[8]),
+        (PutFails(8), WasStarted(false), 7, &[8]),
+        (Ack(8), WasStarted(false), 7, &[8]),
+        (Take, Number(Some(8)), 7, &[]),
+        (Ack(11), WasStarted(true), 7, &[]),
+        (Ack(8), WasStarted(true), 9, &[10]),
+        (PutFails(12), WasStarted(false), 9, &[10]),
+        (Take, Number(Some(10)), 9, &[]),
+        (Ack(10), WasStarted(true), 11, &[]),
     ];
+    let alloc = rt.alloc();
     let mut window = Window::new(7);
     for (call, answer, frontier, ready) in steps {
         assert_eq!(rt; make(&mut window, call)?, answer, "{call:?}");
         assert_eq!(rt; window.frontier(), frontier, "{call:?}");
-        assert_eq!(rt; window.ready(), ready, "{call:?}");
+        assert_eq!(rt; window.next(), ready.first().copied(), "{call:?}");
+        let found: Vec<u64> = (7..13)
+            .filter(|number| window.ready(*number))
+            .collect(alloc)?;
+        assert_eq!(rt; found.as_slice(), ready, "{call:?}");
     }
     assert_eq!(rt; (window.last(), window.open()), (11, 0));
     for _ in 0..16 {
         assert_eq!(rt; make(&mut window, Enter(false))?, Entered(true));
     }
+    assert!(rt; window.is_full() && window.ready(27) && !window.is_started(27));
     assert_eq!(rt; make(&mut window, Enter(false))?, Entered(false));
     assert_eq!(rt; (window.last(), window.open()), (27, 16));
     Ok(())

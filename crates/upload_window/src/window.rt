@@ -1,7 +1,9 @@
 ghost use Rattle.std.specs.Prelude.{◌≡◌, ◌+◌, ◌-◌, ◌^◌, ◌<◌, ◌≤◌, ◌↔◌, [], length, true, false, IsTrue, IsErr, IfSome, IfNone, OnOk, OnErr};
-ghost use Rattle.upload_window.specs.Window.{IsInOrder, IsFrontier, below_open, lowest_ready, is_started, entered, marked, acknowledged};
+ghost use Rattle.upload_window.specs.Window.{IsInOrder, IsFrontier, below_open, lowest_ready, is_ready_number, is_started, entered, marked, acknowledged};
 
-use crate::object::{OpenObject, is_started, place_of, place_of_ready, set_started};
+use crate::object::{
+    OpenObject, is_started, number_may_start, place_of, place_of_ready, set_started,
+};
 use arrayvec::ArrayVec;
 use std::marker::Model;
 use thiserror::Error;
@@ -52,7 +54,7 @@ impl Window {
         ensures entered { OnOk result (self.new ≡ entered number is_checkpoint self.old) }
         ensures same { OnErr result (self.new ≡ self.old) }
     {
-        if self.objects.is_full() {
+        if self.is_full() {
             return Err(Busy);
         }
         self.objects.push(OpenObject {
@@ -64,13 +66,14 @@ impl Window {
         Ok(())
     }
 
-    /// Starts the lowest ready object, and answers its number. None is where no object is ready; then nothing changes.
+    /// Starts the lowest ready object, that of `next`, and answers its number. None is where no object is ready; then
+    /// nothing changes.
     pub fn take(&mut self) -> Option<u64>
         ensures lowest { result ≡ lowest_ready self.old.objects }
         ensures started { IfSome result (λ number. self.new ≡ marked number true self.old) }
         ensures same { IfNone result (self.new ≡ self.old) }
     {
-        let number = self.ready()?;
+        let number = self.next()?;
         set_started(self.objects.as_mut_slice(), number, true);
         Some(number)
     }
@@ -82,11 +85,10 @@ impl Window {
         ensures acknowledged { IsTrue result → self.new ≡ acknowledged number self.old }
         ensures same { result ≡ false → self.new ≡ self.old }
     {
-        let objects = self.objects.as_slice();
-        if !is_started(objects, number) {
+        if !self.is_started(number) {
             return false;
         }
-        if let Some(place) = place_of(objects, number) {
+        if let Some(place) = place_of(self.objects.as_slice(), number) {
             self.objects.remove(place);
         }
         true
@@ -99,15 +101,34 @@ impl Window {
         ensures ready { IsTrue result → self.new ≡ marked number false self.old }
         ensures same { result ≡ false → self.new ≡ self.old }
     {
-        if !is_started(self.objects.as_slice(), number) {
+        if !self.is_started(number) {
             return false;
         }
         set_started(self.objects.as_mut_slice(), number, false);
         true
     }
 
-    /// The lowest ready number; none where no object is ready.
-    pub fn ready(&self) -> Option<u64>
+    /// Whether this number is open and ready: its put is not under way and, if it is a checkpoint, no lower number is
+    /// open.
+    pub fn ready(&self, number: u64) -> bool
+        ensures { result ≡ is_ready_number number self.now.objects }
+    {
+        let objects = self.objects.as_slice();
+        match objects.first() {
+            Some(lowest) => number_may_start(objects, number, lowest.number),
+            None => false,
+        }
+    }
+
+    /// Whether this number is open and started: its put is under way.
+    pub fn is_started(&self, number: u64) -> bool
+        ensures { result ≡ is_started number self.now.objects }
+    {
+        is_started(self.objects.as_slice(), number)
+    }
+
+    /// The number that `take` would start: the lowest ready one; none where no object is ready.
+    pub fn next(&self) -> Option<u64>
         ensures { result ≡ lowest_ready self.now.objects }
     {
         let objects = self.objects.as_slice();
@@ -132,6 +153,14 @@ impl Window {
         ensures { result ≡ self.now.last }
     {
         self.last
+    }
+
+    /// Whether 16 objects are open, so that `enter` would answer `Busy`.
+    pub fn is_full(&self) -> bool
+        ensures is { IsTrue result ↔ (length self.now.objects ≡ 16) }
+        ensures limit { length self.now.objects ≤ 16 }
+    {
+        self.objects.is_full()
     }
 
     /// How many objects are open, 16 at most.
