@@ -7,10 +7,10 @@ use Rattle.std.proofs.lemmas.Bool.{cases_lt}
 use Rattle.std.proofs.lemmas.List.{append_assoc, length-append, length-drop, length-take-le, take-append-drop, take_more_set, drop-set-lt, drop-drop, get_or-drop}
 use Rattle.extent_map.specs.declared.extent.Extent.{Extent}
 use Rattle.extent_map.specs.Extents.{ComesBeforeFirst, IsShortest, Fits, AllFit}
-use Rattle.extent_map.specs.Cut.{rows_before, rows_from, rest_of, before_count}
+use Rattle.extent_map.specs.Cut.{cut_short, rows_before, rows_from, rest_of, before_count}
 use Rattle.extent_map.specs.Laws.{StartsFrom}
 use Rattle.extent_map.proofs.Order.{fits_at}
-use Rattle.extent_map.proofs.Cuts.{cut_short, before_ends, before_crosses, from_ends, from_crosses, nothing_before, all_from}
+use Rattle.extent_map.proofs.Cuts.{before_ends, before_crosses, from_ends, from_crosses, nothing_before, all_from}
 use Rattle.extent_map.proofs.Counts.{count_early, count_late, count_bound, starts_after}
 
 -- what a write at a place and an insert after it leave of a list

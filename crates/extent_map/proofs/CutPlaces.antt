@@ -3,13 +3,13 @@ use Rattle.std.proofs.Common.{ℕ, ◌+◌, ◌-◌, ◌<◌, ◌≤◌, ◌≡�
 use Rattle.std.proofs.lemmas.Bool.Decides.{nat_tests}
 use Rattle.extent_map.specs.declared.extent.Extent.{Extent}
 use Rattle.extent_map.specs.Extents.{NumbersGoOn, is_within, place_at, IsShortest, AllFit}
-use Rattle.extent_map.specs.Cut.{rows_before, rows_from, rest_of}
+use Rattle.extent_map.specs.Cut.{cut_short, rows_before, rows_from, rest_of}
 use Rattle.extent_map.proofs.Places.{number_at_most, at_below, at_past, after_row, starts_earlier}
 use Rattle.extent_map.proofs.Order.{same_after}
-use Rattle.extent_map.proofs.Cuts.{cut_short, ends, crosses, starts, meets, before_ends, before_crosses, before_starts, from_ends, from_crosses, from_starts, nothing_before, all_from}
+use Rattle.extent_map.proofs.Cuts.{ends, crosses, starts, meets, before_ends, before_crosses, before_starts, from_ends, from_crosses, from_starts, nothing_before, all_from}
 
 -- a cut leaves the sectors on its side
-same_within_short : (lba sectors at k : ℕ) → lba < at → at < lba + sectors → k < at
+pub same_within_short : (lba sectors at k : ℕ) → lba < at → at < lba + sectors → k < at
     → is_within lba (at - lba) k ≡ is_within lba sectors k
 same_within_short lba sectors at k after inside low = grind (arith, nat_tests)
 
@@ -38,7 +38,7 @@ module _ {P : Type 0} (on : ℕ → P → P) where
 
   module _ (on_twice : (a b : ℕ) (p : P) → on a (on b p) ≡ on (b + a) p) where
     -- the rows from a sector on give those from it on their places
-    rest_gives : (at : ℕ) (row : Extent P) (rows : List (Extent P)) (k : ℕ) → row.lba < at → at < row.lba + row.sectors
+    pub rest_gives : (at : ℕ) (row : Extent P) (rows : List (Extent P)) (k : ℕ) → row.lba < at → at < row.lba + row.sectors
         → at ≤ k → place_at on (rest_of on at row ∷ rows) k ≡ place_at on (row ∷ rows) k
     rest_gives at row rows k after inside high =
         let far : at - row.lba + (k - at) ≡ k - row.lba = omega arith in

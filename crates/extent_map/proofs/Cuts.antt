@@ -4,7 +4,7 @@ use Rattle.std.proofs.lemmas.Bool.{cases_lt}
 use Rattle.std.proofs.lemmas.Bool.Decides.{nat_tests}
 use Rattle.extent_map.specs.declared.extent.Extent.{Extent}
 use Rattle.extent_map.specs.Extents.{ComesBeforeFirst, IsShortest}
-use Rattle.extent_map.specs.Cut.{part_before, rows_before, rows_from, rest_of}
+use Rattle.extent_map.specs.Cut.{cut_short, part_before, part_from, rows_before, rows_from, rest_of}
 use Rattle.extent_map.specs.Laws.{StartsFrom}
 use Rattle.extent_map.proofs.Places.{starts_earlier, after_row}
 use Rattle.extent_map.specs.Join.{EndBy}
@@ -23,10 +23,6 @@ not_lt : (a b : ℕ) → b ≤ a → nat_lt a b ≡ false
 not_lt a b h = grind (arith, nat_tests)
 
 module _ {P : Type 0} where
-  -- a row cut short at a sector
-  abbrev pub cut_short : ℕ → Extent P → Extent P
-  cut_short at row = record row { sectors = at - row.lba }
-
   -- ---- where a sector is to a row
 
   pub data Meets (at : ℕ) (row : Extent P) : Type 0 where
@@ -73,24 +69,36 @@ module _ {P : Type 0} where
   before_starts at row rows before inside = part_starts at row (rows_before at rows) before inside
 
 module _ {P : Type 0} (on : ℕ → P → P) where
+  -- ---- the part of a row from a sector on
+
+  pub rest_starts : (at : ℕ) (row : Extent P) (rows : List (Extent P)) → at ≤ row.lba
+      → part_from on at row rows ≡ row ∷ rows
+  rest_starts at row rows before = rw (is_le at row.lba before)
+
+  pub rest_crosses : (at : ℕ) (row : Extent P) (rows : List (Extent P)) → row.lba < at → at < row.lba + row.sectors
+      → part_from on at row rows ≡ rest_of on at row ∷ rows
+  rest_crosses at row rows after inside = rw (not_le at row.lba after, is_lt at (row.lba + row.sectors) inside)
+
+  pub rest_ends : (at : ℕ) (row : Extent P) (rows : List (Extent P)) → row.lba < at → row.lba + row.sectors ≤ at
+      → part_from on at row rows ≡ rows
+  rest_ends at row rows after ended = rw (not_le at row.lba after, not_lt at (row.lba + row.sectors) ended)
+
   -- ---- the rows from a sector on
 
   pub from_starts : (at : ℕ) (row : Extent P) (rows : List (Extent P)) → at ≤ row.lba
       → rows_from on at (row ∷ rows) ≡ row ∷ rows_from on at rows
   unfolding rows_from
-  from_starts at row rows before = rw (is_le at row.lba before)
+  from_starts at row rows before = rest_starts at row (rows_from on at rows) before
 
   pub from_crosses : (at : ℕ) (row : Extent P) (rows : List (Extent P)) → row.lba < at → at < row.lba + row.sectors
       → rows_from on at (row ∷ rows) ≡ rest_of on at row ∷ rows_from on at rows
   unfolding rows_from
-  from_crosses at row rows after inside =
-      rw (not_le at row.lba after, is_lt at (row.lba + row.sectors) inside)
+  from_crosses at row rows after inside = rest_crosses at row (rows_from on at rows) after inside
 
   pub from_ends : (at : ℕ) (row : Extent P) (rows : List (Extent P)) → row.lba < at → row.lba + row.sectors ≤ at
       → rows_from on at (row ∷ rows) ≡ rows_from on at rows
   unfolding rows_from
-  from_ends at row rows after ended =
-      rw (not_le at row.lba after, not_lt at (row.lba + row.sectors) ended)
+  from_ends at row rows after ended = rest_ends at row (rows_from on at rows) after ended
 
   -- ---- rows that lie on one side
 
@@ -162,7 +170,7 @@ module _ {P : Type 0} (on : ℕ → P → P) where
 
   module _ (on_twice : (a b : ℕ) (p : P) → on a (on b p) ≡ on (b + a) p) where
     -- the rest of a row goes on as the row does
-    rest_before : (at : ℕ) (row : Extent P) (rows : List (Extent P)) → row.lba < at → at < row.lba + row.sectors
+    pub rest_before : (at : ℕ) (row : Extent P) (rows : List (Extent P)) → row.lba < at → at < row.lba + row.sectors
         → ComesBeforeFirst on row rows → ComesBeforeFirst on (rest_of on at row) rows
     rest_before at row [] after inside before = tt
     rest_before at row (next ∷ rows) after inside before =

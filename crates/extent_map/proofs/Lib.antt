@@ -13,3 +13,7 @@ pub mod Range
 pub mod Looked
 pub mod FirstRow
 pub mod Shorter
+pub mod Left
+pub mod LeftPlaces
+pub mod Kept
+pub mod Cleared

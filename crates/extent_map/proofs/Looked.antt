@@ -26,7 +26,7 @@ module _ {P : Type 0} (on : ℕ → P → P) where
         | inr late ↦ absurd (omega (arith, count, count_late at row rows late))
       ]
 
-  ends_before : (at : ℕ) (rows : List (Extent P)) → IsShortest on rows → EndBy at (take (before_count at rows - 1) rows)
+  pub ends_before : (at : ℕ) (rows : List (Extent P)) → IsShortest on rows → EndBy at (take (before_count at rows - 1) rows)
   ends_before at rows shortest =
       elim (cases_lt 0 (before_count at rows)) [
         | inl some ↦ ends_before_last at (before_count at rows - 1) rows shortest (omega arith)

@@ -80,7 +80,7 @@ module _ {P : Type 0} (on : ℕ → P → P) where
   shortest_take (suc n) (row ∷ rows) shortest =
       (shortest.0, before_take n row rows shortest.1, shortest_take n rows shortest.2)
 
-  before_gap : (row : Extent P) (b : List (Extent P)) (at from : ℕ) → row.lba + row.sectors ≤ at → StartsFrom from b
+  pub before_gap : (row : Extent P) (b : List (Extent P)) (at from : ℕ) → row.lba + row.sectors ≤ at → StartsFrom from b
       → at < from → ComesBeforeFirst on row b
   before_gap row [] at from ends starts gap = tt
   before_gap row (next ∷ b) at from ends starts gap = record {

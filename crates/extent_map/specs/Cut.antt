@@ -4,12 +4,16 @@ use Rattle.std.specs.List.{prefix_len}
 use Rattle.extent_map.specs.declared.extent.Extent.{Extent}
 
 module _ {P : Type 0} where
+  -- a row cut short at a sector
+  abbrev pub cut_short : ℕ → Extent P → Extent P
+  cut_short at row = record row { sectors = at - row.lba }
+
   -- the part of a row before the sector, and these rows after it
   abbrev pub part_before : ℕ → Extent P → List (Extent P) → List (Extent P)
   part_before at row rows =
       (if nat_le (row.lba + row.sectors) at
       then row ∷ rows
-      else (if nat_lt row.lba at then record row { sectors = at - row.lba } ∷ rows else rows))
+      else (if nat_lt row.lba at then cut_short at row ∷ rows else rows))
 
   -- what rows are before a sector
   unfoldable pub rows_before : ℕ → List (Extent P) → List (Extent P)

@@ -1,5 +1,7 @@
 -- Contract: a list of rows as a function from sectors to places, and which lists are the shortest of their function.
 use Rattle.std.specs.Prelude.{ℕ, ◌+◌, ◌-◌, ◌^◌, ◌<◌, ◌≤◌, ◌≡◌, ◌⊎◌, Bool, ◌&&◌, nat_le, nat_lt, if◌then◌else◌, Option, Some, None, List, [], ◌∷◌, slice_get}
+use Rattle.std.specs.Borrow.{Bor}
+use Rattle.std.specs.Fn.{Shared, FnReturnsAt}
 use Rattle.extent_map.specs.declared.extent.Extent.{Extent}
 
 -- the sector k is one of the N sectors from lba on
@@ -11,6 +13,10 @@ module _ {P : Type 0} (on : ℕ → P → P) where
   -- the number of a place rises by one with each sector, or it is 0 and stays so, as that of zeros, which stand nowhere
   abbrev pub NumbersGoOn : (P → ℕ) → Type 0
   NumbersGoOn number = (n : ℕ) (p : P) → (number (on n p) ≡ number p + n) ⊎ ((number p ≡ 0) × (number (on n p) ≡ 0))
+
+  -- a test says of the place N sectors on from a place what it says of that place
+  abbrev pub IsSteady : (P → Bool) → Type 0
+  IsSteady test = (n : ℕ) (p : P) → test (on n p) ≡ test p
 
   -- the place that rows give a sector, where a row covers it
   abbrev pub place_at : List (Extent P) → ℕ → Option P
@@ -42,6 +48,19 @@ module _ {P : Type 0} where
   -- the places after the sectors from lba on were cleared
   abbrev pub place_after_clear : ℕ → ℕ → (ℕ → Option P) → ℕ → Option P
   place_after_clear lba sectors old k = (if is_within lba sectors k then None else old k)
+
+  -- a function answers at each place as a test says
+  abbrev pub AnswersBy : {F : Type 0} → Shared F (Bor P × Unit {0}) Bool → F → (P → Bool) → Type 0
+  AnswersBy g f test = (place : P) (answer : Bool) → FnReturnsAt g f place answer → answer ≡ test place
+
+  -- a place, or none where it passes a test
+  abbrev pub place_unless : (P → Bool) → Option P → Option P
+  place_unless test None = None
+  place_unless test (Some place) = (if test place then None else Some place)
+
+  -- the places after those of the sectors from lba on whose places pass a test were cleared
+  abbrev pub place_after_clear_if : ℕ → ℕ → (P → Bool) → (ℕ → Option P) → ℕ → Option P
+  place_after_clear_if lba sectors test old k = (if is_within lba sectors k then place_unless test (old k) else old k)
 
   -- the places of the sectors from lba on, and no others
   abbrev pub place_in_range : ℕ → ℕ → (ℕ → Option P) → ℕ → Option P

@@ -1,4 +1,5 @@
 pub mod Cut
+pub mod Clear
 pub mod Join
 pub mod Extents
 pub mod State

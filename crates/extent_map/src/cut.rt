@@ -3,6 +3,7 @@ ghost use Rattle.extent_map.specs.Cut.{rows_before, rows_from, rows_met, before_
 ghost use Rattle.extent_map.specs.Extents.{place_at, place_in_range, IsShortest, AllFit};
 
 use crate::extent::Extent;
+use crate::part::rest;
 use crate::place::Place;
 use std::alloc::{AllocError, Global};
 
@@ -26,17 +27,11 @@ pub(crate) fn cut<P: Place>(rows: &mut Vec<Extent<P>>, from: usize, at: u64) -> 
     if end <= at {
         return index;
     }
-    let kept = at - row.lba;
-    let rest = Extent {
-        lba: at,
-        sectors: end - at,
-        place: row.place.on(kept),
-    };
     rows[index - 1] = Extent {
-        sectors: kept,
+        sectors: at - row.lba,
         ..row
     };
-    let _ = rows.insert(index, rest);
+    let _ = rows.insert(index, rest(row, at));
     index
 }
 
@@ -109,7 +104,7 @@ fn copy_met<P: Place>(
 }
 
 // From which index on and up to which the rows may reach between two sectors.
-fn met_between<P: Place>(rows: &[Extent<P>], lba: u64, end: u64) -> (usize, usize)
+pub(crate) fn met_between<P: Place>(rows: &[Extent<P>], lba: u64, end: u64) -> (usize, usize)
     requires order { lba ≤ end }
     requires shortest { IsShortest P.on rows.now }
     ensures first { result.0 ≡ before_count lba rows.now - 1 }
@@ -122,7 +117,7 @@ fn met_between<P: Place>(rows: &[Extent<P>], lba: u64, end: u64) -> (usize, usiz
 }
 
 // Removes the rows between two indices.
-fn remove<P: Place>(rows: &mut Vec<Extent<P>>, from: usize, to: usize)
+pub(crate) fn remove<P: Place>(rows: &mut Vec<Extent<P>>, from: usize, to: usize)
     requires order { from ≤ to }
     requires inside { to ≤ length rows.old.items }
     ensures rows { rows.new.items ≡ take from rows.old.items ++ drop to rows.old.items }

@@ -1,6 +1,7 @@
-ghost use Rattle.std.specs.Prelude.{◌≡◌, ◌+◌, ◌≤◌, ◌^◌, ◌<◌, ◌↔◌, ℕ, [], IfOk, OnOk, IsOk, IfSome, IsNone};
-ghost use Rattle.extent_map.specs.Extents.{place_at, place_after_set, place_after_clear, place_in_range, IsShortest, Fits, AllFit, IsFirstOfRange, StartsRange, IsBare};
+ghost use Rattle.std.specs.Prelude.{◌≡◌, ◌+◌, ◌≤◌, ◌^◌, ◌<◌, ◌↔◌, ℕ, Bool, [], IfOk, OnOk, IsOk, IfSome, IsNone};
+ghost use Rattle.extent_map.specs.Extents.{AnswersBy, IsSteady, place_at, place_after_set, place_after_clear, place_after_clear_if, place_in_range, IsShortest, Fits, AllFit, IsFirstOfRange, StartsRange, IsBare};
 
+use crate::clear::clear_rows;
 use crate::cut::{look, take_out};
 use crate::extent::Extent;
 use crate::first::first_between;
@@ -113,6 +114,29 @@ impl<P: Place> ExtentMap<P> {
     {
         if sectors != 0 {
             let _ = take_out(&mut self.rows, lba, lba + sectors);
+        }
+    }
+
+    /// Leaves those of the sectors from `lba` on without a place whose place passes the test, and every other sector as
+    /// it was. No sectors change nothing. The test may be called at any place, and says of the place N sectors on what
+    /// it says of the place. There is room for one change, which is enough for any number of rows, and the range ends
+    /// below 2^63 (all conditions). It takes no memory.
+    ///
+    /// In proofs a caller names the test that the closure answers by.
+    pub fn clear_if<F: Fn(&P) -> bool>(&mut self, lba: u64, sectors: u64, is_cleared: F)
+        ghost test: { P → Bool }
+        requires room { 1 ≤ self.old.spare }
+        requires range { lba + sectors < 2 ^ 63 }
+        requires callable { F.IsAlwaysCallable is_cleared }
+        requires answers { AnswersBy F.Fn is_cleared test }
+        requires steady { IsSteady P.on test }
+        ensures places { (k : ℕ) → place_at P.on self.new.rows k ≡ place_after_clear_if lba sectors test (place_at P.on self.old.rows) k }
+        ensures shortest { IsShortest P.on self.new.rows }
+        ensures none { sectors ≡ 0 → self.new ≡ self.old }
+        ensures spare { self.old.spare ≤ self.new.spare + 1 }
+    {
+        if sectors != 0 {
+            clear_rows(&mut self.rows, lba, lba + sectors, &is_cleared);
         }
     }
 

@@ -1,9 +1,10 @@
-ghost use Rattle.std.specs.Prelude.{◌≡◌, [], slice_get};
-ghost use Rattle.extent_map.specs.Cut.{rows_before, rows_from, part_before};
-ghost use Rattle.extent_map.specs.Extents.{IsShortest, Fits, AllFit};
+ghost use Rattle.std.specs.Prelude.{◌≡◌, slice_get};
+ghost use Rattle.extent_map.specs.Cut.{rows_before, rows_from};
+ghost use Rattle.extent_map.specs.Extents.{IsShortest, AllFit};
 
 use crate::cut::first_from;
 use crate::extent::Extent;
+use crate::part::{before, rest};
 use crate::place::Place;
 
 // The first of the rows between two sectors, cut at both.
@@ -31,27 +32,5 @@ fn first_past<P: Place>(rows: &[Extent<P>], lba: u64) -> Option<Extent<P>>
     if end <= lba {
         return rows.get(next).copied();
     }
-    Some(Extent {
-        lba,
-        sectors: end - lba,
-        place: row.place.on(lba - row.lba),
-    })
-}
-
-// The part of a row before a sector, if it has one.
-fn before<P: Place>(row: Extent<P>, at: u64) -> Option<Extent<P>>
-    requires { Fits P.number row }
-    ensures { result ≡ slice_get (part_before at row []) 0 }
-{
-    if row.lba + row.sectors <= at {
-        Some(row)
-    } else if row.lba < at {
-        let kept = at - row.lba;
-        Some(Extent {
-            sectors: kept,
-            ..row
-        })
-    } else {
-        None
-    }
+    Some(rest(row, lba))
 }

@@ -1,5 +1,10 @@
+ghost use Rattle.std.specs.Prelude.{◌≡◌, ◌+◌, ◌≤◌, ◌^◌, ◌<◌, ℕ, Bool, nat_lt, false};
+ghost use Rattle.extent_map.specs.Extents.{place_at, place_after_clear_if};
+ghost use Rattle.extent_map.specs.declared.tests.Spot.{Spot};
+ghost use Rattle.extent_map.specs.declared.tests.Spot.TheVariants.{InObject, Zeros};
+
 use super::*;
-use Change::{Clear, Set};
+use Change::{Clear, ClearBelow, Set};
 use Spot::{InObject, Zeros};
 use std::alloc::{AllocError, Global};
 use std::test::Fail;
@@ -59,12 +64,16 @@ impl Place for Spot {
 enum Change {
     Set(u64, u64, Spot),
     Clear(u64, u64),
+    // Clears the places in objects with numbers below the last.
+    ClearBelow(u64, u64, u64),
 }
 
 // Makes a change. It lies inside the sectors of the tests.
 fn make(map: &mut ExtentMap<Spot>, change: Change) -> Result<(), Fail> {
     map.reserve(1)?;
-    let (Change::Set(lba, sectors, _) | Change::Clear(lba, sectors)) = change;
+    let (Change::Set(lba, sectors, _)
+    | Change::Clear(lba, sectors)
+    | Change::ClearBelow(lba, sectors, _)) = change;
     if SECTORS < lba || SECTORS < sectors {
         return Err("past the end")?;
     }
@@ -76,8 +85,23 @@ fn make(map: &mut ExtentMap<Spot>, change: Change) -> Result<(), Fail> {
             map.set(lba, sectors, place);
         }
         Change::Clear(..) => map.clear(lba, sectors),
+        Change::ClearBelow(_, _, limit) => clear_below(map, lba, sectors, limit),
     }
     Ok(())
+}
+
+// Clears the places of N sectors from one on that stand in objects with numbers below a limit.
+fn clear_below(map: &mut ExtentMap<Spot>, lba: u64, sectors: u64, limit: u64)
+    requires room { 1 ≤ map.old.spare }
+    requires range { lba + sectors < 2 ^ 63 }
+    ensures places { let test : Spot → Bool = elim [ InObject object at ↦ nat_lt object limit | Zeros ↦ false ] in
+        (k : ℕ) → place_at ⟦<Spot as Place>⟧.on map.new.rows k ≡ place_after_clear_if lba sectors test (place_at ⟦<Spot as Place>⟧.on map.old.rows) k }
+    ensures spare { map.old.spare ≤ map.new.spare + 1 }
+{
+    map.clear_if(lba, sectors, |place| match place {
+        Spot::InObject(object, _) => *object < limit,
+        Spot::Zeros => false,
+    });
 }
 
 // The place N sectors on.
@@ -90,13 +114,18 @@ fn spot_on(place: Spot, sectors: u64) -> Spot {
 
 // Makes a change of places that are kept sector by sector.
 fn make_plainly(places: &mut [Option<Spot>], change: Change) {
-    let (Change::Set(lba, sectors, _) | Change::Clear(lba, sectors)) = change;
+    let (Change::Set(lba, sectors, _)
+    | Change::Clear(lba, sectors)
+    | Change::ClearBelow(lba, sectors, _)) = change;
     for (k, place) in places.iter_mut().enumerate() {
         let on = (k as u64).wrapping_sub(lba);
         if on < sectors {
             *place = match change {
                 Change::Set(_, _, first) => Some(spot_on(first, on)),
                 Change::Clear(..) => None,
+                Change::ClearBelow(_, _, limit) => place.filter(|place| !stands_below(
+                    place, limit,
+                )),
             };
         }
     }
@@ -142,6 +171,14 @@ fn add_sector(rows: &mut Vec<Extent<Spot>>, lba: u64, place: Spot) -> Result<(),
     Ok(())
 }
 
+// Whether a place stands in an object with a number below a limit.
+fn stands_below(place: &Spot, limit: u64) -> bool {
+    match *place {
+        Spot::InObject(object, _) => object < limit,
+        Spot::Zeros => false,
+    }
+}
+
 // The next of a list of numbers in no order, below a limit.
 fn next(state: &mut u64, limit: u64) -> u64 {
     *state = state
@@ -154,10 +191,11 @@ fn next(state: &mut u64, limit: u64) -> u64 {
 fn next_change(state: &mut u64) -> Change {
     let lba = next(state, SECTORS);
     let sectors = next(state, 16).min(SECTORS.saturating_sub(lba));
-    match next(state, 8) {
+    match next(state, 9) {
         0 => Change::Clear(lba, sectors),
         1 => Change::Set(lba, sectors, Spot::InObject(1, lba.wrapping_add(1))),
         2 | 3 => Change::Set(lba, sectors, Spot::Zeros),
+        8 => Change::ClearBelow(lba, sectors, next(state, 3)),
         kind => Change::Set(lba, sectors, Spot::InObject(kind % 2, lba)),
     }
 }
@@ -194,7 +232,7 @@ fn many_changes_are_those_sector_by_sector(rt: HostRuntime) -> Result<(), Fail> 
 #[test]
 fn changes_are_kept_as_the_shortest_rows(rt: HostRuntime) -> Result<(), Fail> {
     let alloc = rt.alloc();
-    let tables: [(&[Change], &[(u64, u64, Spot)]); 14] = [
+    let tables: [(&[Change], &[(u64, u64, Spot)]); 20] = [
         (&[], &[]),
         (&[Set(5, 0, InObject(1, 9))], &[]),
         (&[Set(5, 3, InObject(1, 9))], &[(5, 3, InObject(1, 9))]),
@@ -259,6 +297,50 @@ fn changes_are_kept_as_the_shortest_rows(rt: HostRuntime) -> Result<(), Fail> {
             &[Set(0, 9, Zeros), Set(3, 2, InObject(1, 0)), Clear(8, 1)],
             &[(0, 3, Zeros), (3, 2, InObject(1, 0)), (5, 3, Zeros)],
         ),
+        // A clear by place splits a row that passes, and leaves one that does not.
+        (
+            &[Set(0, 9, InObject(1, 0)), ClearBelow(3, 2, 2)],
+            &[(0, 3, InObject(1, 0)), (5, 4, InObject(1, 5))],
+        ),
+        (
+            &[Set(0, 9, InObject(1, 0)), ClearBelow(3, 2, 1)],
+            &[(0, 9, InObject(1, 0))],
+        ),
+        (
+            &[Set(0, 9, InObject(1, 0)), ClearBelow(3, 0, 2)],
+            &[(0, 9, InObject(1, 0))],
+        ),
+        // Of rows at the edges and between them it cuts or drops those that pass.
+        (
+            &[
+                Set(0, 4, InObject(1, 0)),
+                Set(4, 4, InObject(2, 0)),
+                ClearBelow(2, 4, 2),
+            ],
+            &[(0, 2, InObject(1, 0)), (4, 4, InObject(2, 0))],
+        ),
+        (
+            &[
+                Set(0, 4, InObject(2, 0)),
+                Set(4, 4, InObject(1, 0)),
+                ClearBelow(2, 4, 2),
+            ],
+            &[(0, 4, InObject(2, 0)), (6, 2, InObject(1, 2))],
+        ),
+        (
+            &[
+                Set(0, 2, InObject(1, 0)),
+                Set(3, 2, Zeros),
+                Set(6, 2, InObject(1, 6)),
+                Set(9, 2, InObject(2, 9)),
+                ClearBelow(1, 9, 2),
+            ],
+            &[
+                (0, 1, InObject(1, 0)),
+                (3, 2, Zeros),
+                (9, 2, InObject(2, 9)),
+            ],
+        ),
     ];
     for (changes, wanted) in tables {
         let mut map = ExtentMap::new(alloc);
@@ -311,6 +393,37 @@ fn a_map_of_numbers_counts_its_room(rt: HostRuntime) -> Result<(), Fail> {
         sectors: 1,
         place: 12,
     }];
+    assert_eq!(rt; found.as_slice(), wanted.as_slice());
+    Ok(())
+}
+
+#[test]
+fn room_for_one_change_is_enough_for_a_clear_by_place(rt: HostRuntime) -> Result<(), Fail> {
+    let alloc = rt.alloc();
+    let mut map = ExtentMap::new(alloc);
+    map.reserve(2)?;
+    map.set(0, 9, InObject(1, 0));
+    for k in 0..8 {
+        if 1 < map.spare() {
+            map.set(10 + 2 * k, 1, Zeros);
+        }
+    }
+    let spare = map.spare();
+    assert!(rt; spare == 1);
+    clear_below(&mut map, 3, 2, 2);
+    let wanted = [
+        Extent {
+            lba: 0,
+            sectors: 3,
+            place: InObject(1, 0),
+        },
+        Extent {
+            lba: 5,
+            sectors: 4,
+            place: InObject(1, 5),
+        },
+    ];
+    let found = map.look(alloc, 0, 10)?;
     assert_eq!(rt; found.as_slice(), wanted.as_slice());
     Ok(())
 }

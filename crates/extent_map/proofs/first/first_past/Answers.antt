@@ -1,4 +1,4 @@
-use Rattle.std.proofs.Common.{arith, ap, sym, ◌∙◌, ◌+◌, ◌-◌, Some}
+use Rattle.std.proofs.Common.{arith, ap, sym, ◌∙◌, Some}
 use Rattle.std.specs.Prelude.{slice_get}
 use Rattle.extent_map.proofs.FirstRow.{first_whole, read_is, last_inside, row_begins, row_fits, first_cut, first_next}
 use Rattle.extent_map.proofs.first.first_past.Goals as goal
@@ -31,32 +31,21 @@ returns-then-end-lba g c =
     ∙ first_next g.P.Place.on c.args.rows.now c.args.lba c.first_from-next.result c.requires.shortest c.first_from-next.ensures
     c.index-rows-next.result c.if-next-eq0.false c.index-rows-next.is c.if-end-lba.true
 
-pub overflow_sub-lba : goal.overflow_sub-lba
-overflow_sub-lba g c =
-    omega (
-      arith,
-      row_begins g.P.Place.on c.args.rows.now c.args.lba c.first_from-next.result c.requires.shortest c.first_from-next.ensures
-          c.index-rows-next.result c.if-next-eq0.false c.index-rows-next.is,
-    )
+pub rest-requires-clause-fits : goal.rest-requires-clause-fits
+rest-requires-clause-fits g c =
+    row_fits g.P.Place.on c.args.rows.now c.args.lba c.first_from-next.result c.requires.shortest c.first_from-next.ensures
+    c.index-rows-next.result c.if-next-eq0.false c.index-rows-next.is g.P.Place.number c.requires.fits
 
-pub on-requires : goal.on-requires
-on-requires g c =
-    let fits = row_fits g.P.Place.on c.args.rows.now c.args.lba c.first_from-next.result c.requires.shortest c.first_from-next.ensures
-    c.index-rows-next.result c.if-next-eq0.false c.index-rows-next.is g.P.Place.number c.requires.fits in
+pub rest-requires-clause-from : goal.rest-requires-clause-from
+rest-requires-clause-from g c =
     omega (
       arith,
-      fits.places,
-      c.if-end-lba.false,
       row_begins g.P.Place.on c.args.rows.now c.args.lba c.first_from-next.result c.requires.shortest c.first_from-next.ensures
           c.index-rows-next.result c.if-next-eq0.false c.index-rows-next.is,
     )
 
 pub returns : goal.returns
 returns g c =
-    ap (λ p. Some (record {
-      lba = c.args.lba;
-      sectors = c.index-rows-next.result.lba + c.index-rows-next.result.sectors - c.args.lba;
-      place = p;
-    })) c.on.ensures
+    ap (λ r. Some r) c.rest.ensures
     ∙ first_cut g.P.Place.on c.args.rows.now c.args.lba c.first_from-next.result c.requires.shortest c.first_from-next.ensures
     c.index-rows-next.result c.if-next-eq0.false c.index-rows-next.is c.if-end-lba.false
