@@ -1,3 +1,4 @@
 pub mod Order
+pub mod Starts
 pub mod Places
 pub mod Lowest

@@ -1,8 +1,7 @@
 -- Objects in ascending order, and the frontier below them.
-use Rattle.std.proofs.Common.{ℕ, zero, suc, ◌-◌, ◌<◌, ◌≤◌, ◌≡◌, Bool, true, false, cond, nat_eq, Some, List, [], ◌∷◌, ◌++◌, length, slice_get, refl, sym, ◌∙◌, ap, subst, arith}
-use Rattle.std.specs.List.{list_any, refill}
+use Rattle.std.proofs.Common.{ℕ, zero, suc, ◌-◌, ◌<◌, ◌≤◌, ◌≡◌, Bool, true, false, ◌||◌, cond, nat_eq, Some, List, [], ◌∷◌, ◌++◌, slice_get, refl, sym, subst, arith}
+use Rattle.std.specs.List.{list_any}
 use Rattle.std.proofs.lemmas.Bool.Decides.{nat_tests}
-use Rattle.std.proofs.lemmas.Grind.{common_steps}
 use Rattle.upload_window.specs.declared.object.OpenObject.{OpenObject}
 use Rattle.upload_window.specs.Window.{WindowState, Ascends, has_number, IsAcknowledgedTo, IsFrontier, below_lowest, below_open, HasFrontierBelowOpen, with_started, without}
 
@@ -19,7 +18,7 @@ pub order_with : (low number : ℕ) (started : Bool) (objects : List OpenObject)
     → Ascends low (with_started number started objects) last
 order_with low number started [] last order = order
 order_with low number started (object ∷ objects) last order =
-    elim (has_number number object) as (λ b. Ascends low (cond b (record object { is_started = started } ∷ objects) (object ∷ with_started number started objects)) last) [
+    elim (has_number number object) as (λ b. Ascends low (cond b (record object { is_started = started; was_started = object.was_started || started } ∷ objects) (object ∷ with_started number started objects)) last) [
       | true ↦ (order.0, order.1)
       | false ↦ (order.0, order_with object.number number started objects last order.1)
     ]
@@ -90,15 +89,3 @@ frontier_at [] last first order is = cc
 frontier_at (object ∷ objects) last first order is =
     let e : object ≡ first = cc in
     subst (λ (o : OpenObject). IsFrontier (record { last = last; objects = object ∷ objects }) (o.number - 1)) e (is_frontier (object ∷ objects) last order)
-
--- all elements of a list were written
-refilled : (xs ws : List OpenObject) → length ws ≡ length xs → refill (length xs) xs ws ≡ ws
-refilled xs ws same = grind (arith, common_steps)
-
-pub order_marked : (number : ℕ) (started : Bool) (objects now new : List OpenObject) (last : ℕ) → now ≡ objects
-    → length new ≡ length objects → new ≡ with_started number started now → Ascends 0 objects last
-    → Ascends 0 (refill (length objects) objects new) last
-order_marked number started objects now new last same long is order =
-    subst (λ (xs : List OpenObject). Ascends 0 xs last)
-    (sym (refilled objects new long ∙ is ∙ ap (λ xs. with_started number started xs) same))
-    (order_with 0 number started objects last order)

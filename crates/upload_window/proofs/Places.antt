@@ -1,11 +1,15 @@
 -- What a search for the object of a number tells of the objects with it changed, or without it.
-use Rattle.std.proofs.Common.{ℕ, zero, suc, ◌<◌, ◌≤◌, ◌≡◌, Bool, true, false, Some, None, List, [], ◌∷◌, length, get_or, set, refl, ap, arith}
+use Rattle.std.proofs.Common.{ℕ, zero, suc, ◌<◌, ◌≤◌, ◌≡◌, Bool, true, false, ◌||◌, Some, None, List, [], ◌∷◌, length, get_or, set, refl, ap, arith}
 use Rattle.std.specs.List.{remove, find, position, position_or_len}
 use Rattle.std.proofs.lemmas.Bool.Decides.{nat_tests}
 use Rattle.std.proofs.lemmas.List.Sums.{fails_before_first}
 use Rattle.std.proofs.lemmas.List.Quantifiers.{position-Some}
 use Rattle.upload_window.specs.declared.object.OpenObject.{OpenObject}
 use Rattle.upload_window.specs.Window.{has_number, with_started, without}
+
+-- an object for reads outside a list
+abbrev pub blank : OpenObject
+blank = record { number = 0; is_checkpoint = false; is_started = false; was_started = false }
 
 module _ {X : Type 0} where
   -- the test passes at this place for the first time
@@ -49,7 +53,8 @@ module _ {X : Type 0} where
 
 -- the objects with the one at its place changed
 pub set_at : (number : ℕ) (started : Bool) (objects : List OpenObject) (i : ℕ) (d : OpenObject) → IsFirst (has_number number) objects i d
-    → set objects i (record (get_or objects i d) { is_started = started }) ≡ with_started number started objects
+    → set objects i (record (get_or objects i d) { is_started = started; was_started = (get_or objects i d).was_started || started })
+    ≡ with_started number started objects
 set_at number started [] i d at = let h = at.inside in absurd (omega arith)
 set_at number started (x ∷ xs) zero d at = let here = at.passes in rw here refl
 set_at number started (x ∷ xs) (suc i) d at =

@@ -1,6 +1,6 @@
 -- Contract: the objects on their way to the store, the frontier below them, and which of them is ready.
-use Rattle.std.specs.Prelude.{ℕ, ◌-◌, ◌<◌, ◌≤◌, ◌≡◌, ◌↔◌, Bool, false, not, ◌&&◌, ◌||◌, nat_eq, nat_lt, if◌then◌else◌, Option, option_map, List, [], ◌∷◌, ◌++◌, find}
-use Rattle.std.specs.List.{list_any}
+use Rattle.std.specs.Prelude.{ℕ, ◌-◌, ◌<◌, ◌≤◌, ◌≡◌, ◌↔◌, Bool, false, IsTrue, not, ◌&&◌, ◌||◌, nat_eq, nat_lt, if◌then◌else◌, Option, option_map, List, [], ◌∷◌, ◌++◌, find}
+use Rattle.std.specs.List.{All, list_any}
 use Rattle.upload_window.specs.declared.object.OpenObject.{OpenObject}
 
 -- a window: each number up to the last that is not open is acknowledged
@@ -18,6 +18,15 @@ Ascends low (object ∷ objects) last = (low < object.number) × Ascends object.
 -- the open objects are in ascending order, from 1 up to the last number at most
 abbrev pub IsInOrder : WindowState → Type 0
 IsInOrder window = Ascends 0 window.objects window.last
+
+-- each object whose put is under way was started
+abbrev pub KeepsStarts : WindowState → Type 0
+KeepsStarts window = All (λ object. IsTrue object.is_started → IsTrue object.was_started) window.objects
+
+-- what holds of each window
+pub record IsWindow (window : WindowState) : Type 0 where
+  pub order : IsInOrder window
+  pub starts : KeepsStarts window
 
 abbrev pub has_number : ℕ → OpenObject → Bool
 has_number number object = nat_eq object.number number
@@ -71,12 +80,25 @@ is_started_with number object = has_number number object && object.is_started
 abbrev pub is_started : ℕ → List OpenObject → Bool
 is_started number objects = list_any (is_started_with number) objects
 
--- the objects after the one of this number was started, or made ready
+abbrev pub was_started_with : ℕ → OpenObject → Bool
+was_started_with number object = has_number number object && object.was_started
+
+-- a number is open, and a put of it was ever begun
+abbrev pub was_started : ℕ → List OpenObject → Bool
+was_started number objects = list_any (was_started_with number) objects
+
+-- in a window, each number whose put is under way was started
+abbrev pub StartedNumbersWereStarted : Type 0
+StartedNumbersWereStarted =
+    (window : WindowState) → KeepsStarts window
+    → (number : ℕ) → IsTrue (is_started number window.objects) → IsTrue (was_started number window.objects)
+
+-- the objects after the one of this number was started, or made ready; that it was started once stays known
 abbrev pub with_started : ℕ → Bool → List OpenObject → List OpenObject
 with_started number started [] = []
 with_started number started (object ∷ objects) =
     (if has_number number object
-    then record object { is_started = started } ∷ objects
+    then record object { is_started = started; was_started = object.was_started || started } ∷ objects
     else object ∷ with_started number started objects)
 
 -- the objects without the one of this number
@@ -89,7 +111,9 @@ without number (object ∷ objects) =
 abbrev pub entered : ℕ → Bool → WindowState → WindowState
 entered number is_checkpoint window = record {
   last = number;
-  objects = window.objects ++ record { number = number; is_checkpoint = is_checkpoint; is_started = false } ∷ [];
+  objects =
+      window.objects
+      ++ record { number = number; is_checkpoint = is_checkpoint; is_started = false; was_started = false } ∷ [];
 }
 
 -- a window after a put began, or failed

@@ -11,6 +11,6 @@ mod object;
 mod tests;
 mod window;
 
-pub use laws::the_frontier_is_below_the_lowest_open;
+pub use laws::{a_started_number_was_started, the_frontier_is_below_the_lowest_open};
 pub use object::OpenObject;
 pub use window::{Busy, Window};

@@ -53,6 +53,7 @@ enum State {
 struct Plain {
     is_checkpoint: bool,
     state: State,
+    was_started: bool,
 }
 
 // How many numbers are not acknowledged.
@@ -79,6 +80,11 @@ fn plain_is_started(numbers: &[Plain], number: u64) -> bool {
     plain_at(numbers, number).is_some_and(|plain| plain.state == Started)
 }
 
+// Whether a number that is not acknowledged was ever started.
+fn plain_was_started(numbers: &[Plain], number: u64) -> bool {
+    plain_at(numbers, number).is_some_and(|plain| plain.state != Acknowledged && plain.was_started)
+}
+
 // Whether the put of a number may start, where the numbers up to the frontier are acknowledged.
 fn plain_is_ready(numbers: &[Plain], number: u64, frontier: u64) -> bool {
     plain_at(numbers, number).is_some_and(|plain| {
@@ -97,6 +103,7 @@ fn plain_move(numbers: &mut [Plain], number: u64, from: State, to: State) -> boo
     if let Some(plain) = numbers.get_mut(number.wrapping_sub(1) as usize) {
         if plain.state == from {
             plain.state = to;
+            plain.was_started |= to == Started;
             return true;
         }
     }
@@ -112,6 +119,7 @@ fn make_plainly(numbers: &mut Vec<Plain>, call: Call) -> Result<Answer, AllocErr
                 numbers.push(Plain {
                     is_checkpoint,
                     state: Ready,
+                    was_started: false,
                 })?;
             }
             Entered(is_free)
@@ -147,7 +155,7 @@ fn next_call(state: &mut u64, frontier: u64) -> Call {
     }
 }
 
-// Whether a window is as the plain program has it. Of one number it is asked whether it is ready, and whether it is
+// Whether a window is as the plain program has it. Of one number it is asked whether it is ready, is started and was
 // started.
 fn is_plain(window: &Window, numbers: &[Plain], number: u64) -> bool {
     let frontier = plain_frontier(numbers);
@@ -159,6 +167,7 @@ fn is_plain(window: &Window, numbers: &[Plain], number: u64) -> bool {
         && window.next() == plain_next(numbers)
         && window.ready(number) == plain_is_ready(numbers, number, frontier)
         && window.is_started(number) == plain_is_started(numbers, number)
+        && window.was_started(number) == plain_was_started(numbers, number)
 }
 
 #[test]
@@ -171,6 +180,7 @@ fn many_calls_are_those_of_the_plain_program(rt: HostRuntime) -> Result<(), Fail
             numbers.push(Plain {
                 is_checkpoint: false,
                 state: Acknowledged,
+                was_started: true,
             })?;
         }
         let mut state = first;
@@ -233,7 +243,11 @@ fn calls_answer_and_move_the_frontier(rt: HostRuntime) -> Result<(), Fail> {
         assert_eq!(rt; make(&mut window, Enter(false))?, Entered(true));
     }
     assert!(rt; window.is_full() && window.ready(27) && !window.is_started(27));
+    assert!(rt; !window.was_started(12));
     assert_eq!(rt; make(&mut window, Enter(false))?, Entered(false));
     assert_eq!(rt; (window.last(), window.open()), (27, 16));
+    assert_eq!(rt; make(&mut window, Take)?, Number(Some(12)));
+    assert_eq!(rt; make(&mut window, PutFails(12))?, WasStarted(true));
+    assert!(rt; window.was_started(12) && !window.is_started(12));
     Ok(())
 }

@@ -1,8 +1,8 @@
 ghost use Rattle.std.specs.Prelude.{◌≡◌, ◌+◌, ◌-◌, ◌^◌, ◌<◌, ◌≤◌, ◌↔◌, [], length, true, false, IsTrue, IsErr, IfSome, IfNone, OnOk, OnErr};
-ghost use Rattle.upload_window.specs.Window.{IsInOrder, IsFrontier, below_open, lowest_ready, is_ready_number, is_started, entered, marked, acknowledged};
+ghost use Rattle.upload_window.specs.Window.{IsInOrder, KeepsStarts, IsFrontier, below_open, lowest_ready, is_ready_number, is_started, was_started, entered, marked, acknowledged};
 
 use crate::object::{
-    OpenObject, is_started, number_may_start, place_of, place_of_ready, set_started,
+    OpenObject, is_started, number_may_start, place_of, place_of_ready, set_started, was_started,
 };
 use arrayvec::ArrayVec;
 use std::marker::Model;
@@ -16,8 +16,8 @@ pub struct Busy;
 /// The objects on their way to the store.
 ///
 /// Objects are numbered in the order in which they are sealed. One that was entered is ready, started (its put is under
-/// way) or acknowledged; one whose put failed is ready again. Contracts see the last number that was entered and the
-/// open objects, those that are not acknowledged, in ascending order.
+/// way) or acknowledged; one whose put failed is ready again, and known to have been started. Contracts see the last
+/// number that was entered and the open objects, those that are not acknowledged, in ascending order.
 #[derive(Drop)]
 pub struct Window {
     last: u64,
@@ -25,13 +25,13 @@ pub struct Window {
 }
 
 impl Model for Window {
-    ghost use Rattle.upload_window.specs.Window.{WindowState, IsInOrder};
+    ghost use Rattle.upload_window.specs.Window.{WindowState, IsWindow};
 
     ghost Value = { WindowState };
 
     ghost view = { λ w. record { last = w.last; objects = w.objects.items } };
 
-    ghost invariant = { λ w. IsInOrder (record { last = w.last; objects = w.objects.items }) };
+    ghost invariant = { λ w. IsWindow (record { last = w.last; objects = w.objects.items }) };
 }
 
 impl Window {
@@ -61,6 +61,7 @@ impl Window {
             number,
             is_checkpoint,
             is_started: false,
+            was_started: false,
         });
         self.last = number;
         Ok(())
@@ -94,8 +95,8 @@ impl Window {
         true
     }
 
-    /// The put of this number failed: it is ready again. False is for a number that is not started; then nothing
-    /// changes.
+    /// The put of this number failed: it is ready again, and `was_started` still answers true. False is for a number
+    /// that is not started; then nothing changes.
     pub fn fail(&mut self, number: u64) -> bool
         ensures started { result ≡ is_started number self.old.objects }
         ensures ready { IsTrue result → self.new ≡ marked number false self.old }
@@ -125,6 +126,13 @@ impl Window {
         ensures { result ≡ is_started number self.now.objects }
     {
         is_started(self.objects.as_slice(), number)
+    }
+
+    /// Whether this number is open and a put of it was ever begun, also where it failed since.
+    pub fn was_started(&self, number: u64) -> bool
+        ensures { result ≡ was_started number self.now.objects }
+    {
+        was_started(self.objects.as_slice(), number)
     }
 
     /// The number that `take` would start: the lowest ready one; none where no object is ready.
@@ -168,6 +176,7 @@ impl Window {
         ensures count { result ≡ length self.now.objects }
         ensures limit { result ≤ 16 }
         ensures order { IsInOrder self.now }
+        ensures starts { KeepsStarts self.now }
     {
         self.objects.len()
     }

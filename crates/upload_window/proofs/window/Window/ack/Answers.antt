@@ -1,14 +1,11 @@
-use Rattle.std.proofs.Common.{◌≡◌, false, Some, None, List, sym, ◌∙◌, ap, subst}
+use Rattle.std.proofs.Common.{◌≡◌, Some, None, List, sym, ◌∙◌, ap, subst}
 use Rattle.std.specs.List.{position}
 use Rattle.upload_window.specs.declared.object.OpenObject.{OpenObject}
-use Rattle.upload_window.specs.Window.{WindowState, Ascends, has_number, without, acknowledged}
-use Rattle.upload_window.proofs.Order.{order_without}
-use Rattle.upload_window.proofs.Places.{first_place, nowhere, removed_at, removed_none}
+use Rattle.upload_window.specs.Window.{WindowState, IsWindow, has_number, without, acknowledged}
+use Rattle.upload_window.proofs.Starts.{window_without}
+use Rattle.upload_window.proofs.Places.{blank, first_place, nowhere, removed_at, removed_none}
 use Rattle.upload_window.proofs.window.Window.ack.Goals.{After-remove}
 use Rattle.upload_window.proofs.window.Window.ack.Goals as goal
-
-blank : OpenObject
-blank = record { number = 0; is_checkpoint = false; is_started = false }
 
 removed : (c : After-remove) → c.remove.new.self.items ≡ without c.args.number c.self.inside.objects.items
 removed c =
@@ -21,8 +18,8 @@ removed c =
 pub invariant_of-self : goal.invariant_of-self
 invariant_of-self c =
     let gone = removed (goal.at.invariant_of-self c).After-remove in
-    subst (λ (xs : List OpenObject). Ascends 0 xs c.self.inside.last) (sym gone)
-    (order_without 0 c.args.number c.self.inside.objects.items c.self.inside.last c.self.invariant)
+    subst (λ (xs : List OpenObject). IsWindow (record { last = c.self.inside.last; objects = xs })) (sym gone)
+    (window_without c.args.number c.self.inside.objects.items c.self.inside.last c.self.invariant)
 
 pub returns-in-Some-clause-acknowledged : goal.returns-in-Some-clause-acknowledged
 returns-in-Some-clause-acknowledged c done =

@@ -10,4 +10,4 @@ returns-in-Some-clause-frontier c =
     let value : Some first ≡ slice_get c.as_slice.result.now 0 = c.in-Some.ensures.value in
     let is : slice_get objects 0 ≡ Some first = sym (value ∙ ap (λ xs. slice_get xs 0) c.as_slice.ensures.value) in
     subst (λ (w : WindowState). IsFrontier w (first.number - 1)) c.self.view_is
-    (frontier_at objects c.self.inside.last first c.self.invariant is)
+    (frontier_at objects c.self.inside.last first c.self.invariant.order is)

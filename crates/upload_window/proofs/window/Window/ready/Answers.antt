@@ -12,5 +12,5 @@ returns-in-Some c =
     let is : slice_get objects 0 ≡ Some lowest = sym (value ∙ ap (λ xs. slice_get xs 0) c.as_slice-objects.ensures.value) in
     c.number_may_start.ensures
     ∙ ap (λ xs. number_may_start c.args.number lowest.number xs) c.as_slice-objects.ensures.value
-    ∙ ready_by c.args.number objects c.self.inside.last lowest c.self.invariant is
+    ∙ ready_by c.args.number objects c.self.inside.last lowest c.self.invariant.order is
     ∙ ap (λ w. is_ready_number c.args.number w.objects) c.self.view_is
