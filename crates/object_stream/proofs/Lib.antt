@@ -1,0 +1,6 @@
+pub mod ChangeLemmas
+pub mod StreamLemmas
+pub mod LandedLemmas
+pub mod ReplayLemmas
+pub mod ValueLemmas
+pub mod PlainLemmas

@@ -1,0 +1,38 @@
+-- Contract: what entries do to a sector of the volume, and what the rows of an object do to it.
+use Rattle.std.specs.Prelude.{ℕ, ◌+◌, ◌-◌, ◌*◌, ◌/◌, Option, Some, None, List, [], ◌∷◌, length, take, drop, if◌then◌else◌}
+use Rattle.std.specs.Option.{option_or}
+use Rattle.lsvd_base.specs.declared.entry.Entry.{Entry}
+use Rattle.lsvd_base.specs.declared.entry.Entry.TheVariants.{Write, Zero}
+use Rattle.extent_map.specs.Extents.{is_within}
+use Rattle.object_format.specs.declared.data_row.DataRow.{DataRow}
+use Rattle.object_stream.specs.declared.change.Change.{Change}
+use Rattle.object_stream.specs.declared.change.Change.TheVariants.{Put, Clear}
+
+-- the i-th sector of some bytes
+abbrev pub sector_of : ℕ → List ℕ → List ℕ
+sector_of i bytes = take 512 (drop (512 * i) bytes)
+
+-- ---- by entries
+
+-- what an entry does to a sector: a write puts its part of the data, and a zeroing clears; none where it does not cover it
+abbrev pub change_by : Entry → ℕ → Option Change
+change_by (Write lba body) k = if is_within lba (length body / 512) k then Some (Put (sector_of (k - lba) body)) else None
+change_by (Zero lba sectors) k = if is_within lba sectors k then Some Clear else None
+
+-- what entries do to a sector: what the last of them does that covers it
+abbrev pub change_at : List Entry → ℕ → Option Change
+change_at [] k = None
+change_at (entry ∷ entries) k = option_or (change_at entries k) (change_by entry k)
+
+-- ---- by the rows of a data object
+
+-- what the i-th sector of a row does: it is put where the row has a place in the payload, and else cleared
+abbrev pub change_from : Option ℕ → (payload : List ℕ) → ℕ → Change
+change_from None payload i = Clear
+change_from (Some place) payload i = Put (sector_of (place + i) payload)
+
+-- what rows with this payload do to a sector: none where no row covers it
+abbrev pub change_in : List DataRow → (payload : List ℕ) → ℕ → Option Change
+change_in [] payload k = None
+change_in (row ∷ rows) payload k =
+    if is_within row.lba row.sectors k then Some (change_from row.place payload (k - row.lba)) else change_in rows payload k
