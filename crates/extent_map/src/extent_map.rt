@@ -1,4 +1,4 @@
-ghost use Rattle.std.specs.Prelude.{◌≡◌, ◌+◌, ◌≤◌, ◌^◌, ◌<◌, ◌↔◌, ℕ, Bool, [], IfOk, OnOk, IsOk, IfSome, IsNone};
+ghost use Rattle.std.specs.Prelude.{◌≡◌, ◌+◌, ◌≤◌, ◌^◌, ◌<◌, ◌↔◌, ℕ, Bool, [], length, IfOk, OnOk, IsOk, IfSome, IsNone};
 ghost use Rattle.extent_map.specs.Extents.{AnswersBy, IsSteady, place_at, place_after_set, place_after_clear, place_after_clear_if, place_in_range, IsShortest, Fits, AllFit, IsFirstOfRange, StartsRange, IsBare};
 
 use crate::clear::clear_rows;
@@ -88,6 +88,7 @@ impl<P: Place> ExtentMap<P> {
         requires places { P.number place + sectors < 2 ^ 63 }
         ensures places { (k : ℕ) → place_at P.on self.new.rows k ≡ place_after_set P.on lba sectors place (place_at P.on self.old.rows) k }
         ensures shortest { IsShortest P.on self.new.rows }
+        ensures count { length self.new.rows ≤ length self.old.rows + 2 }
         ensures none { sectors ≡ 0 → self.new ≡ self.old }
         ensures spare { self.old.spare ≤ self.new.spare + 1 }
     {
@@ -109,6 +110,7 @@ impl<P: Place> ExtentMap<P> {
         requires range { lba + sectors < 2 ^ 63 }
         ensures places { (k : ℕ) → place_at P.on self.new.rows k ≡ place_after_clear lba sectors (place_at P.on self.old.rows) k }
         ensures shortest { IsShortest P.on self.new.rows }
+        ensures count { length self.new.rows ≤ length self.old.rows + 1 }
         ensures none { sectors ≡ 0 → self.new ≡ self.old }
         ensures spare { self.old.spare ≤ self.new.spare + 1 }
     {
