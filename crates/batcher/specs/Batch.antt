@@ -1,9 +1,10 @@
--- Contract: the sectors of data of a batch's entries, and when it is full.
-use Rattle.std.specs.Prelude.{ℕ, ◌/◌, nat_le, Option, Some, None, length, if◌then◌else◌}
+-- Contract: the sectors of data of a batch's entries, when it is full, and how many of them the next object takes.
+use Rattle.std.specs.Prelude.{ℕ, ◌≡◌, ◌/◌, ◌<◌, ◌≤◌, ◌⊎◌, nat_le, IsSome, IsNone, Option, Some, None, List, length, take, if◌then◌else◌}
+use Rattle.std.specs.List.{sum_by}
 use Rattle.lsvd_base.specs.declared.entry.Entry.{Entry}
 use Rattle.lsvd_base.specs.declared.entry.Entry.TheVariants.{Write, Zero}
-use Rattle.batcher.specs.declared.batch.Full.{Full}
-use Rattle.batcher.specs.declared.batch.Full.TheVariants.{Sectors, Entries}
+use Rattle.batcher.specs.declared.full.Full.{Full}
+use Rattle.batcher.specs.declared.full.Full.TheVariants.{Sectors, Entries}
 
 -- the sectors of data that an entry carries: a zeroing carries none
 abbrev pub data_sectors : Entry → ℕ
@@ -20,3 +21,13 @@ abbrev pub fullness : (batch sectors entries : ℕ) → Option Full
 fullness batch sectors entries =
     if nat_le batch sectors then Some (Sectors sectors)
     else (if nat_le max_entries entries then Some (Entries entries) else None)
+
+-- the same of the first of some entries
+abbrev pub fullness_of_first : (batch : ℕ) → List Entry → ℕ → Option Full
+fullness_of_first batch entries n = fullness batch (sum_by data_sectors (take n entries)) n
+
+-- how many entries the next object takes: the fewest from the first on that are full, or all where they are never full
+pub record IsSealedCount (batch : ℕ) (entries : List Entry) (n : ℕ) : Type 0 where
+  pub within : n ≤ length entries
+  pub fewest : (fewer : ℕ) → fewer < n → IsNone (fullness_of_first batch entries fewer)
+  pub full_or_all : IsSome (fullness_of_first batch entries n) ⊎ (n ≡ length entries)

@@ -9,8 +9,8 @@ use Rattle.lsvd_base.specs.Limits.{is_within_limits, may_transfer}
 use Rattle.lsvd_base.specs.Range.{is_in_range}
 use Rattle.lsvd_base.specs.Image.{Image, blank, after}
 use Rattle.batcher.specs.Batch.{data_sectors, fullness}
-use Rattle.batcher.specs.declared.batch.Full.{Full}
-use Rattle.batcher.specs.declared.batch.Full.TheVariants.{Sectors, Entries}
+use Rattle.batcher.specs.declared.full.Full.{Full}
+use Rattle.batcher.specs.declared.full.Full.TheVariants.{Sectors, Entries}
 use Rattle.volume_events.specs.declared.event.Event.{Event}
 use Rattle.volume_events.specs.declared.event.Event.TheVariants.{Write, Read, Zero, Flush}
 use Rattle.volume_events.specs.declared.event.Reply.{Reply}

@@ -25,8 +25,8 @@ use Rattle.plain_disk.specs.Machine.{Disk, mark_of, IsKept, AllInRange, batch_re
 use Rattle.batcher.specs.Batch.{data_sectors, max_entries}
 use Rattle.volume_events.specs.declared.event.Reply.{Reply}
 use Rattle.volume_events.specs.declared.event.Reply.TheVariants.{Range}
-use Rattle.batcher.specs.declared.batch.Full.{Full}
-use Rattle.batcher.specs.declared.batch.Full.TheVariants.{Sectors, Entries}
+use Rattle.batcher.specs.declared.full.Full.{Full}
+use Rattle.batcher.specs.declared.full.Full.TheVariants.{Sectors, Entries}
 use Rattle.commit_slot.specs.Slots.{gate_at}
 use Rattle.vol_core.specs.Volume.{fuse_in, pending_in, room_after, mark_at, unfinished_in, IsCommitOf, IsLaterCommitOf}
 use Rattle.vol_core.specs.Standing.{StopKeeps, IsCountOf}

@@ -1,0 +1,9 @@
+mod Fulls
+mod PlaceLemmas
+mod ExtentLemmas
+mod RowLemmas
+mod SpellingLemmas
+mod PieceLemmas
+mod ChangeLemmas
+mod Written
+mod Sealed

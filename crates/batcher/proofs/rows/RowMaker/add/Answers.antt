@@ -1,0 +1,22 @@
+use Rattle.std.proofs.Common.{sym, ◌∙◌}
+use Rattle.batcher.proofs.RowLemmas.{made_first, made_on, made_off}
+use Rattle.batcher.proofs.rows.RowMaker.add.Goals as goal
+
+pub returns-in_default-clause-rows : goal.returns-in_default-clause-rows
+returns-in_default-clause-rows c more =
+    let maker = c.args.self.now in
+    made_first maker.rows.items maker.last maker.payload c.payload_sectors.result c.args.extent.now c.row_of-row.result c.row_of-row.ensures
+    c.payload_sectors.ensures more c.in_default.is
+
+pub returns-then-goes_on-clause-rows : goal.returns-then-goes_on-clause-rows
+returns-then-goes_on-clause-rows c more =
+    let maker = c.args.self.now in
+    made_on maker.rows.items maker.last maker.payload c.payload_sectors.result c.args.extent.now c.row_of-row.result c.row_of-row.ensures
+    c.payload_sectors.ensures more c.in-Some.last c.in-Some.is (sym c.goes_on.ensures ∙ c.if-goes_on.true)
+
+pub returns-clause-rows : goal.returns-clause-rows
+returns-clause-rows c more =
+    let maker = c.args.self.now in
+    made_off maker.rows.items maker.last maker.payload c.payload_sectors.result c.args.extent.now c.row_of-row.result c.row_of-row.ensures
+    c.payload_sectors.ensures more c.in-Some.last c.push.new.self.items c.in-Some.is (sym c.goes_on.ensures ∙ c.if-goes_on.false)
+    c.in_ok-push.ensures.items
