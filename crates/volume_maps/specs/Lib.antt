@@ -1,0 +1,4 @@
+pub mod Places
+pub mod Maps
+pub mod Look
+pub mod Laws
