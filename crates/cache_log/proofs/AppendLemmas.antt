@@ -1,12 +1,14 @@
 -- The writes of `append`, and what they leave.
-use Rattle.std.proofs.Common.{◌≡◌, Bool, true, false, ℕ, ◌+◌, ◌-◌, ◌*◌, ◌^◌, ◌<◌, ◌≤◌, ◌==◌, List, [], ◌∷◌, ◌++◌, length, refl, sym, ◌∙◌, ap, subst, inl, inr, arith, if◌then◌else◌}
+use Rattle.std.proofs.Common.{◌≡◌, Bool, true, false, ℕ, ◌+◌, ◌-◌, ◌*◌, ◌^◌, ◌<◌, ◌≤◌, ◌==◌, List, [], ◌∷◌, ◌++◌, length, take, drop, refl, sym, ◌∙◌, ap, subst, inl, inr, arith, if◌then◌else◌}
 use Rattle.lsvd_base.specs.declared.entry.Entry.{Entry}
 use Rattle.std.specs.Prelude.{IfSome, IfErr, IsErrAnd, Result, Ok, Err}
 use Rattle.std.proofs.Math.Path.{subst₂}
+use Rattle.std.proofs.lemmas.List.{take-append-le, drop-append-le}
 use Rattle.lsvd_device.specs.Calls.{write_cost, together}
 use Rattle.lsvd_device.specs.Device.{HoldsSince, DiskState}
 use Rattle.lsvd_device.specs.Sequence.{Call, Write}
 use Rattle.lsvd_device.proofs.Together.{made_then, failed_then}
+use Rattle.commit_body.specs.declared.body.Mark.{Mark}
 use Rattle.commit_slot.specs.Commits.{CommitsState, IsAsBefore, IsLast}
 use Rattle.commit_slot.specs.Sequence.{Costs}
 use Rattle.lsvd_device.proofs.Passed.{Asks, passed_then, passed_failed}
@@ -14,7 +16,7 @@ use Rattle.log_room.specs.Room.{Room, position, pad_before, record_sectors, need
 use Rattle.log_record.specs.declared.head.Head.TheVariants.{Pad}
 use Rattle.log_record.proofs.ForCallers.{has_one_sector}
 use Rattle.cache_log.specs.Rows.{byte_of}
-use Rattle.cache_log.specs.Log.{LogState, IsAppended, FailsByFault, FailsToAppend, entries_in, with_appended, append_cost, append_writes, CostsAppend}
+use Rattle.cache_log.specs.Log.{LogState, row_of, IsAppended, FailsByFault, FailsToAppend, entries_in, with_appended, append_cost, append_writes, CostsAppend}
 use Rattle.cache_log.specs.Committed.{LeavesEntries, KeepsCommits}
 use Rattle.cache_log.specs.Writing.{IsWrittenAt, IsNotWrittenAt, IsPadded, FailsToPad}
 use Rattle.cache_log.specs.Invariant.{IsLog}
@@ -22,7 +24,7 @@ use Rattle.cache_log.specs.declared.error.AppendError.{AppendError}
 use Rattle.cache_log.specs.declared.error.AppendError.TheVariants.{DeviceFault}
 use Rattle.cache_log.specs.declared.row.Row.{Row}
 use Rattle.cache_log.proofs.CommittedLemmas.{view_of}
-use Rattle.cache_log.proofs.WriteLemmas.{IsPiece, StaysIn, stays_of, stays_then, same_then, written_same, not_written_same, log_since, same_log, rows_with, has_place, fail_stays, ready, not_padded, one_more}
+use Rattle.cache_log.proofs.WriteLemmas.{IsPiece, StaysIn, stays_of, stays_then, same_then, written_same, not_written_same, log_since, same_log, mark_with, rows_with, has_place, fail_stays, ready, not_padded, one_more}
 
 -- what one write asks for
 write_asks : (at : ℕ) (piece : List ℕ) (bytes : ℕ) → length piece ≡ bytes → Asks (Write at piece ∷ []) (write_cost bytes)
@@ -122,66 +124,69 @@ pad_failed place entry seq piece old new is fails =
 -- ---- what an append leaves
 
 -- the log with one entry more
-pub record IsEntered (place : Room) (first : ℕ) (rows : List Row) (entry : Entry) (old new : CommitsState) : Type 0 where
-  pub log : IsLog (after_record place (record_sectors entry)) first (rows_with place rows entry) new
-  pub entries : entries_in (rows_with place rows entry) new.disk.moments ≡ with_appended (entries_in rows old.disk.moments) entry
+pub record IsEntered (place : Room) (mark : Mark) (held rows : List Row) (entry : Entry) (old new : CommitsState) : Type 0 where
+  pub log : IsLog (after_record place (record_sectors entry)) (mark_with mark (position place (record_sectors entry)) rows) held (rows_with place (mark.seq + length rows) rows entry) new
+  pub entries : entries_in (rows_with place (mark.seq + length rows) rows entry) new.disk.moments ≡ with_appended (entries_in rows old.disk.moments) entry
+  pub all : entries_in (held ++ rows_with place (mark.seq + length rows) rows entry) new.disk.moments ≡ with_appended (entries_in (held ++ rows) old.disk.moments) entry
   pub same : IsAsBefore old new
-  pub since : IfSome (entries_in rows old.disk.moments) (λ list. HoldsSince (LeavesEntries place.log list (IsLast old)) old.disk.moments new.disk.moments)
-  pub calls : CostsAppend place entry (first + length rows) true old.disk new.disk
+  pub since : IfSome (entries_in (held ++ rows) old.disk.moments) (λ list. HoldsSince (LeavesEntries place.log (held ++ rows) list (IsLast old)) old.disk.moments new.disk.moments)
+  pub calls : CostsAppend place entry (mark.seq + length rows) true old.disk new.disk
 
-pub entered : (place : Room) (first : ℕ) (rows : List Row) (entry : Entry) (piece : List ℕ) (old middle new : CommitsState) → (log : IsLog place first rows old)
-    → need place (record_sectors entry) ≤ free place → IsPiece entry (first + length rows) piece → IsPadded place (record_sectors entry) (first + length rows) old middle
-    → IsWrittenAt (byte_of (position place (record_sectors entry))) piece middle new → first + length rows + 1 < 2 ^ 64
-    → IsEntered place first rows entry old new
-entered place first rows entry piece old middle new log enough is_piece padded written numbers =
-    let seq : ℕ = first + length rows in
-    let set = ready place first rows seq (record_sectors entry) old middle log enough padded in
-    let more = one_more place first rows entry piece middle new set.same.log enough is_piece set.pad written numbers in
-    let P : ℕ → Type 0 = λ t. StaysIn place.log t first rows middle middle.disk.moments new.disk.moments in
-    let stays = stays_of place.log log.tail first rows middle old middle.disk.moments new.disk.moments set.are.same (subst P set.tail_is more.stays) in
-    let both = stays_then place.log log.tail first rows old old.disk.moments middle.disk.moments new.disk.moments set.stays stays in
+pub entered : (place : Room) (mark : Mark) (held rows : List Row) (entry : Entry) (piece : List ℕ) (old middle new : CommitsState) → IsLog place mark held rows old
+    → need place (record_sectors entry) ≤ free place → IsPiece entry (mark.seq + length rows) piece → IsPadded place (record_sectors entry) (mark.seq + length rows) old middle
+    → IsWrittenAt (byte_of (position place (record_sectors entry))) piece middle new → mark.seq + length rows + 1 < 2 ^ 64
+    → IsEntered place mark held rows entry old new
+entered place mark held rows entry piece old middle new log enough is_piece padded written numbers =
+    let seq : ℕ = mark.seq + length rows in
+    let all : List Row = held ++ rows in
+    let set = ready place mark held rows seq (record_sectors entry) old middle log enough padded in
+    let more = one_more place mark held rows entry piece middle new set.same.log enough is_piece set.pad written numbers in
+    let stays = stays_of place.log mark rows all middle old middle.disk.moments new.disk.moments set.are.same more.stays in
+    let both = stays_then place.log mark rows all old old.disk.moments middle.disk.moments new.disk.moments set.stays stays in
     let are = same_then old middle new set.are (written_same (byte_of (position place (record_sectors entry))) piece middle new written) in
     record {
       log = more.log;
       entries = more.entries ∙ ap (λ e. with_appended e entry) set.same.entries;
+      all = more.all ∙ ap (λ e. with_appended e entry) set.same.all;
       same = are.same;
-      since = log_since place first rows old new log are both;
+      since = log_since place mark held rows old new log are both;
       calls = both_writes place entry seq piece true old middle new.disk is_piece padded written.costs;
     }
 
 -- the log as before, after a call that failed
-pub record IsNotEntered (place : Room) (first : ℕ) (rows : List Row) (entry : Entry) (old new : CommitsState) : Type 0 where
-  pub log : IsLog place first rows new
+pub record IsNotEntered (place : Room) (mark : Mark) (held rows : List Row) (entry : Entry) (old new : CommitsState) : Type 0 where
+  pub log : IsLog place mark held rows new
   pub entries : entries_in rows new.disk.moments ≡ entries_in rows old.disk.moments
+  pub all : entries_in (held ++ rows) new.disk.moments ≡ entries_in (held ++ rows) old.disk.moments
   pub same : IsAsBefore old new
-  pub since : IfSome (entries_in rows old.disk.moments) (λ list. HoldsSince (LeavesEntries place.log list (IsLast old)) old.disk.moments new.disk.moments)
-  pub calls : CostsAppend place entry (first + length rows) false old.disk new.disk
+  pub since : IfSome (entries_in (held ++ rows) old.disk.moments) (λ list. HoldsSince (LeavesEntries place.log (held ++ rows) list (IsLast old)) old.disk.moments new.disk.moments)
+  pub calls : CostsAppend place entry (mark.seq + length rows) false old.disk new.disk
 
-pub not_entered : (place : Room) (first : ℕ) (rows : List Row) (entry : Entry) (piece : List ℕ) (old middle new : CommitsState) → (log : IsLog place first rows old)
-    → need place (record_sectors entry) ≤ free place → IsPiece entry (first + length rows) piece → IsPadded place (record_sectors entry) (first + length rows) old middle
-    → IsNotWrittenAt (byte_of (position place (record_sectors entry))) piece middle new → IsNotEntered place first rows entry old new
-not_entered place first rows entry piece old middle new log enough is_piece padded is =
-    let seq : ℕ = first + length rows in
+pub not_entered : (place : Room) (mark : Mark) (held rows : List Row) (entry : Entry) (piece : List ℕ) (old middle new : CommitsState) → IsLog place mark held rows old
+    → need place (record_sectors entry) ≤ free place → IsPiece entry (mark.seq + length rows) piece → IsPadded place (record_sectors entry) (mark.seq + length rows) old middle
+    → IsNotWrittenAt (byte_of (position place (record_sectors entry))) piece middle new → IsNotEntered place mark held rows entry old new
+not_entered place mark held rows entry piece old middle new log enough is_piece padded is =
+    let seq : ℕ = mark.seq + length rows in
+    let all : List Row = held ++ rows in
     let at : ℕ = position place (record_sectors entry) in
     let whole = is_piece.whole in
-    let set = ready place first rows seq (record_sectors entry) old middle log enough padded in
-    let goes = has_place place (record_sectors entry) log.room enough in
-    let within : byte_of at + length piece ≤ middle.disk.size = (let e = goes.inside in let f = set.same.log.fits in omega (arith, e, f, whole)) in
-    let fails = fail_stays place first at (record_sectors entry) rows piece middle new set.same.log goes.free whole within is in
-    let P : ℕ → Type 0 = λ t. StaysIn place.log t first rows middle middle.disk.moments new.disk.moments in
-    let stays = stays_of place.log log.tail first rows middle old middle.disk.moments new.disk.moments set.are.same (subst P set.tail_is fails) in
-    let both = stays_then place.log log.tail first rows old old.disk.moments middle.disk.moments new.disk.moments set.stays stays in
+    let set = ready place mark held rows seq (record_sectors entry) old middle log enough padded in
+    let goes = has_place place (record_sectors entry) log.is.room enough in
+    let within : byte_of at + length piece ≤ middle.disk.size = (let e = goes.inside in let f = set.same.log.is.fits in omega (arith, e, f, whole)) in
+    let fails = fail_stays place mark at (record_sectors entry) held rows piece middle new set.same.log goes.free whole within is in
+    let stays = stays_of place.log mark rows all middle old middle.disk.moments new.disk.moments set.are.same fails in
+    let both = stays_then place.log mark rows all old old.disk.moments middle.disk.moments new.disk.moments set.stays stays in
     let are = same_then old middle new set.are (not_written_same (byte_of at) piece middle new is) in
-    let same = same_log place first rows old new log are both in
-    record { log = same.log; entries = same.entries; same = are.same; since = same.since; calls = both_writes place entry seq piece false old middle new.disk is_piece padded is.costs }
+    let same = same_log place mark held rows old new log are both in
+    record { log = same.log; entries = same.entries; all = same.all; same = are.same; since = same.since; calls = both_writes place entry seq piece false old middle new.disk is_piece padded is.costs }
 
-pub not_begun : (place : Room) (first : ℕ) (rows : List Row) (entry : Entry) (piece : List ℕ) (old new : CommitsState) → (log : IsLog place first rows old)
-    → need place (record_sectors entry) ≤ free place → IsPiece entry (first + length rows) piece
-    → FailsToPad place (record_sectors entry) (first + length rows) old new → IsNotEntered place first rows entry old new
-not_begun place first rows entry piece old new log enough is_piece fails =
-    let seq : ℕ = first + length rows in
-    let same = not_padded place first rows seq (record_sectors entry) old new log enough fails in
-    record { log = same.log; entries = same.entries; same = fails.not_written.same; since = same.since; calls = pad_failed place entry seq piece old new is_piece fails }
+pub not_begun : (place : Room) (mark : Mark) (held rows : List Row) (entry : Entry) (piece : List ℕ) (old new : CommitsState) → IsLog place mark held rows old
+    → need place (record_sectors entry) ≤ free place → IsPiece entry (mark.seq + length rows) piece
+    → FailsToPad place (record_sectors entry) (mark.seq + length rows) old new → IsNotEntered place mark held rows entry old new
+not_begun place mark held rows entry piece old new log enough is_piece fails =
+    let seq : ℕ = mark.seq + length rows in
+    let same = not_padded place mark held rows seq (record_sectors entry) old new log enough fails in
+    record { log = same.log; entries = same.entries; all = same.all; same = fails.not_written.same; since = same.since; calls = pad_failed place entry seq piece old new is_piece fails }
 
 -- ---- what `append` promises
 
@@ -190,11 +195,15 @@ pub record IsFailure (entry : Entry) (old new : LogState) : Type 0 where
   pub err : FailsByFault entry old new
   pub commits : KeepsCommits old new
 
-pub failure : (place : Room) (first : ℕ) (rows : List Row) (entry : Entry) (old new : CommitsState) (before after : ℕ) (log : LogState) → view_of place first rows old before ≡ log
-    → need place (record_sectors entry) ≤ free place → IsNotEntered place first rows entry old new → IsFailure entry log (view_of place first rows new after)
-failure place first rows entry old new before after log seen enough is =
-    subst (λ l. IsFailure entry l (view_of place first rows new after)) seen (record {
-      err = record { had_room = enough; same = record { entries = is.entries; rows = refl; room = refl; first = refl }; calls = is.calls };
+pub failure : (place : Room) (mark : Mark) (held rows : List Row) (entry : Entry) (old new : CommitsState) (before after : ℕ) (log : LogState) → view_of place mark held rows old before ≡ log
+    → need place (record_sectors entry) ≤ free place → IsNotEntered place mark held rows entry old new → IsFailure entry log (view_of place mark held rows new after)
+failure place mark held rows entry old new before after log seen enough is =
+    subst (λ l. IsFailure entry l (view_of place mark held rows new after)) seen (record {
+      err = record {
+        had_room = enough;
+        same = record { entries = is.entries; rows = refl; all = is.all; held = refl; room = refl; start = refl; first = refl };
+        calls = is.calls;
+      };
       commits = record { commits = is.same; stands = is.since };
     })
 
@@ -204,18 +213,47 @@ fault_error (Ok at) entry old new is failed = tt
 fault_error (Err e) entry old new is failed = subst (λ error. FailsToAppend entry error old new) (sym is) failed.err
 
 -- the entry was appended
-pub record IsSuccess (entry : Entry) (at : ℕ) (old new : LogState) : Type 0 where
+pub record IsSuccess (entry : Entry) (at : ℕ) (old new : LogState) (mark : Mark) : Type 0 where
   pub ok : IsAppended entry at old new
   pub commits : KeepsCommits old new
-  pub log : IsLog new.room new.first new.rows new.commits
+  pub log : IsLog new.room mark new.held new.rows new.commits
 
-pub success : (place grown : Room) (first : ℕ) (rows pushed : List Row) (entry : Entry) (at : ℕ) (old new : CommitsState) (before after : ℕ) (log : LogState) → view_of place first rows old before ≡ log
-    → need place (record_sectors entry) ≤ free place → at ≡ position place (record_sectors entry) → grown ≡ after_record place (record_sectors entry) → pushed ≡ rows_with place rows entry
-    → IsEntered place first rows entry old new → IsSuccess entry at log (view_of grown first pushed new after)
-success place grown first rows pushed entry at old new before after log seen enough at_is grown_is pushed_is is =
-    subst (λ l. IsSuccess entry at l (view_of grown first pushed new after)) seen (
-    subst₂ (λ r list. IsSuccess entry at (view_of place first rows old before) (view_of r first list new after)) (sym grown_is) (sym pushed_is) (record {
-      ok = record { at_head = at_is; had_room = enough; entries = is.entries; rows = refl; room = refl; first = refl; calls = is.calls };
+pub success : (place : Room) (mark : Mark) (held rows : List Row) (entry : Entry) (at : ℕ) (old new : CommitsState) (before after : ℕ) (log : LogState) → view_of place mark held rows old before ≡ log
+    → need place (record_sectors entry) ≤ free place → at ≡ position place (record_sectors entry) → IsEntered place mark held rows entry old new
+    → IsSuccess entry at log (view_of (after_record place (record_sectors entry)) (mark_with mark at rows) held (rows_with place (mark.seq + length rows) rows entry) new after) (mark_with mark at rows)
+success place mark held rows entry at old new before after log seen enough at_is is =
+    let grown : Room = after_record place (record_sectors entry) in
+    let more : List Row = rows_with place (mark.seq + length rows) rows entry in
+    subst (λ l. IsSuccess entry at l (view_of grown (mark_with mark at rows) held more new after) (mark_with mark at rows)) seen (record {
+      ok = record {
+        at_head = at_is;
+        had_room = enough;
+        entries = is.entries;
+        rows = refl;
+        all = is.all;
+        held = refl;
+        room = refl;
+        start = refl;
+        first = refl;
+        calls = is.calls;
+      };
       commits = record { commits = is.same; stands = is.since };
-      log = is.log;
-    }))
+      log = (let P : ℕ → Type 0 = λ p. IsLog grown (mark_with mark p rows) held more new in subst P (sym at_is) is.log);
+    })
+
+-- the rows with one more, of which the first ones are held
+pub pushed_log : (place grown : Room) (mark tail : Mark) (items pushed : List Row) (d : ℕ) (entry : Entry) (at : ℕ) (old new : CommitsState) (before after : ℕ) (log : LogState)
+    → view_of place mark (take d items) (drop d items) old before ≡ log → need place (record_sectors entry) ≤ free place → at ≡ position place (record_sectors entry)
+    → grown ≡ after_record place (record_sectors entry) → tail ≡ mark_with mark at (drop d items) → pushed ≡ items ++ row_of (mark.seq + length (drop d items)) at entry ∷ [] → d ≤ length items
+    → IsEntered place mark (take d items) (drop d items) entry old new → IsSuccess entry at log (view_of grown tail (take d pushed) (drop d pushed) new after) tail
+pushed_log place grown mark tail items pushed d entry at old new before after log seen enough at_is grown_is tail_is pushed_is less is =
+    let held : List Row = take d items in
+    let rows : List Row = drop d items in
+    let seq : ℕ = mark.seq + length rows in
+    let row : Row = row_of seq at entry in
+    let done = success place mark held rows entry at old new before after log seen enough at_is is in
+    let held_is : take d pushed ≡ held = ap (take d) pushed_is ∙ take-append-le d items (row ∷ []) less in
+    let rows_is : drop d pushed ≡ rows_with place seq rows entry = ap (drop d) pushed_is ∙ drop-append-le d items (row ∷ []) less ∙ ap (λ p. rows ++ row_of seq p entry ∷ []) at_is in
+    let P : Room → Mark → List Row → List Row → Type 0 = λ g t h r. IsSuccess entry at log (view_of g t h r new after) t in
+    subst₂ (λ g t. P g t (take d pushed) (drop d pushed)) (sym grown_is) (sym tail_is)
+    (subst₂ (λ h r. P (after_record place (record_sectors entry)) (mark_with mark at rows) h r) (sym held_is) (sym rows_is) done)

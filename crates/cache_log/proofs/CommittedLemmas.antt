@@ -1,28 +1,33 @@
--- The commits of a log, and the entries up to their heads.
-use Rattle.std.proofs.Common.{◌≡◌, ℕ, ◌+◌, ◌-◌, ◌≤◌, List, [], ◌∷◌, ◌++◌, zero, suc, length, take, map, refl, sym, ◌∙◌, ap, subst, inl, inr, arith, length-append}
+-- The commits of a log, and the entries of each.
+use Rattle.std.proofs.Common.{◌≡◌, ℕ, ◌+◌, ◌-◌, ◌≤◌, List, [], ◌∷◌, ◌++◌, length, map, refl, sym, ◌∙◌, ap, subst, inl, inr, arith}
 use Rattle.std.specs.Prelude.{Option, Some, None, IfSome}
 use Rattle.std.specs.List.{AllByRecursion}
-use Rattle.std.proofs.lemmas.List.{length-take-le, take-append-le, append_cancel_right}
+use Rattle.std.proofs.lemmas.List.{append_cancel_right}
 use Rattle.std.proofs.Math.Path.{subst₂}
 use Rattle.lsvd_base.specs.declared.entry.Entry.{Entry}
 use Rattle.lsvd_device.specs.Medium.{Medium, MayLeave}
 use Rattle.lsvd_device.specs.Device.{HoldsSince, HoldsNow}
 use Rattle.commit_body.specs.declared.body.CommitBody.{CommitBody}
+use Rattle.commit_body.specs.declared.body.Mark.{Mark}
 use Rattle.commit_slot.specs.Commits.{CommitsState, Leaves, IsLast, IsAsBefore, finished_number, finished_body}
 use Rattle.commit_slot.proofs.Passing.{passes_as}
 use Rattle.cache_log.specs.declared.row.Row.{Row}
-use Rattle.cache_log.specs.Rows.{entry_of, sectors_taken, next, Follow, end_of_rows, HaveRecords}
-use Rattle.cache_log.specs.Log.{LogState, entries_in, up_to}
+use Rattle.cache_log.specs.Rows.{seq_of, entry_of, sectors_taken, next, Follow, HaveRecords, between, entries_between}
+use Rattle.cache_log.specs.Log.{LogState, entries_in}
 use Rattle.cache_log.specs.Committed.{HasRecords, LeavesEntries}
-use Rattle.cache_log.specs.Invariant.{RecordsLast, EachCommitted, IsCommitOfRows, Holds}
+use Rattle.cache_log.specs.Invariant.{RecordsLast, EachCommitted, IsCommitOfRows, IsCommitOfLog, AreCommitsOfLog, Holds}
+use Rattle.cache_log.proofs.Slices.{between_more, entries_between_more}
 use Rattle.log_room.specs.Room.{Room}
 
 -- how a log is seen
-abbrev pub view_of : Room → (first : ℕ) → List Row → CommitsState → (reserved : ℕ) → LogState
-view_of place first rows commits reserved = record {
+abbrev pub view_of : Room → Mark → (held rows : List Row) → CommitsState → (reserved : ℕ) → LogState
+view_of place mark held rows commits reserved = record {
   room = place;
-  first = first;
+  held = held;
+  start = mark.position;
+  first = mark.seq;
   rows = rows;
+  all = entries_in (held ++ rows) commits.disk.moments;
   entries = entries_in rows commits.disk.moments;
   commits = commits;
   reserved = reserved;
@@ -67,62 +72,78 @@ last_as old new number body same (inr is) = inr (record {
 pub none_each : (P : CommitBody → Type 0) (unfinished : Option CommitBody) → unfinished ≡ None → IfSome unfinished P
 none_each P unfinished none = (let Q : Option CommitBody → Type 0 = λ u. IfSome u P in subst Q (sym none) tt)
 
+-- the commits of a log
+pub each_of : (place : Room) (mark : Mark) (own : ℕ) (held rows : List Row) (commits : CommitsState) → AreCommitsOfLog place mark own held rows commits.body commits.unfinished
+    → EachCommitted (IsCommitOfLog place mark own held rows) commits
+each_of place mark own held rows commits are = (
+  are.0,
+  some_as (λ more. (is : IsCommitOfLog place mark own held rows more) × (is.used ≤ are.0.used) × (commits.body.tail.seq ≤ more.tail.seq)) (IsCommitOfLog place mark own held rows) commits.unfinished
+      (λ more is. is.0) are.1,
+)
+
 -- ---- the first rows
 
-pub first_follow : (rows : List Row) (k log from used : ℕ) → Follow log from used rows → (some : ℕ) × (some ≤ used) × Follow log from some (take k rows)
-first_follow [] zero log from used follow = (0, omega arith, refl)
-first_follow [] (suc k) log from used follow = (0, omega arith, refl)
-first_follow (row ∷ rows) zero log from used follow = (0, omega arith, refl)
-first_follow (row ∷ rows) (suc k) log from used (stands, enough, more) =
-    let rest = first_follow rows k log (next log row) (used - sectors_taken log from row) more in
+pub follow_part : (rows more : List Row) (log from used : ℕ) → Follow log from used (rows ++ more) → (some : ℕ) × (some ≤ used) × Follow log from some rows
+follow_part [] more log from used follow = (0, omega arith, refl)
+follow_part (row ∷ rows) more log from used (stands, enough, after) =
+    let rest = follow_part rows more log (next log row) (used - sectors_taken log from row) after in
     let n : ℕ = sectors_taken log from row in
     let left : rest.0 ≡ (n + rest.0) - n = omega arith in
-    let P : ℕ → Type 0 = λ u. Follow log (next log row) u (take k rows) in
+    let P : ℕ → Type 0 = λ u. Follow log (next log row) u rows in
     let part = rest.1 in
     (n + rest.0, omega (arith, part, enough), (stands, omega arith, subst P left rest.2))
 
--- ---- the entries up to a head
+-- ---- the entries of a commit
 
--- bytes with the records up to a commit's head have the entries up to it
-pub has_records : (log tail first used : ℕ) (rows : List Row) (list : List Entry) (body : CommitBody) (bytes : List ℕ) → used ≤ log → Follow log tail used rows → IsCommitOfRows log tail first rows body
-    → HaveRecords log tail first (up_to body rows) bytes × (map (entry_of bytes) (up_to body rows) ≡ up_to body list) → HasRecords log body (up_to body list) bytes
-has_records log tail first used rows list body bytes most follow stands have =
-    let k : ℕ = body.head.seq - body.tail.seq in
-    let part = first_follow rows k log tail used follow in
-    let many : length (up_to body rows) ≡ k = length-take-le k rows stands.most in
-    let few = part.1 in
-    let order = stands.in_order in
-    let P : ℕ → Type 0 = λ t. Follow log t part.0 (up_to body rows) in
-    let Q : ℕ → Type 0 = λ t. end_of_rows log t (up_to body rows) ≡ body.head.position in (
-      up_to body rows,
+-- bytes with the records of a commit have its entries
+pub has_records : (place : Room) (used : ℕ) (rows : List Row) (list : List Entry) (body : CommitBody) (bytes : List ℕ) → used ≤ place.log → IsCommitOfRows place rows used body
+    → HaveRecords place.log body.tail.position body.tail.seq (between body rows) bytes × (map (entry_of bytes) (between body rows) ≡ entries_between body rows list)
+    → HasRecords place.log body (entries_between body rows list) bytes
+has_records place used rows list body bytes most is have =
+    let part = follow_part (between body rows) is.more place.log body.tail.position used (subst (Follow place.log body.tail.position used) is.whole is.reach.follow) in
+    let few = part.1 in (
+      between body rows,
       record {
         used = part.0;
         most = omega (arith, few, most);
-        follow = subst P (sym stands.same_tail) part.2;
-        end = subst Q (sym stands.same_tail) (sym stands.end);
-        seqs = omega (arith, many, order);
-        records = subst₂ (λ t s. HaveRecords log t s (up_to body rows) bytes) (sym stands.same_tail) (sym stands.same_first) have.0;
+        follow = part.2;
+        end = is.end;
+        numbered = is.numbered;
+        seqs = is.seqs;
+        records = have.0;
       },
       sym have.1,
     )
 
 -- ---- what a stop leaves
 
--- at a moment the records up to each commit's head last
-abbrev pub HeldAt : (log tail first : ℕ) → List Row → List Entry → CommitsState → Medium → Type 0
-HeldAt log tail first rows list commits medium = EachCommitted (Holds log tail first rows list medium) commits
+-- at a moment the records of each commit last
+abbrev pub HeldAt : (log : ℕ) → List Row → List Entry → CommitsState → Medium → Type 0
+HeldAt log rows list commits medium = EachCommitted (Holds log rows list medium) commits
 
-pub held_left : (log tail first used : ℕ) (rows : List Row) (list : List Entry) (commits : CommitsState) (medium : Medium) → used ≤ log → Follow log tail used rows
-    → EachCommitted (IsCommitOfRows log tail first rows) commits → HeldAt log tail first rows list commits medium
-    → (left : List ℕ) → MayLeave medium left → (number : ℕ) (body : CommitBody) → IsLast commits number body → HasRecords log body (up_to body list) left
-held_left log tail first used rows list commits medium most follow stands held left may number body is =
-    let both = each_both (IsCommitOfRows log tail first rows) (Holds log tail first rows list medium) commits stands held in
-    let one = each_last (λ b. IsCommitOfRows log tail first rows b × Holds log tail first rows list medium b) commits number body both is in
-    has_records log tail first used rows list body left most follow one.0 (one.1 left may)
+-- a log's commits
+pub record AreCommits (place : Room) (rows : List Row) (commits : CommitsState) : Type 0 where
+  pub each : EachCommitted (λ body. (used : ℕ) × (used ≤ place.log) × IsCommitOfRows place rows used body) commits
 
-pub leaves_entries : (log : ℕ) (list : List Entry) (P : ℕ → CommitBody → Type 0) (medium : Medium) → Leaves log P medium
-    → ((left : List ℕ) → MayLeave medium left → (number : ℕ) (body : CommitBody) → P number body → HasRecords log body (up_to body list) left) → LeavesEntries log list P medium
-leaves_entries log list P medium leaves has = λ left may.
+pub are_commits : (place : Room) (mark : Mark) (own : ℕ) (held rows : List Row) (commits : CommitsState) → place.used ≤ place.log
+    → AreCommitsOfLog place mark own held rows commits.body commits.unfinished → AreCommits place (held ++ rows) commits
+are_commits place mark own held rows commits most are = record {
+  each =
+      each_as (IsCommitOfLog place mark own held rows) (λ body. (used : ℕ) × (used ≤ place.log) × IsCommitOfRows place (held ++ rows) used body) commits
+      (λ body is. (is.used, (let m = is.most in omega (arith, m, most)), is.is)) (each_of place mark own held rows commits are);
+}
+
+pub held_left : (place : Room) (rows : List Row) (list : List Entry) (commits : CommitsState) (medium : Medium) → AreCommits place rows commits → HeldAt place.log rows list commits medium
+    → (left : List ℕ) → MayLeave medium left → (number : ℕ) (body : CommitBody) → IsLast commits number body → HasRecords place.log body (entries_between body rows list) left
+held_left place rows list commits medium are held left may number body is =
+    let P : CommitBody → Type 0 = λ b. (used : ℕ) × (used ≤ place.log) × IsCommitOfRows place rows used b in
+    let both = each_both P (Holds place.log rows list medium) commits are.each held in
+    let one = each_last (λ b. P b × Holds place.log rows list medium b) commits number body both is in
+    has_records place one.0.0 rows list body left one.0.1 one.0.2 (one.1.1 left may)
+
+pub leaves_entries : (log : ℕ) (rows : List Row) (list : List Entry) (P : ℕ → CommitBody → Type 0) (medium : Medium) → Leaves log P medium
+    → ((left : List ℕ) → MayLeave medium left → (number : ℕ) (body : CommitBody) → P number body → HasRecords log body (entries_between body rows list) left) → LeavesEntries log rows list P medium
+leaves_entries log rows list P medium leaves has = λ left may.
     let is = leaves left may in
     (is.0, is.1, is.2, is.3, has left may is.0 is.1 is.2)
 
@@ -137,51 +158,35 @@ both_pass P Q old new a b =
     each_pair (now ∷ past) a b = ((a.0, b.0), each_pair past a.1 b.1)
 
 -- where the entries are told
-pub since_entries : (log tail first used : ℕ) (rows : List Row) (commits : CommitsState) (old new : List Medium) → used ≤ log → Follow log tail used rows
-    → EachCommitted (IsCommitOfRows log tail first rows) commits → HoldsSince (Leaves log (IsLast commits)) old new
-    → HoldsNow (λ now. HoldsSince (HeldAt log tail first rows (map (entry_of now.bytes) rows) commits) old new) old
-    → IfSome (entries_in rows old) (λ list. HoldsSince (LeavesEntries log list (IsLast commits)) old new)
-since_entries log tail first used rows commits [] new most follow stands leaves held = tt
-since_entries log tail first used rows commits (now ∷ past) new most follow stands leaves held =
+pub since_entries : (place : Room) (rows : List Row) (commits : CommitsState) (old new : List Medium) → AreCommits place rows commits → HoldsSince (Leaves place.log (IsLast commits)) old new
+    → HoldsNow (λ now. HoldsSince (HeldAt place.log rows (map (entry_of now.bytes) rows) commits) old new) old
+    → IfSome (entries_in rows old) (λ list. HoldsSince (LeavesEntries place.log rows list (IsLast commits)) old new)
+since_entries place rows commits [] new are leaves held = tt
+since_entries place rows commits (now ∷ past) new are leaves held =
+    let log : ℕ = place.log in
     let list : List Entry = map (entry_of now.bytes) rows in
-    passes_as (λ m. Leaves log (IsLast commits) m × HeldAt log tail first rows list commits m) (LeavesEntries log list (IsLast commits)) (now ∷ past) new
-    (λ medium is. leaves_entries log list (IsLast commits) medium is.0 (held_left log tail first used rows list commits medium most follow stands is.1))
-    (both_pass (Leaves log (IsLast commits)) (HeldAt log tail first rows list commits) (now ∷ past) new leaves held)
+    passes_as (λ m. Leaves log (IsLast commits) m × HeldAt log rows list commits m) (LeavesEntries log rows list (IsLast commits)) (now ∷ past) new
+    (λ medium is. leaves_entries log rows list (IsLast commits) medium is.0 (held_left place rows list commits medium are is.1))
+    (both_pass (Leaves log (IsLast commits)) (HeldAt log rows list commits) (now ∷ past) new leaves held)
 
-pub now_entries : (log tail first used : ℕ) (rows : List Row) (commits : CommitsState) (moments : List Medium) → used ≤ log → Follow log tail used rows
-    → EachCommitted (IsCommitOfRows log tail first rows) commits → HoldsNow (Leaves log (IsLast commits)) moments
-    → HoldsNow (λ now. HeldAt log tail first rows (map (entry_of now.bytes) rows) commits now) moments
-    → IfSome (entries_in rows moments) (λ list. HoldsNow (LeavesEntries log list (IsLast commits)) moments)
-now_entries log tail first used rows commits [] most follow stands leaves held = tt
-now_entries log tail first used rows commits (now ∷ past) most follow stands leaves held =
-    leaves_entries log (map (entry_of now.bytes) rows) (IsLast commits) now leaves (held_left log tail first used rows (map (entry_of now.bytes) rows) commits now most follow stands held)
+pub now_entries : (place : Room) (rows : List Row) (commits : CommitsState) (moments : List Medium) → AreCommits place rows commits → HoldsNow (Leaves place.log (IsLast commits)) moments
+    → HoldsNow (λ now. HeldAt place.log rows (map (entry_of now.bytes) rows) commits now) moments
+    → IfSome (entries_in rows moments) (λ list. HoldsNow (LeavesEntries place.log rows list (IsLast commits)) moments)
+now_entries place rows commits [] are leaves held = tt
+now_entries place rows commits (now ∷ past) are leaves held =
+    leaves_entries place.log rows (map (entry_of now.bytes) rows) (IsLast commits) now leaves (held_left place rows (map (entry_of now.bytes) rows) commits now are held)
 
-pub now_committed : (log tail first used : ℕ) (rows : List Row) (commits : CommitsState) (moments : List Medium) → used ≤ log → Follow log tail used rows
-    → EachCommitted (IsCommitOfRows log tail first rows) commits
-    → HoldsNow (λ now. HeldAt log tail first rows (map (entry_of now.bytes) rows) commits now) moments
-    → IfSome (entries_in rows moments) (λ list. HoldsNow (λ now. (left : List ℕ) → MayLeave now left → (number : ℕ) (body : CommitBody) → IsLast commits number body → HasRecords log body (up_to body list) left) moments)
-now_committed log tail first used rows commits [] most follow stands held = tt
-now_committed log tail first used rows commits (now ∷ past) most follow stands held =
-    held_left log tail first used rows (map (entry_of now.bytes) rows) commits now most follow stands held
+pub now_committed : (place : Room) (rows : List Row) (commits : CommitsState) (moments : List Medium) → AreCommits place rows commits
+    → HoldsNow (λ now. HeldAt place.log rows (map (entry_of now.bytes) rows) commits now) moments
+    → IfSome (entries_in rows moments) (λ list. HoldsNow (λ now. (left : List ℕ) → MayLeave now left → (number : ℕ) (body : CommitBody) → IsLast commits number body → HasRecords place.log body (entries_between body rows list) left) moments)
+now_committed place rows commits [] are held = tt
+now_committed place rows commits (now ∷ past) are held = held_left place rows (map (entry_of now.bytes) rows) commits now are held
 
 -- ---- one row more
 
-pub stands_more : (log tail first : ℕ) (rows : List Row) (row : Row) (body : CommitBody) → IsCommitOfRows log tail first rows body → IsCommitOfRows log tail first (rows ++ row ∷ []) body
-stands_more log tail first rows row body stands =
-    let k : ℕ = body.head.seq - body.tail.seq in
-    let most = stands.most in
-    record {
-      same_tail = stands.same_tail;
-      same_first = stands.same_first;
-      in_order = stands.in_order;
-      most = (let e = length-append rows (row ∷ []) in omega (arith, e, most));
-      end = stands.end ∙ ap (end_of_rows log tail) (sym (take-append-le k rows (row ∷ []) most));
-    }
-
 -- what lasts of some rows and entries lasts of those with more after them
-pub holds_more : (log tail first : ℕ) (rows : List Row) (row : Row) (list : List Entry) (entry : Entry) (body : CommitBody) (medium : Medium) → IsCommitOfRows log tail first rows body → length list ≡ length rows
-    → Holds log tail first rows list medium body → Holds log tail first (rows ++ row ∷ []) (list ++ entry ∷ []) medium body
-holds_more log tail first rows row list entry body medium stands same holds =
-    let k : ℕ = body.head.seq - body.tail.seq in
-    let most = stands.most in
-    subst₂ (λ r l. RecordsLast log tail first r l medium) (sym (take-append-le k rows (row ∷ []) most)) (sym (take-append-le k list (entry ∷ []) (omega (arith, same, most)))) holds
+pub holds_more : (log : ℕ) (rows : List Row) (row : Row) (list : List Entry) (entry : Entry) (body : CommitBody) (medium : Medium) → body.head.seq ≤ seq_of row → length list ≡ length rows
+    → Holds log rows list medium body → Holds log (rows ++ row ∷ []) (list ++ entry ∷ []) medium body
+holds_more log rows row list entry body medium on same holds =
+    subst₂ (λ r l. HaveRecords log body.tail.position body.tail.seq r medium.bytes × RecordsLast log body.tail.position body.tail.seq r l medium)
+    (sym (between_more rows row body on)) (sym (entries_between_more rows row list entry body on same)) holds

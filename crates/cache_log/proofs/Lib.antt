@@ -1,4 +1,6 @@
 mod Places
+mod Slices
+mod Reaches
 mod Records
 mod RowLemmas
 mod LogAreaLemmas
@@ -12,4 +14,5 @@ mod AppendLemmas
 mod FormatLemmas
 mod OpenLemmas
 mod CommitLemmas
+mod TrimLemmas
 pub mod ForCallers

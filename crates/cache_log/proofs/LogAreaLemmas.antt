@@ -7,7 +7,7 @@ use Rattle.cache_log.specs.declared.row.Row.{Row}
 use Rattle.cache_log.specs.Rows.{log_sectors, entry_of, next, HaveRecords}
 use Rattle.cache_log.specs.Log.{up_to}
 use Rattle.cache_log.proofs.Places.{LieApart}
-use Rattle.cache_log.proofs.Records.{keeps_records}
+use Rattle.cache_log.proofs.Records.{keeps_records, entries_kept}
 
 log_area_sectors : (sector n : ℕ) (left old : List ℕ) → log_area left ≡ log_area old → log_sectors sector n left ≡ log_sectors sector n old
 log_area_sectors sector n left old same =
@@ -24,6 +24,10 @@ pub same_log_area : (rows : List Row) (log from seq : ℕ) (left old : List ℕ)
 same_log_area rows log from seq left old same have =
     let kept = keeps_records rows log from 0 0 seq old left (λ sector n apart. log_area_sectors sector n left old same) (all_apart rows log from) have in
     (kept.records, kept.entries)
+
+-- and the same entries
+pub same_entries : (rows : List Row) (left old : List ℕ) → log_area left ≡ log_area old → map (entry_of left) rows ≡ map (entry_of old) rows
+same_entries rows left old same = entries_kept rows 0 0 0 0 old left (λ sector n apart. log_area_sectors sector n left old same) (all_apart rows 0 0)
 
 -- all rows are those up to the head
 pub all_up_to : {A : Type 0} (body : CommitBody) (list : List A) → body.tail.seq + length list ≡ body.head.seq → up_to body list ≡ list

@@ -1,5 +1,5 @@
 -- Where records stand in a log, one after the other, and which sectors are free.
-use Rattle.std.proofs.Common.{◌≡◌, ℕ, ◌+◌, ◌-◌, ◌<◌, ◌≤◌, ◌⊎◌, List, [], ◌∷◌, ◌++◌, zero, suc, take, refl, sym, ◌∙◌, ap, subst, inl, inr, arith, if◌then◌else◌, ◌==◌}
+use Rattle.std.proofs.Common.{◌≡◌, ℕ, ◌+◌, ◌-◌, ◌<◌, ◌≤◌, ◌⊎◌, List, [], ◌∷◌, ◌++◌, refl, sym, ◌∙◌, ap, subst, inl, inr, arith, if◌then◌else◌, ◌==◌}
 use Rattle.std.proofs.lemmas.Bool.{cases_lt}
 use Rattle.log_room.specs.Room.{room_of, position, pad_before, need, after_record}
 use Rattle.cache_log.specs.declared.row.Row.{Row}
@@ -9,8 +9,8 @@ use Rattle.cache_log.specs.Invariant.{IsFurther}
 
 -- a record has a sector at least
 pub some_size : (row : Row) → 1 ≤ record_size row
-some_size (Write at lba sectors) = omega arith
-some_size (Zero at lba sectors) = omega arith
+some_size (Write own at lba sectors) = omega arith
+some_size (Zero own at lba sectors) = omega arith
 
 -- what a row that stands at a sector takes
 pub taken_here : (log from : ℕ) (row : Row) → position_of row ≡ from → sectors_taken log from row ≡ record_size row
@@ -202,8 +202,6 @@ lie_apart (row ∷ rows) log from used total head at count inside head_inside mo
     )
 
 -- and none of those of the first few
-pub first_apart : (rows : List Row) (k at count log from : ℕ) → LieApart at count log from rows → LieApart at count log from (take k rows)
-first_apart [] zero at count log from apart = tt
-first_apart [] (suc k) at count log from apart = tt
-first_apart (row ∷ rows) zero at count log from apart = tt
-first_apart (row ∷ rows) (suc k) at count log from apart = (apart.0, first_apart rows k at count log (next log row) apart.1)
+pub first_apart : (rows more : List Row) (at count log from : ℕ) → LieApart at count log from (rows ++ more) → LieApart at count log from rows
+first_apart [] more at count log from apart = tt
+first_apart (row ∷ rows) more at count log from apart = (apart.0, first_apart rows more at count log (next log row) apart.1)

@@ -8,12 +8,16 @@ use Rattle.lsvd_base.specs.declared.entry.Entry.{Entry}
 use Rattle.lsvd_bytes.specs.Places.{bytes_at}
 use Rattle.lsvd_device.specs.Medium.{Medium}
 use Rattle.lsvd_device.specs.Device.{DiskState, HasSize, HoldsNow}
+use Rattle.log_room.specs.Room.{Room}
 use Rattle.log_record.specs.Grammar.{data_of}
+use Rattle.commit_body.specs.declared.body.Mark.{Mark}
+use Rattle.commit_slot.specs.Commits.{CommitsState}
 use Rattle.cache_log.specs.declared.row.Row.{Row}
 use Rattle.cache_log.specs.declared.row.Row.TheVariants.{Write, Zero}
-use Rattle.cache_log.specs.Rows.{byte_of, position_of, record_size, entry_of, AreDataOfRow, sectors_taken, next, Follow}
+use Rattle.cache_log.specs.Rows.{byte_of, seq_of, position_of, record_size, entry_of, AreDataOfRow, sectors_taken, next, Follow}
 use Rattle.cache_log.specs.Log.{LogState, row_of, entries_in, AreData, AgreesWith, IsReadFrom}
 use Rattle.cache_log.specs.Writing.{RowLiesInside, RowsLieInside}
+use Rattle.cache_log.specs.Invariant.{IsLog}
 use Rattle.cache_log.proofs.Places.{step_of}
 
 -- each record of a log ends by the log's end
@@ -25,8 +29,8 @@ rows_inside (row ∷ rows) log from used inside most (stands, enough, more) =
 
 -- the data of a record lie inside the log
 data_of_inside : (row : Row) (log sector count : ℕ) → position_of row + record_size row ≤ log → AreDataOfRow row sector count → 512 * sector + count ≤ 512 * log
-data_of_inside (Write at lba sectors) log sector count inside data' = omega (arith, inside, data'.0, data'.1)
-data_of_inside (Zero at lba sectors) log sector count inside data' = absurd data'
+data_of_inside (Write own at lba sectors) log sector count inside data' = omega (arith, inside, data'.0, data'.1)
+data_of_inside (Zero own at lba sectors) log sector count inside data' = absurd data'
 
 pub data_inside : (rows : List Row) (log sector count : ℕ) → AllByRecursion (λ row. position_of row + record_size row ≤ log) rows → AreData rows sector count → 512 * sector + count ≤ 512 * log
 data_inside [] log sector count inside data' = absurd data'
@@ -36,7 +40,7 @@ data_inside (row ∷ rows) log sector count inside (inr more) = data_inside rows
 -- what stands at data sectors of a record is that part of its entry's data
 data_part : (row : Row) (bytes buf : List ℕ) (sector : ℕ) → buf ≡ bytes_at (byte_of sector) (length buf) bytes → AreDataOfRow row sector (length buf)
     → buf ≡ take (length buf) (drop (512 * (sector - (position_of row + 1))) (data_of (entry_of bytes row)))
-data_part (Write at lba sectors) bytes buf sector read (first, last) =
+data_part (Write own at lba sectors) bytes buf sector read (first, last) =
     let skipped : ℕ = 512 * (sector - (at + 1)) in
     let place : byte_of (at + 1) + skipped ≡ byte_of sector = omega (arith, first) in
     let rest : skipped + (512 * sectors - skipped) ≡ 512 * sectors = omega (arith, first, last) in
@@ -46,7 +50,7 @@ data_part (Write at lba sectors) bytes buf sector read (first, last) =
     ∙ ap (take (512 * sectors - skipped)) (drop-drop skipped (byte_of (at + 1)) bytes)
     ∙ ap (λ n. take (512 * sectors - skipped) (drop n bytes)) place in
     read ∙ sym (ap (take (length buf)) part ∙ take-take (length buf) (512 * sectors - skipped) (drop (byte_of sector) bytes) (omega (arith, first, last)))
-data_part (Zero at lba sectors) bytes buf sector read data' = absurd data'
+data_part (Zero own at lba sectors) bytes buf sector read data' = absurd data'
 
 pub agrees : (rows : List Row) (bytes buf : List ℕ) (sector : ℕ) → buf ≡ bytes_at (byte_of sector) (length buf) bytes → AgreesWith rows (map (entry_of bytes) rows) sector buf
 agrees [] bytes buf sector read = tt
@@ -131,22 +135,22 @@ entries_on_ok items (Err e) rows skipped moments read = tt
 
 -- ---- the row of an entry
 
-row_entry : (row : Row) (bytes : List ℕ) → byte_of (position_of row + record_size row) ≤ length bytes → row ≡ row_of (position_of row) (entry_of bytes row)
-row_entry (Write at lba n) bytes fits =
+row_entry : (row : Row) (bytes : List ℕ) → byte_of (position_of row + record_size row) ≤ length bytes → row ≡ row_of (seq_of row) (position_of row) (entry_of bytes row)
+row_entry (Write own at lba n) bytes fits =
     let many : length (bytes_at (byte_of (at + 1)) (512 * n) bytes) ≡ 512 * n =
     length-take-le (512 * n) (drop (byte_of (at + 1)) bytes) (let e = length-drop (byte_of (at + 1)) bytes in omega (arith, e, fits)) in
     let count : n ≡ length (bytes_at (byte_of (at + 1)) (512 * n) bytes) / 512 = omega (arith, many) in
-    ap (Write at lba) count
-row_entry (Zero at lba n) bytes fits = refl
+    ap (Write own at lba) count
+row_entry (Zero own at lba n) bytes fits = refl
 
 row_matches : (rows : List Row) (index log : ℕ) (row : Row) (entry : Entry) (bytes : List ℕ) → AllByRecursion (λ r. position_of r + record_size r ≤ log) rows → byte_of log ≤ length bytes
-    → index < length rows → row ≡ get_or rows index row → slice_get (map (entry_of bytes) rows) index ≡ Some entry → row ≡ row_of (position_of row) entry
+    → index < length rows → row ≡ get_or rows index row → slice_get (map (entry_of bytes) rows) index ≡ Some entry → row ≡ row_of (seq_of row) (position_of row) entry
 row_matches [] index log row entry bytes inside fits less is has = absurd (omega (arith, less))
 row_matches (first ∷ rows) zero log row entry bytes inside fits less is has =
     let same : entry_of bytes first ≡ entry = cc in
     let i = inside.0 in
-    let all : first ≡ row_of (position_of first) (entry_of bytes first) = row_entry first bytes (omega (arith, i, fits)) in
-    is ∙ all ∙ ap (λ r. row_of (position_of r) (entry_of bytes first)) (sym is) ∙ ap (row_of (position_of row)) same
+    let all : first ≡ row_of (seq_of first) (position_of first) (entry_of bytes first) = row_entry first bytes (omega (arith, i, fits)) in
+    is ∙ all ∙ ap (λ r. row_of (seq_of r) (position_of r) (entry_of bytes first)) (sym is) ∙ ap (row_of (seq_of row) (position_of row)) same
 row_matches (first ∷ rows) (suc index) log row entry bytes inside fits less is has = row_matches rows index log row entry bytes inside.1 fits (omega (arith, less)) is has
 
 pub row_inside : (rows : List Row) (index log : ℕ) (row : Row) → AllByRecursion (λ r. position_of r + record_size r ≤ log) rows → index < length rows → row ≡ get_or rows index row → position_of row + record_size row ≤ log
@@ -156,7 +160,29 @@ row_inside (first ∷ rows) (suc index) log row inside less is = row_inside rows
 
 pub matches_now : (rows : List Row) (index log size : ℕ) (row : Row) (moments : List Medium) → AllByRecursion (λ r. position_of r + record_size r ≤ log) rows → byte_of log ≤ size
     → AllByRecursion (HasSize size) moments → index < length rows → row ≡ get_or rows index row
-    → IfSome (entries_in rows moments) (λ list. (entry : Entry) → slice_get list index ≡ Some entry → row ≡ row_of (position_of row) entry)
+    → IfSome (entries_in rows moments) (λ list. (entry : Entry) → slice_get list index ≡ Some entry → row ≡ row_of (seq_of row) (position_of row) entry)
 matches_now rows index log size row [] inside fits media less is = tt
 matches_now rows index log size row (now ∷ past) inside fits media less is = λ entry has.
     row_matches rows index log row entry now.bytes inside (let e = media.0.bytes in omega (arith, e, fits)) less is has
+
+-- ---- a log
+
+-- its records lie inside the log
+pub list_inside : (place : Room) (mark : Mark) (held rows : List Row) (commits : CommitsState) → IsLog place mark held rows commits → AllByRecursion (λ row. position_of row + record_size row ≤ place.log) rows
+list_inside place mark held rows commits log =
+    let is = log.is in
+    let last = is.committed.0 in
+    let a = last.least in
+    let b = last.most in
+    let u = is.room.used in
+    rows_inside rows place.log mark.position is.least is.reach.inside (omega (arith, a, b, u)) is.reach.follow
+
+-- and all its rows do
+pub all_inside : (place : Room) (mark : Mark) (held rows : List Row) (commits : CommitsState) → IsLog place mark held rows commits → AllByRecursion (λ row. position_of row + record_size row ≤ place.log) (held ++ rows)
+all_inside place mark held rows commits log =
+    let is = log.is in
+    let last = is.committed.0 in
+    let b = last.most in
+    let u = is.room.used in
+    let tail : ℕ = commits.body.tail.position in
+    rows_inside (held ++ rows) place.log tail last.used last.is.reach.inside (omega (arith, b, u)) (subst (Follow place.log tail last.used) log.from last.is.reach.follow)

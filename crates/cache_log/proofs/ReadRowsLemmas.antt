@@ -15,12 +15,13 @@ use Rattle.commit_body.specs.Body.{MayStand}
 use Rattle.cache_log.specs.declared.error.OpenError.{OpenError}
 use Rattle.cache_log.specs.declared.error.OpenError.TheVariants as open_errors
 use Rattle.cache_log.specs.declared.row.Row.{Row}
-use Rattle.cache_log.specs.Rows.{byte_of, log_sectors, position_of, record_size, entry_of, sectors_taken, next, Follow, end_of_rows, HasPad, HaveRecords}
+use Rattle.cache_log.specs.Rows.{byte_of, log_sectors, position_of, record_size, entry_of, sectors_taken, next, AreNumbered, Follow, end_of_rows, HasPad, HaveRecords}
 use Rattle.cache_log.specs.Opening.{is_row_in_range, AreRowsInRange, AreRecordsInRange, sectors_between, IsRefusedAt, place_after, IsBadRecord, AreRowsOfLog, IsBadLog}
 use Rattle.cache_log.specs.Headers.{head_of_row, HasRow, FitsFrom, IsBadRow}
 use Rattle.cache_log.specs.Invariant.{IsFurther}
 use Rattle.cache_log.proofs.Places.{step_of, follow_more, end_more}
 use Rattle.cache_log.proofs.Records.{have_more}
+use Rattle.cache_log.proofs.Slices.{numbered_more}
 use Rattle.cache_log.proofs.RowLemmas.{between_most, between_further, between_none, run_of, IsRest, place_of, rest_has, rest_more, same_row, refused_none, all_rest, record_stands}
 
 -- some rows from a commit's tail on, and where the next one would stand
@@ -29,6 +30,7 @@ pub record IsFar (geometry : Geometry) (body : CommitBody) (rows : List Row) (po
   pub follow : Follow geometry.log body.tail.position used rows
   pub sum : used + to_head ≡ sectors_between geometry.log body
   pub at_end : end_of_rows geometry.log body.tail.position rows ≡ position
+  pub numbered : AreNumbered body.tail.seq rows
   pub next_seq : body.tail.seq + length rows ≡ seq
   pub in_range : AreRowsInRange geometry rows
   pub inside : position < geometry.log
@@ -46,6 +48,7 @@ first_far geometry body may = record {
   follow = refl;
   sum = omega arith;
   at_end = refl;
+  numbered = tt;
   next_seq = omega arith;
   in_range = tt;
   inside = may.tail_inside;
@@ -79,7 +82,7 @@ far_further geometry body rows position to_head seq may far =
     (most, subst (IsFurther geometry.log body.tail.position far.used) far.at_end run.further)
 
 pub next_far : (geometry : Geometry) (body : CommitBody) (rows : List Row) (position to_head seq : ℕ) (row : Row) → MayStand body geometry.log → IsFar geometry body rows position to_head seq
-    → FitsFrom geometry (place_of body.head.seq position to_head seq) row
+    → FitsFrom geometry (place_of body.head.seq position to_head seq) seq row
     → IsFar geometry body (rows ++ row ∷ []) (next geometry.log row) (to_head - sectors_taken geometry.log position row) (seq + 1)
 next_far geometry body rows position to_head seq row may far fit =
     let log : ℕ = geometry.log in
@@ -95,6 +98,7 @@ next_far geometry body rows position to_head seq row may far fit =
       follow = follow_more rows row log body.tail.position far.used position may.tail_inside far.inside room.0 room.1 far.follow fit.stands;
       sum = omega (arith, s, w);
       at_end = end_more rows row log body.tail.position;
+      numbered = numbered_more rows row body.tail.seq far.numbered (fit.numbered ∙ sym q);
       next_seq = (let e = length-append rows (row ∷ []) in omega (arith, e, q));
       in_range = all_more (λ r. IsTrue (is_row_in_range geometry r)) rows row far.in_range fit.in_range;
       inside = step.inside;
@@ -104,14 +108,14 @@ next_far geometry body rows position to_head seq row may far fit =
 
 -- where a row's header stands, its record does, and the pad before it
 stands_pad : (geometry : Geometry) (place : Place) (seq : ℕ) (bytes : List ℕ) (row : Row) → HasRow geometry place seq bytes row → HasPad geometry.log place.position seq row bytes
-stands_pad geometry place seq bytes row (inl is) less = absurd (omega (arith, is.0, less))
-stands_pad geometry place seq bytes row (inr is) less = is.1.says
+stands_pad geometry place seq bytes row (numbered, inl is) less = absurd (omega (arith, is.0, less))
+stands_pad geometry place seq bytes row (numbered, inr is) less = is.1.says
 
 stands_header : (geometry : Geometry) (place : Place) (seq : ℕ) (bytes : List ℕ) (row : Row) → byte_of (position_of row + record_size row) ≤ length bytes → HasRow geometry place seq bytes row
     → IsRecordOf (entry_of bytes row) seq (log_sectors (position_of row) (record_size row) bytes)
-stands_header geometry place seq bytes row fits (inl is) =
+stands_header geometry place seq bytes row fits (numbered, inl is) =
     record_stands row seq bytes fits (subst (λ p. IsHeaderOf (head_of_row row) seq (log_sectors p 1 bytes)) (sym is.0) is.1.says)
-stands_header geometry place seq bytes row fits (inr is) =
+stands_header geometry place seq bytes row fits (numbered, inr is) =
     record_stands row seq bytes fits (subst (λ p. IsHeaderOf (head_of_row row) seq (log_sectors p 1 bytes)) (sym is.0) is.2.says)
 
 -- what the rest begins with is this row
@@ -127,7 +131,7 @@ rest_is geometry body rows all (other ∷ more) position to_head seq row bytes l
     (more, is ∙ ap (λ r. rows ++ r ∷ more) same ∙ sym (append_assoc rows (row ∷ []) more), subst P same (rest_more geometry body.head.seq position to_head seq other more bytes rest))
 
 next_has : (geometry : Geometry) (body : CommitBody) (rows : List Row) (position to_head seq : ℕ) (row : Row) (bytes : List ℕ) → IsTrue (is_within_limits geometry) → byte_of geometry.log ≤ length bytes
-    → seq < body.head.seq → IsFar geometry body rows position to_head seq → FitsFrom geometry (place_of body.head.seq position to_head seq) row
+    → seq < body.head.seq → IsFar geometry body rows position to_head seq → FitsFrom geometry (place_of body.head.seq position to_head seq) seq row
     → HasRow geometry (place_of body.head.seq position to_head seq) seq bytes row → HasFar geometry body rows position to_head seq bytes
     → HasFar geometry body (rows ++ row ∷ []) (next geometry.log row) (to_head - sectors_taken geometry.log position row) (seq + 1) bytes
 next_has geometry body rows position to_head seq row bytes limits fits before far fit has so_far =
@@ -148,7 +152,7 @@ next_has geometry body rows position to_head seq row bytes limits fits before fa
     }
 
 pub next_has_now : (geometry : Geometry) (body : CommitBody) (rows : List Row) (position to_head seq size : ℕ) (row : Row) (moments : List Medium) → IsTrue (is_within_limits geometry) → byte_of geometry.log ≤ size
-    → AllByRecursion (HasSize size) moments → seq < body.head.seq → IsFar geometry body rows position to_head seq → FitsFrom geometry (place_of body.head.seq position to_head seq) row
+    → AllByRecursion (HasSize size) moments → seq < body.head.seq → IsFar geometry body rows position to_head seq → FitsFrom geometry (place_of body.head.seq position to_head seq) seq row
     → HoldsNow (λ now. HasRow geometry (place_of body.head.seq position to_head seq) seq now.bytes row) moments
     → HoldsNow (λ now. HasFar geometry body rows position to_head seq now.bytes) moments
     → HoldsNow (λ now. HasFar geometry body (rows ++ row ∷ []) (next geometry.log row) (to_head - sectors_taken geometry.log position row) (seq + 1) now.bytes) moments
@@ -170,6 +174,7 @@ last_far geometry body rows position to_head seq may last far =
     record {
       follow = subst Q all far.follow;
       end = far.at_end ∙ same_end geometry.log body.tail.position (sectors_between geometry.log body) position body.head.position far.inside may.head_inside (subst P all room.1) (between_further geometry.log body may);
+      numbered = far.numbered;
       seqs = far.next_seq ∙ last;
       in_range = far.in_range;
     }
@@ -189,6 +194,7 @@ all_read geometry body rows bytes may are have = record {
     most = between_most geometry.log body may;
     follow = are.follow;
     end = are.end;
+    numbered = are.numbered;
     seqs = are.seqs;
     records = have;
   };

@@ -1,5 +1,5 @@
 -- What writes leave of the records of a log.
-use Rattle.std.proofs.Common.{◌≡◌, ℕ, ◌+◌, ◌-◌, ◌*◌, ◌≤◌, List, [], ◌∷◌, ◌++◌, zero, suc, length, take, drop, map, refl, sym, ◌∙◌, ap, subst, inl, inr, arith}
+use Rattle.std.proofs.Common.{◌≡◌, ℕ, ◌+◌, ◌-◌, ◌*◌, ◌≤◌, List, [], ◌∷◌, ◌++◌, length, take, drop, map, refl, sym, ◌∙◌, ap, subst, inl, inr, arith}
 use Rattle.std.proofs.lemmas.List.{take-append-drop, take-append-le, drop-append-le, length-take-le, length-drop}
 use Rattle.std.proofs.Math.Path.{subst₂}
 use Rattle.std.proofs.Math.Seq.{drop-append-add}
@@ -60,12 +60,12 @@ keeps_torn at count bytes old new whole inside torn = λ sector n apart.
 
 -- an entry whose record lies apart from a change is as before
 entry_kept : (row : Row) (at count : ℕ) (old new : List ℕ) → Keeps at count old new → Apart at count (position_of row) (record_size row) → entry_of new row ≡ entry_of old row
-entry_kept (Write on lba sectors) at count old new keeps apart =
+entry_kept (Write own on lba sectors) at count old new keeps apart =
     ap (entries.Write lba) (keeps (on + 1) sectors (elim apart [
       | inl before ↦ inl (omega (arith, before))
       | inr after ↦ inr (omega (arith, after))
     ]))
-entry_kept (Zero on lba sectors) at count old new keeps apart = refl
+entry_kept (Zero own on lba sectors) at count old new keeps apart = refl
 
 -- what is left of records after a change of other sectors
 pub record AreKept (log from seq : ℕ) (rows : List Row) (old new : List ℕ) : Type 0 where
@@ -111,10 +111,3 @@ have_more (first ∷ rows) row log from head seq bytes end (before, here, have) 
     let P : ℕ → Type 0 = λ n. HasPad log head n row bytes in
     let R : ℕ → Type 0 = λ n. IsRecordOf (entry_of bytes row) n (log_sectors (position_of row) (record_size row) bytes) in
     (before, here, have_more rows row log (next log first) head (seq + 1) bytes end have (subst P more pad) (subst R more at))
-
--- the first some of the records
-pub have_first : (rows : List Row) (k log from seq : ℕ) (bytes : List ℕ) → HaveRecords log from seq rows bytes → HaveRecords log from seq (take k rows) bytes
-have_first [] zero log from seq bytes have = tt
-have_first [] (suc k) log from seq bytes have = tt
-have_first (row ∷ rows) zero log from seq bytes have = tt
-have_first (row ∷ rows) (suc k) log from seq bytes (pad, here, have) = (pad, here, have_first rows k log (next log row) (seq + 1) bytes have)

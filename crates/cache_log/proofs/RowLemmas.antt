@@ -9,7 +9,7 @@ use Rattle.lsvd_base.specs.declared.entry.Entry.{Entry}
 use Rattle.lsvd_base.specs.declared.geometry.Geometry.{Geometry}
 use Rattle.lsvd_base.specs.Limits.{is_within_limits, may_transfer}
 use Rattle.lsvd_base.specs.Range.{is_in_range as is_entry_in_range}
-use Rattle.cache_log.specs.Rows.{byte_of, log_sectors, position_of, record_size, entry_of, StandsFrom, sectors_taken, next, Follow, end_of_rows, HaveRecords}
+use Rattle.cache_log.specs.Rows.{byte_of, log_sectors, seq_of, position_of, record_size, entry_of, StandsFrom, sectors_taken, next, AreNumbered, Follow, end_of_rows, HaveRecords}
 use Rattle.cache_log.specs.Opening.{is_row_in_range, AreRowsInRange, AreRecordsInRange, sectors_between, after_pad, IsRefusedAt}
 use Rattle.cache_log.specs.Laws.{HaveOneList, AreReadAgain}
 use Rattle.cache_log.specs.Headers.{IsPad, IsBadHeader, IsBadRow, head_of_row, HasRow, FitsFrom}
@@ -123,79 +123,79 @@ sectors_count at n bytes fits = length-take-le (512 * n) (drop (byte_of at) byte
 
 -- the header of a row's entry
 entry_head : (row : Row) (bytes : List ℕ) → byte_of (position_of row + record_size row) ≤ length bytes → head_of (entry_of bytes row) ≡ head_of_row row
-entry_head (Write at lba n) bytes fits =
+entry_head (Write own at lba n) bytes fits =
     let many : length (log_sectors (at + 1) n bytes) ≡ 512 * n = sectors_count (at + 1) n bytes (omega (arith, fits)) in
     ap (heads.Write lba) (omega (arith, many))
-entry_head (Zero at lba n) bytes fits = refl
+entry_head (Zero own at lba n) bytes fits = refl
 
 -- the record of a row stands exactly where its header does
 pub record_stands : (row : Row) (seq : ℕ) (bytes : List ℕ) → byte_of (position_of row + record_size row) ≤ length bytes → IsHeaderOf (head_of_row row) seq (log_sectors (position_of row) 1 bytes)
     → IsRecordOf (entry_of bytes row) seq (log_sectors (position_of row) (record_size row) bytes)
-record_stands (Write at lba n) seq bytes fits header =
-    let same = entry_head (Write at lba n) bytes fits in
-    let entry : Entry = entry_of bytes (Write at lba n) in
+record_stands (Write own at lba n) seq bytes fits header =
+    let same = entry_head (Write own at lba n) bytes fits in
+    let entry : Entry = entry_of bytes (Write own at lba n) in
     let says : IsHeaderOf (head_of entry) seq (log_sectors at 1 bytes) = subst (λ h. IsHeaderOf h seq (log_sectors at 1 bytes)) (sym same) header in
     subst (IsRecordOf entry seq) (sym (sectors_part at n bytes)) (is_record_of_parts entry seq (log_sectors at 1 bytes) (log_sectors (at + 1) n bytes) says refl)
-record_stands (Zero at lba n) seq bytes fits header =
-    let entry : Entry = entry_of bytes (Zero at lba n) in
+record_stands (Zero own at lba n) seq bytes fits header =
+    let entry : Entry = entry_of bytes (Zero own at lba n) in
     subst (IsRecordOf entry seq) (append-nil (log_sectors at 1 bytes)) (is_record_of_parts entry seq (log_sectors at 1 bytes) [] header refl)
 
 header_stands : (row : Row) (seq : ℕ) (bytes : List ℕ) → byte_of (position_of row + record_size row) ≤ length bytes
     → IsRecordOf (entry_of bytes row) seq (log_sectors (position_of row) (record_size row) bytes) → IsHeaderOf (head_of_row row) seq (log_sectors (position_of row) 1 bytes)
-header_stands (Write at lba n) seq bytes fits stands =
+header_stands (Write own at lba n) seq bytes fits stands =
     let many : length (log_sectors at 1 bytes) ≡ 512 = sectors_count at 1 bytes (omega (arith, fits)) in
-    let entry : Entry = entry_of bytes (Write at lba n) in
+    let entry : Entry = entry_of bytes (Write own at lba n) in
     let parts = parts_of_record entry seq (log_sectors at 1 bytes) (log_sectors (at + 1) n bytes) many (subst (IsRecordOf entry seq) (sectors_part at n bytes) stands) in
-    subst (λ h. IsHeaderOf h seq (log_sectors at 1 bytes)) (entry_head (Write at lba n) bytes fits) parts.0
-header_stands (Zero at lba n) seq bytes fits stands =
+    subst (λ h. IsHeaderOf h seq (log_sectors at 1 bytes)) (entry_head (Write own at lba n) bytes fits) parts.0
+header_stands (Zero own at lba n) seq bytes fits stands =
     let many : length (log_sectors at 1 bytes) ≡ 512 = sectors_count at 1 bytes fits in
-    let entry : Entry = entry_of bytes (Zero at lba n) in
+    let entry : Entry = entry_of bytes (Zero own at lba n) in
     (parts_of_record entry seq (log_sectors at 1 bytes) [] many (subst (IsRecordOf entry seq) (sym (append-nil (log_sectors at 1 bytes))) stands)).0
 
 -- ---- which row stands at a place
 
-row_is : (row other : Row) → position_of row ≡ position_of other → head_of_row row ≡ head_of_row other → row ≡ other
-row_is (Write at lba n) (Write at' lba' n') here same = cc
-row_is (Write at lba n) (Zero at' lba' n') here same = absurd (cc)
-row_is (Zero at lba n) (Write at' lba' n') here same = absurd (cc)
-row_is (Zero at lba n) (Zero at' lba' n') here same = cc
+row_is : (row other : Row) → seq_of row ≡ seq_of other → position_of row ≡ position_of other → head_of_row row ≡ head_of_row other → row ≡ other
+row_is (Write own at lba n) (Write own' at' lba' n') numbered here same = cc
+row_is (Write own at lba n) (Zero own' at' lba' n') numbered here same = absurd (cc)
+row_is (Zero own at lba n) (Write own' at' lba' n') numbered here same = absurd (cc)
+row_is (Zero own at lba n) (Zero own' at' lba' n') numbered here same = cc
 
 no_pad : (row : Row) (n : ℕ) → head_of_row row ≡ heads.Pad n → ⊥
-no_pad (Write at lba m) n same = cc
-no_pad (Zero at lba m) n same = cc
+no_pad (Write own at lba m) n same = cc
+no_pad (Zero own at lba m) n same = cc
 
 -- one row at most stands at a place
 pub same_row : (geometry : Geometry) (place : Place) (seq : ℕ) (bytes : List ℕ) (row other : Row) → IsTrue (is_within_limits geometry) → HasRow geometry place seq bytes row → HasRow geometry place seq bytes other → row ≡ other
-same_row geometry place seq bytes row other limits (inl a) (inl b) =
-    row_is row other (a.0 ∙ sym b.0) (determines_head (log_sectors place.position 1 bytes) seq geometry place (head_of_row row) (head_of_row other) limits a.1 b.1)
-same_row geometry place seq bytes row other limits (inl a) (inr b) =
+same_row geometry place seq bytes row other limits (an, inl a) (bn, inl b) =
+    row_is row other (an ∙ sym bn) (a.0 ∙ sym b.0) (determines_head (log_sectors place.position 1 bytes) seq geometry place (head_of_row row) (head_of_row other) limits a.1 b.1)
+same_row geometry place seq bytes row other limits (an, inl a) (bn, inr b) =
     absurd (no_pad row _ (determines_head (log_sectors place.position 1 bytes) seq geometry place (head_of_row row) (heads.Pad (geometry.log - place.position - 1)) limits a.1 b.1))
-same_row geometry place seq bytes row other limits (inr a) (inl b) =
+same_row geometry place seq bytes row other limits (an, inr a) (bn, inl b) =
     absurd (no_pad other _ (determines_head (log_sectors place.position 1 bytes) seq geometry place (head_of_row other) (heads.Pad (geometry.log - place.position - 1)) limits b.1 a.1))
-same_row geometry place seq bytes row other limits (inr a) (inr b) =
-    row_is row other (a.0 ∙ sym b.0) (determines_head (log_sectors 0 1 bytes) seq geometry (after_pad geometry.log place) (head_of_row row) (head_of_row other) limits a.2 b.2)
+same_row geometry place seq bytes row other limits (an, inr a) (bn, inr b) =
+    row_is row other (an ∙ sym bn) (a.0 ∙ sym b.0) (determines_head (log_sectors 0 1 bytes) seq geometry (after_pad geometry.log place) (head_of_row row) (head_of_row other) limits a.2 b.2)
 
 -- none does where it is refused
 pub refused_none : (geometry : Geometry) (place : Place) (seq : ℕ) (bytes : List ℕ) (reason : Reason) (row : Row) → IsTrue (is_within_limits geometry) → seq < 2 ^ 64
     → IsRefusedAt geometry place seq bytes reason → HasRow geometry place seq bytes row → ⊥
-refused_none geometry place seq bytes reason row limits small (inl refused) (inl is) =
+refused_none geometry place seq bytes reason row limits small (inl refused) (numbered, inl is) =
     refused_is_no_header (log_sectors place.position 1 bytes) seq geometry place reason (head_of_row row) small limits refused is.1
-refused_none geometry place seq bytes reason row limits small (inl refused) (inr is) =
+refused_none geometry place seq bytes reason row limits small (inl refused) (numbered, inr is) =
     refused_is_no_header (log_sectors place.position 1 bytes) seq geometry place reason (heads.Pad (geometry.log - place.position - 1)) small limits refused is.1
-refused_none geometry place seq bytes reason row limits small (inr refused) (inl is) =
+refused_none geometry place seq bytes reason row limits small (inr refused) (numbered, inl is) =
     no_pad row _ (determines_head (log_sectors place.position 1 bytes) seq geometry place (head_of_row row) (heads.Pad (geometry.log - place.position - 1)) limits is.1 refused.0)
-refused_none geometry place seq bytes reason row limits small (inr refused) (inr is) =
+refused_none geometry place seq bytes reason row limits small (inr refused) (numbered, inr is) =
     refused_is_no_header (log_sectors 0 1 bytes) seq geometry (after_pad geometry.log place) reason (head_of_row row) small limits refused.1 is.2
 
 -- ---- what a header says of its row
 
 head_size_is : (row : Row) → head_size (head_of_row row) ≡ record_size row
-head_size_is (Write at lba n) = refl
-head_size_is (Zero at lba n) = refl
+head_size_is (Write own at lba n) = refl
+head_size_is (Zero own at lba n) = refl
 
 in_range_is : (geometry : Geometry) (position : ℕ) (row : Row) → is_in_range geometry position (head_of_row row) ≡ is_row_in_range geometry row
-in_range_is geometry position (Write at lba n) = refl
-in_range_is geometry position (Zero at lba n) = refl
+in_range_is geometry position (Write own at lba n) = refl
+in_range_is geometry position (Zero own at lba n) = refl
 
 -- what `fits` says of a row
 pub record FitsAt (geometry : Geometry) (place : Place) (size : ℕ) : Type 0 where
@@ -204,20 +204,21 @@ pub record FitsAt (geometry : Geometry) (place : Place) (size : ℕ) : Type 0 wh
   pub ends : place.is_last ≡ true → size ≡ place.to_head
 
 pub fits_at : (geometry : Geometry) (place : Place) (row : Row) → IsTrue (fits geometry place (head_of_row row)) → FitsAt geometry place (record_size row)
-fits_at geometry place (Write at lba n) is = record { inside = grind (arith, nat_tests); within = grind (arith, nat_tests); ends = λ last. grind (arith, nat_tests) }
-fits_at geometry place (Zero at lba n) is = record { inside = grind (arith, nat_tests); within = grind (arith, nat_tests); ends = λ last. grind (arith, nat_tests) }
+fits_at geometry place (Write own at lba n) is = record { inside = grind (arith, nat_tests); within = grind (arith, nat_tests); ends = λ last. grind (arith, nat_tests) }
+fits_at geometry place (Zero own at lba n) is = record { inside = grind (arith, nat_tests); within = grind (arith, nat_tests); ends = λ last. grind (arith, nat_tests) }
 
 pub fits_if : (geometry : Geometry) (place : Place) (row : Row) → FitsAt geometry place (record_size row) → IsTrue (fits geometry place (head_of_row row))
-fits_if geometry place (Write at lba n) is = (let a = is.inside in let b = is.within in let c = is.ends in grind (arith, nat_tests))
-fits_if geometry place (Zero at lba n) is = (let a = is.inside in let b = is.within in let c = is.ends in grind (arith, nat_tests))
+fits_if geometry place (Write own at lba n) is = (let a = is.inside in let b = is.within in let c = is.ends in grind (arith, nat_tests))
+fits_if geometry place (Zero own at lba n) is = (let a = is.inside in let b = is.within in let c = is.ends in grind (arith, nat_tests))
 
 -- a row at a place
-pub fits_here : (geometry : Geometry) (place : Place) (row : Row) → position_of row ≡ place.position → IsTrue (is_in_range geometry place.position (head_of_row row)) → IsTrue (fits geometry place (head_of_row row))
-    → FitsFrom geometry place row
-fits_here geometry place row here in_range fit =
+pub fits_here : (geometry : Geometry) (place : Place) (seq : ℕ) (row : Row) → seq_of row ≡ seq → position_of row ≡ place.position → IsTrue (is_in_range geometry place.position (head_of_row row)) → IsTrue (fits geometry place (head_of_row row))
+    → FitsFrom geometry place seq row
+fits_here geometry place seq row numbered here in_range fit =
     let is = fits_at geometry place row fit in
     let takes = taken_here geometry.log place.position row here in
     record {
+      numbered = numbered;
       stands = inl (here, is.inside);
       within = (let w = is.within in omega (arith, takes, w));
       ends = λ last. takes ∙ is.ends last;
@@ -233,9 +234,9 @@ pad_is geometry place n in_range fit =
     (omega (arith, sum), omega (arith, sum, some))
 
 -- a row after a pad at a place
-pub fits_round : (geometry : Geometry) (place : Place) (row : Row) → place.position < geometry.log → place.to_head ≤ geometry.log → geometry.log - place.position ≤ place.to_head → position_of row ≡ 0
-    → IsTrue (is_in_range geometry 0 (head_of_row row)) → IsTrue (fits geometry (after_pad geometry.log place) (head_of_row row)) → FitsFrom geometry place row
-fits_round geometry place row inside most part here in_range fit =
+pub fits_round : (geometry : Geometry) (place : Place) (seq : ℕ) (row : Row) → seq_of row ≡ seq → place.position < geometry.log → place.to_head ≤ geometry.log → geometry.log - place.position ≤ place.to_head → position_of row ≡ 0
+    → IsTrue (is_in_range geometry 0 (head_of_row row)) → IsTrue (fits geometry (after_pad geometry.log place) (head_of_row row)) → FitsFrom geometry place seq row
+fits_round geometry place seq row numbered inside most part here in_range fit =
     let is = fits_at geometry (after_pad geometry.log place) row fit in
     let w = is.within in
     let i = is.inside in
@@ -243,6 +244,7 @@ fits_round geometry place row inside most part here in_range fit =
     let ahead : 0 < place.position = omega (arith, w, some, most) in
     let takes = taken_round geometry.log place.position row (omega (arith, here, ahead)) in
     record {
+      numbered = numbered;
       stands = inr (here, ahead, omega (arith, i));
       within = omega (arith, takes, w, part);
       ends = λ last. (let e = is.ends last in omega (arith, takes, e, part));
@@ -280,17 +282,18 @@ bad_after_pad (Err open_errors.DeviceFault) geometry place seq head moments pad 
 bad_after_pad (Err open_errors.OutOfMemory) geometry place seq head moments pad in_range fit is bad = tt
 
 pub row_after_pad : (geometry : Geometry) (place : Place) (seq : ℕ) (head next_head : Head) (row : Row) (moments : List Medium) → IsPad head → IsTrue (is_in_range geometry place.position head)
-    → IsTrue (fits geometry place head) → HoldsNow (λ now. IsHeader (log_sectors place.position 1 now.bytes) seq geometry place head) moments → position_of row ≡ 0 → head_of_row row ≡ next_head
+    → IsTrue (fits geometry place head) → HoldsNow (λ now. IsHeader (log_sectors place.position 1 now.bytes) seq geometry place head) moments → seq_of row ≡ seq → position_of row ≡ 0 → head_of_row row ≡ next_head
     → HoldsNow (λ now. IsHeader (log_sectors 0 1 now.bytes) seq geometry (after_pad geometry.log place) next_head) moments → HoldsNow (λ now. HasRow geometry place seq now.bytes row) moments
-row_after_pad geometry place seq head next_head row [] pad in_range fit is here says header = tt
-row_after_pad geometry place seq head next_head row (now ∷ past) pad in_range fit is here says header =
-    inr (here, pad_header geometry place seq head now.bytes pad in_range fit is, subst (IsHeader (log_sectors 0 1 now.bytes) seq geometry (after_pad geometry.log place)) (sym says) header)
+row_after_pad geometry place seq head next_head row [] pad in_range fit is numbered here says header = tt
+row_after_pad geometry place seq head next_head row (now ∷ past) pad in_range fit is numbered here says header =
+    (numbered, inr (here, pad_header geometry place seq head now.bytes pad in_range fit is, subst (IsHeader (log_sectors 0 1 now.bytes) seq geometry (after_pad geometry.log place)) (sym says) header))
 
 -- ---- a row and the rest
 
 -- the records from a place on up to the head's seq
 pub record IsRest (geometry : Geometry) (end position to_head seq : ℕ) (rest : List Row) (bytes : List ℕ) : Type 0 where
   pub follow : Follow geometry.log position to_head rest
+  pub numbered : AreNumbered seq rest
   pub seqs : seq + length rest ≡ end
   pub records : HaveRecords geometry.log position seq rest bytes
   pub in_range : AreRowsInRange geometry rest
@@ -317,18 +320,20 @@ rest_has_in geometry end position to_head seq row rest bytes inside most fits (i
     let place : Place = place_of end position to_head seq in
     let takes = taken_here geometry.log position row here.0 in
     let w = is.follow.1 in
-    let header = header_stands row seq bytes (omega (arith, here.0, here.1, fits)) is.records.1 in
-    inl (
-      here.0,
-      record {
-        says = subst (λ p. IsHeaderOf (head_of_row row) seq (log_sectors p 1 bytes)) here.0 header;
-        in_range = subst IsTrue (sym (in_range_is geometry position row)) is.in_range.0;
-        fits = fits_if geometry place row (record {
-          inside = here.1;
-          within = omega (arith, takes, w);
-          ends = λ last. sym takes ∙ rest_takes geometry end position to_head seq row rest bytes is last;
-        });
-      },
+    let header = header_stands row seq bytes (omega (arith, here.0, here.1, fits)) is.records.1 in (
+      is.numbered.0,
+      inl (
+        here.0,
+        record {
+          says = subst (λ p. IsHeaderOf (head_of_row row) seq (log_sectors p 1 bytes)) here.0 header;
+          in_range = subst IsTrue (sym (in_range_is geometry position row)) is.in_range.0;
+          fits = fits_if geometry place row (record {
+            inside = here.1;
+            within = omega (arith, takes, w);
+            ends = λ last. sym takes ∙ rest_takes geometry end position to_head seq row rest bytes is last;
+          });
+        },
+      ),
     )
 rest_has_in geometry end position to_head seq row rest bytes inside most fits (inr round) is =
     let place : Place = place_of end position to_head seq in
@@ -338,23 +343,25 @@ rest_has_in geometry end position to_head seq row rest bytes inside most fits (i
     let s = some_size row in
     let header = header_stands row seq bytes (omega (arith, round.0, round.2, fits)) is.records.1 in
     let n : ℕ = geometry.log - position - 1 in
-    let sum : n + 1 + position ≡ geometry.log = omega (arith, inside) in
-    inr (
-      round.0,
-      record {
-        says = is.records.0 less;
-        in_range = grind (arith, nat_tests, sum);
-        fits = (let a : position + (1 + n) ≤ geometry.log = omega (arith, sum) in let b : 1 + n ≤ to_head = omega (arith, sum, takes, w) in grind (arith, nat_tests, a, b));
-      },
-      record {
-        says = subst (λ p. IsHeaderOf (head_of_row row) seq (log_sectors p 1 bytes)) round.0 header;
-        in_range = subst IsTrue (sym (in_range_is geometry 0 row)) is.in_range.0;
-        fits = fits_if geometry (after_pad geometry.log place) row (record {
-          inside = omega (arith, round.2);
-          within = omega (arith, takes, w);
-          ends = λ last. (let e = rest_takes geometry end position to_head seq row rest bytes is last in omega (arith, takes, e));
-        });
-      },
+    let sum : n + 1 + position ≡ geometry.log = omega (arith, inside) in (
+      is.numbered.0,
+      inr (
+        round.0,
+        record {
+          says = is.records.0 less;
+          in_range = grind (arith, nat_tests, sum);
+          fits = (let a : position + (1 + n) ≤ geometry.log = omega (arith, sum) in let b : 1 + n ≤ to_head = omega (arith, sum, takes, w) in grind (arith, nat_tests, a, b));
+        },
+        record {
+          says = subst (λ p. IsHeaderOf (head_of_row row) seq (log_sectors p 1 bytes)) round.0 header;
+          in_range = subst IsTrue (sym (in_range_is geometry 0 row)) is.in_range.0;
+          fits = fits_if geometry (after_pad geometry.log place) row (record {
+            inside = omega (arith, round.2);
+            within = omega (arith, takes, w);
+            ends = λ last. (let e = rest_takes geometry end position to_head seq row rest bytes is last in omega (arith, takes, e));
+          });
+        },
+      ),
     )
 
 -- the header of the first of the rest stands there
@@ -366,6 +373,7 @@ pub rest_more : (geometry : Geometry) (end position to_head seq : ℕ) (row : Ro
     → IsRest geometry end (next geometry.log row) (to_head - sectors_taken geometry.log position row) (seq + 1) rest bytes
 rest_more geometry end position to_head seq row rest bytes is = record {
   follow = is.follow.2;
+  numbered = is.numbered.1;
   seqs = (let e = is.seqs in omega (arith, e));
   records = is.records.2;
   in_range = is.in_range.1;
@@ -395,6 +403,7 @@ all_rest geometry body rows bytes may is =
     let used = used_is geometry.log body rows r.used may r.most r.follow r.end r.seqs in
     record {
       follow = (let P : ℕ → Type 0 = λ u. Follow geometry.log body.tail.position u rows in subst P used r.follow);
+      numbered = r.numbered;
       seqs = r.seqs;
       records = r.records;
       in_range = is.in_range;
@@ -409,11 +418,11 @@ have_one_list geometry body rows others bytes may a b =
 
 -- the entry of a row is in range where the row is
 pub entry_range : (geometry : Geometry) (row : Row) (bytes : List ℕ) → byte_of (position_of row + record_size row) ≤ length bytes → is_entry_in_range geometry (entry_of bytes row) ≡ is_row_in_range geometry row
-entry_range geometry (Write at lba n) bytes fits =
+entry_range geometry (Write own at lba n) bytes fits =
     let many : length (log_sectors (at + 1) n bytes) ≡ 512 * n = sectors_count (at + 1) n bytes (omega (arith, fits)) in
     let count : length (log_sectors (at + 1) n bytes) / 512 ≡ n = omega (arith, many) in
     ap (may_transfer geometry lba) count
-entry_range geometry (Zero at lba n) bytes fits = refl
+entry_range geometry (Zero own at lba n) bytes fits = refl
 
 -- rows are in range where their entries are
 rows_range : (geometry : Geometry) (rows : List Row) (from used : ℕ) (bytes : List ℕ) → from < geometry.log → used ≤ geometry.log → byte_of geometry.log ≤ length bytes → Follow geometry.log from used rows

@@ -1,6 +1,7 @@
--- Contract: what a stop leaves of a log, which is the entries up to the head of a commit, and what formatting a log and
--- committing its entries promises.
-use Rattle.std.specs.Prelude.{◌≡◌, ℕ, ◌+◌, None, IfSome, List, [], map}
+-- Contract: what a stop leaves of a log, which is the entries of a commit, and what formatting a log and committing its
+-- entries promises.
+use Rattle.std.specs.Prelude.{◌≡◌, ℕ, ◌+◌, None, IfSome, List, [], ◌∷◌, map}
+use Rattle.std.specs.Option.{option_map}
 use Rattle.lsvd_base.specs.declared.entry.Entry.{Entry}
 use Rattle.lsvd_device.specs.Medium.{Medium, MayLeave}
 use Rattle.lsvd_device.specs.Memory.{IsSynced}
@@ -10,11 +11,11 @@ use Rattle.commit_slot.specs.Slots.{log_of}
 use Rattle.commit_slot.specs.Commits.{IsAt, IsAsBefore, IsCommit, IsLast, ReadsSettled, finished_number}
 use Rattle.commit_slot.specs.Committing.{IsCommitted}
 use Rattle.commit_slot.specs.OnDisk.{AreOnDisk}
-use Rattle.log_room.specs.Room.{empty_log}
+use Rattle.log_room.specs.Room.{room_of, empty_log}
 use Rattle.cache_log.specs.declared.row.Row.{Row}
-use Rattle.cache_log.specs.Rows.{entry_of}
-use Rattle.cache_log.specs.Log.{LogState, next_seq, entries_in, up_to}
-use Rattle.cache_log.specs.Opening.{AreRecords, sectors_between}
+use Rattle.cache_log.specs.Rows.{entry_of, AreNumbered, since, entries_since, entries_between}
+use Rattle.cache_log.specs.Log.{LogState, all_rows, next_seq, entries_in}
+use Rattle.cache_log.specs.Opening.{AreRecords, distance}
 
 -- ---- what a stop leaves
 
@@ -22,41 +23,55 @@ use Rattle.cache_log.specs.Opening.{AreRecords, sectors_between}
 abbrev pub HasRecords : (log : ℕ) → CommitBody → List Entry → List ℕ → Type 0
 HasRecords log body list bytes = (rows : List Row) × AreRecords log body rows bytes × (list ≡ map (entry_of bytes) rows)
 
--- whatever a stop leaves reads as a commit with P, its other slots as between two commits, and has the log's entries up to
--- its head
-abbrev pub LeavesEntries : (log : ℕ) → List Entry → (ℕ → CommitBody → Type 0) → Medium → Type 0
-LeavesEntries log list P medium =
+-- whatever a stop leaves reads as a commit with P, its other slots as between two commits, and has the entries of that
+-- commit's seqs: these rows are all that the log has, and these their entries
+abbrev pub LeavesEntries : (log : ℕ) → List Row → List Entry → (ℕ → CommitBody → Type 0) → Medium → Type 0
+LeavesEntries log rows list P medium =
     (left : List ℕ) → MayLeave medium left
-    → (number : ℕ) × (body : CommitBody) × P number body × ReadsSettled log left body number × HasRecords log body (up_to body list) left
+    → (number : ℕ) × (body : CommitBody) × P number body × ReadsSettled log left body number × HasRecords log body (entries_between body rows list) left
 
--- whatever a stop leaves has the entries up to the head of the last commit and of one that is unfinished
+-- whatever a stop leaves has the entries of the last commit and of one that is unfinished
 abbrev pub HoldsCommitted : LogState → List Entry → Medium → Type 0
 HoldsCommitted log list medium =
-    (left : List ℕ) → MayLeave medium left → (number : ℕ) (body : CommitBody) → IsLast log.commits number body → HasRecords log.room.log body (up_to body list) left
+    (left : List ℕ) → MayLeave medium left → (number : ℕ) (body : CommitBody) → IsLast log.commits number body → HasRecords log.room.log body (entries_between body (all_rows log) list) left
 
 -- where the entries are told, a stop leaves so at each moment since the log was as it is here
 abbrev pub LeavesEntriesSince : LogState → (ℕ → CommitBody → Type 0) → DiskState → Type 0
-LeavesEntriesSince log P new = IfSome log.entries (λ list. HoldsSince (LeavesEntries log.room.log list P) log.commits.disk.moments new.moments)
+LeavesEntriesSince log P new = IfSome log.all (λ list. HoldsSince (LeavesEntries log.room.log (all_rows log) list P) log.commits.disk.moments new.moments)
 
 -- and so it does now
 abbrev pub LeavesEntriesNow : LogState → (ℕ → CommitBody → Type 0) → Type 0
-LeavesEntriesNow log P = IfSome log.entries (λ list. HoldsNow (LeavesEntries log.room.log list P) log.commits.disk.moments)
+LeavesEntriesNow log P = IfSome log.all (λ list. HoldsNow (LeavesEntries log.room.log (all_rows log) list P) log.commits.disk.moments)
 
 abbrev pub HoldsCommittedNow : LogState → Type 0
-HoldsCommittedNow log = IfSome log.entries (λ list. HoldsNow (HoldsCommitted log list) log.commits.disk.moments)
+HoldsCommittedNow log = IfSome log.all (λ list. HoldsNow (HoldsCommitted log list) log.commits.disk.moments)
 
 -- ---- what every log promises
 
 -- the body of a commit of all entries of a log
 abbrev pub body_of : LogState → CommitBody
-body_of log = record log.commits.body { head = record { position = log.room.head; seq = next_seq log } }
+body_of log = record log.commits.body {
+  tail = record { position = log.start; seq = log.first };
+  head = record { position = log.room.head; seq = next_seq log };
+}
 
--- The log fills the device past the slots, and a stop now leaves the entries up to the head of the last commit or of the
--- unfinished one.
+-- the sectors from one on to the head of a log, where these are all its records
+abbrev pub sectors_from : (log from head : ℕ) → List Row → ℕ
+sectors_from log from head [] = 0
+sectors_from log from head (row ∷ rows) = distance log from head
+
+-- The log fills the device past the slots, and a stop now leaves the entries of the last commit or of the unfinished one.
+-- The sectors in use are those from the tail of the last commit made to the head.
 pub record IsOnDisk (log : LogState) : Type 0 where
   pub commits : AreOnDisk log.commits
   pub sectors : log.room.log ≡ log_of log.commits.disk.size
-  pub used : log.room.used ≡ sectors_between log.room.log (body_of log)
+  pub used : log.room.used ≡ sectors_from log.room.log log.commits.body.tail.position log.room.head (all_rows log)
+  pub numbered : AreNumbered log.first log.rows
+  -- where the last commit begins with the list's first entry, no record is held, and if its tail is the log's beginning, so is
+  -- that of the next one
+  pub held : log.first ≡ log.commits.body.tail.seq → log.held ≡ []
+  pub start : log.commits.body.tail ≡ record { position = 0; seq = log.first } → log.start ≡ 0
+  pub all : log.all ≡ entries_in (all_rows log) log.commits.disk.moments
   pub entries : log.entries ≡ entries_in log.rows log.commits.disk.moments
   pub stands : LeavesEntriesNow log (IsLast log.commits)
   pub holds : HoldsCommittedNow log
@@ -75,8 +90,11 @@ first_body uuid epoch = record {
 -- the log has no entry, and the first commit is made, which each stop leaves
 pub record IsFormattedLog (uuid : List ℕ) (epoch : ℕ) (old : DiskState) (log : LogState) : Type 0 where
   pub room : log.room ≡ empty_log (log_of old.size)
+  pub held : log.held ≡ []
+  pub start : log.start ≡ 0
   pub first : log.first ≡ 0
   pub rows : log.rows ≡ []
+  pub all : log.all ≡ log.entries
   pub entries : log.entries ≡ entries_in [] log.commits.disk.moments
   pub commits : IsAt 0 (first_body uuid epoch) None log.commits
   pub stands : LeavesEntriesNow log (IsCommit 0 (first_body uuid epoch))
@@ -88,6 +106,19 @@ pub record IsFormattedLog (uuid : List ℕ) (epoch : ℕ) (old : DiskState) (log
 pub record KeepsCommits (old new : LogState) : Type 0 where
   pub commits : IsAsBefore old.commits new.commits
   pub stands : LeavesEntriesSince old (IsLast old.commits) new.commits.disk
+
+-- the list is as before
+pub record HasSameList (old new : LogState) : Type 0 where
+  pub entries : new.entries ≡ old.entries
+  pub rows : new.rows ≡ old.rows
+  pub start : new.start ≡ old.start
+  pub first : new.first ≡ old.first
+
+-- The records before the tail of the last commit made are held no more, and the sectors from there to the head are in use.
+pub record IsReleased (old new : LogState) : Type 0 where
+  pub held : new.held ≡ since new.commits.body.tail.seq old.held
+  pub all : new.all ≡ option_map (entries_since new.commits.body.tail.seq (all_rows old)) old.all
+  pub room : new.room ≡ room_of old.room.log old.room.head (sectors_from old.room.log new.commits.body.tail.position old.room.head (all_rows new))
 
 -- all entries are committed, and each stop leaves them
 pub record IsCommittedLog (old new : LogState) : Type 0 where

@@ -14,14 +14,14 @@ use Rattle.cache_log.specs.declared.error.OpenError.{OpenError}
 use Rattle.cache_log.specs.declared.error.OpenError.TheVariants as open_errors
 use Rattle.cache_log.specs.declared.row.Row.{Row}
 use Rattle.cache_log.specs.declared.row.Row.TheVariants.{Write, Zero}
-use Rattle.cache_log.specs.Rows.{position_of, log_sectors, StandsFrom, sectors_taken}
+use Rattle.cache_log.specs.Rows.{seq_of, position_of, log_sectors, StandsFrom, sectors_taken}
 use Rattle.cache_log.specs.Reads.{reads_cost}
 use Rattle.cache_log.specs.Opening.{is_row_in_range, after_pad, IsRefusedAt}
 
 -- what the header of a row's record says
 abbrev pub head_of_row : Row → Head
-head_of_row (Write at lba sectors) = heads.Write lba sectors
-head_of_row (Zero at lba sectors) = heads.Zero lba sectors
+head_of_row (Write seq at lba sectors) = heads.Write lba sectors
+head_of_row (Zero seq at lba sectors) = heads.Zero lba sectors
 
 abbrev pub IsPad : Head → Type 0
 IsPad (heads.Write lba sectors) = ⊥
@@ -31,13 +31,15 @@ IsPad (heads.Pad sectors) = Unit {0}
 -- the header of a row's record, with a seq, stands at a place, or a pad's does and that of the record after it
 abbrev pub HasRow : Geometry → Place → (seq : ℕ) → List ℕ → Row → Type 0
 HasRow geometry place seq bytes row =
-    ((position_of row ≡ place.position) × IsHeader (log_sectors place.position 1 bytes) seq geometry place (head_of_row row))
+    (seq_of row ≡ seq)
+    × (((position_of row ≡ place.position) × IsHeader (log_sectors place.position 1 bytes) seq geometry place (head_of_row row))
     ⊎ ((position_of row ≡ 0)
     × IsHeader (log_sectors place.position 1 bytes) seq geometry place (heads.Pad (geometry.log - place.position - 1))
-    × IsHeader (log_sectors 0 1 bytes) seq geometry (after_pad geometry.log place) (head_of_row row))
+    × IsHeader (log_sectors 0 1 bytes) seq geometry (after_pad geometry.log place) (head_of_row row)))
 
--- a row that stands at a place and fits there
-pub record FitsFrom (geometry : Geometry) (place : Place) (row : Row) : Type 0 where
+-- a row with a seq that stands at a place and fits there
+pub record FitsFrom (geometry : Geometry) (place : Place) (seq : ℕ) (row : Row) : Type 0 where
+  pub numbered : seq_of row ≡ seq
   pub stands : StandsFrom geometry.log place.position row
   pub within : sectors_taken geometry.log place.position row ≤ place.to_head
   pub ends : place.is_last ≡ true → sectors_taken geometry.log place.position row ≡ place.to_head

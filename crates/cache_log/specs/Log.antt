@@ -1,5 +1,6 @@
 -- Contract: a log on a device as a list of entries, and what appending to it and reading it promises.
-use Rattle.std.specs.Prelude.{◌≡◌, ℕ, ◌+◌, ◌-◌, ◌*◌, ◌/◌, ◌<◌, ◌≤◌, ◌⊎◌, ◌==◌, if◌then◌else◌, Option, Some, None, IfSome, Bool, List, [], ◌∷◌, ◌++◌, length, map, take, drop, true, false}
+use Rattle.std.specs.Prelude.{◌≡◌, ℕ, ◌+◌, ◌-◌, ◌*◌, ◌/◌, ◌<◌, ◌≤◌, ◌⊎◌, ◌==◌, if◌then◌else◌, Option, Some, None, IfSome, nat_lt, Bool, List, [], ◌∷◌, ◌++◌, length, map, take, drop, true, false}
+use Rattle.std.specs.Option.{option_map}
 use Rattle.lsvd_base.specs.declared.entry.Entry.{Entry}
 use Rattle.lsvd_base.specs.declared.entry.Entry.TheVariants as entries
 use Rattle.lsvd_device.specs.Medium.{Medium}
@@ -19,15 +20,22 @@ use Rattle.cache_log.specs.declared.row.Row.TheVariants as row_kinds
 use Rattle.cache_log.specs.Rows.{byte_of, entry_of, position_of, AreDataOfRow}
 use Rattle.cache_log.specs.Reads.{AreReadOnly}
 
--- a log on a device
+-- A log on a device: a list of entries. The records from the tail of the last commit on stay in their sectors, also those
+-- whose entries the list has no more.
 pub record LogState : Type 0 where
   -- its head, and the sectors in use
   pub room : Room
+  -- where the records stand whose entries were dropped from the list
+  pub held : List Row
+  -- where the tail of a commit would stand
+  pub start : ℕ
   -- the seq of its first entry
   pub first : ℕ
   -- where its records stand, in the order of their seqs
   pub rows : List Row
-  -- its entries, where the disk tells what it holds
+  -- the entries of all these records, those that were dropped first, where the disk tells what it holds
+  pub all : Option (List Entry)
+  -- its entries
   pub entries : Option (List Entry)
   -- the commits on its disk, and the disk
   pub commits : CommitsState
@@ -38,15 +46,19 @@ pub record LogState : Type 0 where
 abbrev pub next_seq : LogState → ℕ
 next_seq log = log.first + length log.rows
 
+-- all its records
+abbrev pub all_rows : LogState → List Row
+all_rows log = log.held ++ log.rows
+
 -- the entries of records, where the disk tells what it holds
 abbrev pub entries_in : List Row → List Medium → Option (List Entry)
 entries_in rows [] = None
 entries_in rows (now ∷ past) = Some (map (entry_of now.bytes) rows)
 
--- the row of an entry whose record stands at a sector
-abbrev pub row_of : ℕ → Entry → Row
-row_of at (entries.Write lba body) = row_kinds.Write at lba (length body / sector_bytes)
-row_of at (entries.Zero lba sectors) = row_kinds.Zero at lba sectors
+-- the row of an entry whose record has a seq and stands at a sector
+abbrev pub row_of : (seq at : ℕ) → Entry → Row
+row_of seq at (entries.Write lba body) = row_kinds.Write seq at lba (length body / sector_bytes)
+row_of seq at (entries.Zero lba sectors) = row_kinds.Zero seq at lba sectors
 
 -- some entries, and one more
 abbrev pub with_appended : Option (List Entry) → Entry → Option (List Entry)
@@ -57,14 +69,42 @@ with_appended (Some list) entry = Some (list ++ entry ∷ [])
 pub record HasSameEntries (old new : LogState) : Type 0 where
   pub entries : new.entries ≡ old.entries
   pub rows : new.rows ≡ old.rows
+  pub all : new.all ≡ old.all
+  pub held : new.held ≡ old.held
   pub room : new.room ≡ old.room
+  pub start : new.start ≡ old.start
   pub first : new.first ≡ old.first
 
 -- the first N of a list, as many as a commit has records between its tail and its head
 abbrev pub up_to : {A : Type 0} → CommitBody → List A → List A
 up_to body list = take (body.head.seq - body.tail.seq) list
 
+-- ---- dropping
+
+-- where the first record of some stands, and else the head
+abbrev pub start_of : (head : ℕ) → List Row → ℕ
+start_of head [] = head
+start_of head (row ∷ rows) = position_of row
+
+-- The entries with seqs below one are dropped, and the next entry has at least this seq. Their records are held, and no
+-- sector is free that was not.
+pub record IsTrimmed (seq : ℕ) (old new : LogState) : Type 0 where
+  pub held : new.held ≡ old.held ++ take (seq - old.first) old.rows
+  pub rows : new.rows ≡ drop (seq - old.first) old.rows
+  pub entries : new.entries ≡ option_map (drop (seq - old.first)) old.entries
+  pub all : new.all ≡ old.all
+  pub first : new.first ≡ old.first + (seq - old.first)
+  pub start : new.start ≡ (if nat_lt old.first seq then start_of old.room.head new.rows else old.start)
+  pub room : new.room ≡ old.room
+  pub commits : new.commits ≡ old.commits
+  pub reserved : new.reserved ≡ old.reserved
+
 -- ---- appending
+
+-- where a commit's tail would stand after these records and one more: where this one does, if it is the first
+abbrev pub start_with : (at start : ℕ) → List Row → ℕ
+start_with at start [] = at
+start_with at start (row ∷ rows) = start
 
 -- what the write of a record of N sectors takes, and before it that of a pad, of which the header alone is written
 abbrev pub append_cost : Room → (sectors : ℕ) → Cost
@@ -93,8 +133,11 @@ pub record IsAppended (entry : Entry) (at : ℕ) (old new : LogState) : Type 0 w
   pub at_head : at ≡ position old.room (record_sectors entry)
   pub had_room : need old.room (record_sectors entry) ≤ free old.room
   pub entries : new.entries ≡ with_appended old.entries entry
-  pub rows : new.rows ≡ old.rows ++ row_of (position old.room (record_sectors entry)) entry ∷ []
+  pub rows : new.rows ≡ old.rows ++ row_of (next_seq old) (position old.room (record_sectors entry)) entry ∷ []
+  pub all : new.all ≡ with_appended old.all entry
+  pub held : new.held ≡ old.held
   pub room : new.room ≡ after_record old.room (record_sectors entry)
+  pub start : new.start ≡ start_with at old.start old.rows
   pub first : new.first ≡ old.first
   pub calls : CostsAppend old.room entry (next_seq old) true old.commits.disk new.commits.disk
 

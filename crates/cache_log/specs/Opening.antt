@@ -1,5 +1,5 @@
 -- Contract: which records a log is opened with, from a commit's tail up to its head, and why it is not opened.
-use Rattle.std.specs.Prelude.{◌≡◌, ℕ, ◌+◌, ◌-◌, ◌*◌, ◌<◌, ◌≤◌, ◌⊎◌, ◌==◌, ◌&&◌, nat_lt, if◌then◌else◌, IsTrue, IfSome, Bool, true, List, length}
+use Rattle.std.specs.Prelude.{◌≡◌, ℕ, ◌+◌, ◌-◌, ◌*◌, ◌<◌, ◌≤◌, ◌⊎◌, ◌==◌, ◌&&◌, nat_lt, if◌then◌else◌, IsTrue, IfSome, Bool, true, List, [], length}
 use Rattle.std.specs.List.{AllByRecursion}
 use Rattle.lsvd_base.specs.declared.geometry.Geometry.{Geometry}
 use Rattle.lsvd_base.specs.Limits.{covers, may_transfer}
@@ -18,7 +18,7 @@ use Rattle.cache_log.specs.declared.error.OpenError.{OpenError}
 use Rattle.cache_log.specs.declared.error.OpenError.TheVariants as open_errors
 use Rattle.cache_log.specs.declared.row.Row.{Row}
 use Rattle.cache_log.specs.declared.row.Row.TheVariants.{Write, Zero}
-use Rattle.cache_log.specs.Rows.{log_sectors, Follow, end_of_rows, HaveRecords}
+use Rattle.cache_log.specs.Rows.{log_sectors, AreNumbered, Follow, end_of_rows, HaveRecords}
 use Rattle.cache_log.specs.Reads.{reads_cost, headers_of_rows, AreReadOnly}
 use Rattle.cache_log.specs.Log.{LogState, entries_in}
 
@@ -30,13 +30,14 @@ pub record AreRecords (log : ℕ) (body : CommitBody) (rows : List Row) (bytes :
   pub most : used ≤ log
   pub follow : Follow log body.tail.position used rows
   pub end : end_of_rows log body.tail.position rows ≡ body.head.position
+  pub numbered : AreNumbered body.tail.seq rows
   pub seqs : body.tail.seq + length rows ≡ body.head.seq
   pub records : HaveRecords log body.tail.position body.tail.seq rows bytes
 
 -- a volume takes the entry whose record stands there
 abbrev pub is_row_in_range : Geometry → Row → Bool
-is_row_in_range geometry (Write at lba sectors) = may_transfer geometry lba sectors
-is_row_in_range geometry (Zero at lba sectors) = nat_lt 0 sectors && covers geometry lba sectors
+is_row_in_range geometry (Write seq at lba sectors) = may_transfer geometry lba sectors
+is_row_in_range geometry (Zero seq at lba sectors) = nat_lt 0 sectors && covers geometry lba sectors
 
 abbrev pub AreRowsInRange : Geometry → List Row → Type 0
 AreRowsInRange geometry rows = AllByRecursion (λ row. IsTrue (is_row_in_range geometry row)) rows
@@ -46,18 +47,19 @@ pub record AreRecordsInRange (geometry : Geometry) (body : CommitBody) (rows : L
   pub records : AreRecords geometry.log body rows bytes
   pub in_range : AreRowsInRange geometry rows
 
--- the sectors from a commit's tail on to its head, round the log's end: the whole log where tail and head are at
--- one place of a log that is not empty
+-- the sectors from one on to another, round the log's end: the whole log where they are one
+abbrev pub distance : (log from to : ℕ) → ℕ
+distance log from to = if nat_lt from to then to - from else log - from + to
+
+-- the sectors from a commit's tail on to its head: none where it has no records
 abbrev pub sectors_between : (log : ℕ) → CommitBody → ℕ
-sectors_between log body =
-    if body.tail.seq == body.head.seq then 0
-    else (if nat_lt body.tail.position body.head.position then body.head.position - body.tail.position
-    else log - body.tail.position + body.head.position)
+sectors_between log body = if body.tail.seq == body.head.seq then 0 else distance log body.tail.position body.head.position
 
 -- rows that stand from a commit's tail up to its head
 pub record AreRowsOfLog (geometry : Geometry) (body : CommitBody) (rows : List Row) : Type 0 where
   pub follow : Follow geometry.log body.tail.position (sectors_between geometry.log body) rows
   pub end : end_of_rows geometry.log body.tail.position rows ≡ body.head.position
+  pub numbered : AreNumbered body.tail.seq rows
   pub seqs : body.tail.seq + length rows ≡ body.head.seq
   pub in_range : AreRowsInRange geometry rows
 
@@ -71,9 +73,12 @@ entry_count body = body.head.seq - body.tail.seq
 -- each pad between them.
 pub record IsOpenedLog (geometry : Geometry) (commits : CommitsState) (log : LogState) : Type 0 where
   pub room : log.room ≡ room_of geometry.log commits.body.head.position (sectors_between geometry.log commits.body)
+  pub held : log.held ≡ []
+  pub start : log.start ≡ commits.body.tail.position
   pub first : log.first ≡ commits.body.tail.seq
   pub rows : AreRowsOfLog geometry commits.body log.rows
   pub entries : log.entries ≡ entries_in log.rows commits.disk.moments
+  pub all : log.all ≡ log.entries
   pub records : HoldsNow (λ now. AreRecordsInRange geometry commits.body log.rows now.bytes) commits.disk.moments
   pub in_range : IfSome log.entries (AllByRecursion (λ entry. IsTrue (is_in_range geometry entry)))
   pub only : AreReadOnly (2 * entry_count commits.body) true commits log.commits

@@ -2,8 +2,9 @@
 //!
 //! Its contract: the log is a list of entries, each a record on the device. `append` adds one, and
 //! is refused exactly where the record, with the pad before it, has no room. `commit` makes all
-//! entries so far outlast a stop: whatever a stop leaves reads as a commit, and has the entries up
-//! to its head. A log is opened with the records up to the head of its commit, exactly where they
+//! entries so far outlast a stop: whatever a stop leaves reads as a commit, and has just the entries
+//! of its seqs. `trim_to` drops the first entries, whose sectors are free once a commit is made
+//! after it. A log is opened with the records up to the head of its commit, exactly where they
 //! stand.
 //! It stands on `commit_slot` for its device and its commits, on `log_record` and `log_room` for
 //! its records.
@@ -13,6 +14,7 @@ mod error;
 mod laws;
 mod log;
 mod opening;
+mod release;
 mod row;
 #[cfg(test)]
 mod tests;

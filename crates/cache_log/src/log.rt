@@ -1,6 +1,6 @@
 ghost use Rattle.std.specs.Prelude.{◌≡◌, ◌+◌, ◌*◌, ◌-◌, ◌^◌, ◌<◌, ◌≤◌, IfOk, IfErr, IfSome, OnOk};
 ghost use Rattle.std.specs.Prelude.{OnErr, IsTrue, Some, None, slice_index_or, is_ok, length, drop};
-ghost use Rattle.std.specs.Prelude.{true, false};
+ghost use Rattle.std.specs.Prelude.{min, true, false};
 ghost use Rattle.std.specs.List.{slice_get};
 ghost use Rattle.std.specs.Fn.{FnOnceReturnsAtMut};
 ghost use Rattle.lsvd_base.specs.declared.entry.Entry.{Entry as EntryValue};
@@ -15,16 +15,18 @@ ghost use Rattle.commit_slot.specs.OnDisk.{AreOnDisk};
 ghost use Rattle.commit_slot.specs.Lending.{ChangesBudgetAlone};
 ghost use Rattle.commit_slot.specs.LogArea.{HasDurableLogArea};
 ghost use Rattle.commit_slot.specs.Formatting.{format_cost, format_calls};
-ghost use Rattle.cache_log.specs.Rows.{log_start, byte_of, position_of, record_size};
+ghost use Rattle.cache_log.specs.Rows.{log_start, byte_of, seq_of, position_of, record_size};
 ghost use Rattle.cache_log.specs.Reads.{AreReadOnly, opens_without_fault, reads_without_fault};
 ghost use Rattle.cache_log.specs.Log.{next_seq, row_of, IsAppended, FailsToAppend, HasSameEntries};
-ghost use Rattle.cache_log.specs.Log.{AreData, IsReadFrom, ReadsOnce, IsReadOnly};
+ghost use Rattle.cache_log.specs.Log.{IsTrimmed, start_with, AreData, IsReadFrom, ReadsOnce, IsReadOnly};
 ghost use Rattle.cache_log.specs.Opening.{entry_count, IsOpenedLog, IsBadLog};
 ghost use Rattle.cache_log.specs.Committed.{first_body, body_of, IsOnDisk, IsFormattedLog};
-ghost use Rattle.cache_log.specs.Committed.{KeepsCommits, IsCommittedLog, LeavesEntriesSince};
+ghost use Rattle.cache_log.specs.Committed.{KeepsCommits, HasSameList, IsReleased, IsCommittedLog};
+ghost use Rattle.cache_log.specs.Committed.{LeavesEntriesSince};
 
 use crate::error::{AppendError, OpenError, ReadError};
 use crate::opening::{read_rows, sectors_between};
+use crate::release::{drop_below, sectors_from, start_of};
 use crate::row::Row;
 use crate::transfer::{byte_of, read_entries, write_at, write_pad_before};
 use commit_body::{CommitBody, Mark};
@@ -43,16 +45,18 @@ use std::marker::Model;
 pub struct CacheLog<D: Disk> {
     commits: Commits<D>,
     room: LogRoom,
-    // The seq of its first entry.
-    first: u64,
-    // Its records, in the order of their seqs.
+    // Where a commit's tail would stand now, and the seq of its first entry.
+    tail: Mark,
+    // All records from the tail of the last commit made on, in the order of their seqs.
     rows: VecDeque<Row>,
+    // How many of them, at the front, are of entries that were dropped.
+    dropped: usize,
     // Where a record is made; it has room for the next one.
     buffer: Vec<u8>,
 }
 
 impl<D: Disk> Model for CacheLog<D> {
-    ghost use Rattle.std.specs.Prelude.{◌/◌, nat_lt, if◌then◌else◌, length};
+    ghost use Rattle.std.specs.Prelude.{◌/◌, ◌≤◌, ◌++◌, nat_lt, if◌then◌else◌, length, take, drop};
     ghost use Rattle.std.specs.VecDeque.{deque_capacity};
     ghost use Rattle.log_room.specs.Room.{sector_bytes};
     ghost use Rattle.cache_log.specs.Log.{LogState, entries_in};
@@ -62,16 +66,20 @@ impl<D: Disk> Model for CacheLog<D> {
 
     ghost view = { λ l. record {
       room = l.room;
-      first = l.first;
-      rows = l.rows.items;
-      entries = entries_in l.rows.items l.commits.disk.moments;
+      held = take l.dropped l.rows.items;
+      start = l.tail.position;
+      first = l.tail.seq;
+      rows = drop l.dropped l.rows.items;
+      all = entries_in (take l.dropped l.rows.items ++ drop l.dropped l.rows.items) l.commits.disk.moments;
+      entries = entries_in (drop l.dropped l.rows.items) l.commits.disk.moments;
       commits = l.commits;
       reserved =
           if nat_lt (length l.rows.items) (deque_capacity l.rows)
           then length l.buffer.items / sector_bytes else 0;
     } };
 
-    ghost invariant = { λ l. IsLog l.room l.first l.rows.items l.commits };
+    ghost invariant = { λ l. (l.dropped ≤ length l.rows.items)
+        × IsLog l.room l.tail (take l.dropped l.rows.items) (drop l.dropped l.rows.items) l.commits };
 }
 
 impl<D: Disk> CacheLog<D> {
@@ -114,8 +122,9 @@ impl<D: Disk> CacheLog<D> {
                 Ok(CacheLog {
                     commits,
                     room,
-                    first: 0,
+                    tail: begin,
                     rows: VecDeque::new(alloc),
+                    dropped: 0,
                     buffer: Vec::new(alloc),
                 })
             }
@@ -155,8 +164,9 @@ impl<D: Disk> CacheLog<D> {
                 Ok(CacheLog {
                     commits,
                     room: LogRoom::at(sectors, body.head.position, used),
-                    first: body.tail.seq,
+                    tail: body.tail,
                     rows,
+                    dropped: 0,
                     buffer: Vec::new(alloc),
                 })
             }
@@ -176,7 +186,7 @@ impl<D: Disk> CacheLog<D> {
     pub fn on_disk(&self)
         ensures { IsOnDisk self.now }
     {
-        let _first = self.first;
+        let _tail = self.tail;
     }
 
     /// The number of the last commit made.
@@ -193,16 +203,64 @@ impl<D: Disk> CacheLog<D> {
         ensures row { result ≡ slice_index_or self.now.rows index result }
         ensures inside { position_of result + record_size result ≤ max_log }
         ensures matches { IfSome self.now.entries (λ list. (entry : EntryValue)
-            → slice_get list index ≡ Some entry → result ≡ row_of (position_of result) entry) }
+            → slice_get list index ≡ Some entry
+            → result ≡ row_of (seq_of result) (position_of result) entry) }
     {
-        self.rows[index]
+        self.rows[self.dropped + index]
     }
 
     /// The seq of the next entry.
     pub fn next_seq(&self) -> u64
         ensures { result ≡ next_seq self.now }
     {
-        self.first + self.rows.len() as u64
+        self.tail.seq + self.len() as u64
+    }
+
+    // How many entries it has.
+    fn len(&self) -> usize
+        ensures { result ≡ length self.now.rows }
+    {
+        self.rows.len() - self.dropped
+    }
+
+    // How many of its entries have seqs below this one.
+    fn count_below(&self, seq: u64) -> usize
+        ensures count { result ≡ min (seq - self.now.first) (length self.now.rows) }
+        ensures inside { result ≤ length self.now.rows }
+    {
+        let (skipped, len) = (seq.saturating_sub(self.tail.seq), self.len());
+        if skipped < len as u64 {
+            skipped as usize
+        } else {
+            len
+        }
+    }
+
+    // Where a commit's tail would stand after an append of a record that stands at a sector.
+    fn start_with(&self, at: u64) -> u64
+        ensures { result ≡ start_with at self.now.start self.now.rows }
+    {
+        if self.len() == 0 {
+            at
+        } else {
+            self.tail.position
+        }
+    }
+
+    /// Drops the entries with seqs below this one from the list. Where it is above that of the next entry, the list is
+    /// empty then, and the next entry has this seq; where it is not above that of the first entry, nothing is done.
+    ///
+    /// The sectors of their records are free once a commit is made after this. Until then a stop may leave these entries.
+    pub fn trim_to(&mut self, seq: u64)
+        ensures { IsTrimmed seq self.old self.new }
+    {
+        if seq <= self.tail.seq {
+            return;
+        }
+        let dropped = self.dropped + self.count_below(seq);
+        let position = start_of(&self.rows, dropped, self.room.head());
+        self.dropped = dropped;
+        self.tail = Mark { position, seq };
     }
 
     /// Takes the memory that `append` needs for this entry. The one error is that memory ran out;
@@ -243,12 +301,14 @@ impl<D: Disk> CacheLog<D> {
         }
         let seq = self.next_seq();
         let at = self.room.position(sectors);
+        let start = self.start_with(at);
         let record = &mut self.buffer[..(SECTOR_BYTES * sectors) as usize];
         encode_into(entry, seq, record);
         write_pad_before(&mut self.commits, &self.room, sectors, seq)?;
         write_at(&mut self.commits, at, record)?;
         self.room.enter(sectors);
-        self.rows.push_back_reserved(Row::of(at, entry));
+        self.tail.position = start;
+        self.rows.push_back_reserved(Row::of(seq, at, entry));
         Ok(at)
     }
 
@@ -275,18 +335,20 @@ impl<D: Disk> CacheLog<D> {
             IsReadOnly (length self.old.rows - (seq - self.old.first)) (reads_without_fault e)
             self.old self.new) }
     {
-        let skipped = seq.saturating_sub(self.first) as usize;
+        let skipped = self.dropped + self.count_below(seq);
         read_entries(alloc, &mut self.commits, &self.rows, skipped)
     }
 
     /// Commits all entries so far: whenever the device stops it reads as the last commit, as the
-    /// one that is unfinished, or as this one, with the entries up to its head; after `Ok`, as this
-    /// one, with all entries. The number of the last commit is below 2^64 - 2 (a condition).
+    /// one that is unfinished, or as this one, with just the entries of its seqs; after `Ok`, as
+    /// this one, with all entries. The number of the last commit is below 2^64 - 2 (a condition).
     /// `Failed` comes where a call of the device failed; the commit may be tried again then. The
-    /// entries are as before.
+    /// entries are as before. In use are then the sectors from the tail of the last commit made to
+    /// the head.
     pub fn commit(&mut self) -> Result<(), Failed>
         requires number { self.old.commits.number < 2 ^ 64 - 2 }
-        ensures same { HasSameEntries self.old self.new }
+        ensures same { HasSameList self.old self.new }
+        ensures released { IsReleased self.old self.new }
         ensures ok { OnOk result (IsCommittedLog self.old self.new) }
         ensures err { OnErr result
             (FailsToCommit (body_of self.old) self.old.commits self.new.commits) }
@@ -298,11 +360,19 @@ impl<D: Disk> CacheLog<D> {
         ensures on_disk { AreOnDisk self.new.commits }
     {
         let mut body = self.commits.body();
+        let head = self.room.head();
+        body.tail = self.tail;
         body.head = Mark {
-            position: self.room.head(),
+            position: head,
             seq: self.next_seq(),
         };
-        self.commits.commit(body)
+        let committed = self.commits.commit(body);
+        let last = self.commits.body();
+        self.dropped -= drop_below(&mut self.rows, last.tail.seq);
+        let log = self.room.sectors();
+        let used = sectors_from(log, last.tail.position, head, &self.rows);
+        self.room = LogRoom::at(log, head, used);
+        committed
     }
 
     /// The device.

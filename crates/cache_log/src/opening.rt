@@ -6,11 +6,11 @@ ghost use Rattle.log_room.specs.Room.{max_log};
 ghost use Rattle.log_record.specs.Grammar.{is_in_range, fits, IsHeader};
 ghost use Rattle.commit_body.specs.Body.{MayStand};
 ghost use Rattle.commit_slot.specs.OnDisk.{AreOnDisk};
-ghost use Rattle.cache_log.specs.Rows.{byte_of, log_sectors, position_of};
+ghost use Rattle.cache_log.specs.Rows.{byte_of, log_sectors, seq_of, position_of};
 ghost use Rattle.cache_log.specs.Reads.{headers_of, headers_of_rows, AreReadOnly};
 ghost use Rattle.cache_log.specs.Reads.{opens_without_fault};
 ghost use Rattle.cache_log.specs.Opening.{entry_count, AreRecordsInRange, AreRowsOfLog};
-ghost use Rattle.cache_log.specs.Opening.{sectors_between, IsBadLog};
+ghost use Rattle.cache_log.specs.Opening.{distance, sectors_between, IsBadLog};
 ghost use Rattle.cache_log.specs.Headers.{head_of_row, IsPad, HasRow, FitsFrom, IsBadHeader};
 ghost use Rattle.cache_log.specs.Headers.{IsBadRow, AreReadTimes};
 
@@ -76,10 +76,23 @@ pub(crate) fn sectors_between(body: &CommitBody, log: u64) -> u64
 {
     if body.tail.seq == body.head.seq {
         0
-    } else if body.tail.position < body.head.position {
-        body.head.position - body.tail.position
     } else {
-        log - body.tail.position + body.head.position
+        distance(log, body.tail.position, body.head.position)
+    }
+}
+
+// The sectors from one on to another, round the end of a log of `log` sectors: all where they are one.
+pub(crate) fn distance(log: u64, from: u64, to: u64) -> u64
+    requires log { log ≤ max_log }
+    requires from { from < log }
+    requires to { to < log }
+    ensures distance { result ≡ distance log from to }
+    ensures most { result ≤ log }
+{
+    if from < to {
+        to - from
+    } else {
+        log - from + to
     }
 }
 
@@ -94,7 +107,7 @@ fn read_row<D: Disk>(
     requires inside { byte_of geometry.now.log ≤ commits.old.disk.size }
     requires position { place.now.position < geometry.now.log }
     requires to_head { place.now.to_head ≤ geometry.now.log }
-    ensures fits { IfOk result (λ row. FitsFrom geometry.now place.now row) }
+    ensures fits { IfOk result (λ row. FitsFrom geometry.now place.now seq row) }
     ensures row { IfOk result (λ row. HoldsNow
         (λ now. HasRow geometry.now place.now seq now.bytes row) commits.old.disk.moments) }
     ensures read { IfOk result (λ row.
@@ -105,7 +118,7 @@ fn read_row<D: Disk>(
         AreReadOnly 2 (opens_without_fault e) commits.old commits.new) }
 {
     let head = read_head(commits, geometry, place, seq)?;
-    if let Some(row) = row_at(place.position, &head) {
+    if let Some(row) = row_at(seq, place.position, &head) {
         return Ok(row);
     }
     let after_pad = Place {
@@ -114,24 +127,27 @@ fn read_row<D: Disk>(
         is_last: place.is_last,
     };
     let head = read_head(commits, geometry, &after_pad, seq)?;
-    match row_at(0, &head) {
+    match row_at(seq, 0, &head) {
         Some(row) => Ok(row),
         None => unreachable!(),
     }
 }
 
-// The row of the record whose header says this at a sector; none where it is a pad's.
-fn row_at(at: u64, head: &Head) -> Option<Row>
-    ensures some { IfSome result (λ row. (position_of row ≡ at) × (head_of_row row ≡ head.now)) }
+// The row of the record with this seq whose header says this at a sector; none where it is a pad's.
+fn row_at(seq: u64, at: u64, head: &Head) -> Option<Row>
+    ensures some { IfSome result (λ row.
+        (seq_of row ≡ seq) × (position_of row ≡ at) × (head_of_row row ≡ head.now)) }
     ensures none { IfNone result (IsPad head.now) }
 {
     match head {
         Head::Write { lba, sectors } => Some(Row::Write {
+            seq,
             at,
             lba: *lba,
             sectors: *sectors,
         }),
         Head::Zero { lba, sectors } => Some(Row::Zero {
+            seq,
             at,
             lba: *lba,
             sectors: *sectors,

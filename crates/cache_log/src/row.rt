@@ -1,32 +1,44 @@
 ghost use Rattle.std.specs.Prelude.{◌≡◌, ◌+◌, ◌-◌, ◌^◌, ◌<◌, ◌≤◌};
 ghost use Rattle.log_room.specs.Room.{max_log};
-ghost use Rattle.cache_log.specs.Rows.{position_of, record_size, sectors_taken, next};
+ghost use Rattle.cache_log.specs.Rows.{seq_of, position_of, record_size, sectors_taken, next};
 ghost use Rattle.cache_log.specs.Log.{row_of};
 
 use lsvd_base::Entry;
 
-/// What the log keeps in memory of a record: all but its data.
+/// What the log keeps in memory of a record, under its seq: all but its data.
 #[derive(Clone, Copy, Debug, PartialEq, Eq)]
 pub enum Row {
     /// The record of a write of `sectors` sectors from `lba` on. Its header stands at the sector
     /// `at` of the log, and its data after it.
-    Write { at: u64, lba: u64, sectors: u64 },
+    Write {
+        seq: u64,
+        at: u64,
+        lba: u64,
+        sectors: u64,
+    },
     /// The record of a zeroing of `sectors` sectors from `lba` on, at the sector `at` of the log.
-    Zero { at: u64, lba: u64, sectors: u64 },
+    Zero {
+        seq: u64,
+        at: u64,
+        lba: u64,
+        sectors: u64,
+    },
 }
 
 impl Row {
-    // The row of an entry whose record stands at a sector of the log.
-    pub(crate) fn of(at: u64, entry: &Entry) -> Row
-        ensures { result ≡ row_of at entry.now }
+    // The row of an entry whose record has a seq and stands at a sector of the log.
+    pub(crate) fn of(seq: u64, at: u64, entry: &Entry) -> Row
+        ensures { result ≡ row_of seq at entry.now }
     {
         match entry {
             Entry::Write { lba, body } => Row::Write {
+                seq,
                 at,
                 lba: *lba,
                 sectors: body.sectors(),
             },
             Entry::Zero { lba, sectors } => Row::Zero {
+                seq,
                 at,
                 lba: *lba,
                 sectors: *sectors,
@@ -34,8 +46,17 @@ impl Row {
         }
     }
 
+    // The seq of the record.
+    pub(crate) fn seq(&self) -> u64
+        ensures { result ≡ seq_of self.now }
+    {
+        match self {
+            Row::Write { seq, .. } | Row::Zero { seq, .. } => *seq,
+        }
+    }
+
     // The sector of the log at which the record stands.
-    fn position(&self) -> u64
+    pub(crate) fn position(&self) -> u64
         ensures { result ≡ position_of self.now }
     {
         match self {

@@ -3,7 +3,7 @@ ghost use Rattle.lsvd_device.specs.Calls.{fuse_of};
 ghost use Rattle.lsvd_device.specs.Fuse.{with_new_fuse};
 ghost use Rattle.lsvd_device.specs.Memory.{HasRoom};
 ghost use Rattle.commit_slot.specs.Commits.{with_budget};
-ghost use Rattle.cache_log.specs.Log.{row_of, AreData};
+ghost use Rattle.cache_log.specs.Log.{next_seq, row_of, AreData};
 
 use super::*;
 use commit_body::{CommitBody, Mark, is_within};
@@ -132,7 +132,7 @@ fn append(
     entry: &Entry,
 ) -> Result<Result<u64, AppendError>, AllocError>
     ensures { IfOk result (λ answer. IfOk answer (λ at.
-        log.new.rows ≡ log.old.rows ++ row_of at entry.now ∷ [])) }
+        log.new.rows ≡ log.old.rows ++ row_of (next_seq log.old) at entry.now ∷ [])) }
 {
     log.reserve(entry)?;
     assert!(rt; log.next_seq() < u64::MAX);
@@ -354,28 +354,30 @@ fn opened_with(
 
 #[test]
 fn a_bad_record_is_told(rt: HostRuntime) -> Result<(), Fail> {
-    // Where the head of the empty log is, a byte of the log and what it becomes, and the record that is bad then.
-    for (head, at, byte, seq, reason) in [
-        (0, 0, 0, 20, Some(Reason::Magic)),
-        (0, 11, 4, 20, Some(Reason::Kind)),
-        (0, 19, 21, 20, Some(Reason::Seq)),
-        (0, 27, 64, 20, Some(Reason::Range)),
-        (0, 36, 1, 20, Some(Reason::Zeros)),
+    // Where the head of the empty log is, the data sectors of the entries (0: a zeroing), a byte of the log and what it
+    // becomes, and the record that is bad then.
+    let (plain, padded): (&[u64], &[u64]) = (&[8, 0], &[0, 8, 0]);
+    for (head, sectors, at, byte, seq, reason) in [
+        (0, plain, 0, 0, 20, Some(Reason::Magic)),
+        (0, plain, 11, 4, 20, Some(Reason::Kind)),
+        (0, plain, 19, 21, 20, Some(Reason::Seq)),
+        (0, plain, 27, 64, 20, Some(Reason::Range)),
+        (0, plain, 36, 1, 20, Some(Reason::Zeros)),
         // A write that is taken for a zeroing: the next record is sought in its data.
-        (0, 11, 2, 21, Some(Reason::Magic)),
+        (0, plain, 11, 2, 21, Some(Reason::Magic)),
         // The data of a write, and a sector past the head, are any bytes.
-        (0, 512, 1, 20, None),
-        (0, 5_120, 1, 20, None),
+        (0, plain, 512, 1, 20, None),
+        (0, plain, 5_120, 1, 20, None),
         // The second record, and the last one, which would end before the head.
-        (0, 9 * 512 + 19, 0, 21, Some(Reason::Seq)),
-        (0, 9 * 512 + 11, 1, 21, Some(Reason::Place)),
+        (0, plain, 9 * 512 + 19, 0, 21, Some(Reason::Seq)),
+        (0, plain, 9 * 512 + 11, 1, 21, Some(Reason::Place)),
         // A pad, the record after it, and a pad that is no longer one.
-        (60, 60 * 512 + 35, 2, 20, Some(Reason::Range)),
-        (60, 11, 3, 20, Some(Reason::Range)),
-        (60, 60 * 512 + 11, 2, 21, Some(Reason::Magic)),
+        (59, padded, 60 * 512 + 35, 2, 21, Some(Reason::Range)),
+        (59, padded, 11, 3, 21, Some(Reason::Range)),
+        (59, padded, 60 * 512 + 11, 2, 22, Some(Reason::Magic)),
     ] {
         let mut log = emptied(&rt, rt.alloc(), head, 20)?;
-        let _ = positions(&rt, rt.alloc(), &mut log, &[8, 0])?;
+        let _ = positions(&rt, rt.alloc(), &mut log, sectors)?;
         assert!(rt; commit(&rt, &mut log));
         let wanted = reason.map(|reason| OpenError::BadRecord { seq, reason });
         assert_eq!(rt; opened_with(&rt, rt.alloc(), log, at, byte)?, wanted);
@@ -383,10 +385,11 @@ fn a_bad_record_is_told(rt: HostRuntime) -> Result<(), Fail> {
     Ok(())
 }
 
-// What is asked of a log that is stopped: a write of this many sectors, or a zeroing where they are none; or a commit.
+// What is asked of a log: a write of this many sectors, or a zeroing where they are none; a trim to this seq; or a commit.
 #[derive(Clone, Copy)]
 enum Step {
     Append(u64),
+    Trim(u64),
     Commit,
 }
 
@@ -400,6 +403,10 @@ fn make_steps(
     for step in steps {
         let is_made = match step {
             Step::Append(sectors) => append(rt, log, &entry_of(alloc, 0, *sectors)?)?.is_ok(),
+            Step::Trim(seq) => {
+                log.trim_to(*seq);
+                true
+            }
             Step::Commit => commit(rt, log),
         };
         if !is_made {
@@ -544,6 +551,253 @@ fn a_stop_anywhere_leaves_what_was_committed(rt: HostRuntime) -> Result<(), Fail
                 break;
             }
         }
+    }
+    Ok(())
+}
+
+#[test]
+fn a_trim_drops_the_first_entries(rt: HostRuntime) -> Result<(), Fail> {
+    // The seqs of trims, how many of the entries with the seqs 5, 6 and 7 are left, and the next seq.
+    let cases: [(&[u64], usize, u64); 8] = [
+        (&[0], 3, 8),
+        (&[5], 3, 8),
+        (&[6], 2, 8),
+        (&[7, 6], 1, 8),
+        (&[6, 7], 1, 8),
+        (&[8], 0, 8),
+        (&[9, 8], 0, 9),
+        (&[u64::MAX], 0, u64::MAX),
+    ];
+    for (seqs, left, next) in cases {
+        let mut log = emptied(&rt, rt.alloc(), 0, 5)?;
+        let _ = positions(&rt, rt.alloc(), &mut log, &[1, 0, 2])?;
+        for seq in seqs {
+            log.trim_to(*seq);
+        }
+        let all = [(0, 1, Some(0x41)), (0, 3, None), (0, 2, Some(0x41))];
+        assert_eq!(rt;
+            entries(rt.alloc(), &mut log, 0)?.as_slice(),
+            &all[3 - left..]
+        );
+        assert_eq!(rt; log.next_seq(), next);
+    }
+    Ok(())
+}
+
+#[test]
+fn dropped_records_are_written_over_after_a_commit(rt: HostRuntime) -> Result<(), Fail> {
+    // Where the head of the empty log of 64 sectors is, the data sectors of the entries (0: a zeroing), the first seq that
+    // is kept, the free sectors after the trim alone and after a commit, and where a write of 8 sectors stands then.
+    let cases: [(u64, &[u64], u64, u64, u64, Result<u64, AppendError>); 6] = [
+        (0, &[8, 8, 8, 8, 8, 8, 8, 0], 1, 0, 9, Ok(0)),
+        (0, &[8, 8, 8, 8, 8, 8, 8, 0], 8, 0, 64, Ok(0)),
+        (0, &[8, 8, 8, 8, 8, 8, 8, 0], 20, 0, 64, Ok(0)),
+        // Nothing is dropped, and nothing is free.
+        (
+            0,
+            &[8, 8, 8, 8, 8, 8, 8, 0],
+            0,
+            0,
+            0,
+            Err(AppendError::NoRoom { need: 9, free: 0 }),
+        ),
+        // The tail of the next commit is the record behind a pad, which is free then.
+        (60, &[8, 8, 8, 8, 8, 8], 0, 6, 10, Ok(54)),
+        (52, &[8, 8, 8, 8, 8, 8], 1, 7, 19, Ok(45)),
+    ];
+    for (head, sectors, seq, free, more, wanted) in cases {
+        let mut log = emptied(&rt, rt.alloc(), head, 0)?;
+        let _ = positions(&rt, rt.alloc(), &mut log, sectors)?;
+        log.trim_to(seq);
+        assert_eq!(rt; free_sectors(&rt, rt.alloc(), &mut log)?, free);
+        assert!(rt; commit(&rt, &mut log));
+        assert_eq!(rt; free_sectors(&rt, rt.alloc(), &mut log)?, more);
+        let answer = append(&rt, &mut log, &entry_of(rt.alloc(), 0, 8)?)?;
+        assert_eq!(rt; answer, wanted);
+    }
+    Ok(())
+}
+
+// How many sectors are free, by the refusal of a write of as many sectors as the log has.
+fn free_sectors(rt: &impl Abort, alloc: Global, log: &mut Log) -> Result<u64, Fail> {
+    let before = log.next_seq();
+    match append(rt, log, &entry_of(alloc, 0, LOG)?)? {
+        Err(AppendError::NoRoom { free, .. }) => {
+            assert_eq!(rt; log.next_seq(), before);
+            Ok(free)
+        }
+        _ => Ok(u64::MAX),
+    }
+}
+
+// The first two entries are committed; then the first one is dropped, and a third one is committed with the second.
+const TRIMMED: [Step; 6] = [
+    Step::Append(0),
+    Step::Append(8),
+    Step::Commit,
+    Step::Trim(6),
+    Step::Append(1),
+    Step::Commit,
+];
+
+#[test]
+fn a_commit_after_a_trim_leaves_either_list(rt: HostRuntime) -> Result<(), Fail> {
+    // The calls that pass, the fates of the writes that were not synced, and which of the entries are left: those of the
+    // last commit, also the one that was dropped, or those of the new one.
+    for (calls, number, from, to) in [
+        (8, 0, 0, 2),
+        (9, 0, 0, 2),
+        (10, 0, 0, 2),
+        (11, 0, 0, 2),
+        (12, 0, 0, 2),
+        (13, 0, 1, 3),
+        (13, 1, 0, 2),
+        (13, 2, 0, 2),
+        (14, 0, 1, 3),
+    ] {
+        let log = emptied(&rt, rt.alloc(), 60, 5)?;
+        let stopped = stop_in_steps(&rt, rt.alloc(), log, &TRIMMED, calls, number)?;
+        let all = [(0, 3, None), (0, 8, Some(0x41)), (0, 1, Some(0x41))];
+        assert_eq!(rt;
+            stopped.entries.as_slice(),
+            &all[from..to],
+            "{calls} {number}"
+        );
+        assert_eq!(rt; stopped.log.next_seq(), 5 + to as u64);
+    }
+    Ok(())
+}
+
+// A list beside a log: its entries with their seqs, and the next seq.
+#[derive(Drop)]
+struct Plain {
+    entries: Vec<(u64, Told)>,
+    next: u64,
+}
+
+// What the list is after a step; an append is made of this entry, if the log has room for it.
+fn step_plain(
+    rt: &impl Abort,
+    alloc: Global,
+    plain: &Plain,
+    step: Step,
+    entry: Option<Told>,
+) -> Result<Plain, AllocError> {
+    let from = match step {
+        Step::Trim(seq) => seq,
+        _ => 0,
+    };
+    let mut entries = Vec::new(alloc);
+    for (seq, told) in plain.entries.iter() {
+        if from <= *seq {
+            entries.push((*seq, *told))?;
+        }
+    }
+    let mut next = if plain.next < from { from } else { plain.next };
+    if let Some(told) = entry {
+        entries.push((next, told))?;
+        assert!(rt; next < 1_000);
+        next += 1;
+    }
+    Ok(Plain { entries, next })
+}
+
+// Makes a step of a log, and answers the entry that it appended.
+fn step_log(
+    rt: &impl Abort,
+    alloc: Global,
+    log: &mut Log,
+    lba: u64,
+    step: Step,
+) -> Result<Option<Told>, Fail> {
+    match step {
+        Step::Append(sectors) => {
+            let entry = entry_of(alloc, lba, sectors)?;
+            let answer = append(rt, log, &entry)?;
+            Ok(answer.ok().map(|_| told(&entry)))
+        }
+        Step::Trim(seq) => {
+            log.trim_to(seq);
+            Ok(None)
+        }
+        Step::Commit => {
+            assert!(rt; commit(rt, log));
+            Ok(None)
+        }
+    }
+}
+
+// Asserts that a log has the entries of the list, and the next seq.
+fn assert_same(
+    rt: &impl Abort,
+    alloc: Global,
+    log: &mut Log,
+    plain: &Plain,
+    at: u64,
+) -> Result<(), Fail> {
+    let mut wanted = Vec::new(alloc);
+    for (_, told) in plain.entries.iter() {
+        wanted.push(*told)?;
+    }
+    assert_eq!(rt; entries(alloc, log, 0)?, wanted, "{at}");
+    assert_eq!(rt; log.next_seq(), plain.next, "{at}");
+    Ok(())
+}
+
+#[test]
+fn a_log_does_what_a_list_does(rt: HostRuntime) -> Result<(), Fail> {
+    let write = Step::Append(8);
+    let steps = [
+        write,
+        write,
+        write,
+        write,
+        write,
+        Step::Commit,
+        write,
+        write,
+        write,
+        Step::Trim(3),
+        write,
+        Step::Commit,
+        // The records of the first three are written over, behind a pad.
+        write,
+        write,
+        write,
+        Step::Append(0),
+        Step::Commit,
+        Step::Trim(9),
+        Step::Commit,
+        write,
+        // A seq past the next one.
+        Step::Trim(20),
+        Step::Append(1),
+        Step::Commit,
+        Step::Trim(30),
+        Step::Commit,
+        Step::Append(0),
+        Step::Append(2),
+        Step::Trim(31),
+        Step::Commit,
+    ];
+    let mut log = emptied(&rt, rt.alloc(), 0, 0)?;
+    reserve(&mut log, 1_000, 1_000_000)?;
+    let mut plain = Plain {
+        entries: Vec::new(rt.alloc()),
+        next: 0,
+    };
+    let mut lba = 0;
+    for step in steps {
+        assert!(rt; lba < 50);
+        let entry = step_log(&rt, rt.alloc(), &mut log, lba, step)?;
+        plain = step_plain(&rt, rt.alloc(), &plain, step, entry)?;
+        assert_same(&rt, rt.alloc(), &mut log, &plain, lba)?;
+        if let Step::Commit = step {
+            log = open(&rt, rt.alloc(), log.into_disk())?;
+            reserve(&mut log, 1_000, 1_000_000)?;
+            assert_same(&rt, rt.alloc(), &mut log, &plain, lba)?;
+        }
+        lba += 1;
     }
     Ok(())
 }

@@ -102,7 +102,12 @@ fn read_entry<D: Disk>(
         AreReadOnly 1 (reads_without_fault e) commits.old commits.new) }
 {
     match row {
-        Row::Write { at, lba, sectors } => {
+        Row::Write {
+            at,
+            lba,
+            sectors,
+            ..
+        } => {
             let mut bytes = vec![in alloc; 0; (SECTOR_BYTES * sectors) as usize]?;
             commits.read(byte_of(at + 1), bytes.as_mut_slice())?;
             let body = Body::from_bytes(bytes);

@@ -12,7 +12,7 @@ use Rattle.commit_slot.specs.Slots.{gate_at}
 use Rattle.commit_slot.specs.Commits.{CommitsState, IsAsBefore, finished_number}
 use Rattle.lsvd_device.specs.Device.{DiskState, MakesCalls, HoldsSince}
 use Rattle.cache_log.specs.Log.{LogState, HasSameEntries}
-use Rattle.cache_log.specs.Committed.{LeavesEntries, LeavesEntriesSince}
+use Rattle.cache_log.proofs.ForCallers.{LeavesList, LeavesListSince}
 use Rattle.plain_disk.specs.Machine.{Device, Mark, after_writes}
 use Rattle.vol_core.specs.Volume.{fuse_in, pending_in, mark_at, broken_in, gate_is_open, device_of, plain_of, IsCommitOf, IsLaterCommitOf, IsVolume}
 use Rattle.vol_core.specs.Stepping.{IsClosedAt, IsOpenedAt}
@@ -114,7 +114,7 @@ pub kept_reserved : (geometry : Geometry) (history : List Entry) (sectors steps 
 kept_reserved geometry history sectors steps old new is rest =
     let log : LogState = record old { reserved = new.reserved } in
     subst (IsVolume geometry history sectors steps) (sym rest)
-    (kept_as_before geometry history sectors steps old log is.budget is (record { entries = refl; rows = refl; room = refl; first = refl }) (record { same_number = refl; same_body = refl; same_unfinished = refl }) is.told is.now)
+    (kept_as_before geometry history sectors steps old log is.budget is (record { entries = refl; rows = refl; all = refl; held = refl; room = refl; start = refl; first = refl }) (record { same_number = refl; same_body = refl; same_unfinished = refl }) is.told is.now)
 
 -- calls leave a disk that tells what it passes
 told_in : (cost : Cost) (is_made : Bool) (old new : Option Budget) (budget : Budget) → old ≡ Some budget → Takes cost is_made old new → (left : Budget) × (new ≡ Some left)
@@ -140,15 +140,15 @@ now_in (now ∷ since) old has = tt
 pub now_since : (P : Medium → Type 0) (old new : List Medium) → HoldsSince P old new → HasNow (λ m. Unit {0}) old → HasNow (λ m. Unit {0}) new
 now_since P old new since has = subst (HasNow (λ m. Unit {0})) (sym since.moments) (now_in since.since old has)
 
-pub now_left : (P : ℕ → CommitBody → Type 0) (history : List Entry) (log : LogState) (new : DiskState) → log.entries ≡ Some history → LeavesEntriesSince log P new → HasNow (λ m. Unit {0}) log.commits.disk.moments
+pub now_left : (P : ℕ → CommitBody → Type 0) (history : List Entry) (log : LogState) (new : DiskState) → log.entries ≡ Some history → LeavesListSince log P new → HasNow (λ m. Unit {0}) log.commits.disk.moments
     → HasNow (λ m. Unit {0}) new.moments
 now_left P history log new told since has =
-    let Q : Option (List Entry) → Type 0 = λ list. IfSome list (λ l. HoldsSince (LeavesEntries log.room.log l P) log.commits.disk.moments new.moments) in
-    now_since (LeavesEntries log.room.log history P) log.commits.disk.moments new.moments (subst Q told since) has
+    let Q : Option (List Entry) → Type 0 = λ list. IfSome list (λ l. HoldsSince (LeavesList log.room.log l P) log.commits.disk.moments new.moments) in
+    now_since (LeavesList log.room.log history P) log.commits.disk.moments new.moments (subst Q told since) has
 
 -- so a volume is kept by calls of its log that failed
 pub kept_failed : (geometry : Geometry) (history : List Entry) (sectors steps : ℕ) (cost : Cost) (is_made : Bool) (P : ℕ → CommitBody → Type 0) (old new : LogState) → IsVolume geometry history sectors steps old
-    → HasSameEntries old new → IsAsBefore old.commits new.commits → MakesCalls cost is_made old.commits.disk new.commits.disk → LeavesEntriesSince old P new.commits.disk → IsVolume geometry history sectors steps new
+    → HasSameEntries old new → IsAsBefore old.commits new.commits → MakesCalls cost is_made old.commits.disk new.commits.disk → LeavesListSince old P new.commits.disk → IsVolume geometry history sectors steps new
 kept_failed geometry history sectors steps cost is_made P old new is same commits calls since =
     let toldas = told_after cost is_made old.commits.disk new.commits.disk is.budget is.told calls in
     kept_as_before geometry history sectors steps old new toldas.budget is same commits toldas.told (now_left P history old new.commits.disk is.entries since is.now)

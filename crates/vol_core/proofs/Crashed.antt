@@ -18,7 +18,8 @@ use Rattle.commit_body.specs.declared.body.CommitBody.{CommitBody}
 use Rattle.commit_slot.specs.Slots.{log_of, gate_at, Reads}
 use Rattle.commit_slot.specs.Commits.{CommitsState, IsLast, IsCommit, finished_number, finished_body}
 use Rattle.cache_log.specs.Log.{LogState, up_to}
-use Rattle.cache_log.specs.Committed.{HasRecords, LeavesEntries, LeavesEntriesNow, HoldsCommitted, HoldsCommittedNow}
+use Rattle.cache_log.specs.Committed.{HasRecords}
+use Rattle.cache_log.proofs.ForCallers.{LeavesList, LeavesListNow, HoldsList, HoldsListNow}
 use Rattle.plain_disk.specs.Machine.{Device, Mark, kept_mark}
 use Rattle.vol_core.specs.Volume.{pending_in, gate_is_open, mark_at, broken_in, device_of, unfinished_in, volume_of, IsCommitOf, IsLaterCommitOf, IsVolume}
 use Rattle.vol_core.specs.Standing.{keeps_last, ReadsAtMark, ReadsByFates}
@@ -78,7 +79,7 @@ number_in number (Some more) steps most = omega (arith, most)
 
 -- the last commit is read
 read_last : (geometry : Geometry) (history : List Entry) (sectors : ℕ) (steps : ℕ) (keeps : Bool) (log : LogState) (now : Medium) (left : List ℕ) → IsVolume geometry history sectors steps log
-    → HoldsCommitted log history now → MayLeave now left → Reads geometry.log left log.commits.body log.commits.number
+    → HoldsList log history now → MayLeave now left → Reads geometry.log left log.commits.body log.commits.number
     → (kept_mark keeps (device_of geometry history log.commits) ≡ mark_at geometry history log.commits.body)
     → ReadsAtMark geometry history steps (kept_mark keeps (device_of geometry history log.commits)) left
 read_last geometry history sectors steps keeps log now left is holds may reads mark =
@@ -95,7 +96,7 @@ read_last geometry history sectors steps keeps log now left is holds may reads m
 
 -- the one that is left is read
 read_more : (geometry : Geometry) (history : List Entry) (sectors : ℕ) (steps : ℕ) (keeps : Bool) (log : LogState) (more : CommitBody) (now : Medium) (left : List ℕ) → IsVolume geometry history sectors steps log
-    → log.commits.unfinished ≡ Some more → HoldsCommitted log history now → MayLeave now left → Reads geometry.log left more (log.commits.number + 1)
+    → log.commits.unfinished ≡ Some more → HoldsList log history now → MayLeave now left → Reads geometry.log left more (log.commits.number + 1)
     → (kept_mark keeps (device_of geometry history log.commits) ≡ mark_at geometry history more)
     → ReadsAtMark geometry history steps (kept_mark keeps (device_of geometry history log.commits)) left
 read_more geometry history sectors steps keeps log more now left is unfinished holds may reads mark =
@@ -118,7 +119,7 @@ only_last commits none n b (inr is) = record { same_number = is.same_number ∙ 
 
 -- no second half is left: any stop leaves the last commit
 none_case : (geometry : Geometry) (history : List Entry) (sectors : ℕ) (steps : ℕ) (keeps : Bool) (log : LogState) (now : Medium) (left : List ℕ) → IsVolume geometry history sectors steps log
-    → log.commits.unfinished ≡ None → LeavesEntries log.room.log history (IsLast log.commits) now → HoldsCommitted log history now → MayLeave now left
+    → log.commits.unfinished ≡ None → LeavesList log.room.log history (IsLast log.commits) now → HoldsList log history now → MayLeave now left
     → ReadsAtMark geometry history steps (kept_mark keeps (device_of geometry history log.commits)) left
 none_case geometry history sectors steps keeps log now left is none leaves holds may =
     let found = leaves left may in
@@ -140,7 +141,7 @@ first_same e = cc
 -- the gate was not opened: the last commit is read
 closed_left : (geometry : Geometry) (history : List Entry) (sectors : ℕ) (steps : ℕ) (keeps : Bool) (log : LogState) (more : CommitBody) (now : Medium) (past : List Medium) (left : List ℕ) → IsVolume geometry history sectors steps log
     → log.commits.unfinished ≡ Some more → log.commits.disk.moments ≡ now ∷ past → IsClosedAt (gate_at ((log.commits.number + 1) % 3)) log.commits.disk.moments
-    → ReadsWithGate geometry.log log.commits.number log.commits.body more left → HoldsCommitted log history now → MayLeave now left
+    → ReadsWithGate geometry.log log.commits.number log.commits.body more left → HoldsList log history now → MayLeave now left
     → ReadsAtMark geometry history steps (kept_mark keeps (device_of geometry history log.commits)) left
 closed_left geometry history sectors steps keeps log more now past left is unfinished moments closed gated holds may =
     let gate : ℕ = gate_at ((log.commits.number + 1) % 3) in
@@ -168,7 +169,7 @@ read_one at bytes inside =
 opened_left : (geometry : Geometry) (history : List Entry) (sectors : ℕ) (steps : ℕ) (log : LogState) (more : CommitBody) (now : Medium) (past : List Medium) (fates : List Fate) → IsVolume geometry history sectors steps log
     → log.commits.unfinished ≡ Some more → log.commits.disk.moments ≡ now ∷ past → (opens : IsOpenedAt (gate_at ((log.commits.number + 1) % 3)) log.commits.disk.moments)
     → gate_at ((log.commits.number + 1) % 3) < length opens.bytes → length fates ≡ 1
-    → ReadsWithGate geometry.log log.commits.number log.commits.body more (left_in_order fates log.commits.disk.moments) → HoldsCommitted log history now
+    → ReadsWithGate geometry.log log.commits.number log.commits.body more (left_in_order fates log.commits.disk.moments) → HoldsList log history now
     → MayLeave now (left_in_order fates log.commits.disk.moments)
     → ReadsAtMark geometry history steps (kept_mark (keeps_last fates) (device_of geometry history log.commits)) (left_in_order fates log.commits.disk.moments)
 opened_left geometry history sectors steps log more now past [] is unfinished moments opens inside count gated holds may = absurd (omega (arith, count))
@@ -198,7 +199,7 @@ opened_left geometry history sectors steps log more now past (fate ∷ []) is un
 -- a second half is left
 some_case : (geometry : Geometry) (history : List Entry) (sectors : ℕ) (steps : ℕ) (log : LogState) (more : CommitBody) (now : Medium) (past : List Medium) (fates : List Fate) → IsVolume geometry history sectors steps log
     → StopsInCommitAt log.commits (Some more) → log.commits.unfinished ≡ Some more → log.commits.disk.moments ≡ now ∷ past → 4096 ≤ length now.synced → length fates ≡ length now.pending → HasGate geometry.log log.commits.number log.commits.body more now
-    → HoldsCommitted log history now → MayLeave now (left_in_order fates log.commits.disk.moments)
+    → HoldsList log history now → MayLeave now (left_in_order fates log.commits.disk.moments)
     → ReadsAtMark geometry history steps (kept_mark (keeps_last fates) (device_of geometry history log.commits)) (left_in_order fates log.commits.disk.moments)
 some_case geometry history sectors steps log more now past fates is stops unfinished moments least count gate holds may =
     let left : List ℕ = left_in_order fates log.commits.disk.moments in
@@ -216,7 +217,7 @@ some_case geometry history sectors steps log more now past fates is stops unfini
 
 pub stop_in : (unfinished : Option CommitBody) (geometry : Geometry) (history : List Entry) (sectors : ℕ) (steps : ℕ) (log : LogState) (now : Medium) (past : List Medium) (fates : List Fate) → log.commits.unfinished ≡ unfinished
     → IsVolume geometry history sectors steps log → StopsInCommitAt log.commits unfinished → log.commits.disk.moments ≡ now ∷ past → 4096 ≤ length now.synced → length fates ≡ length now.pending
-    → LeavesEntries log.room.log history (IsLast log.commits) now → HoldsCommitted log history now → IfSome unfinished (λ more. HasGate geometry.log log.commits.number log.commits.body more now)
+    → LeavesList log.room.log history (IsLast log.commits) now → HoldsList log history now → IfSome unfinished (λ more. HasGate geometry.log log.commits.number log.commits.body more now)
     → MayLeave now (left_in_order fates log.commits.disk.moments)
     → ReadsAtMark geometry history steps (kept_mark (keeps_last fates) (device_of geometry history log.commits)) (left_in_order fates log.commits.disk.moments)
 stop_in None geometry history sectors steps log now past fates none is stops moments least count leaves holds gate may =
@@ -239,7 +240,7 @@ gate_in geometry (Some more) commits now past moments log gate =
 
 pub reads_by_fates : (geometry : Geometry) (history : List Entry) (sectors steps : ℕ) (log : LogState) → IsVolume geometry history sectors steps log
     → StopsInCommit (unfinished_in geometry history log.commits.number log.commits.unfinished) log.commits.disk → IsDisk log.commits.disk → log.room.log ≡ log_of log.commits.disk.size
-    → LeavesEntriesNow log (IsLast log.commits) → HoldsCommittedNow log → ReadsByGate log.commits → ReadsByFates (volume_of geometry history steps log)
+    → LeavesListNow log (IsLast log.commits) → HoldsListNow log → ReadsByGate log.commits → ReadsByFates (volume_of geometry history steps log)
 reads_by_fates geometry history sectors steps log is stops is_disk of stands holds gate = λ fates count may.
     let newest = newest_of log.commits.disk.moments is.now in
     let now : Medium = newest.now in
@@ -248,9 +249,9 @@ reads_by_fates geometry history sectors steps log is stops is_disk of stands hol
     let has : HasSize log.commits.disk.size now = (subst (AllByRecursion (HasSize log.commits.disk.size)) newest.is is_disk.media).0 in
     let least : 4096 ≤ log.commits.disk.size = least_of geometry log is.kept.limits is.log_sectors of in
     let log_size : log_of log.commits.disk.size ≡ geometry.log = sym of ∙ is.log_sectors in
-    let P : Option (List Entry) → Type 0 = λ list. IfSome list (λ l. HoldsNow (LeavesEntries log.room.log l (IsLast log.commits)) log.commits.disk.moments) in
-    let Q : Option (List Entry) → Type 0 = λ list. IfSome list (λ l. HoldsNow (HoldsCommitted log l) log.commits.disk.moments) in
-    let leaves = now_is (LeavesEntries log.room.log history (IsLast log.commits)) log.commits.disk.moments now newest.past newest.is (subst P is.entries stands) in
-    let held = now_is (HoldsCommitted log history) log.commits.disk.moments now newest.past newest.is (subst Q is.entries holds) in
+    let P : Option (List Entry) → Type 0 = λ list. IfSome list (λ l. HoldsNow (LeavesList log.room.log l (IsLast log.commits)) log.commits.disk.moments) in
+    let Q : Option (List Entry) → Type 0 = λ list. IfSome list (λ l. HoldsNow (HoldsList log l) log.commits.disk.moments) in
+    let leaves = now_is (LeavesList log.room.log history (IsLast log.commits)) log.commits.disk.moments now newest.past newest.is (subst P is.entries stands) in
+    let held = now_is (HoldsList log history) log.commits.disk.moments now newest.past newest.is (subst Q is.entries holds) in
     stop_in log.commits.unfinished geometry history sectors steps log now newest.past fates refl is (stops_at geometry history log.commits.unfinished log.commits stops) newest.is
     (let e = has.synced in omega (arith, e, least)) (count ∙ ap pending_in newest.is) leaves held (gate_in geometry log.commits.unfinished log.commits now newest.past newest.is log_size gate) may_now

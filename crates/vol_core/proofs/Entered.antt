@@ -14,7 +14,8 @@ use Rattle.commit_slot.proofs.Passing.{passes_as}
 use Rattle.log_room.specs.Room.{Room, empty_log, position, record_sectors, need, free, after_record, pad_before}
 use Rattle.log_record.specs.Grammar.{data_of}
 use Rattle.cache_log.specs.Log.{LogState, HasSameEntries, IsAppended, append_cost, CostsAppend, append_writes, next_seq, row_of, with_appended}
-use Rattle.cache_log.specs.Committed.{LeavesEntries, LeavesEntriesSince}
+use Rattle.cache_log.specs.Committed.{IsOnDisk}
+use Rattle.cache_log.proofs.ForCallers.{LeavesList, LeavesListSince, AreFromFirst, HoldsNone, holds_none, none_reserved}
 use Rattle.plain_disk.specs.Machine.{Disk, Device, batch_refusal, refusal_of, entry_calls, passes_entry, entry_reply, after_entry, without_entry, after_writes}
 use Rattle.batcher.specs.Batch.{data_sectors}
 use Rattle.plain_disk.specs.Machine as machine
@@ -163,13 +164,13 @@ pub record IsEntered (geometry : Geometry) (history : List Entry) (entry : Entry
   pub taken : IsTakenBy geometry (length history) entry
 
 pub entered_kept : (geometry : Geometry) (history : List Entry) (sectors steps at : ℕ) (P : ℕ → CommitBody → Type 0) (entry : Entry) (old new : LogState) → IsVolume geometry history sectors steps old
-    → IsEntered geometry history entry at old new → LeavesEntriesSince old P new.commits.disk
+    → IsEntered geometry history entry at old new → LeavesListSince old P new.commits.disk
     → IsVolume geometry (history ++ entry ∷ []) (sectors + data_sectors entry) steps new
 entered_kept geometry history sectors steps at P entry old new is entered since =
     let size : ℕ = record_sectors entry in
     let commits = entered.commits in
     let longer = length-append history (entry ∷ []) in
-    let rows = ap length entered.appended.rows ∙ length-append old.rows (row_of (position old.room size) entry ∷ []) in
+    let rows = ap length entered.appended.rows ∙ length-append old.rows (row_of (next_seq old) (position old.room size) entry ∷ []) in
     let counted = is.count in
     let toldas = told_after (append_cost old.room size) true old.commits.disk new.commits.disk is.budget is.told entered.appended.calls.costs.calls in
     let Q : CommitBody → Type 0 = λ b. IfSome new.commits.unfinished (IsLaterCommitOf geometry (history ++ entry ∷ []) b) in
@@ -178,7 +179,7 @@ entered_kept geometry history sectors steps at P entry old new is entered since 
       kept = kept_more geometry history sectors entry is.kept entered.taken.in_range;
       entries = entered.appended.entries ∙ ap (λ list. with_appended list entry) is.entries;
       first = entered.appended.first ∙ is.first;
-      count = (let one : length (row_of (position old.room size) entry ∷ []) ≡ 1 = refl in let two' : length (entry ∷ []) ≡ 1 = refl in omega (arith, rows, counted, longer, one, two'));
+      count = (let one : length (row_of (next_seq old) (position old.room size) entry ∷ []) ≡ 1 = refl in let two' : length (entry ∷ []) ≡ 1 = refl in omega (arith, rows, counted, longer, one, two'));
       most = (let e = entered.taken.place in omega (arith, longer, e));
       log_sectors = ap (λ r. r.log) entered.appended.room ∙ is.log_sectors;
       room = entered.appended.room ∙ ap (λ r. after_record r size) is.room ∙ sym (room_more (empty_log geometry.log) history entry);
@@ -226,13 +227,13 @@ entered_as_plain geometry history sectors steps entry old new is may stops tried
 -- ---- what a stop leaves meanwhile
 
 pub stops_since : (geometry : Geometry) (history : List Entry) (sectors steps : ℕ) (IsCount : ℕ → Type 0) (P : ℕ → CommitBody → Type 0) (old : LogState) (new : DiskState) → IsVolume geometry history sectors steps old
-    → ((n : ℕ) (b : CommitBody) → P n b → IsCounted IsCount (plain_of geometry history old) b) → LeavesEntriesSince old P new
+    → ((n : ℕ) (b : CommitBody) → P n b → IsCounted IsCount (plain_of geometry history old) b) → LeavesListSince old P new
     → StopKeepsSince IsCount (volume_of geometry history steps old) new
 stops_since geometry history sectors steps IsCount P old new is of since =
     let plain : Disk = plain_of geometry history old in
-    let Q : Option (List Entry) → Type 0 = λ list. IfSome list (λ l. HoldsSince (LeavesEntries old.room.log l P) old.commits.disk.moments new.moments) in
-    let R : ℕ → Type 0 = λ n. HoldsSince (LeavesEntries n history P) old.commits.disk.moments new.moments in
-    passes_as (LeavesEntries geometry.log history P) (StopKeeps IsCount plain) old.commits.disk.moments new.moments
+    let Q : Option (List Entry) → Type 0 = λ list. IfSome list (λ l. HoldsSince (LeavesList old.room.log l P) old.commits.disk.moments new.moments) in
+    let R : ℕ → Type 0 = λ n. HoldsSince (LeavesList n history P) old.commits.disk.moments new.moments in
+    passes_as (LeavesList geometry.log history P) (StopKeeps IsCount plain) old.commits.disk.moments new.moments
     (λ medium leaves. left_stands IsCount plain P medium is.kept.limits is.kept.in_range of leaves)
     (subst R is.log_sectors (subst Q is.entries since))
 
@@ -242,7 +243,21 @@ last_counted geometry history sectors steps log is n b found =
     let of = last_of geometry history log.commits n b is.last is.left found in
     record { commit = of.commit; flushed = of.flushed; counted = of.counted }
 
-pub entry_stops : (geometry : Geometry) (history : List Entry) (sectors steps : ℕ) (old : LogState) (new : DiskState) → IsVolume geometry history sectors steps old → LeavesEntriesSince old (IsLast old.commits) new
+-- each commit has the seq of the first entry
+pub last_from_first : (geometry : Geometry) (history : List Entry) (sectors steps : ℕ) (log : LogState) → IsVolume geometry history sectors steps log → AreFromFirst log (IsLast log.commits)
+last_from_first geometry history sectors steps log is = λ n b found.
+    let of = last_of geometry history log.commits n b is.last is.left found in
+    ap (λ m. m.seq) of.commit.tail ∙ sym is.first
+
+-- no record is held of the log of a volume
+pub holds_no_record : (geometry : Geometry) (history : List Entry) (sectors steps : ℕ) (log : LogState) → IsVolume geometry history sectors steps log → IsOnDisk log → HoldsNone log
+holds_no_record geometry history sectors steps log is on_disk = holds_none log on_disk (is.first ∙ sym (ap (λ m. m.seq) is.last.tail))
+
+-- nor once memory was taken
+pub none_reserved_of : (log middle : LogState) → middle ≡ record log { reserved = middle.reserved } → HoldsNone log → HoldsNone middle
+none_reserved_of log middle rest none = subst HoldsNone (sym rest) (none_reserved log middle.reserved none)
+
+pub entry_stops : (geometry : Geometry) (history : List Entry) (sectors steps : ℕ) (old : LogState) (new : DiskState) → IsVolume geometry history sectors steps old → LeavesListSince old (IsLast old.commits) new
     → StopKeepsSince (IsCommittedCount (volume_of geometry history steps old)) (volume_of geometry history steps old) new
 entry_stops geometry history sectors steps old new is since =
     stops_since geometry history sectors steps (IsCommittedCount (volume_of geometry history steps old)) (IsLast old.commits) old new is (last_counted geometry history sectors steps old is) since

@@ -28,20 +28,26 @@ use Rattle.commit_slot.specs.Sequence.{first_half_calls, second_half_calls, comm
 use Rattle.log_room.specs.Room.{room_of, empty_log}
 use Rattle.cache_log.specs.Opening.{sectors_between}
 use Rattle.cache_log.specs.Log.{LogState, HasSameEntries}
-use Rattle.cache_log.specs.Committed.{body_of, IsCommittedLog}
+use Rattle.std.proofs.Math.Path.{subst₂}
+use Rattle.cache_log.specs.declared.row.Row.{Row}
+use Rattle.cache_log.specs.Committed.{body_of, sectors_from, IsOnDisk, HasSameList, IsReleased, IsCommittedLog}
 use Rattle.plain_disk.specs.Machine.{Disk, Device, Mark, mark_of, after_writes, after_commit, after_passed, after_flush, flush_reply}
 use Rattle.volume_events.specs.declared.event.Reply.{Reply}
 use Rattle.volume_events.specs.declared.event.Reply.TheVariants.{Flushed, Fault}
 use Rattle.vol_core.specs.Standing.{StopKeepsSince, IsCommittingCount}
 use Rattle.vol_core.specs.Stepping.{HasRoomForCost, flush_cost, IsClosedAt, IsOpenedAt, Reaches}
 use Rattle.commit_slot.proofs.Passing.{passes_as}
-use Rattle.cache_log.specs.Committed.{LeavesEntries, LeavesEntriesSince}
+use Rattle.cache_log.proofs.ForCallers.{LeavesList, LeavesListSince, AreFromFirst, holds_none, from_is_between, same_entries}
 use Rattle.vol_core.specs.Volume.{fuse_in, pending_in, mark_at, gate_is_open, broken_in, room_after, device_of, plain_of, volume_of, IsCommitOf, IsLaterCommitOf, IsVolume}
 use Rattle.vol_core.proofs.Volumes.{IsReady, ready, HasTaken, has_taken, performed, StopsInCommitAt, stops_seen, IsCounted}
 use Rattle.vol_core.proofs.Asked.{IsAsked, IsTold, told_after, now_left, later_as, finished_as, asked_device, asked_stops, newest_of, has_now, device_is}
-use Rattle.vol_core.proofs.Entered.{stops_since, last_counted}
+use Rattle.vol_core.proofs.Entered.{stops_since, last_counted, last_from_first}
 
 -- ---- the calls
+
+-- the sectors in use are those of a commit of all entries, whose tail is the log's beginning
+abbrev pub IsWhole : LogState → Type 0
+IsWhole log = (log.room.used ≡ sectors_between log.room.log (body_of log)) × (log.start ≡ 0)
 
 -- a commit was asked for on a device with room for it
 pub record IsCommitted (geometry : Geometry) (history : List Entry) (old new : LogState) (is_made : Bool) : Type 0 where
@@ -49,7 +55,7 @@ pub record IsCommitted (geometry : Geometry) (history : List Entry) (old new : L
   pub stops : StopsInCommitAt old.commits old.commits.unfinished
   pub is_disk : IsDisk old.commits.disk
   pub least : 4096 ≤ old.commits.disk.size
-  pub used : old.room.used ≡ sectors_between old.room.log (body_of old)
+  pub used : IsWhole old
   pub closed : HasClosedGate old.commits
   pub same : HasSameEntries old new
   pub made : is_made ≡ true → IsCommittedLog old new
@@ -197,17 +203,17 @@ gate_kept number body bytes uuid fits =
 
 -- the body of a commit of all entries
 all_commit : (geometry : Geometry) (history : List Entry) (sectors : ℕ) (steps : ℕ) (old : LogState) → IsVolume geometry history sectors steps old
-    → old.room.used ≡ sectors_between old.room.log (body_of old) → IsCommitOf geometry history (body_of old) × (mark_at geometry history (body_of old) ≡ mark_of (length history) old.room)
+    → IsWhole old → IsCommitOf geometry history (body_of old) × (mark_at geometry history (body_of old) ≡ mark_of (length history) old.room)
 all_commit geometry history sectors steps old is used =
     let count : (body_of old).head.seq ≡ length history = (let b = is.first in let d = is.count in omega (arith, b, d)) in
     let whole : take (body_of old).head.seq history ≡ history = take_all (body_of old).head.seq history (omega (arith, count)) in
     let log : old.room.log ≡ geometry.log = is.log_sectors in
     let own : old.room ≡ room_of geometry.log (body_of old).head.position (sectors_between geometry.log (body_of old)) =
-    ap (λ n. room_of n old.room.head old.room.used) log ∙ ap (room_of geometry.log old.room.head) (used ∙ ap (λ n. sectors_between n (body_of old)) log) in
+    ap (λ n. room_of n old.room.head old.room.used) log ∙ ap (room_of geometry.log old.room.head) (used.0 ∙ ap (λ n. sectors_between n (body_of old)) log) in
     let after : room_after (empty_log geometry.log) (take (body_of old).head.seq history) ≡ old.room = ap (room_after (empty_log geometry.log)) whole ∙ sym is.room in (
       record {
         uuid = is.last.uuid;
-        tail = is.last.tail;
+        tail = ap (λ p. record { position = p; seq = old.first }) used.1 ∙ ap (λ n. record { position = 0; seq = n }) is.first;
         inside = omega (arith, count);
         room = after ∙ own;
       },
@@ -616,7 +622,7 @@ kept_by geometry history sectors steps (Ok made) old new is all whole same told 
 kept_by geometry history sectors steps (Err failed) old new is all whole same told now ok err = failed_kept geometry history sectors steps old new is all whole same told now err.made
 
 pub commit_keeps : {T E : Type 0} (geometry : Geometry) (history : List Entry) (sectors steps : ℕ) (result : Result T E) (cost : Cost) (is_made : Bool) (P : ℕ → CommitBody → Type 0) (old new : LogState) → IsVolume geometry history sectors steps old
-    → old.room.used ≡ sectors_between old.room.log (body_of old) → HasSameEntries old new → MakesCalls cost is_made old.commits.disk new.commits.disk → LeavesEntriesSince old P new.commits.disk
+    → IsWhole old → HasSameEntries old new → MakesCalls cost is_made old.commits.disk new.commits.disk → LeavesListSince old P new.commits.disk
     → OnOk result (IsCommittedLog old new) → OnErr result (FailsToCommit (body_of old) old.commits new.commits) → IsVolume geometry history sectors (steps + 1) new
 commit_keeps geometry history sectors steps result cost is_made P old new is used same calls since ok err =
     let all = all_commit geometry history sectors steps old is used in
@@ -624,7 +630,47 @@ commit_keeps geometry history sectors steps result cost is_made P old new is use
     kept_by geometry history sectors steps result old new is all.0 (omega (arith, count)) same (told_after cost is_made old.commits.disk new.commits.disk is.budget is.told calls)
     (now_left P history old new.commits.disk is.entries since is.now) ok err
 
+-- the last commit made has the log's beginning as its tail, and so the list is all as before
+tail_in_part : (geometry : Geometry) (history : List Entry) (sectors steps : ℕ) (old : LogState) (new : CommitsState) → IsVolume geometry history sectors steps old → IsMadeInPart (body_of old) old.commits new
+    → IsCommitOf geometry history new.body
+tail_in_part geometry history sectors steps old new is (inl at) = subst (IsCommitOf geometry history) (sym at.same_body) is.last
+tail_in_part geometry history sectors steps old new is (inr (inl at)) =
+    subst (IsCommitOf geometry history) (sym at.same_body) (finished_commit geometry history old.commits.body old.commits.unfinished is.last is.left)
+tail_in_part geometry history sectors steps old new is (inr (inr at)) =
+    subst (IsCommitOf geometry history) (sym at.same_body) (finished_commit geometry history old.commits.body old.commits.unfinished is.last is.left)
+
+tail_by : {T E : Type 0} (geometry : Geometry) (history : List Entry) (sectors steps : ℕ) (result : Result T E) (old new : LogState) → IsVolume geometry history sectors steps old → IsCommitOf geometry history (body_of old)
+    → OnOk result (IsCommittedLog old new) → OnErr result (FailsToCommit (body_of old) old.commits new.commits) → IsCommitOf geometry history new.commits.body
+tail_by geometry history sectors steps (Ok made) old new is all ok err = subst (IsCommitOf geometry history) (sym ok.commits.made.same_body) all
+tail_by geometry history sectors steps (Err failed) old new is all ok err = tail_in_part geometry history sectors steps old new.commits is err.made
+
+pub is_whole : (geometry : Geometry) (history : List Entry) (sectors steps : ℕ) (log : LogState) → IsVolume geometry history sectors steps log → IsOnDisk log → IsWhole log
+is_whole geometry history sectors steps log is on_disk =
+    let tail = is.last.tail in
+    let seq : log.first ≡ log.commits.body.tail.seq = is.first ∙ sym (ap (λ m. m.seq) tail) in
+    let none = holds_none log on_disk seq in
+    let start : log.start ≡ 0 = on_disk.start (tail ∙ ap (λ n. record { position = 0; seq = n }) (sym is.first)) in
+    let P : ℕ → List Row → Type 0 = λ p r. log.room.used ≡ sectors_from log.room.log p log.room.head r in
+    let used : P log.start log.rows = subst₂ P (ap (λ m. m.position) tail ∙ sym start) (ap (λ h. h ++ log.rows) none.held) on_disk.used in
+    (used ∙ from_is_between log.room.log (body_of log) log.rows refl, start)
+
+pub all_same : {T E : Type 0} (geometry : Geometry) (history : List Entry) (sectors steps : ℕ) (result : Result T E) (old new : LogState) → IsVolume geometry history sectors steps old → IsOnDisk old → HasSameList old new → IsReleased old new
+    → OnOk result (IsCommittedLog old new) → OnErr result (FailsToCommit (body_of old) old.commits new.commits) → HasSameEntries old new
+all_same geometry history sectors steps result old new is on_disk same released ok err =
+    let all = all_commit geometry history sectors steps old is (is_whole geometry history sectors steps old is on_disk) in
+    let after = tail_by geometry history sectors steps result old new is all.0 ok err in
+    let seq : old.first ≡ old.commits.body.tail.seq = is.first ∙ sym (ap (λ m. m.seq) is.last.tail) in
+    same_entries old new on_disk (holds_none old on_disk seq) (ap (λ m. m.seq) after.tail ∙ sym is.first) (ap (λ m. m.position) after.tail ∙ sym (ap (λ m. m.position) is.last.tail)) same released
+
 -- ---- what a stop leaves meanwhile
+
+-- each commit has the seq of the first entry
+pub or_from_first : (geometry : Geometry) (history : List Entry) (sectors steps : ℕ) (log : LogState) → IsVolume geometry history sectors steps log → AreFromFirst log (IsLastOr log.commits (body_of log))
+or_from_first geometry history sectors steps log is = λ n b found.
+    elim found [
+      | inl last ↦ last_from_first geometry history sectors steps log is n b last
+      | inr made ↦ ap (λ (x : CommitBody). x.tail.seq) made.same_body
+    ]
 
 last_or : (geometry : Geometry) (history : List Entry) (sectors steps : ℕ) (log : LogState) → IsVolume geometry history sectors steps log → IsCommitOf geometry history (body_of log) → (body_of log).head.seq ≡ length history
     → (n : ℕ) (b : CommitBody) → IsLastOr log.commits (body_of log) n b → IsCounted (IsCommittingCount (volume_of geometry history steps log)) (plain_of geometry history log) b
@@ -637,7 +683,7 @@ last_or geometry history sectors steps log is all count n b (inr found) =
     subst P (sym found.same_body) (record { commit = all; flushed = omega (arith, count, inside); counted = inr count })
 
 pub flush_stops : (geometry : Geometry) (history : List Entry) (sectors steps : ℕ) (old : LogState) (new : DiskState) → IsVolume geometry history sectors steps old
-    → old.room.used ≡ sectors_between old.room.log (body_of old) → LeavesEntriesSince old (IsLastOr old.commits (body_of old)) new
+    → IsWhole old → LeavesListSince old (IsLastOr old.commits (body_of old)) new
     → StopKeepsSince (IsCommittingCount (volume_of geometry history steps old)) (volume_of geometry history steps old) new
 flush_stops geometry history sectors steps old new is used since =
     let all = all_commit geometry history sectors steps old is used in

@@ -31,4 +31,4 @@ lent_kept geometry history sectors steps old new is rest tells =
     let log : LogState = record old { commits = with_budget new.commits.disk.budget old.commits } in
     let told = some_of new.commits.disk.budget (tells (is_told old.commits.disk.budget is.budget is.told)) in
     subst (IsVolume geometry history sectors steps) (sym rest)
-    (kept_as_before geometry history sectors steps old log told.0 is (record { entries = refl; rows = refl; room = refl; first = refl }) (record { same_number = refl; same_body = refl; same_unfinished = refl }) told.1 is.now)
+    (kept_as_before geometry history sectors steps old log told.0 is (record { entries = refl; rows = refl; all = refl; held = refl; room = refl; start = refl; first = refl }) (record { same_number = refl; same_body = refl; same_unfinished = refl }) told.1 is.now)

@@ -13,7 +13,7 @@ use Rattle.lsvd_device.proofs.Together.{made_then, failed_then}
 use Rattle.log_record.specs.Grammar.{data_of}
 use Rattle.cache_log.specs.declared.row.Row.{Row}
 use Rattle.cache_log.specs.declared.row.Row.TheVariants.{Write, Zero}
-use Rattle.cache_log.specs.Rows.{position_of, record_size}
+use Rattle.cache_log.specs.Rows.{seq_of, position_of, record_size}
 use Rattle.cache_log.specs.Rows as rows_of_a_log
 use Rattle.cache_log.specs.Log.{LogState, HasSameEntries, AreData, AgreesWith, IsReadFrom, row_of}
 use Rattle.cache_log.proofs.ForCallers.{nothing_taken, as_before_then}
@@ -104,10 +104,10 @@ read_at log list index sector row entry bytes has less is at data' read =
     agrees_at log.rows list index sector row entry bytes less is at data' (subst (λ e. IfSome e (λ l. AgreesWith log.rows l sector bytes)) has read)
 
 -- the row of a last writer is that of its write
-pub row_at : (log : LogState) (index sector count : ℕ) (row : Row) (is : AreDataOf index sector count log) → IfSome log.entries (λ list. (entry : Entry) → slice_get list index ≡ Some entry → row ≡ row_of (position_of row) entry)
-    → row ≡ Write (position_of row) is.lba (length is.body / 512)
+pub row_at : (log : LogState) (index sector count : ℕ) (row : Row) (is : AreDataOf index sector count log) → IfSome log.entries (λ list. (entry : Entry) → slice_get list index ≡ Some entry → row ≡ row_of (seq_of row) (position_of row) entry)
+    → row ≡ Write (seq_of row) (position_of row) is.lba (length is.body / 512)
 row_at log index sector count row is matches =
-    let P : Option (List Entry) → Type 0 = λ e. IfSome e (λ list. (entry : Entry) → slice_get list index ≡ Some entry → row ≡ row_of (position_of row) entry) in
+    let P : Option (List Entry) → Type 0 = λ e. IfSome e (λ list. (entry : Entry) → slice_get list index ≡ Some entry → row ≡ row_of (seq_of row) (position_of row) entry) in
     (subst P is.entries matches) (entries.Write is.lba is.body) is.entry
 
 pub has_row : (log : LogState) (index sector count : ℕ) → AreDataOf index sector count log → index < length log.rows
@@ -117,7 +117,7 @@ has_row log index sector count is = (let e = slice_get_within is.history index (
 
 pub no_reads_made : (log : LogState) → MadeReads 0 true log log
 no_reads_made log = record {
-  same = record { entries = refl; rows = refl; room = refl; first = refl };
+  same = record { entries = refl; rows = refl; all = refl; held = refl; room = refl; start = refl; first = refl };
   commits = record { same_number = refl; same_body = refl; same_unfinished = refl };
   moments = refl;
   calls = record { size = refl; faults = refl; budget = nothing_taken log.commits.disk.budget };
@@ -127,7 +127,10 @@ pub same_then : (old middle new : LogState) → HasSameEntries old middle → Ha
 same_then old middle new first second = record {
   entries = second.entries ∙ first.entries;
   rows = second.rows ∙ first.rows;
+  all = second.all ∙ first.all;
+  held = second.held ∙ first.held;
   room = second.room ∙ first.room;
+  start = second.start ∙ first.start;
   first = second.first ∙ first.first;
 }
 
@@ -151,54 +154,54 @@ reads_failed m n old new first = record {
 -- ---- the row of a run
 
 -- the row of a write that has data from a sector on
-pub record HasRow (index sector count : ℕ) (log : LogState) (row : Row) (at lba sectors : ℕ) : Type 0 where
+pub record HasRow (index sector count : ℕ) (log : LogState) (row : Row) (seq at lba sectors : ℕ) : Type 0 where
   pub data' : AreDataOf index sector count log
   pub place : row ≡ get_or log.rows index row
-  pub row' : row ≡ Write at lba sectors
+  pub row' : row ≡ Write seq at lba sectors
   pub inside : at + (1 + sectors) ≤ 2 ^ 31
   pub lba' : lba ≡ data'.lba
   pub sectors' : sectors ≡ length data'.body / 512
 
-write_parts : (a b c p q r : ℕ) → Write a b c ≡ Write p q r → (b ≡ q) × (c ≡ r)
-write_parts a b c p q r is = (cc, cc)
+write_parts : (s a b c o p q r : ℕ) → Write s a b c ≡ Write o p q r → (b ≡ q) × (c ≡ r)
+write_parts s a b c o p q r is = (cc, cc)
 
-never_zero : (a b c p q r : ℕ) → Zero a b c ≡ Write p q r → ⊥
-never_zero a b c p q r is = cc
+never_zero : (s a b c o p q r : ℕ) → Zero s a b c ≡ Write o p q r → ⊥
+never_zero s a b c o p q r is = cc
 
 pub sectors_data : (writer : Option ℕ) (index sector count : ℕ) (log : LogState) → writer ≡ Some index → AreSectorsOf writer sector count log → AreDataOf index sector count log
 sectors_data writer index sector count log is data' = subst (λ w. AreSectorsOf w sector count log) is data'
 
-pub has_row_at : (index sector count : ℕ) (log : LogState) (row : Row) (at lba sectors : ℕ) → AreDataOf index sector count log → row ≡ get_or log.rows index row → position_of row + record_size row ≤ 2 ^ 31
-    → IfSome log.entries (λ list. (entry : Entry) → slice_get list index ≡ Some entry → row ≡ row_of (position_of row) entry) → row ≡ Write at lba sectors → HasRow index sector count log row at lba sectors
-has_row_at index sector count log row at lba sectors data' place inside matches is =
-    let parts = write_parts at lba sectors (position_of row) data'.lba (length data'.body / 512) (sym is ∙ row_at log index sector count row data' matches) in
+pub has_row_at : (index sector count : ℕ) (log : LogState) (row : Row) (seq at lba sectors : ℕ) → AreDataOf index sector count log → row ≡ get_or log.rows index row → position_of row + record_size row ≤ 2 ^ 31
+    → IfSome log.entries (λ list. (entry : Entry) → slice_get list index ≡ Some entry → row ≡ row_of (seq_of row) (position_of row) entry) → row ≡ Write seq at lba sectors → HasRow index sector count log row seq at lba sectors
+has_row_at index sector count log row seq at lba sectors data' place inside matches is =
+    let parts = write_parts seq at lba sectors (seq_of row) (position_of row) data'.lba (length data'.body / 512) (sym is ∙ row_at log index sector count row data' matches) in
     record { data' = data'; place = place; row' = is; inside = subst (λ r. position_of r + record_size r ≤ 2 ^ 31) is inside; lba' = parts.0; sectors' = parts.1 }
 
-pub no_zero : (index sector count : ℕ) (log : LogState) (row : Row) (at lba sectors : ℕ) → AreDataOf index sector count log
-    → IfSome log.entries (λ list. (entry : Entry) → slice_get list index ≡ Some entry → row ≡ row_of (position_of row) entry) → row ≡ Zero at lba sectors → ⊥
-no_zero index sector count log row at lba sectors data' matches is =
-    never_zero at lba sectors (position_of row) data'.lba (length data'.body / 512) (sym is ∙ row_at log index sector count row data' matches)
+pub no_zero : (index sector count : ℕ) (log : LogState) (row : Row) (seq at lba sectors : ℕ) → AreDataOf index sector count log
+    → IfSome log.entries (λ list. (entry : Entry) → slice_get list index ≡ Some entry → row ≡ row_of (seq_of row) (position_of row) entry) → row ≡ Zero seq at lba sectors → ⊥
+no_zero index sector count log row seq at lba sectors data' matches is =
+    never_zero seq at lba sectors (seq_of row) (position_of row) data'.lba (length data'.body / 512) (sym is ∙ row_at log index sector count row data' matches)
 
 -- its sectors are data of the row
-row_data : (index sector count : ℕ) (log : LogState) (row : Row) (at lba sectors : ℕ) → HasRow index sector count log row at lba sectors → rows_of_a_log.AreDataOfRow row (at + 1 + (sector - lba)) count
-row_data index sector count log row at lba sectors is =
+row_data : (index sector count : ℕ) (log : LogState) (row : Row) (seq at lba sectors : ℕ) → HasRow index sector count log row seq at lba sectors → rows_of_a_log.AreDataOfRow row (at + 1 + (sector - lba)) count
+row_data index sector count log row seq at lba sectors is =
     let from = is.data'.from in
     let to = is.data'.to in
     let first = is.lba' in
     let size = is.sectors' in
-    let data' : rows_of_a_log.AreDataOfRow (Write at lba sectors) (at + 1 + (sector - lba)) count = (omega arith, omega (arith, from, to, first, size)) in
+    let data' : rows_of_a_log.AreDataOfRow (Write seq at lba sectors) (at + 1 + (sector - lba)) count = (omega arith, omega (arith, from, to, first, size)) in
     subst (λ r. rows_of_a_log.AreDataOfRow r (at + 1 + (sector - lba)) count) (sym is.row') data'
 
-pub are_data : (index sector count : ℕ) (log : LogState) (row : Row) (at lba sectors : ℕ) → HasRow index sector count log row at lba sectors → AreData log.rows (at + 1 + (sector - lba)) count
-are_data index sector count log row at lba sectors is =
-    data_at log.rows index (at + 1 + (sector - lba)) count row (has_row log index sector count is.data') is.place (row_data index sector count log row at lba sectors is)
+pub are_data : (index sector count : ℕ) (log : LogState) (row : Row) (seq at lba sectors : ℕ) → HasRow index sector count log row seq at lba sectors → AreData log.rows (at + 1 + (sector - lba)) count
+are_data index sector count log row seq at lba sectors is =
+    data_at log.rows index (at + 1 + (sector - lba)) count row (has_row log index sector count is.data') is.place (row_data index sector count log row seq at lba sectors is)
 
-pub begins_before : (index sector count : ℕ) (log : LogState) (row : Row) (at lba sectors : ℕ) → HasRow index sector count log row at lba sectors → lba ≤ sector
-begins_before index sector count log row at lba sectors is = (let from = is.data'.from in let first = is.lba' in omega (arith, from, first))
+pub begins_before : (index sector count : ℕ) (log : LogState) (row : Row) (seq at lba sectors : ℕ) → HasRow index sector count log row seq at lba sectors → lba ≤ sector
+begins_before index sector count log row seq at lba sectors is = (let from = is.data'.from in let first = is.lba' in omega (arith, from, first))
 
 -- with no byte asked for a run may begin at the end of the data
-pub ends_within : (index sector count : ℕ) (log : LogState) (row : Row) (at lba sectors : ℕ) → HasRow index sector count log row at lba sectors → at + 1 + (sector - lba) ≤ 2 ^ 31
-ends_within index sector count log row at lba sectors is =
+pub ends_within : (index sector count : ℕ) (log : LogState) (row : Row) (seq at lba sectors : ℕ) → HasRow index sector count log row seq at lba sectors → at + 1 + (sector - lba) ≤ 2 ^ 31
+ends_within index sector count log row seq at lba sectors is =
     let data' = is.data' in
     let from = data'.from in
     let to = data'.to in
@@ -221,19 +224,19 @@ first_is log index sector count is history first body entries' entry =
     (one_write is.history index is.lba first is.body body is.entry (ap (λ h. slice_get h index) same ∙ entry)).0
 
 -- what was read is the data of the write
-pub has_read : (index sector : ℕ) (log : LogState) (row : Row) (at lba sectors : ℕ) (old new : List ℕ) → HasRow index sector (length old) log row at lba sectors → length new ≡ length old
+pub has_read : (index sector : ℕ) (log : LogState) (row : Row) (seq at lba sectors : ℕ) (old new : List ℕ) → HasRow index sector (length old) log row seq at lba sectors → length new ≡ length old
     → IsReadFrom log (at + 1 + (sector - lba)) new → HoldsSectorsOf (Some index) sector log old new
-has_read index sector log row at lba sectors old new is size read = λ history first body entries' entry.
+has_read index sector log row seq at lba sectors old new is size read = λ history first body entries' entry.
     let less = has_row log index sector (length old) is.data' in
     let place : position_of row ≡ at = ap position_of is.row' in
-    let data' : rows_of_a_log.AreDataOfRow row (at + 1 + (sector - lba)) (length new) = subst (rows_of_a_log.AreDataOfRow row (at + 1 + (sector - lba))) (sym size) (row_data index sector (length old) log row at lba sectors is) in
+    let data' : rows_of_a_log.AreDataOfRow row (at + 1 + (sector - lba)) (length new) = subst (rows_of_a_log.AreDataOfRow row (at + 1 + (sector - lba))) (sym size) (row_data index sector (length old) log row seq at lba sectors is) in
     let found = read_at log history index (at + 1 + (sector - lba)) row (entries.Write first body) new entries' less is.place entry data' read in
     let same = first_is log index sector (length old) is.data' history first body entries' entry in
     let skipped : at + 1 + (sector - lba) - (position_of row + 1) ≡ sector - first = (let e = is.lba' in omega (arith, place, e, same)) in
     found ∙ ap (λ n. take n (drop (512 * (at + 1 + (sector - lba) - (position_of row + 1))) body)) size ∙ ap (λ n. take (length old) (drop (512 * n) body)) skipped
 
-pub has_read_on_ok : {T E : Type 0} (r : Result T E) (writer : Option ℕ) (index sector : ℕ) (log : LogState) (row : Row) (at lba sectors : ℕ) (old new : List ℕ) → writer ≡ Some index → HasRow index sector (length old) log row at lba sectors → length new ≡ length old
+pub has_read_on_ok : {T E : Type 0} (r : Result T E) (writer : Option ℕ) (index sector : ℕ) (log : LogState) (row : Row) (seq at lba sectors : ℕ) (old new : List ℕ) → writer ≡ Some index → HasRow index sector (length old) log row seq at lba sectors → length new ≡ length old
     → OnOk r (IsReadFrom log (at + 1 + (sector - lba)) new) → OnOk r (HoldsSectorsOf writer sector log old new)
-has_read_on_ok (Ok x) writer index sector log row at lba sectors old new some is size read =
-    subst (λ w. HoldsSectorsOf w sector log old new) (sym some) (has_read index sector log row at lba sectors old new is size read)
-has_read_on_ok (Err e) writer index sector log row at lba sectors old new some is size read = tt
+has_read_on_ok (Ok x) writer index sector log row seq at lba sectors old new some is size read =
+    subst (λ w. HoldsSectorsOf w sector log old new) (sym some) (has_read index sector log row seq at lba sectors old new is size read)
+has_read_on_ok (Err e) writer index sector log row seq at lba sectors old new some is size read = tt

@@ -20,7 +20,8 @@ use Rattle.commit_slot.specs.Commits.{CommitsState, IsLast, IsCommit, finished_n
 use Rattle.log_room.specs.Room.{Room, empty_log, after_record, pad_before, position, record_sectors}
 use Rattle.cache_log.specs.Log.{append_cost, append_writes, up_to}
 use Rattle.cache_log.specs.Rows.{byte_of}
-use Rattle.cache_log.specs.Committed.{HasRecords, LeavesEntries}
+use Rattle.cache_log.specs.Committed.{HasRecords}
+use Rattle.cache_log.proofs.ForCallers.{LeavesList}
 use Rattle.plain_disk.specs.Machine.{Disk, mark_of, IsKept, AllInRange, batch_refusal, reply_of_full, entry_calls}
 use Rattle.batcher.specs.Batch.{data_sectors, max_entries}
 use Rattle.volume_events.specs.declared.event.Reply.{Reply}
@@ -209,7 +210,7 @@ pub record IsCounted (IsCount : ℕ → Type 0) (plain : Disk) (body : CommitBod
   pub counted : IsCount body.head.seq
 
 pub left_stands : (IsCount : ℕ → Type 0) (plain : Disk) (P : ℕ → CommitBody → Type 0) (medium : Medium) → IsTrue (is_within_limits plain.geometry) → AllInRange plain.geometry plain.history
-    → ((n : ℕ) (b : CommitBody) → P n b → IsCounted IsCount plain b) → LeavesEntries plain.geometry.log plain.history P medium → StopKeeps IsCount plain medium
+    → ((n : ℕ) (b : CommitBody) → P n b → IsCounted IsCount plain b) → LeavesList plain.geometry.log plain.history P medium → StopKeeps IsCount plain medium
 left_stands IsCount plain P medium limits in_range of leaves = λ left may.
     let found = leaves left may in
     let body : CommitBody = found.1 in

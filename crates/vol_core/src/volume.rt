@@ -194,8 +194,9 @@ impl<D: Disk> Volume<D> {
         answer
     }
 
-    // Whatever a stop leaves of it now stands for the entries of the last commit, or of the unfinished one.
-    fn stands(&self)
+    /// What is so of every volume on its device, as a fact for the proofs of callers: whatever a stop leaves of that now stands
+    /// for the entries of the last commit, or of the unfinished one. Nothing is done.
+    pub fn stands(&self)
         ensures stands { StopKeepsNow self.now }
         ensures by_fates { FailsByFuse self.now → ReadsByFates self.now }
         ensures is_disk { IsDisk self.now.disk }
@@ -213,6 +214,7 @@ impl<D: Disk> Volume<D> {
         ensures since { OnOk result (StopKeepsSince (IsCommittedCount self.old) self.old self.new.disk) }
         ensures err { OnErr result (self.new ≡ self.old) }
     {
+        self.log.on_disk();
         let count = self.history.len() as u64;
         if let Some(reply) = batch_refusal(&self.geometry, self.data_sectors, count, &entry) {
             return Ok(reply);

@@ -19,12 +19,12 @@ use Rattle.commit_slot.specs.Loading.{MakesAtMost, IsCrashSafeLoad}
 use Rattle.commit_slot.proofs.Passing.{passes_as, passes_on}
 use Rattle.cache_log.specs.declared.row.Row.{Row}
 use Rattle.cache_log.specs.Reads.{reads_cost}
-use Rattle.cache_log.specs.Rows.{log_start, byte_of, entry_of}
+use Rattle.cache_log.specs.Rows.{log_start, byte_of, entry_of, AreNumbered, entries_between}
 use Rattle.cache_log.specs.Opening.{AreRowsOfLog, AreRecordsInRange, entry_count}
-use Rattle.cache_log.specs.Log.{LogState, up_to, next_seq}
+use Rattle.cache_log.specs.Log.{LogState, all_rows, next_seq}
 use Rattle.cache_log.specs.Laws.{MayBeRead}
 use Rattle.cache_log.specs.Committed.{HasRecords, body_of, LeavesEntries, LeavesEntriesSince, LeavesEntriesNow}
-use Rattle.cache_log.proofs.ForCallers.{all_up_to, have_one_list}
+use Rattle.cache_log.proofs.ForCallers.{all_up_to, is_up_to, have_one_list}
 use Rattle.vol_recover.specs.declared.error.MountError.{MountError}
 use Rattle.vol_recover.specs.declared.error.MountError.TheVariants.{NoSlot, Worn, BadRecord, DeviceFault, OutOfMemory}
 use Rattle.vol_recover.specs.Mounting.{IsMounted}
@@ -44,7 +44,10 @@ body_again geometry old log is =
     let body : CommitBody = log.commits.body in
     let position : log.room.head ≡ body.head.position = ap (λ (r : Room). r.head) is.room in
     let seq : next_seq log ≡ body.head.seq = ap (λ n. n + length log.rows) is.first ∙ is.rows.seqs in
-    ap (λ p. record body { head = record { position = p; seq = next_seq log } }) position ∙ ap (λ s. record body { head = record { position = body.head.position; seq = s } }) seq
+    ap (λ p. record body { tail = record { position = log.start; seq = log.first }; head = record { position = p; seq = next_seq log } }) position
+    ∙ ap (λ s. record body { tail = record { position = log.start; seq = log.first }; head = record { position = body.head.position; seq = s } }) seq
+    ∙ ap (λ p. record body { tail = record { position = p; seq = log.first } }) is.start
+    ∙ ap (λ s. record body { tail = record { position = body.tail.position; seq = s } }) is.first
 
 if_told : (entries : Option (List Entry)) (list all : List Entry) → entries ≡ Some all → IfSome entries (λ e. list ≡ e) → list ≡ all
 if_told entries list all is same = (let P : Option (List Entry) → Type 0 = λ e. IfSome e (λ x. list ≡ x) in subst P is same)
@@ -128,12 +131,12 @@ last_or_body log n b none again (inl (inr is)) =
 last_or_body log n b none again (inr is) = (inr (is.same_number ∙ ap (λ u. finished_number log.commits.number u + 1) none), is.same_body ∙ again)
 
 left_again : (sectors : ℕ) (log : LogState) (list : List Entry) (medium : Medium) → log.room.log ≡ sectors → log.commits.unfinished ≡ None → body_of log ≡ log.commits.body
-    → up_to log.commits.body list ≡ list → LeavesEntries log.room.log list (IsLastOr log.commits (body_of log)) medium → LeavesVolume sectors log.commits.number log.commits.body list medium
+    → entries_between log.commits.body (all_rows log) list ≡ list → LeavesEntries log.room.log (all_rows log) list (IsLastOr log.commits (body_of log)) medium → LeavesVolume sectors log.commits.number log.commits.body list medium
 left_again sectors log list medium room none again all leaves = λ left may.
     let is = leaves left may in
     let one = last_or_body log is.0 is.1 none again is.2 in
     let P : ℕ → CommitBody → Type 0 = λ s b. Reads s left b is.0 in
-    let H : ℕ → CommitBody → Type 0 = λ s b. HasRecords s b (up_to b list) left in
+    let H : ℕ → CommitBody → Type 0 = λ s b. HasRecords s b (entries_between b (all_rows log) list) left in
     let K : List Entry → Type 0 = λ l. HasRecords sectors log.commits.body l left in
     record { found = is.0; this_or_next = one.0; read = subst₂ P room one.1 is.3.reads; records = subst K all (subst₂ H room one.1 is.4) }
 
@@ -157,28 +160,40 @@ known geometry old log is =
     (λ now a b. record { read = a; records = b.0; entries = b.1 }) is.read
     (now_with (λ now. AreRecordsInRange geometry log.commits.body log.rows now.bytes) (λ now. log.entries ≡ Some (map (entry_of now.bytes) log.rows)) _ old.moments (λ now a b. (a, b)) is.records is.entries)
 
+-- no record is held of it, and the seqs follow one another from the commit's tail on
+record IsPlain (log : LogState) : Type 0 where
+  held : log.held ≡ []
+  all : log.all ≡ log.entries
+  first : log.first ≡ log.commits.body.tail.seq
+  numbered : AreNumbered log.first log.rows
+
+plain : (geometry : Geometry) (old : DiskState) (log : LogState) → IsOpened geometry old log → IsPlain log
+plain geometry old log is =
+    let P : ℕ → Type 0 = λ n. AreNumbered n log.rows in
+    record { held = is.held; all = is.all; first = is.first; numbered = subst P (sym is.first) is.rows.numbered }
+
 -- any other way to read the device is this one
 again_in : (geometry : Geometry) (size number : ℕ) (body : CommitBody) (rows : List Row) (log : LogState) (old middle new : List Medium) → IsTrue (is_within_limits geometry) → log_start ≤ size → log_of size ≡ geometry.log
-    → AllByRecursion (HasSize size) old → log.room.log ≡ geometry.log → log.commits.unfinished ≡ None → body_of log ≡ log.commits.body → HoldsNow (IsKnown geometry log) old
+    → AllByRecursion (HasSize size) old → log.room.log ≡ geometry.log → log.commits.unfinished ≡ None → body_of log ≡ log.commits.body → IsPlain log → HoldsNow (IsKnown geometry log) old
     → HoldsNow (HasVolume geometry number body rows) old
-    → IfSome log.entries (λ list. HoldsSince (LeavesEntries log.room.log list (IsLastOr log.commits (body_of log))) middle new)
+    → IfSome log.all (λ list. HoldsSince (LeavesEntries log.room.log (all_rows log) list (IsLastOr log.commits (body_of log))) middle new)
     → HoldsNow (λ before. HoldsSince (LeavesVolume geometry.log number body (map (entry_of before.bytes) rows)) old middle) old
     → HoldsNow (λ before. HoldsSince (LeavesVolume geometry.log number body (map (entry_of before.bytes) rows)) old new) old
-again_in geometry size number body rows log [] middle new limits least sectors sizes room none again known both since first = tt
-again_in geometry size number body rows log (before ∷ past) middle new limits least sectors sizes room none again known both since first =
+again_in geometry size number body rows log [] middle new limits least sectors sizes room none again plain known both since first = tt
+again_in geometry size number body rows log (before ∷ past) middle new limits least sectors sizes room none again plain known both since first =
     let one = reads_one geometry.log before.bytes log.commits.number number log.commits.body body known.read both.0 in
     let long : byte_of geometry.log ≤ length before.bytes = (let e = sizes.0.bytes in omega (arith, e, least, sectors)) in
     let may : MayBeRead geometry log.commits.body before.bytes = record { limits = limits; may_stand = known.read.is_open.sector.may_stand; long = long } in
     let B : CommitBody → Type 0 = λ b. AreRecordsInRange geometry b rows before.bytes in
     let same : log.rows ≡ rows = have_one_list geometry log.commits.body log.rows rows before.bytes may known.records (subst B (sym one.1) both.1) in
     let list : List Entry = map (entry_of before.bytes) log.rows in
-    let P : Option (List Entry) → Type 0 = λ e. IfSome e (λ l. HoldsSince (LeavesEntries log.room.log l (IsLastOr log.commits (body_of log))) middle new) in
+    let P : Option (List Entry) → Type 0 = λ e. IfSome e (λ l. HoldsSince (LeavesEntries log.room.log (all_rows log) l (IsLastOr log.commits (body_of log))) middle new) in
     let many = length-map log.rows (entry_of before.bytes) in
     let seqs = known.records.records.seqs in
-    let all : up_to log.commits.body list ≡ list = all_up_to log.commits.body list (omega (arith, many, seqs)) in
+    let all : entries_between log.commits.body (all_rows log) list ≡ list = is_up_to log list log.commits.body plain.held plain.numbered many (sym plain.first) ∙ all_up_to log.commits.body list (omega (arith, many, seqs)) in
     let passes : HoldsSince (LeavesVolume geometry.log log.commits.number log.commits.body list) middle new =
-    passes_as (LeavesEntries log.room.log list (IsLastOr log.commits (body_of log))) (LeavesVolume geometry.log log.commits.number log.commits.body list) middle new
-    (λ medium leaves. left_again geometry.log log list medium room none again all leaves) (subst P known.entries since) in
+    passes_as (LeavesEntries log.room.log (all_rows log) list (IsLastOr log.commits (body_of log))) (LeavesVolume geometry.log log.commits.number log.commits.body list) middle new
+    (λ medium leaves. left_again geometry.log log list medium room none again all leaves) (subst P (plain.all ∙ known.entries) since) in
     let Q : ℕ → CommitBody → List Row → Type 0 = λ n b r. HoldsSince (LeavesVolume geometry.log n b (map (entry_of before.bytes) r)) middle new in
     passes_on (LeavesVolume geometry.log number body (map (entry_of before.bytes) rows)) (before ∷ past) middle new first
     (subst (Q number body) same (subst₂ (λ n b. Q n b log.rows) one.0 one.1 passes))
@@ -187,7 +202,7 @@ pub mount_keeps_volume : (geometry : Geometry) (old : DiskState) (log : LogState
     → LeavesEntriesSince log (IsLastOr log.commits (body_of log)) new → IsCrashSafeMount geometry old new
 mount_keeps_volume geometry old log new may is safe stops = λ number body rows synced both.
     again_in geometry old.size number body rows log old.moments log.commits.disk.moments new.moments may.limits may.size may.sectors may.is_disk.media (ap (λ (r : Room). r.log) is.room) is.finished
-    (body_again geometry old log is) (known geometry old log is) both stops (load_keeps_volume geometry old log.commits.disk may.sectors safe number body rows synced both)
+    (body_again geometry old log is) (plain geometry old log is) (known geometry old log is) both stops (load_keeps_volume geometry old log.commits.disk may.sectors safe number body rows synced both)
 
 -- ---- the volume is not mounted
 

@@ -42,10 +42,13 @@ opened geometry old commits log sectors safe loaded young is =
       young = young;
       finished = loaded.finished;
       room = is.room;
+      held = is.held;
+      start = is.start;
       first = is.first;
       rows = is.rows;
       records = records_before geometry commits.body log.rows old.moments commits.disk.moments safe.log_area is.records;
       entries = subst E (sym is.entries) (entries_before geometry commits.body log.rows old.moments commits.disk.moments safe.log_area is.records);
+      all = is.all;
       in_range = is.in_range;
     } in
     let P : ℕ → CommitBody → Option CommitBody → Type 0 = λ n b u. IsOpened geometry old (record log { commits = record log.commits { number = n; body = b; unfinished = u } }) in

@@ -31,6 +31,7 @@ read_same geometry body rows a b same are = record {
     most = are.records.most;
     follow = are.records.follow;
     end = are.records.end;
+    numbered = are.records.numbered;
     seqs = are.records.seqs;
     records = (same_log_area rows geometry.log body.tail.position body.tail.seq a b same are.records.records).0;
   };

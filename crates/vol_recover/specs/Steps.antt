@@ -1,5 +1,5 @@
 -- For this crate's own clauses: the steps of a mount, and the errors of each.
-use Rattle.std.specs.Prelude.{◌≡◌, ◌+◌, ◌<◌, Some, None, IfSome, IsTrue, true, false, List, length, map}
+use Rattle.std.specs.Prelude.{◌≡◌, ◌+◌, ◌<◌, Some, None, IfSome, IsTrue, true, false, List, [], length, map}
 use Rattle.std.specs.List.{AllByRecursion}
 use Rattle.lsvd_base.specs.declared.entry.Entry.{Entry}
 use Rattle.lsvd_base.specs.declared.geometry.Geometry.{Geometry}
@@ -36,10 +36,13 @@ pub record IsOpened (geometry : Geometry) (old : DiskState) (log : LogState) : T
   pub young : log.commits.number < worn_number
   pub finished : log.commits.unfinished ≡ None
   pub room : log.room ≡ room_of geometry.log log.commits.body.head.position (sectors_between geometry.log log.commits.body)
+  pub held : log.held ≡ []
+  pub start : log.start ≡ log.commits.body.tail.position
   pub first : log.first ≡ log.commits.body.tail.seq
   pub rows : AreRowsOfLog geometry log.commits.body log.rows
   pub records : HoldsNow (λ now. AreRecordsInRange geometry log.commits.body log.rows now.bytes) old.moments
   pub entries : HoldsNow (λ now. log.entries ≡ Some (map (entry_of now.bytes) log.rows)) old.moments
+  pub all : log.all ≡ log.entries
   pub in_range : IfSome log.entries (AllByRecursion (λ entry. IsTrue (is_in_range geometry entry)))
 
 -- a log was committed again

@@ -40,11 +40,12 @@ const WORN: u64 = 1 << 60;
 /// the twelve calls of loading and the five of the commit, at most three reads are made for each
 /// entry.
 ///
-/// An error comes with the device, which is a disk still, and is the first of these that there is:
+/// An error comes with the device, which is a disk still. The first three refuse a volume, and with
+/// one of them it is never mounted:
 ///
 /// - `NoSlot` where no slot is open; the device was but synced then.
-/// - `Worn` exactly where the last commit's number is 2^60 or more.
-/// - `BadRecord` exactly where its log has no list of records up to its head.
+/// - `Worn` where the last commit's number is 2^60 or more.
+/// - `BadRecord` where its log has no list of records up to its head.
 /// - `DeviceFault` where a call of the device failed, which ended the mount.
 /// - `OutOfMemory` where memory ran out, before the commit was begun.
 ///
@@ -121,11 +122,14 @@ fn open_log<D: Disk>(
 fn read_and_commit<D: Disk>(alloc: Global, log: &mut CacheLog<D>) -> Result<Vec<Entry>, MountError>
     requires number { log.old.commits.number < worn_number }
     requires finished { log.old.commits.unfinished ≡ None }
+    requires first { log.old.first ≡ log.old.commits.body.tail.seq }
+    requires start { log.old.start ≡ log.old.commits.body.tail.position }
     ensures ok { OnOk result (IsCommittedAgain log.old log.new) }
     ensures entries { IfOk result (λ list. AreAllEntries list.items log.old) }
     ensures err { IfErr result (λ error. FailsToCommitAgain error log.old log.new) }
 {
     let entries = log.entries_from(alloc, 0)?;
+    log.on_disk();
     log.commit()?;
     Ok(entries)
 }

@@ -18,6 +18,7 @@ ghost use Rattle.vol_replay.specs.Bench.{IsUntouched, LeavesPlain};
 
 use crate::crash::{mount_again, stopped_disk};
 use cache_log::CacheLog;
+use commit_slot::LOG_START;
 use lsvd_base::{Body, Geometry, SECTOR_BYTES};
 use lsvd_device::{Disk, Fate, FuseDisk, MemDisk, StoppedDisk};
 use std::alloc::{AllocError, Global};
@@ -30,9 +31,6 @@ const UUID: [u8; 16] = [0, 0, 0, 0, 0, 0, 0x40, 0, 0x80, 0, 0, 0, 0, 0, 0, 1];
 
 // Its epoch.
 const EPOCH: u64 = 0;
-
-// The first sector of the log stands at this byte of the device.
-const LOG_START: u64 = 4_096;
 
 // The writes and syncs of formatting, and the bytes that they write.
 const FORMAT_CALLS: u64 = 7;
@@ -101,7 +99,7 @@ impl Bench {
         ensures err { OnErr result (IsUntouched self.old self.new) }
     {
         if !self.volume.geometry().may_transfer(lba, sectors) {
-            self.volume.disk();
+            self.volume.stands();
             return Ok(Reply::Range);
         }
         let body = Body::filled(alloc, sectors, byte)?;

@@ -30,4 +30,4 @@ returns-clause-row g c =
     let header : HoldsNow (λ now. IsHeader (log_sectors 0 1 now.bytes) c.args.seq c.args.geometry.now (after_pad c.args.geometry.now.log c.args.place.now) c.in_ok-head-2.head) c.args.commits.now.disk.moments =
     subst (HoldsNow (λ now. IsHeader (log_sectors 0 1 now.bytes) c.args.seq c.args.geometry.now (after_pad c.args.geometry.now.log c.args.place.now) c.in_ok-head-2.head)) same c.in_ok-head-2.ensures.head in
     row_after_pad c.args.geometry.now c.args.place.now c.args.seq c.in_ok-head.head c.in_ok-head-2.head c.in-Some-row_at.row c.args.commits.now.disk.moments (search rules)
-    c.in_ok-head.ensures.in_range c.in_ok-head.ensures.fits c.in_ok-head.ensures.head there.0 there.1 header
+    c.in_ok-head.ensures.in_range c.in_ok-head.ensures.fits c.in_ok-head.ensures.head there.0 there.1 there.2 header

@@ -84,7 +84,7 @@ loop-seq-preserved g c =
     let to_head : ℕ = c.loop-seq.to_head in
     let moments : List Medium = c.args.commits.now.disk.moments in
     let row : Row = c.in_ok-row.row in
-    let fit : FitsFrom geometry (place_of body.head.seq position to_head seq) row = search rules in
+    let fit : FitsFrom geometry (place_of body.head.seq position to_head seq) seq row = search rules in
     let has : HoldsNow (λ now. HasRow geometry (place_of body.head.seq position to_head seq) seq now.bytes row) c.loop-seq.commits.disk.moments = search rules in
     let has_at_first : HoldsNow (λ now. HasRow geometry (place_of body.head.seq position to_head seq) seq now.bytes row) moments =
     subst (λ m. HoldsNow (λ now. HasRow geometry (place_of body.head.seq position to_head seq) seq now.bytes row) m) c.loop-seq.invariant.times.moments has in

@@ -1,66 +1,133 @@
-use Rattle.std.proofs.Common.{◌≡◌, ◌+◌, ℕ, length, sym, ◌∙◌, ap, subst}
+use Rattle.std.proofs.Common.{◌≡◌, ◌+◌, ◌-◌, ◌≤◌, ℕ, List, ◌++◌, length, take, drop, sym, ◌∙◌, ap, subst, arith}
+use Rattle.std.specs.Prelude.{OnOk, OnErr}
+use Rattle.std.proofs.Math.Path.{subst₂}
 use Rattle.commit_body.specs.declared.body.CommitBody.{CommitBody}
+use Rattle.commit_body.specs.declared.body.Mark.{Mark}
 use Rattle.commit_body.specs.Body.{MayStand}
 use Rattle.commit_slot.specs.Slots.{log_of}
-use Rattle.std.specs.Prelude.{OnOk}
 use Rattle.commit_slot.specs.Commits.{CommitsState}
-use Rattle.commit_slot.specs.Committing.{IsCommitted}
-use Rattle.cache_log.proofs.CommitLemmas.{body_with, all_may, HasTried, tried, log_after, IsCommitTried, commit_tried}
+use Rattle.commit_slot.specs.Committing.{IsCommitted, FailsToCommit}
+use Rattle.log_room.specs.Room.{Room, room_of}
+use Rattle.cache_log.specs.declared.row.Row.{Row}
+use Rattle.cache_log.specs.Rows.{since}
+use Rattle.cache_log.specs.Log.{LogState, next_seq}
+use Rattle.cache_log.specs.Committed.{body_of, sectors_from}
+use Rattle.cache_log.specs.Invariant.{IsLog}
+use Rattle.cache_log.proofs.CommitLemmas.{body_with, body_is, all_may, HasTried, left_by, released, IsDropped, dropped_after, log_after, release_log, IsCommitTried, commit_tried}
 use Rattle.cache_log.proofs.CommittedLemmas.{view_of}
-use Rattle.log_room.specs.Room.{Room}
-use Rattle.cache_log.specs.Log.{next_seq}
 use Rattle.cache_log.proofs.log.CacheLog.commit.Given as given
-use Rattle.cache_log.proofs.log.CacheLog.commit.Goals.{After-commit}
+use Rattle.cache_log.proofs.log.CacheLog.commit.Goals.{After-drop_below, After-self-2-1}
 use Rattle.cache_log.proofs.log.CacheLog.commit.Goals as goal
 
--- the body of all entries
-body_is : (body : CommitBody) (place : Room) (read : CommitBody) (position seq number : ℕ) → read ≡ body → position ≡ place.head → number ≡ seq
-    → record read { head = record { position = position; seq = number } } ≡ body_with body place seq
-body_is body place read position seq number same at is =
-    ap (λ (b : CommitBody). record b { head = record { position = position; seq = number } }) same
-    ∙ ap (λ p. record body { head = record { position = p; seq = number } }) at
-    ∙ ap (λ n. record body { head = record { position = place.head; seq = n } }) is
-
-pub commit-requires-clause-may_stand : goal.commit-requires-clause-may_stand
-commit-requires-clause-may_stand g c =
+pub commit-committed-requires-clause-may_stand : goal.commit-committed-requires-clause-may_stand
+commit-committed-requires-clause-may_stand g c =
     let place : Room = c.self.inside.room in
-    let seq : ℕ = c.self.inside.first + length c.self.inside.rows.items in
+    let mark : Mark = c.self.inside.tail in
+    let held : List Row = take c.self.inside.dropped c.self.inside.rows.items in
+    let rows : List Row = drop c.self.inside.dropped c.self.inside.rows.items in
     let old : CommitsState = c.self.inside.commits in
-    let is = body_is old.body place c.body-body.result c.head.result seq c.next_seq.result c.body-body.ensures.body c.head.ensures.head (c.next_seq.ensures ∙ ap next_seq (sym c.self.view_is)) in
-    let may : MayStand (body_with old.body place seq) place.log = all_may place c.self.inside.first c.self.inside.rows.items old c.self.invariant in
-    subst (λ b. MayStand b (log_of old.disk.size)) (sym is) (subst (MayStand (body_with old.body place seq)) c.self.invariant.sectors may)
+    let log = c.self.invariant.1.is in
+    let is = body_is old.body place mark rows c.body-body.result c.head-head.result c.next_seq.result c.body-body.ensures.body c.head-head.ensures.head (c.next_seq.ensures ∙ ap next_seq (sym c.self.view_is)) in
+    subst (λ b. MayStand b (log_of old.disk.size)) (sym is) (subst (MayStand (body_with old.body place mark rows)) log.sectors (all_may place mark held rows old log))
 
--- what the commit of that body left
-left : (g : given.Over) (c : After-commit g)
-    → HasTried (body_with c.self.inside.commits.body c.self.inside.room (c.self.inside.first + length c.self.inside.rows.items)) c.self.inside.commits c.commit.new.self
+-- what the commit of that body left, and what was taken of the rows
+left_then : (g : given.Over) (c : After-drop_below g)
+    → HasTried (body_with c.self.inside.commits.body c.self.inside.room c.self.inside.tail (drop c.self.inside.dropped c.self.inside.rows.items)) c.self.inside.commits c.commit-committed.new.self
+left_then g c =
+    let rows : List Row = drop c.self.inside.dropped c.self.inside.rows.items in
+    let old : CommitsState = c.self.inside.commits in
+    let is = body_is old.body c.self.inside.room c.self.inside.tail rows c.body-body.result c.head-head.result c.next_seq.result c.body-body.ensures.body c.head-head.ensures.head
+    (c.next_seq.ensures ∙ ap next_seq (sym c.self.view_is)) in
+    let e = c.commit-committed.ensures in
+    left_by c.commit-committed.result _ _ _ _ _ _ _ c.self.invariant.1.is is e.ok e.err e.crash_safe e.log_area e.costs.calls.size e.on_disk
+
+dropped_then : (g : given.Over) (c : After-drop_below g)
+    → IsDropped c.self.inside.rows.items c.drop_below.new.rows.items c.self.inside.dropped c.drop_below.result c.commit-committed.new.self.body.tail.seq
+dropped_then g c =
+    dropped_after _ _ _ _ _ _ _ _ _ c.self.invariant.0 c.self.invariant.1.is (left_then g c) (ap (λ (b : CommitBody). b.tail.seq) c.body-last.ensures.body) c.drop_below.ensures.rows c.drop_below.ensures.count
+
+pub overflow_sub-self : goal.overflow_sub-self
+overflow_sub-self g c = (dropped_then g c).few
+
+-- the same at the end
+left : (g : given.Over) (c : After-self-2-1 g)
+    → HasTried (body_with c.self.inside.commits.body c.self.inside.room c.self.inside.tail (drop c.self.inside.dropped c.self.inside.rows.items)) c.self.inside.commits c.commit-committed.new.self
 left g c =
-    let place : Room = c.self.inside.room in
-    let seq : ℕ = c.self.inside.first + length c.self.inside.rows.items in
+    let rows : List Row = drop c.self.inside.dropped c.self.inside.rows.items in
     let old : CommitsState = c.self.inside.commits in
-    let new : CommitsState = c.commit.new.self in
-    let is = body_is old.body place c.body-body.result c.head.result seq c.next_seq.result c.body-body.ensures.body c.head.ensures.head (c.next_seq.ensures ∙ ap next_seq (sym c.self.view_is)) in
-    let e = c.commit.ensures in
-    subst (λ b. HasTried b old new) is (tried c.commit.result _ old new e.ok e.err e.crash_safe e.log_area e.costs.calls.size e.on_disk)
+    let is = body_is old.body c.self.inside.room c.self.inside.tail rows c.body-body.result c.head-head.result c.next_seq.result c.body-body.ensures.body c.head-head.ensures.head
+    (c.next_seq.ensures ∙ ap next_seq (sym c.self.view_is)) in
+    let e = c.commit-committed.ensures in
+    left_by c.commit-committed.result _ _ _ _ _ _ _ c.self.invariant.1.is is e.ok e.err e.crash_safe e.log_area e.costs.calls.size e.on_disk
 
-promised : (g : given.Over) (c : After-commit g) (after : ℕ)
-    → IsCommitTried c.commit.result c.args.self.now (view_of c.self.inside.room c.self.inside.first c.self.inside.rows.items c.commit.new.self after)
-promised g c after =
+dropped : (g : given.Over) (c : After-self-2-1 g)
+    → IsDropped c.self.inside.rows.items c.drop_below.new.rows.items c.self.inside.dropped c.drop_below.result c.commit-committed.new.self.body.tail.seq
+dropped g c =
+    dropped_after _ _ _ _ _ _ _ _ _ c.self.invariant.0 c.self.invariant.1.is (left g c) (ap (λ (b : CommitBody). b.tail.seq) c.body-last.ensures.body) c.drop_below.ensures.rows c.drop_below.ensures.count
+
+-- the room then
+room_is : (g : given.Over) (c : After-self-2-1 g)
+    → c.at-self-inside.result
+    ≡ released c.self.inside.room c.commit-committed.new.self.body (take c.self.inside.dropped c.self.inside.rows.items) (drop c.self.inside.dropped c.self.inside.rows.items)
+room_is g c =
     let place : Room = c.self.inside.room in
-    let seq : ℕ = c.self.inside.first + length c.self.inside.rows.items in
-    let old : CommitsState = c.self.inside.commits in
-    let new : CommitsState = c.commit.new.self in
-    let is = body_is old.body place c.body-body.result c.head.result seq c.next_seq.result c.body-body.ensures.body c.head.ensures.head (c.next_seq.ensures ∙ ap next_seq (sym c.self.view_is)) in
-    commit_tried c.commit.result place c.self.inside.first c.self.inside.rows.items old new _ after c.args.self.now c.self.view_is c.self.invariant (left g c)
-    (subst (λ b. OnOk c.commit.result (IsCommitted b old new)) is c.commit.ensures.ok)
+    let last : CommitBody = c.body-last.result in
+    let items : List Row = c.drop_below.new.rows.items in
+    let used = c.sectors_from-used.ensures.sectors in
+    c.at-self-inside.ensures
+    ∙ ap (room_of c.sectors-log.result c.head-head.result) used
+    ∙ ap (λ l. room_of l c.head-head.result (sectors_from l last.tail.position c.head-head.result items)) c.sectors-log.ensures
+    ∙ ap (λ h. room_of place.log h (sectors_from place.log last.tail.position h items)) c.head-head.ensures.head
+    ∙ ap (λ (b : CommitBody). room_of place.log place.head (sectors_from place.log b.tail.position place.head items)) c.body-last.ensures.body
+    ∙ ap (λ r. room_of place.log place.head (sectors_from place.log c.commit-committed.new.self.body.tail.position place.head r)) (dropped g c).whole
 
 pub invariant_of-self : goal.invariant_of-self
-invariant_of-self g c = (log_after _ _ _ _ _ c.self.invariant (left g c)).log
+invariant_of-self g c =
+    let new : CommitsState = c.commit-committed.new.self in
+    let mark : Mark = c.self.inside.tail in
+    let is = dropped g c in
+    let log = release_log _ _ _ _ _ (log_after _ _ _ _ _ _ c.self.invariant.1.is (left g c)).log in
+    let P : Room → List Row → List Row → Type 0 = λ p h r. IsLog p mark h r new in
+    let held : List Row = since new.body.tail.seq (take c.self.inside.dropped c.self.inside.rows.items) in
+    let rows : List Row = drop c.self.inside.dropped c.self.inside.rows.items in
+    (is.within, subst₂ (λ h r. P c.at-self-inside.result h r) (sym is.held) (sym is.rows) (subst (λ p. P p held rows) (sym (room_is g c)) log))
+
+promised : (g : given.Over) (c : After-self-2-1 g) (after : ℕ)
+    → IsCommitTried c.commit-committed.result c.args.self.now
+    (view_of c.at-self-inside.result c.self.inside.tail (take (c.self.inside.dropped - c.drop_below.result) c.drop_below.new.rows.items) (drop (c.self.inside.dropped - c.drop_below.result) c.drop_below.new.rows.items)
+    c.commit-committed.new.self after)
+promised g c after =
+    let place : Room = c.self.inside.room in
+    let mark : Mark = c.self.inside.tail in
+    let held : List Row = take c.self.inside.dropped c.self.inside.rows.items in
+    let rows : List Row = drop c.self.inside.dropped c.self.inside.rows.items in
+    let old : CommitsState = c.self.inside.commits in
+    let new : CommitsState = c.commit-committed.new.self in
+    let body = body_is old.body place mark rows c.body-body.result c.head-head.result c.next_seq.result c.body-body.ensures.body c.head-head.ensures.head (c.next_seq.ensures ∙ ap next_seq (sym c.self.view_is)) in
+    let is = dropped g c in
+    let done = commit_tried c.commit-committed.result place mark held rows old new _ after c.args.self.now c.self.view_is c.self.invariant.1.is (left g c)
+    (subst (λ b. OnOk c.commit-committed.result (IsCommitted b old new)) body c.commit-committed.ensures.ok) in
+    let P : Room → List Row → List Row → Type 0 = λ p h r. IsCommitTried c.commit-committed.result c.args.self.now (view_of p mark h r new after) in
+    subst₂ (λ h r. P c.at-self-inside.result h r) (sym is.held) (sym is.rows) (subst (λ p. P p (since new.body.tail.seq held) rows) (sym (room_is g c)) done)
 
 pub returns-clause-same : goal.returns-clause-same
 returns-clause-same g c = (promised g c _).same
+
+pub returns-clause-released : goal.returns-clause-released
+returns-clause-released g c = (promised g c _).released
 
 pub returns-clause-ok : goal.returns-clause-ok
 returns-clause-ok g c = (promised g c _).ok
 
 pub returns-clause-stands : goal.returns-clause-stands
 returns-clause-stands g c = (promised g c 0).stands
+
+pub returns-clause-err : goal.returns-clause-err
+returns-clause-err g c =
+    let old : CommitsState = c.self.inside.commits in
+    let new : CommitsState = c.commit-committed.new.self in
+    let rows : List Row = drop c.self.inside.dropped c.self.inside.rows.items in
+    let body = body_is old.body c.self.inside.room c.self.inside.tail rows c.body-body.result c.head-head.result c.next_seq.result c.body-body.ensures.body c.head-head.ensures.head
+    (c.next_seq.ensures ∙ ap next_seq (sym c.self.view_is)) in
+    let E : LogState → Type 0 = λ l. OnErr c.commit-committed.result (FailsToCommit (body_of l) l.commits new) in
+    subst E c.self.view_is (subst (λ b. OnErr c.commit-committed.result (FailsToCommit b old new)) body c.commit-committed.ensures.err)

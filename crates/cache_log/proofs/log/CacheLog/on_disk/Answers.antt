@@ -4,4 +4,4 @@ use Rattle.cache_log.proofs.CommitLemmas.{is_on_disk}
 use Rattle.cache_log.proofs.log.CacheLog.on_disk.Goals as goal
 
 pub returns : goal.returns
-returns g c = subst IsOnDisk c.self.view_is (is_on_disk _ _ _ _ _ c.self.invariant)
+returns g c = subst IsOnDisk c.self.view_is (is_on_disk _ _ _ _ _ _ c.self.invariant.1)

@@ -1,29 +1,34 @@
-use Rattle.std.proofs.Common.{rules, ◌≡◌, ℕ, length, refl, arith}
+use Rattle.std.proofs.Common.{rules, ◌≡◌, ℕ, List, length, refl, sym, subst, arith}
 use Rattle.std.specs.Prelude.{OnOk, take, drop}
 use Rattle.lsvd_device.specs.Device.{HoldsNow}
+use Rattle.cache_log.specs.declared.row.Row.{Row}
 use Rattle.cache_log.specs.Log.{LogState, AreData, entries_in}
-use Rattle.cache_log.proofs.ReadLemmas.{rows_inside, data_inside, is_read_on_ok}
+use Rattle.cache_log.proofs.ReadLemmas.{list_inside, data_inside, is_read_on_ok}
 use Rattle.cache_log.proofs.WriteLemmas.{read_log}
 use Rattle.cache_log.proofs.log.CacheLog.read.Goals as goal
 
 pub byte_of-requires : goal.byte_of-requires
 byte_of-requires g c =
     let log : ℕ = c.self.inside.room.log in
-    let data_there : AreData c.self.inside.rows.items c.args.sector (length c.args.buf.now) = search rules in
-    let all = rows_inside c.self.inside.rows.items log c.self.invariant.tail c.self.inside.room.used c.self.invariant.inside c.self.invariant.room.used c.self.invariant.follow in
-    let ends = data_inside c.self.inside.rows.items log c.args.sector (length c.args.buf.now) all data_there in
-    omega (arith, ends, c.self.invariant.room.limit)
+    let rows : List Row = drop c.self.inside.dropped c.self.inside.rows.items in
+    let of : AreData c.args.self.now.rows c.args.sector (length c.args.buf.now) = c.requires in
+    let P : LogState → Type 0 = λ l. AreData l.rows c.args.sector (length c.args.buf.now) in
+    let data_there : AreData rows c.args.sector (length c.args.buf.now) = subst P (sym c.self.view_is) of in
+    let ends = data_inside rows log c.args.sector (length c.args.buf.now) (list_inside _ _ _ _ _ c.self.invariant.1) data_there in
+    omega (arith, ends, c.self.invariant.1.is.room.limit)
 
 pub read-requires : goal.read-requires
 read-requires g c =
     let log : ℕ = c.self.inside.room.log in
-    let data_there : AreData c.self.inside.rows.items c.args.sector (length c.args.buf.now) = search rules in
-    let all = rows_inside c.self.inside.rows.items log c.self.invariant.tail c.self.inside.room.used c.self.invariant.inside c.self.invariant.room.used c.self.invariant.follow in
-    let ends = data_inside c.self.inside.rows.items log c.args.sector (length c.args.buf.now) all data_there in
-    omega (arith, ends, c.self.invariant.fits, c.byte_of.ensures)
+    let rows : List Row = drop c.self.inside.dropped c.self.inside.rows.items in
+    let of : AreData c.args.self.now.rows c.args.sector (length c.args.buf.now) = c.requires in
+    let P : LogState → Type 0 = λ l. AreData l.rows c.args.sector (length c.args.buf.now) in
+    let data_there : AreData rows c.args.sector (length c.args.buf.now) = subst P (sym c.self.view_is) of in
+    let ends = data_inside rows log c.args.sector (length c.args.buf.now) (list_inside _ _ _ _ _ c.self.invariant.1) data_there in
+    omega (arith, ends, c.self.invariant.1.is.fits, c.byte_of.ensures)
 
 pub invariant_of-self : goal.invariant_of-self
-invariant_of-self g c = read_log _ _ _ _ _ c.self.invariant c.read.ensures.same c.read.ensures.moments c.read.ensures.costs.size c.read.ensures.on_disk
+invariant_of-self g c = (c.self.invariant.0, read_log _ _ _ _ _ _ c.self.invariant.1 c.read.ensures.same c.read.ensures.moments c.read.ensures.costs.size c.read.ensures.on_disk)
 
 pub returns-clause-ok : goal.returns-clause-ok
 returns-clause-ok g c =

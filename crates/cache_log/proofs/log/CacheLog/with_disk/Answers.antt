@@ -1,6 +1,7 @@
-use Rattle.std.proofs.Common.{refl, sym, subst}
+use Rattle.std.proofs.Common.{refl, sym, subst, take, drop}
 use Rattle.std.specs.Prelude.{Option, List}
 use Rattle.lsvd_device.specs.Calls.{Budget}
+use Rattle.commit_body.specs.declared.body.Mark.{Mark}
 use Rattle.commit_slot.specs.Commits.{CommitsState, with_budget}
 use Rattle.commit_slot.specs.OnDisk.{AreOnDisk}
 use Rattle.log_room.specs.Room.{Room}
@@ -23,9 +24,11 @@ other_budget commits budget are = record {
 pub invariant_of-self : goal.invariant_of-self
 invariant_of-self g c =
     let place : Room = c.self.inside.room in
-    let rows : List Row = c.self.inside.rows.items in
+    let mark : Mark = c.self.inside.tail in
+    let held : List Row = take c.self.inside.dropped c.self.inside.rows.items in
+    let rows : List Row = drop c.self.inside.dropped c.self.inside.rows.items in
     let old : CommitsState = c.self.inside.commits in
     let budget : Option Budget = c.with_disk.new.self.disk.budget in
-    let log : IsLog place c.self.inside.first rows (with_budget budget old) =
-    read_log place c.self.inside.first rows old (with_budget budget old) c.self.invariant (record { same_number = refl; same_body = refl; same_unfinished = refl }) refl refl (other_budget old budget c.self.invariant.on_disk) in
-    subst (λ (commits : CommitsState). IsLog place c.self.inside.first rows commits) (sym c.with_disk.ensures.rest) log
+    let log : IsLog place mark held rows (with_budget budget old) =
+    read_log place mark held rows old (with_budget budget old) c.self.invariant.1 (record { same_number = refl; same_body = refl; same_unfinished = refl }) refl refl (other_budget old budget c.self.invariant.1.is.on_disk) in
+    (c.self.invariant.0, subst (λ (commits : CommitsState). IsLog place mark held rows commits) (sym c.with_disk.ensures.rest) log)

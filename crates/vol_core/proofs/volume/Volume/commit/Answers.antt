@@ -9,8 +9,9 @@ use Rattle.cache_log.specs.Committed.{body_of}
 use Rattle.vol_core.specs.Volume.{VolumeState, volume_of}
 use Rattle.vol_core.specs.Standing.{StopKeepsSince, IsCommittingCount}
 use Rattle.vol_core.specs.Stepping.{CanStep, Reaches, flush_cost}
-use Rattle.vol_core.proofs.Entered.{of_view}
-use Rattle.vol_core.proofs.Flushed.{commit_keeps, flush_stops, flushes_as_plain, at_ok, at_err, least_of}
+use Rattle.cache_log.proofs.ForCallers.{list_since}
+use Rattle.vol_core.proofs.Entered.{of_view, holds_no_record}
+use Rattle.vol_core.proofs.Flushed.{commit_keeps, is_whole, all_same, or_from_first, flush_stops, flushes_as_plain, at_ok, at_err, least_of}
 use Rattle.vol_core.proofs.Volumes.{stops_at}
 use Rattle.plain_disk.specs.Machine.{flush_reply, after_flush}
 use Rattle.volume_events.specs.declared.event.Reply.TheVariants.{Flushed, Fault}
@@ -21,7 +22,10 @@ pub invariant_of-self : goal.invariant_of-self
 invariant_of-self g c =
     let log : LogState = c.self.inside.log in
     commit_keeps c.self.inside.geometry c.self.inside.history.items c.self.inside.data_sectors c.self.inside.steps c.commit-committed.result (commit_cost log.commits.unfinished) (is_ok c.commit-committed.result)
-    (IsLastOr log.commits (body_of log)) log c.commit-committed.new.self c.self.invariant c.on_disk.ensures.used c.commit-committed.ensures.same c.commit-committed.ensures.calls.calls c.commit-committed.ensures.stands
+    (IsLastOr log.commits (body_of log)) log c.commit-committed.new.self c.self.invariant (is_whole _ _ _ _ _ c.self.invariant c.on_disk.ensures)
+    (all_same _ _ _ _ c.commit-committed.result log c.commit-committed.new.self c.self.invariant c.on_disk.ensures c.commit-committed.ensures.same c.commit-committed.ensures.released c.commit-committed.ensures.ok c.commit-committed.ensures.err)
+    c.commit-committed.ensures.calls.calls
+    (list_since log (IsLastOr log.commits (body_of log)) c.commit-committed.new.self.commits.disk (holds_no_record _ _ _ _ _ c.self.invariant c.on_disk.ensures) (or_from_first _ _ _ _ _ c.self.invariant) c.commit-committed.ensures.stands)
     c.commit-committed.ensures.ok c.commit-committed.ensures.err
 
 pub returns-clause-since : goal.returns-clause-since
@@ -29,8 +33,8 @@ returns-clause-since g c =
     let log : LogState = c.self.inside.log in
     let P : VolumeState → Type 0 = λ v. StopKeepsSince (IsCommittingCount v) v c.commit-committed.new.self.commits.disk in
     of_view P (volume_of c.self.inside.geometry c.self.inside.history.items c.self.inside.steps log) c.args.self.now c.self.view_is
-    (flush_stops c.self.inside.geometry c.self.inside.history.items c.self.inside.data_sectors c.self.inside.steps log c.commit-committed.new.self.commits.disk c.self.invariant c.on_disk.ensures.used
-    c.commit-committed.ensures.stands)
+    (flush_stops c.self.inside.geometry c.self.inside.history.items c.self.inside.data_sectors c.self.inside.steps log c.commit-committed.new.self.commits.disk c.self.invariant (is_whole _ _ _ _ _ c.self.invariant c.on_disk.ensures)
+    (list_since log (IsLastOr log.commits (body_of log)) c.commit-committed.new.self.commits.disk (holds_no_record _ _ _ _ _ c.self.invariant c.on_disk.ensures) (or_from_first _ _ _ _ _ c.self.invariant) c.commit-committed.ensures.stands))
 
 pub returns-clause-answer : goal.returns-clause-answer
 returns-clause-answer g c =
@@ -51,9 +55,9 @@ returns-clause-answer g c =
       stops = stops_at geometry history log.commits.unfinished log.commits can.by_fuse;
       is_disk = c.on_disk.ensures.commits.is_disk;
       least = least_of geometry log c.self.invariant.kept.limits c.self.invariant.log_sectors c.on_disk.ensures.sectors;
-      used = c.on_disk.ensures.used;
+      used = is_whole _ _ _ _ _ c.self.invariant c.on_disk.ensures;
       closed = c.on_disk.ensures.commits.closed;
-      same = c.commit-committed.ensures.same;
+      same = all_same _ _ _ _ c.commit-committed.result log new c.self.invariant c.on_disk.ensures c.commit-committed.ensures.same c.commit-committed.ensures.released c.commit-committed.ensures.ok c.commit-committed.ensures.err;
       made = λ is. at_ok c.commit-committed.result is c.commit-committed.ensures.ok;
       fails = λ is. at_err c.commit-committed.result is c.commit-committed.ensures.err;
       calls = c.commit-committed.ensures.calls.calls;

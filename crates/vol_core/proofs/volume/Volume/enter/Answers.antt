@@ -14,7 +14,8 @@ use Rattle.vol_core.specs.Standing.{StopKeepsSince, IsCommittedCount}
 use Rattle.vol_core.specs.Stepping.{CanStep, Reaches, entry_cost}
 use Rattle.vol_core.proofs.Volumes.{taken_by}
 use Rattle.vol_core.proofs.Asked.{kept_reserved, kept_failed}
-use Rattle.vol_core.proofs.Entered.{IsAdmitted, IsEntered, IsTried, fails_as_plain, entered_as_plain, entered_kept, entry_stops, nothing_stops, of_view, seen_reserved}
+use Rattle.cache_log.proofs.ForCallers.{list_since}
+use Rattle.vol_core.proofs.Entered.{none_reserved_of, holds_no_record, last_from_first, IsAdmitted, IsEntered, IsTried, fails_as_plain, entered_as_plain, entered_kept, entry_stops, nothing_stops, of_view, seen_reserved}
 use Rattle.vol_core.proofs.volume.Volume.enter.Goals as goal
 
 pub returns-in-Err-NoRoom-clause-since : goal.returns-in-Err-NoRoom-clause-since
@@ -25,7 +26,7 @@ returns-in-Err-NoRoom-clause-since g c =
     let is = kept_reserved c.self.inside.geometry c.self.inside.history.items c.self.inside.data_sectors c.self.inside.steps log middle c.self.invariant c.reserve-2.ensures.rest in
     let P : VolumeState → Type 0 = λ v. StopKeepsSince (IsCommittedCount v) v c.append.new.self.commits.disk in
     of_view P (volume_of c.self.inside.geometry c.self.inside.history.items c.self.inside.steps middle) c.args.self.now seen
-    (entry_stops c.self.inside.geometry c.self.inside.history.items c.self.inside.data_sectors c.self.inside.steps middle c.append.new.self.commits.disk is c.append.ensures.commits.stands)
+    (entry_stops c.self.inside.geometry c.self.inside.history.items c.self.inside.data_sectors c.self.inside.steps middle c.append.new.self.commits.disk is (list_since middle (IsLast middle.commits) c.append.new.self.commits.disk (none_reserved_of c.self.inside.log middle c.reserve-2.ensures.rest (holds_no_record _ _ _ _ _ c.self.invariant c.on_disk.ensures)) (last_from_first _ _ _ _ _ is) c.append.ensures.commits.stands))
 
 pub invariant_of-self-in-Err-DeviceFault : goal.invariant_of-self-in-Err-DeviceFault
 invariant_of-self-in-Err-DeviceFault g c =
@@ -35,7 +36,7 @@ invariant_of-self-in-Err-DeviceFault g c =
     let fails : FailsByFault c.args.entry middle c.append.new.self = rw c.in-Err-DeviceFault.field-0-is at c.in-Err-DeviceFault.ensures.err in
     rw c.reserve.ensures.items
     (kept_failed c.self.inside.geometry c.self.inside.history.items c.self.inside.data_sectors c.self.inside.steps (append_cost middle.room (record_sectors c.args.entry)) false (IsLast middle.commits) middle c.append.new.self is
-    fails.same c.append.ensures.commits.commits fails.calls.costs.calls c.append.ensures.commits.stands)
+    fails.same c.append.ensures.commits.commits fails.calls.costs.calls (list_since middle (IsLast middle.commits) c.append.new.self.commits.disk (none_reserved_of c.self.inside.log middle c.reserve-2.ensures.rest (holds_no_record _ _ _ _ _ c.self.invariant c.on_disk.ensures)) (last_from_first _ _ _ _ _ is) c.append.ensures.commits.stands))
 
 pub returns-in-Err-DeviceFault-clause-since : goal.returns-in-Err-DeviceFault-clause-since
 returns-in-Err-DeviceFault-clause-since g c =
@@ -45,7 +46,7 @@ returns-in-Err-DeviceFault-clause-since g c =
     let is = kept_reserved c.self.inside.geometry c.self.inside.history.items c.self.inside.data_sectors c.self.inside.steps log middle c.self.invariant c.reserve-2.ensures.rest in
     let P : VolumeState → Type 0 = λ v. StopKeepsSince (IsCommittedCount v) v c.append.new.self.commits.disk in
     of_view P (volume_of c.self.inside.geometry c.self.inside.history.items c.self.inside.steps middle) c.args.self.now seen
-    (entry_stops c.self.inside.geometry c.self.inside.history.items c.self.inside.data_sectors c.self.inside.steps middle c.append.new.self.commits.disk is c.append.ensures.commits.stands)
+    (entry_stops c.self.inside.geometry c.self.inside.history.items c.self.inside.data_sectors c.self.inside.steps middle c.append.new.self.commits.disk is (list_since middle (IsLast middle.commits) c.append.new.self.commits.disk (none_reserved_of c.self.inside.log middle c.reserve-2.ensures.rest (holds_no_record _ _ _ _ _ c.self.invariant c.on_disk.ensures)) (last_from_first _ _ _ _ _ is) c.append.ensures.commits.stands))
 
 pub returns-in-Err-DeviceFault-clause-answer : goal.returns-in-Err-DeviceFault-clause-answer
 returns-in-Err-DeviceFault-clause-answer g c =
@@ -80,7 +81,7 @@ invariant_of-self-2 g c =
     let added : c.data_sectors.result ≡ data_sectors entry = search rules in
     rw (pushed, added)
     (entered_kept geometry history c.self.inside.data_sectors c.self.inside.steps c.in-Ok.field-0 (IsLast middle.commits) entry middle new is
-    (record { appended = c.in-Ok.ensures.ok; commits = c.append.ensures.commits.commits; taken = taken_by geometry c.self.inside.data_sectors (length history) entry batch }) c.append.ensures.commits.stands)
+    (record { appended = c.in-Ok.ensures.ok; commits = c.append.ensures.commits.commits; taken = taken_by geometry c.self.inside.data_sectors (length history) entry batch }) (list_since middle (IsLast middle.commits) c.append.new.self.commits.disk (none_reserved_of c.self.inside.log middle c.reserve-2.ensures.rest (holds_no_record _ _ _ _ _ c.self.invariant c.on_disk.ensures)) (last_from_first _ _ _ _ _ is) c.append.ensures.commits.stands))
 
 pub returns-clause-since : goal.returns-clause-since
 returns-clause-since g c =
@@ -90,7 +91,7 @@ returns-clause-since g c =
     let is = kept_reserved c.self.inside.geometry c.self.inside.history.items c.self.inside.data_sectors c.self.inside.steps log middle c.self.invariant c.reserve-2.ensures.rest in
     let P : VolumeState → Type 0 = λ v. StopKeepsSince (IsCommittedCount v) v c.append.new.self.commits.disk in
     of_view P (volume_of c.self.inside.geometry c.self.inside.history.items c.self.inside.steps middle) c.args.self.now seen
-    (entry_stops c.self.inside.geometry c.self.inside.history.items c.self.inside.data_sectors c.self.inside.steps middle c.append.new.self.commits.disk is c.append.ensures.commits.stands)
+    (entry_stops c.self.inside.geometry c.self.inside.history.items c.self.inside.data_sectors c.self.inside.steps middle c.append.new.self.commits.disk is (list_since middle (IsLast middle.commits) c.append.new.self.commits.disk (none_reserved_of c.self.inside.log middle c.reserve-2.ensures.rest (holds_no_record _ _ _ _ _ c.self.invariant c.on_disk.ensures)) (last_from_first _ _ _ _ _ is) c.append.ensures.commits.stands))
 
 pub returns-clause-answer : goal.returns-clause-answer
 returns-clause-answer g c =
