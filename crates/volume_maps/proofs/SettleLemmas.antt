@@ -97,7 +97,7 @@ or_none : (a : Option LogPlace) → option_or a None ≡ a
 or_none None = refl
 or_none (Some a) = refl
 
-left_in_parts : (data_at : ℕ → ℕ) (first : ℕ) (entries later : List Entry) (k : ℕ)
+pub left_in_parts : (data_at : ℕ → ℕ) (first : ℕ) (entries later : List Entry) (k : ℕ)
     → left_at data_at first (entries ++ later) k ≡ option_or (left_at data_at (first + length entries) later k) (left_at data_at first entries k)
 left_in_parts data_at first [] later k =
     let same : first + 0 ≡ first = omega arith in

@@ -1,0 +1,5 @@
+pub mod QueueLemmas
+pub mod OpenLemmas
+pub mod RecoveryLemmas
+pub mod KeepLemmas
+pub mod GrowLemmas

@@ -1,0 +1,63 @@
+-- Contract: what the calls do to the objects of a volume on their way to the store.
+use Rattle.std.specs.Prelude.{◌≡◌, ℕ, ◌+◌, ◌-◌, true, false, not, Bool, List, [], ◌∷◌, ◌++◌}
+use Rattle.lsvd_objstore.specs.Store.{ReceiptState}
+use Rattle.object_format.specs.declared.data_row.DataRow.{DataRow}
+use Rattle.object_stream.specs.Replay.{name_of}
+use Rattle.upload_window.specs.Window.{entered, marked, acknowledged, is_started}
+use Rattle.object_uploads.specs.State.{JobState, QueueState, UploadsState}
+use Rattle.object_uploads.specs.Queue.{with_at, just_sealed, with_spare, with_receipt, HasBytesAt, HasSamePlaces, IsSettledBy, FirstWaits}
+
+-- where the object of a number stands past the frontier
+abbrev pub index_of : UploadsState → ℕ → ℕ
+index_of uploads number = number - (uploads.queue.frontier + 1)
+
+-- ---- sealing
+
+-- the objects up to the frontier are as before, and so are the places
+pub record HasSameSettled (old new : QueueState) : Type 0 where
+  pub frontier : new.frontier ≡ old.frontier
+  pub end : new.end ≡ old.end
+  pub receipts : new.receipts ≡ old.receipts
+  pub places : HasSamePlaces old.maps new.maps
+
+-- an object with these bytes, these rows and this end was sealed under the next number
+pub record IsSealed (bytes : List ℕ) (rows : List DataRow) (end : ℕ) (old new : UploadsState) : Type 0 where
+  pub uuid : new.uuid ≡ old.uuid
+  pub sealed : new.queue.sealed ≡ old.queue.sealed ++ just_sealed bytes rows end ∷ []
+  pub window : new.window ≡ entered (old.window.last + 1) false old.window
+  pub settled : HasSameSettled old.queue new.queue
+
+-- none was, and nothing changed but for room
+pub record IsNotSealed (old new : UploadsState) : Type 0 where
+  pub uuid : new.uuid ≡ old.uuid
+  pub sealed : new.queue.sealed ≡ old.queue.sealed
+  pub window : new.window ≡ old.window
+  pub settled : HasSameSettled old.queue new.queue
+
+-- ---- jobs
+
+-- the objects where a put of one began, or failed
+abbrev pub with_job : (number : ℕ) (started : Bool) → UploadsState → UploadsState
+with_job number started uploads = record uploads {
+  queue = record uploads.queue { sealed = with_at (index_of uploads number) (with_spare (not started)) uploads.queue.sealed };
+  window = marked number started uploads.window;
+}
+
+-- the put of an object's bytes that began
+pub record IsJobOf (uploads : UploadsState) (number : ℕ) (job : JobState) : Type 0 where
+  pub named : job.name ≡ name_of uploads.uuid number
+  pub bytes : HasBytesAt (index_of uploads number) uploads.queue.sealed job.bytes
+
+-- a put is out: it was begun, and these are its object's bytes
+pub record IsOut (uploads : UploadsState) (number : ℕ) (bytes : List ℕ) : Type 0 where
+  pub started : is_started number uploads.window.objects ≡ true
+  pub sealed : HasBytesAt (index_of uploads number) uploads.queue.sealed bytes
+
+-- The put of a number is done, and the store gave this for it: the objects past the frontier are settled up to the first that is not
+-- acknowledged.
+pub record IsDone (number : ℕ) (receipt : ReceiptState) (old new : UploadsState) : Type 0 where
+  pub uuid : new.uuid ≡ old.uuid
+  pub window : new.window ≡ acknowledged number old.window
+  pub count : ℕ
+  pub settled : IsSettledBy count (record old.queue { sealed = with_at (index_of old number) (with_receipt receipt) old.queue.sealed }) new.queue
+  pub waits : FirstWaits new.queue.sealed

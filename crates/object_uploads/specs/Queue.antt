@@ -1,0 +1,111 @@
+-- Contract: what changes the objects of a volume in the order of their numbers.
+use Rattle.std.specs.Prelude.{◌≡◌, ℕ, ◌+◌, ◌≤◌, zero, suc, Bool, true, Option, Some, None, IsSome, List, [], ◌∷◌, ◌++◌, length, take, drop, option_to_list, if◌then◌else◌}
+use Rattle.std.specs.List.{AllByRecursion, sum_by}
+use Rattle.std.specs.Option.{option_or}
+use Rattle.lsvd_base.specs.declared.entry.Entry.{Entry}
+use Rattle.lsvd_objstore.specs.Store.{ReceiptState}
+use Rattle.object_format.specs.declared.data_row.DataRow.{DataRow}
+use Rattle.volume_maps.specs.declared.place.ObjectPlace.{ObjectPlace}
+use Rattle.volume_maps.specs.declared.place.LogPlace.{LogPlace}
+use Rattle.volume_maps.specs.Places.{left_by}
+use Rattle.volume_maps.specs.Maps.{MapsState, RowsFit, settled_at, logged_at, settled_by, logged_by}
+use Rattle.object_uploads.specs.State.{SealedState, QueueState}
+
+-- the objects with the one at an index changed
+abbrev pub with_at : ℕ → (SealedState → SealedState) → List SealedState → List SealedState
+with_at index change [] = []
+with_at zero change (sealed ∷ more) = change sealed ∷ more
+with_at (suc index) change (sealed ∷ more) = sealed ∷ with_at index change more
+
+-- an object that was just sealed, whose bytes are there twice
+abbrev pub just_sealed : (bytes : List ℕ) → List DataRow → (end : ℕ) → SealedState
+just_sealed bytes rows end = record { bytes = bytes; rows = rows; end = end; has_spare = true; receipt = None }
+
+-- an object whose put begins, or whose bytes came back
+abbrev pub with_spare : Bool → SealedState → SealedState
+with_spare has_spare sealed = record sealed { has_spare = has_spare }
+
+-- an object for which the store gave this
+abbrev pub with_receipt : ReceiptState → SealedState → SealedState
+with_receipt receipt sealed = record sealed { receipt = Some receipt }
+
+-- the object at an index has these bytes
+abbrev pub HasBytesAt : ℕ → List SealedState → List ℕ → Type 0
+HasBytesAt index [] bytes = ⊥
+HasBytesAt zero (sealed ∷ more) bytes = bytes ≡ sealed.bytes
+HasBytesAt (suc index) (sealed ∷ more) bytes = HasBytesAt index more bytes
+
+-- an object's second bytes, where they are there
+abbrev pub spare_of : SealedState → Option (List ℕ)
+spare_of sealed = if sealed.has_spare then Some sealed.bytes else None
+
+-- ---- room
+
+-- how many rows an object has
+abbrev pub row_count : SealedState → ℕ
+row_count sealed = length sealed.rows
+
+-- the maps have room for the changes of all rows of the objects past the frontier, and these fit
+pub record HasRoomForRows (sealed : List SealedState) (maps : MapsState) : Type 0 where
+  pub settled : sum_by row_count sealed ≤ maps.settled.spare
+  pub log : sum_by row_count sealed ≤ maps.log.spare
+  pub fit : AllByRecursion (λ sealed. RowsFit sealed.rows) sealed
+
+-- and for a change of the log's map beside these
+abbrev pub HasRoomForEntry : QueueState → Type 0
+HasRoomForEntry queue = sum_by row_count queue.sealed + 1 ≤ queue.maps.log.spare
+
+-- the places are as before
+pub record HasSamePlaces (old new : MapsState) : Type 0 where
+  pub settled : new.settled.rows ≡ old.settled.rows
+  pub log : new.log.rows ≡ old.log.rows
+
+-- An entry with this seq, whose data begin at a sector of the log, was entered into the log's map: each sector that it covers is there.
+pub record IsEntered (entry : Entry) (seq data_at : ℕ) (old new : QueueState) : Type 0 where
+  pub logged : (k : ℕ) → logged_at new.maps k ≡ option_or (left_by seq data_at entry k) (logged_at old.maps k)
+  pub settled : new.maps.settled ≡ old.maps.settled
+  pub sealed : new.sealed ≡ old.sealed
+  pub frontier : new.frontier ≡ old.frontier
+  pub end : new.end ≡ old.end
+  pub receipts : new.receipts ≡ old.receipts
+
+-- ---- settling
+
+-- the places after objects were settled that come after one of a number
+abbrev pub settled_by_all : (number : ℕ) → List SealedState → Option ObjectPlace → ℕ → Option ObjectPlace
+settled_by_all number [] before k = before
+settled_by_all number (sealed ∷ more) before k = settled_by_all (number + 1) more (settled_by (number + 1) sealed.rows before k) k
+
+abbrev pub logged_by_all : List SealedState → Option LogPlace → ℕ → Option LogPlace
+logged_by_all [] before k = before
+logged_by_all (sealed ∷ more) before k = logged_by_all more (logged_by sealed.end sealed.rows before k) k
+
+-- the end of the last of some objects, or the one before them where there is none
+abbrev pub end_of_last : ℕ → List SealedState → ℕ
+end_of_last end [] = end
+end_of_last end (sealed ∷ more) = end_of_last sealed.end more
+
+-- what the store gave for those of some objects that are acknowledged
+abbrev pub receipts_of : List SealedState → List ReceiptState
+receipts_of [] = []
+receipts_of (sealed ∷ more) = option_to_list sealed.receipt ++ receipts_of more
+
+-- the first objects past the frontier, as many as this, were settled: all of them are acknowledged
+pub record IsSettledBy (count : ℕ) (old new : QueueState) : Type 0 where
+  pub within : count ≤ length old.sealed
+  pub acknowledged : AllByRecursion (λ sealed. IsSome sealed.receipt) (take count old.sealed)
+  pub receipts : new.receipts ≡ old.receipts ++ receipts_of (take count old.sealed)
+  pub frontier : new.frontier ≡ old.frontier + count
+  pub end : new.end ≡ end_of_last old.end (take count old.sealed)
+  pub sealed : new.sealed ≡ drop count old.sealed
+  pub settled : (k : ℕ) → settled_at new.maps k ≡ settled_by_all old.frontier (take count old.sealed) (settled_at old.maps k) k
+  pub logged : (k : ℕ) → logged_at new.maps k ≡ logged_by_all (take count old.sealed) (logged_at old.maps k) k
+
+-- an acknowledged object does not stand first
+abbrev pub IsWaiting : Option ReceiptState → Type 0
+IsWaiting None = Unit {0}
+IsWaiting (Some receipt) = ⊥
+
+abbrev pub FirstWaits : List SealedState → Type 0
+FirstWaits [] = Unit {0}
+FirstWaits (sealed ∷ more) = IsWaiting sealed.receipt

@@ -1,0 +1,41 @@
+-- Contract: what is seen of the objects of a volume on their way to the store.
+use Rattle.std.specs.Prelude.{ℕ, Bool, Option, List}
+use Rattle.lsvd_names.specs.declared.name.ObjName.{ObjName}
+use Rattle.lsvd_objstore.specs.Store.{ReceiptState}
+use Rattle.object_format.specs.declared.data_row.DataRow.{DataRow}
+use Rattle.upload_window.specs.Window.{WindowState}
+use Rattle.volume_maps.specs.Maps.{MapsState}
+
+-- a put that is to be made
+pub record JobState : Type 0 where
+  pub name : ObjName
+  pub bytes : List ℕ
+
+-- an object past the frontier
+pub record SealedState : Type 0 where
+  pub bytes : List ℕ
+  pub rows : List DataRow
+  -- how many entries of the history are in it and in the objects before it
+  pub end : ℕ
+  -- whether it has its bytes a second time, for the next put
+  pub has_spare : Bool
+  -- what the store gave for it, once it is acknowledged
+  pub receipt : Option ReceiptState
+
+-- the objects of a volume in the order of their numbers
+pub record QueueState : Type 0 where
+  -- the frontier, and that object's end
+  pub frontier : ℕ
+  pub end : ℕ
+  -- the objects past the frontier, each numbered one more than the one before it
+  pub sealed : List SealedState
+  -- what the store gave for objects up to the frontier, in their order
+  pub receipts : List ReceiptState
+  -- which object up to the frontier has each sector, and where the log has those that later entries changed
+  pub maps : MapsState
+
+-- the objects of a volume, and which of them are on their way to the store
+pub record UploadsState : Type 0 where
+  pub uuid : List ℕ
+  pub queue : QueueState
+  pub window : WindowState

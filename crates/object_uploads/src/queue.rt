@@ -1,0 +1,233 @@
+ghost use Rattle.std.specs.Prelude.{◌≡◌, ◌+◌, ◌-◌, ◌<◌, ◌≤◌, ◌^◌, ℕ, ◌++◌, ◌∷◌, [], length, OnOk, OnErr, IsTrue, IsSome, IfSome, ◌↔◌, false, true};
+ghost use Rattle.std.specs.List.{sum_by, slice_get};
+ghost use Rattle.lsvd_base.specs.Laws.{first_sector, sector_count};
+ghost use Rattle.volume_maps.specs.Places.{log_number, row_left_by};
+ghost use Rattle.volume_maps.specs.Maps.{RowsFit};
+ghost use Rattle.object_uploads.specs.Invariant.{IsOpenAt};
+ghost use Rattle.object_uploads.specs.State.{QueueState};
+ghost use Rattle.object_uploads.specs.Queue.{with_at, just_sealed, with_spare, with_receipt, row_count, HasBytesAt, HasRoomForEntry, HasSamePlaces, IsEntered, IsSettledBy, FirstWaits};
+
+use crate::sealed::Sealed;
+use lsvd_base::{Entry, ObjectBytes};
+use lsvd_objstore::Receipt;
+use object_format::DataRow;
+use std::alloc::{AllocError, Global};
+use std::collections::VecDeque;
+use std::marker::Model;
+use volume_maps::VolumeMaps;
+
+// The objects of a volume in the order of their numbers, with room for all that acknowledging them takes.
+#[derive(Drop)]
+pub(crate) struct Queue<R: Receipt> {
+    frontier: u64,
+    end: u64,
+    sealed: VecDeque<Sealed<R>>,
+    // The rows of the sealed objects, counted here so that a seal need not go over them.
+    rows: usize,
+    receipts: Vec<R>,
+    maps: VolumeMaps,
+}
+
+impl<R: Receipt> Model for Queue<R> {
+    ghost use Rattle.std.specs.Prelude.{◌≡◌, ◌+◌, ◌≤◌, ◌^◌, ◌<◌, length, map, vec_capacity};
+    ghost use Rattle.std.specs.List.{sum_by};
+    ghost use Rattle.object_uploads.specs.Invariant.{IsOpenAt};
+    ghost use Rattle.object_uploads.specs.State.{QueueState};
+    ghost use Rattle.object_uploads.specs.Queue.{row_count, HasRoomForRows};
+
+    ghost Value = { QueueState };
+
+    ghost view = { λ q. record {
+      frontier = q.frontier;
+      end = q.end;
+      sealed = q.sealed.items;
+      receipts = map R.state q.receipts.items;
+      maps = q.maps;
+    } };
+
+    ghost invariant = { λ q.
+        HasRoomForRows q.sealed.items q.maps
+        × (q.rows ≡ sum_by row_count q.sealed.items)
+        × (length q.receipts.items + length q.sealed.items ≤ vec_capacity q.receipts)
+        × (q.frontier + length q.sealed.items < 2 ^ 64) };
+}
+
+impl<R: Receipt> Queue<R> {
+    // No object is past that of this number and this end.
+    pub(crate) fn new(alloc: Global, number: u64, end: u64) -> Queue<R>
+        ensures frontier { result.frontier ≡ number }
+        ensures end { result.end ≡ end }
+        ensures sealed { result.sealed ≡ [] }
+        ensures receipts { result.receipts ≡ [] }
+        ensures settled { result.maps.settled.rows ≡ [] }
+        ensures log { result.maps.log.rows ≡ [] }
+    {
+        Queue {
+            frontier: number,
+            end,
+            sealed: VecDeque::new(alloc),
+            rows: 0,
+            receipts: Vec::new(alloc),
+            maps: VolumeMaps::new(alloc),
+        }
+    }
+
+    // Appends a sealed object, with all the room that it needs later. The one error is out of memory.
+    pub(crate) fn push(
+        &mut self,
+        object: ObjectBytes,
+        spare: ObjectBytes,
+        rows: Vec<DataRow>,
+        end: u64,
+    ) -> Result<(), AllocError>
+        requires spare { spare ≡ object }
+        requires fit { RowsFit rows.items }
+        requires numbers { self.old.frontier + length self.old.sealed + 1 < 2 ^ 64 }
+        ensures sealed { OnOk result (self.new.sealed ≡ self.old.sealed ++ just_sealed object rows.items end ∷ []) }
+        ensures same { OnErr result (self.new.sealed ≡ self.old.sealed) }
+        ensures frontier { self.new.frontier ≡ self.old.frontier }
+        ensures end { self.new.end ≡ self.old.end }
+        ensures receipts { self.new.receipts ≡ self.old.receipts }
+        ensures places { HasSamePlaces self.old.maps self.new.maps }
+        ensures log_kept { self.old.maps.log.spare ≤ self.new.maps.log.spare }
+    {
+        let Some(all) = self.rows.checked_add(rows.len()) else {
+            return Err(AllocError);
+        };
+        self.sealed.reserve(1)?;
+        self.receipts.reserve(self.sealed.len() + 1)?;
+        self.maps.reserve(all, all)?;
+        self.rows = all;
+        self.sealed
+            .push_back_reserved(Sealed::new(object, spare, rows, end));
+        Ok(())
+    }
+
+    // Whether the first object past the frontier is acknowledged.
+    fn first_is_acknowledged(&self) -> bool
+        ensures waits { result ≡ false → FirstWaits self.now.sealed }
+        ensures some { IsTrue result → (FirstWaits self.now.sealed → ⊥) }
+    {
+        match self.sealed.front() {
+            Some(first) => first.is_acknowledged(),
+            None => false,
+        }
+    }
+
+    // Settles the first object past the frontier, which is acknowledged.
+    fn settle_first(&mut self)
+        requires { FirstWaits self.old.sealed → ⊥ }
+        ensures { IsSettledBy 1 self.old self.new }
+    {
+        let Some(first) = self.sealed.pop_front() else {
+            return;
+        };
+        let (rows, end, receipt) = first.into_parts();
+        self.rows -= rows.len();
+        self.frontier += 1;
+        self.end = end;
+        self.maps.settle(self.frontier, end, rows.as_slice());
+        if let Some(receipt) = receipt {
+            self.receipts.push_reserved(receipt);
+        }
+    }
+
+    // Settles the objects past the frontier in the order of their numbers, up to the first that is not acknowledged.
+    pub(crate) fn settle(&mut self)
+        ensures settled { (count : ℕ) × IsSettledBy count self.old self.new }
+        ensures waits { FirstWaits self.new.sealed }
+    {
+        while self.first_is_acknowledged() {
+            self.settle_first();
+        }
+    }
+
+    // The store gave this for the object at an index past the frontier.
+    pub(crate) fn acknowledge(&mut self, index: usize, receipt: R)
+        requires { index < length self.old.sealed }
+        ensures { self.new ≡ record self.old { sealed = with_at index (with_receipt (R.state receipt)) self.old.sealed } }
+    {
+        let Some(sealed) = self.sealed.get_mut(index) else {
+            return;
+        };
+        sealed.acknowledge(receipt);
+    }
+
+    // Takes the second bytes of the object at an index past the frontier, which is open and has them.
+    pub(crate) fn take_spare(&mut self, index: usize) -> ObjectBytes
+        requires { IsOpenAt index self.old.sealed true }
+        ensures bytes { HasBytesAt index self.old.sealed result }
+        ensures taken { self.new ≡ record self.old { sealed = with_at index (with_spare false) self.old.sealed } }
+    {
+        self.sealed.get_mut(index).unwrap().take_spare().unwrap()
+    }
+
+    // Gives the second bytes of the object at an index past the frontier back.
+    pub(crate) fn give_spare(&mut self, index: usize, bytes: ObjectBytes)
+        requires inside { index < length self.old.sealed }
+        requires bytes { HasBytesAt index self.old.sealed bytes }
+        ensures { self.new ≡ record self.old { sealed = with_at index (with_spare true) self.old.sealed } }
+    {
+        let Some(sealed) = self.sealed.get_mut(index) else {
+            return;
+        };
+        sealed.give_spare(bytes);
+    }
+
+    // Whether these are the bytes of the object at an index past the frontier. False is for an index past the last.
+    pub(crate) fn has_bytes(&self, index: usize, bytes: &ObjectBytes) -> bool
+        ensures { IsTrue result ↔ HasBytesAt index self.now.sealed bytes.now }
+    {
+        match self.sealed.get(index) {
+            Some(sealed) => sealed.has_bytes(bytes),
+            None => false,
+        }
+    }
+
+    // Makes room for a change of the log's map, beside that for the objects' rows. The one error is out of memory.
+    pub(crate) fn reserve_entry(&mut self) -> Result<(), AllocError>
+        ensures room { OnOk result (HasRoomForEntry self.new) }
+        ensures sealed { self.new.sealed ≡ self.old.sealed }
+        ensures frontier { self.new.frontier ≡ self.old.frontier }
+        ensures end { self.new.end ≡ self.old.end }
+        ensures receipts { self.new.receipts ≡ self.old.receipts }
+        ensures places { HasSamePlaces self.old.maps self.new.maps }
+        ensures log_kept { self.old.maps.log.spare ≤ self.new.maps.log.spare }
+    {
+        let Some(changes) = self.rows.checked_add(1) else {
+            return Err(AllocError);
+        };
+        self.maps.reserve(0, changes)
+    }
+
+    // Enters an entry with this seq, whose data begin at a sector of the log.
+    pub(crate) fn enter(&mut self, entry: &Entry, seq: u64, data_at: u64)
+        requires room { HasRoomForEntry self.old }
+        requires range { first_sector entry.now + sector_count entry.now < 2 ^ 63 }
+        requires places { log_number (row_left_by seq data_at entry.now).place + sector_count entry.now < 2 ^ 63 }
+        ensures { IsEntered entry.now seq data_at self.old self.new }
+    {
+        self.maps.enter(entry, seq, data_at);
+    }
+
+    // The maps.
+    pub(crate) fn maps(&self) -> &VolumeMaps
+        ensures { result.now ≡ self.now.maps }
+    {
+        &self.maps
+    }
+
+    // The frontier.
+    pub(crate) fn frontier(&self) -> u64
+        ensures { result ≡ self.now.frontier }
+    {
+        self.frontier
+    }
+
+    // Its end.
+    pub(crate) fn end(&self) -> u64
+        ensures { result ≡ self.now.end }
+    {
+        self.end
+    }
+}

@@ -1,0 +1,105 @@
+ghost use Rattle.std.specs.Prelude.{◌≡◌, true, false, None, Some, IsTrue, IsSome, IfSome, option_map, ◌↔◌};
+ghost use Rattle.object_uploads.specs.Queue.{spare_of, just_sealed, with_spare, with_receipt};
+
+use lsvd_base::ObjectBytes;
+use lsvd_objstore::Receipt;
+use object_format::DataRow;
+use std::marker::Model;
+
+// An object past the frontier.
+#[derive(Drop)]
+pub(crate) struct Sealed<R: Receipt> {
+    // With these a job's bytes are compared.
+    object: ObjectBytes,
+    // The same bytes for the next put; none while one is under way.
+    spare: Option<ObjectBytes>,
+    rows: Vec<DataRow>,
+    end: u64,
+    // What the store gave for it, once it is acknowledged.
+    receipt: Option<R>,
+}
+
+impl<R: Receipt> Model for Sealed<R> {
+    ghost use Rattle.std.specs.Prelude.{◌≡◌, IfSome, option_map};
+    ghost use Rattle.std.specs.Option.{is_some};
+    ghost use Rattle.object_uploads.specs.State.{SealedState};
+
+    ghost Value = { SealedState };
+
+    ghost view = { λ s. record {
+      bytes = s.object;
+      rows = s.rows.items;
+      end = s.end;
+      has_spare = is_some s.spare;
+      receipt = option_map R.state s.receipt;
+    } };
+
+    ghost invariant = { λ s. IfSome s.spare (λ bytes. bytes ≡ s.object) };
+}
+
+impl<R: Receipt> Sealed<R> {
+    // The object with these rows and this end, whose bytes are given twice.
+    pub(crate) fn new(
+        object: ObjectBytes,
+        spare: ObjectBytes,
+        rows: Vec<DataRow>,
+        end: u64,
+    ) -> Sealed<R>
+        requires { spare ≡ object }
+        ensures { result ≡ just_sealed object rows.items end }
+    {
+        Sealed {
+            object,
+            spare: Some(spare),
+            rows,
+            end,
+            receipt: None,
+        }
+    }
+
+    // Whether these are its bytes.
+    pub(crate) fn has_bytes(&self, bytes: &ObjectBytes) -> bool
+        ensures { IsTrue result ↔ (bytes.now ≡ self.now.bytes) }
+    {
+        self.object == *bytes
+    }
+
+    // Whether it is acknowledged.
+    pub(crate) fn is_acknowledged(&self) -> bool
+        ensures { IsTrue result ↔ IsSome self.now.receipt }
+    {
+        self.receipt.is_some()
+    }
+
+    // Takes its second bytes for a put, where they are there.
+    pub(crate) fn take_spare(&mut self) -> Option<ObjectBytes>
+        ensures spare { result ≡ spare_of self.old }
+        ensures taken { self.new ≡ with_spare false self.old }
+    {
+        self.spare.take()
+    }
+
+    // Gives its second bytes back.
+    pub(crate) fn give_spare(&mut self, bytes: ObjectBytes)
+        requires { bytes ≡ self.old.bytes }
+        ensures { self.new ≡ with_spare true self.old }
+    {
+        self.spare = Some(bytes);
+    }
+
+    // The store gave this for it.
+    pub(crate) fn acknowledge(&mut self, receipt: R)
+        ensures { self.new ≡ with_receipt (R.state receipt) self.old }
+    {
+        self.receipt = Some(receipt);
+    }
+
+    // Its parts, once it is acknowledged.
+    pub(crate) fn into_parts(self) -> (Vec<DataRow>, u64, Option<R>)
+        ensures rows { result.0.items ≡ self.rows }
+        ensures end { result.1 ≡ self.end }
+        ensures receipt { option_map R.state result.2 ≡ self.receipt }
+    {
+        (self.rows, self.end, self.receipt)
+    }
+}
