@@ -1,0 +1,146 @@
+-- The list stays that of a stream.
+use Rattle.std.proofs.Common.{◌≡◌, ℕ, ◌+◌, ◌-◌, ◌<◌, ◌≤◌, None, List, [], ◌∷◌, ◌++◌, length, take, drop, refl, sym, ◌∙◌, ap, subst, arith, length-drop}
+use Rattle.std.proofs.lemmas.Bool.Decides.{nat_tests}
+use Rattle.std.proofs.lemmas.List.{drop-drop, drop-append-le}
+use Rattle.lsvd_base.specs.declared.geometry.Geometry.{Geometry}
+use Rattle.object_format.specs.declared.rows.Rows.TheVariants.{Data}
+use Rattle.object_format.specs.Writing.{header_of}
+use Rattle.object_stream.specs.declared.object.Content.TheVariants as content
+use Rattle.object_stream.specs.Changes.{change_at}
+use Rattle.object_stream.specs.Replay.{HasParts, expected_at}
+use Rattle.object_stream.specs.Stream.{Stream, end_at, last_number, unsealed, IsStream}
+use Rattle.object_stream.proofs.StreamLemmas.{end_no_earlier}
+use Rattle.batcher.specs.State.{BatchState}
+use Rattle.object_uploads.specs.Queue.{just_sealed, IsEntered}
+use Rattle.object_uploads.specs.Order.{IsUploads}
+use Rattle.object_uploads.specs.Stream.{IsSealedOf, AreOfStream}
+use Rattle.object_uploads.specs.Laws.{with_entry, with_data_object}
+use Rattle.object_uploads.proofs.GrowLemmas as grow
+use Rattle.object_uploads.proofs.KeepLemmas as keep
+use Rattle.obj_log.specs.State.{ObjLogState}
+use Rattle.obj_log.specs.Changes.{volume_of, next_of, IsSealed}
+use Rattle.obj_log.specs.Stream.{IsOfStream}
+use Rattle.obj_log.specs.Laws.{AddingKeepsStream, SealingKeepsStream, JobsKeepStream, DoneKeepsStream}
+
+pub jobs_keep_stream : JobsKeepStream
+jobs_keep_stream data_at stream log number started is = record {
+  objects = keep.jobs_keep_stream (volume_of log) data_at stream log.uploads number started is.objects;
+  first = is.first;
+  entries = is.entries;
+}
+
+-- what is expected of objects is the same while the uuid and the sizes are
+same_volume : (old new : ObjLogState) → new.uploads.uuid ≡ old.uploads.uuid → new.batch.geometry ≡ old.batch.geometry → volume_of old ≡ volume_of new
+same_volume old new uuid geometry =
+    ap (λ (u : List ℕ). record { uuid = u; number = 0; sectors = old.batch.geometry.sectors; ancestors = 0; end_before = None }) (sym uuid)
+    ∙ ap (λ (g : Geometry). record { uuid = new.uploads.uuid; number = 0; sectors = g.sectors; ancestors = 0; end_before = None }) (sym geometry)
+
+pub done_keeps_stream : DoneKeepsStream
+done_keeps_stream data_at stream old new number receipt uploads is done same =
+    let volume = same_volume old new done.uuid (ap (λ (b : BatchState). b.geometry) same) in
+    record {
+      objects =
+          subst (λ v. AreOfStream v data_at stream new.uploads) volume
+          (keep.done_keeps_stream (volume_of old) data_at stream old.uploads new.uploads number receipt uploads is.objects done);
+      first = ap (λ (b : BatchState). b.first) same ∙ is.first;
+      entries = ap (λ (b : BatchState). b.entries) same ∙ is.entries;
+    }
+
+-- the last end of a stream is none before its first, and within its history
+last_order : (stream : Stream) → IsStream stream → stream.end ≤ end_at stream (last_number stream)
+last_order stream valid = rw (grow.all_objects stream) (end_no_earlier stream.end stream.objects valid.ends)
+
+-- the seq of the next entry
+module _ (data_at : ℕ → ℕ) (stream : Stream) (log : ObjLogState) (is : IsOfStream data_at stream log) where
+  abbrev last_end : ℕ
+  last_end = end_at stream (last_number stream)
+
+  order : stream.end ≤ last_end
+  order = last_order stream is.objects.valid
+
+  unsealed_size : length log.batch.entries ≡ length stream.entries - (last_end - stream.end)
+  unsealed_size = ap length is.entries ∙ length-drop (last_end - stream.end) stream.entries
+
+  next_seq : log.batch.first + length log.batch.entries ≡ stream.end + length stream.entries
+  next_seq = omega (arith, order, unsealed_size, is.first, is.objects.valid.within)
+
+pub adding_keeps_stream : AddingKeepsStream
+adding_keeps_stream data_at stream old new entry uploads is added =
+    let volume = same_volume old new added.uuid added.geometry in
+    let seq = next_seq data_at stream old is in
+    let place = data_at (stream.end + length stream.entries) in
+    let entered = subst (λ s. IsEntered entry s place old.uploads.queue new.uploads.queue) seq added.entered in
+    let last = end_at stream (last_number stream) in
+    let less : last - stream.end ≤ length stream.entries = omega (arith, is.objects.valid.within) in
+    record {
+      objects =
+          subst (λ v. AreOfStream v data_at (with_entry entry stream) new.uploads) volume
+          (grow.entering_keeps_stream (volume_of old) data_at stream old.uploads new.uploads entry uploads is.objects entered added.window);
+      first = added.first ∙ is.first;
+      entries =
+          added.entries
+          ∙ (ap (λ es. es ++ entry ∷ []) is.entries ∙ sym (drop-append-le (last - stream.end) stream.entries (entry ∷ []) less));
+    }
+
+module _ (data_at : ℕ → ℕ) (stream : Stream) (old new : ObjLogState) (is : IsOfStream data_at stream old) (sealed : IsSealed old new) where
+  abbrev last : ℕ
+  last = end_at stream (last_number stream)
+
+  abbrev end : ℕ
+  end = old.batch.first + sealed.count
+
+  goes_on : old.batch.first < end
+  goes_on = grind (arith, nat_tests, sealed.parts.is_object.head.seqs)
+
+  past : last < end
+  past = omega (arith, goes_on, is.first)
+
+  within : end ≤ stream.end + length stream.entries
+  within = omega (arith, sealed.is_count.within, next_seq data_at stream old is)
+
+  taken : take (end - last) (unsealed stream) ≡ take sealed.count old.batch.entries
+  taken =
+      let size : end - last ≡ sealed.count = omega (arith, is.first) in
+      ap (λ n. take n (unsealed stream)) size ∙ ap (take sealed.count) (sym is.entries)
+
+  expected_same : next_of old ≡ expected_at (volume_of old) (last_number stream + 1) last
+  expected_same =
+      ap (λ n. expected_at (volume_of old) (n + 1) old.batch.first) (sym is.objects.last)
+      ∙ ap (expected_at (volume_of old) (last_number stream + 1)) is.first
+
+  is_sealed_of : IsSealedOf (expected_at (volume_of old) (last_number stream + 1) last) (take (end - last) (unsealed stream))
+      (record { content = content.Data; end = end }) (just_sealed sealed.bytes sealed.rows.items end)
+  is_sealed_of = record {
+    content = refl;
+    end = refl;
+    header = header_of (next_of old) old.batch.first end (Data sealed.rows);
+    rows_of = Data sealed.rows;
+    payload = sealed.payload;
+    parts =
+        subst (λ e. HasParts e sealed.bytes (header_of (next_of old) old.batch.first end (Data sealed.rows)) (Data sealed.rows) sealed.payload)
+        expected_same sealed.parts;
+    rows_are = refl;
+    ends = refl;
+    changes = λ k. sealed.changes k ∙ ap (λ es. change_at es k) (sym taken);
+  }
+
+  rest : drop sealed.count old.batch.entries ≡ unsealed (with_data_object end stream)
+  rest =
+      let order = last_order stream is.objects.valid in
+      let sum : last - stream.end + sealed.count ≡ end - stream.end = omega (arith, order, is.first) in
+      ap (drop sealed.count) is.entries
+      ∙ (drop-drop sealed.count (last - stream.end) stream.entries
+      ∙ (ap (λ n. drop n stream.entries) sum ∙ ap (λ e. drop (e - stream.end) stream.entries) (sym (grow.end_of_more stream end))))
+
+  grown : IsUploads old.uploads.queue old.uploads.window → IsOfStream data_at (with_data_object end stream) new
+  grown uploads = record {
+    objects =
+        subst (λ v. AreOfStream v data_at (with_data_object end stream) new.uploads) (same_volume old new sealed.uploads.uuid sealed.geometry)
+        (grow.sealing_keeps_stream (volume_of old) data_at stream old.uploads new.uploads sealed.bytes sealed.rows.items end uploads is.objects past within is_sealed_of sealed.uploads);
+    first = sealed.first ∙ sym (grow.end_of_more stream end);
+    entries = sealed.entries ∙ rest;
+  }
+
+pub sealing_keeps_stream : SealingKeepsStream
+sealing_keeps_stream data_at stream old new uploads is sealed =
+    subst (λ e. IsOfStream data_at (with_data_object e stream) new) (sym sealed.first) (grown data_at stream old new is sealed uploads)

@@ -1,0 +1,60 @@
+-- Contract: what the calls do to the list.
+use Rattle.std.specs.Prelude.{◌≡◌, ℕ, ◌+◌, ◌≤◌, None, List, [], ◌∷◌, ◌++◌, length, take, drop}
+use Rattle.std.specs.Global.{Vec}
+use Rattle.lsvd_base.specs.declared.entry.Entry.{Entry}
+use Rattle.object_format.specs.declared.data_row.DataRow.{DataRow}
+use Rattle.object_format.specs.declared.expected.Expected.{Expected}
+use Rattle.object_format.specs.declared.rows.Rows.TheVariants.{Data}
+use Rattle.object_format.specs.Writing.{header_of}
+use Rattle.object_stream.specs.Changes.{change_at, change_in}
+use Rattle.object_stream.specs.Replay.{HasParts, expected_at}
+use Rattle.batcher.specs.Batch.{IsSealedCount}
+use Rattle.object_uploads.specs.Queue.{IsEntered, HasRoomForEntry}
+use Rattle.object_uploads.specs.Changes as uploads
+use Rattle.obj_log.specs.State.{ObjLogState}
+
+-- there is memory for an entry more
+pub record HasRoom (log : ObjLogState) : Type 0 where
+  pub batch : 1 ≤ log.batch.reserved
+  pub uploads : HasRoomForEntry log.uploads.queue
+
+-- nothing changed but for room
+pub record IsSame (old new : ObjLogState) : Type 0 where
+  pub geometry : new.batch.geometry ≡ old.batch.geometry
+  pub first : new.batch.first ≡ old.batch.first
+  pub entries : new.batch.entries ≡ old.batch.entries
+  pub uploads : uploads.IsNotSealed old.uploads new.uploads
+
+-- an entry was added at the end, and its data begin at this sector of the log
+pub record IsAdded (entry : Entry) (data_at : ℕ) (old new : ObjLogState) : Type 0 where
+  pub geometry : new.batch.geometry ≡ old.batch.geometry
+  pub first : new.batch.first ≡ old.batch.first
+  pub entries : new.batch.entries ≡ old.batch.entries ++ entry ∷ []
+  pub entered : IsEntered entry (old.batch.first + length old.batch.entries) data_at old.uploads.queue new.uploads.queue
+  pub window : new.uploads.window ≡ old.uploads.window
+  pub uuid : new.uploads.uuid ≡ old.uploads.uuid
+
+-- ---- sealing
+
+-- what is expected of the objects of a volume without ancestors, but for their numbers and ends
+abbrev pub volume_of : ObjLogState → Expected
+volume_of log = record { uuid = log.uploads.uuid; number = 0; sectors = log.batch.geometry.sectors; ancestors = 0; end_before = None }
+
+-- and of the next one
+abbrev pub next_of : ObjLogState → Expected
+next_of log = expected_at (volume_of log) (log.uploads.window.last + 1) log.batch.first
+
+-- The fewest first entries of the batch that are full, or all where they are never full, were sealed into the next object, which does
+-- to each sector just what they do. The batch goes on with the others.
+pub record IsSealed (old new : ObjLogState) : Type 0 where
+  pub count : ℕ
+  pub is_count : IsSealedCount old.batch.geometry.batch old.batch.entries count
+  pub bytes : List ℕ
+  pub rows : Vec DataRow
+  pub payload : List ℕ
+  pub parts : HasParts (next_of old) bytes (header_of (next_of old) old.batch.first (old.batch.first + count) (Data rows)) (Data rows) payload
+  pub changes : (k : ℕ) → change_in rows.items payload k ≡ change_at (take count old.batch.entries) k
+  pub uploads : uploads.IsSealed bytes rows.items (old.batch.first + count) old.uploads new.uploads
+  pub geometry : new.batch.geometry ≡ old.batch.geometry
+  pub first : new.batch.first ≡ old.batch.first + count
+  pub entries : new.batch.entries ≡ drop count old.batch.entries

@@ -1,0 +1,37 @@
+-- Contract: what the calls keep of a stream.
+use Rattle.std.specs.Prelude.{◌≡◌, ℕ, ◌+◌, Bool, length}
+use Rattle.lsvd_base.specs.declared.entry.Entry.{Entry}
+use Rattle.lsvd_objstore.specs.Store.{ReceiptState}
+use Rattle.object_stream.specs.Stream.{Stream}
+use Rattle.object_uploads.specs.Order.{IsUploads}
+use Rattle.object_uploads.specs.Changes.{with_job, IsDone}
+use Rattle.object_uploads.specs.Laws.{with_entry, with_data_object}
+use Rattle.obj_log.specs.State.{ObjLogState}
+use Rattle.obj_log.specs.Changes.{IsAdded, IsSealed}
+use Rattle.obj_log.specs.Stream.{IsOfStream}
+
+-- a list of a stream is that of the stream with one entry more, once that was added
+abbrev pub AddingKeepsStream : Type 0
+AddingKeepsStream =
+    (data_at : ℕ → ℕ) (stream : Stream) (old new : ObjLogState) (entry : Entry)
+    → IsUploads old.uploads.queue old.uploads.window → IsOfStream data_at stream old
+    → IsAdded entry (data_at (stream.end + length stream.entries)) old new → IsOfStream data_at (with_entry entry stream) new
+
+-- and, once some were sealed, that of the stream with a data object more, which ends where the batch begins then
+abbrev pub SealingKeepsStream : Type 0
+SealingKeepsStream =
+    (data_at : ℕ → ℕ) (stream : Stream) (old new : ObjLogState)
+    → IsUploads old.uploads.queue old.uploads.window → IsOfStream data_at stream old
+    → IsSealed old new → IsOfStream data_at (with_data_object new.batch.first stream) new
+
+-- while puts begin, fail and are done it stays that of the stream
+abbrev pub JobsKeepStream : Type 0
+JobsKeepStream =
+    (data_at : ℕ → ℕ) (stream : Stream) (log : ObjLogState) (number : ℕ) (started : Bool)
+    → IsOfStream data_at stream log → IsOfStream data_at stream (record log { uploads = with_job number started log.uploads })
+
+abbrev pub DoneKeepsStream : Type 0
+DoneKeepsStream =
+    (data_at : ℕ → ℕ) (stream : Stream) (old new : ObjLogState) (number : ℕ) (receipt : ReceiptState)
+    → IsUploads old.uploads.queue old.uploads.window → IsOfStream data_at stream old
+    → IsDone number receipt old.uploads new.uploads → new.batch ≡ old.batch → IsOfStream data_at stream new

@@ -1,0 +1,4 @@
+pub mod State
+pub mod Changes
+pub mod Stream
+pub mod Laws

@@ -1,0 +1,213 @@
+ghost use Rattle.std.specs.Prelude.{◌≡◌, ◌+◌, ◌-◌, ◌<◌, ◌≤◌, ◌^◌, ℕ, ◌↔◌, [], length, option_map, Err, IsTrue, IsErr, IfOk, IfErr, IfSome, IfNone, OnOk, OnErr, true, false};
+ghost use Rattle.std.specs.List.{sum_by, slice_get};
+ghost use Rattle.lsvd_base.specs.Limits.{is_within_limits};
+ghost use Rattle.lsvd_base.specs.Range.{is_in_range};
+ghost use Rattle.lsvd_base.specs.Laws.{sector_count};
+ghost use Rattle.extent_map.specs.Extents.{place_at, place_in_range, IsShortest};
+ghost use Rattle.object_stream.specs.Replay.{name_of};
+ghost use Rattle.upload_window.specs.Window.{lowest_ready, IsFrontier};
+ghost use Rattle.volume_maps.specs.Places.{volume_on};
+ghost use Rattle.volume_maps.specs.Maps.{volume_place_at};
+ghost use Rattle.batcher.specs.Batch.{data_sectors};
+ghost use Rattle.object_uploads.specs.Changes.{with_job, IsJobOf, IsOut, IsDone};
+ghost use Rattle.obj_log.specs.declared.error.SealError.TheVariants as errors;
+ghost use Rattle.obj_log.specs.State.{ObjLogState};
+ghost use Rattle.obj_log.specs.Changes.{HasRoom, IsSame, IsAdded, IsSealed, next_of};
+
+use crate::error::SealError;
+use batcher::Batch;
+use extent_map::Extent;
+use lsvd_base::{Entry, Geometry};
+use lsvd_objstore::Receipt;
+use object_format::Expected;
+use object_uploads::{Job, Uploads};
+use std::alloc::{AllocError, Global};
+use std::marker::Model;
+use uuid::Uuid;
+use volume_maps::VolumePlace;
+
+/// The entries of a volume that are in no object yet, its objects on their way to the store, and where each sector is.
+#[derive(Drop)]
+pub struct ObjLog<R: Receipt> {
+    batch: Batch,
+    uploads: Uploads<R>,
+}
+
+impl<R: Receipt> Model for ObjLog<R> {
+    ghost use Rattle.std.specs.Prelude.{◌≡◌, IsTrue};
+    ghost use Rattle.lsvd_base.specs.Limits.{is_within_limits};
+    ghost use Rattle.object_uploads.specs.Queue.{end_of_last};
+    ghost use Rattle.obj_log.specs.State.{ObjLogState};
+
+    ghost Value = { ObjLogState };
+
+    ghost view = { λ o. record { batch = o.batch; uploads = o.uploads } };
+
+    ghost invariant = { λ o.
+        IsTrue (is_within_limits o.batch.geometry)
+        × (o.batch.first ≡ end_of_last o.uploads.queue.end o.uploads.queue.sealed) };
+}
+
+impl<R: Receipt> ObjLog<R> {
+    /// The list of a volume with this uuid whose geometry is within the limits (a condition). Its objects up to this number are
+    /// acknowledged, and have the entries up to this end. It takes no memory.
+    pub fn new(alloc: Global, uuid: Uuid, geometry: Geometry, number: u64, end: u64) -> ObjLog<R>
+        requires { IsTrue (is_within_limits geometry) }
+        ensures batch { result.batch ≡ record { geometry = geometry; first = end; entries = []; reserved = 0 } }
+        ensures uuid { result.uploads.uuid ≡ uuid }
+        ensures window { result.uploads.window ≡ record { last = number; objects = [] } }
+        ensures frontier { result.uploads.queue.frontier ≡ number }
+        ensures end { result.uploads.queue.end ≡ end }
+        ensures sealed { result.uploads.queue.sealed ≡ [] }
+        ensures receipts { result.uploads.queue.receipts ≡ [] }
+        ensures settled { result.uploads.queue.maps.settled.rows ≡ [] }
+        ensures log { result.uploads.queue.maps.log.rows ≡ [] }
+    {
+        ObjLog {
+            batch: Batch::new(alloc, geometry, end),
+            uploads: Uploads::new(alloc, uuid, number, end),
+        }
+    }
+
+    /// Takes memory for one entry more. The one error is that memory ran out; but for room nothing changes.
+    pub fn reserve(&mut self) -> Result<(), AllocError>
+        ensures room { OnOk result (HasRoom self.new) }
+        ensures same { IsSame self.old self.new }
+    {
+        self.batch.reserve()?;
+        self.uploads.reserve()
+    }
+
+    /// Adds an entry at the end, also to a batch that is full, as a mount does. Its data begin at the sector `data_at` of the log.
+    /// Memory was taken for it, the volume takes it, its seq and the sectors of data with it fit, and its data end below 2^63
+    /// (conditions). It takes no memory.
+    pub fn add(&mut self, entry: Entry, data_at: u64)
+        requires room { HasRoom self.old }
+        requires range { IsTrue (is_in_range self.old.batch.geometry entry) }
+        requires seqs { self.old.batch.first + length self.old.batch.entries < 2 ^ 64 - 1 }
+        requires sectors { sum_by data_sectors self.old.batch.entries + data_sectors entry < 2 ^ 64 }
+        requires places { data_at + sector_count entry < 2 ^ 63 }
+        ensures { IsAdded entry data_at self.old self.new }
+    {
+        self.uploads.enter(&entry, self.batch.next_seq(), data_at);
+        self.batch.add(entry);
+    }
+
+    /// Seals the next data object: it has the fewest first entries of the batch that are full, or all where they are never full. Its
+    /// number is answered. `Nothing` comes where the batch has no entry, `Busy` where else 16 objects are on their way to the store.
+    /// Where memory ran out, but for room nothing changes. The numbers go on below 2^64 - 1 (a condition).
+    pub fn seal_data(&mut self, alloc: Global) -> Result<u64, SealError>
+        requires { self.old.uploads.window.last + 1 < 2 ^ 64 - 1 }
+        ensures nothing { (result ≡ Err errors.Nothing) ↔ (self.old.batch.entries ≡ []) }
+        ensures busy { (result ≡ Err errors.Busy) ↔ ((0 < length self.old.batch.entries) × (length self.old.uploads.window.objects ≡ 16)) }
+        ensures number { IfOk result (λ number. number ≡ self.old.uploads.window.last + 1) }
+        ensures sealed { OnOk result (IsSealed self.old self.new) }
+        ensures same { OnErr result (IsSame self.old self.new) }
+    {
+        if self.batch.entries() == 0 {
+            return Err(SealError::Nothing);
+        }
+        if self.uploads.window().is_full() {
+            return Err(SealError::Busy);
+        }
+        let sealed = self.batch.seal(alloc, &self.next())?;
+        let end = self.batch.first_seq() + sealed.entries as u64;
+        let spare = sealed.object.share()?;
+        let number = self.uploads.seal(sealed.object, spare, sealed.rows, end)?;
+        self.batch.release(sealed.rest);
+        Ok(number)
+    }
+
+    /// Begins the put of the lowest ready object. None is where no object is ready; then nothing changes. It takes no memory.
+    pub fn take_job(&mut self) -> Option<Job>
+        ensures lowest { option_map (λ job. job.name.number) result ≡ lowest_ready self.old.uploads.window.objects }
+        ensures job { IfSome result (λ job. IsJobOf self.old.uploads job.name.number job) }
+        ensures started { IfSome result (λ job. self.new ≡ record self.old { uploads = with_job job.name.number true self.old.uploads }) }
+        ensures same { IfNone result (self.new ≡ self.old) }
+    {
+        self.uploads.take_job()
+    }
+
+    /// A put is done, and the store gave this receipt for it. The frontier is answered. The receipt comes back where the put is not
+    /// out: its number is not started, or these are not the sealed bytes, or the receipt names another object; then nothing changes.
+    /// It takes no memory.
+    pub fn job_done(&mut self, job: &Job, receipt: R) -> Result<u64, R>
+        ensures nothing { IsErr result ↔ (IsOut self.old.uploads job.now.name.number job.now.bytes × ((R.state receipt).name ≡ name_of self.old.uploads.uuid job.now.name.number) → ⊥) }
+        ensures done { OnOk result (IsDone job.now.name.number (R.state receipt) self.old.uploads self.new.uploads) }
+        ensures batch { self.new.batch ≡ self.old.batch }
+        ensures frontier { IfOk result (λ frontier. frontier ≡ self.new.uploads.queue.frontier) }
+        ensures back { IfErr result (λ back. back ≡ receipt) }
+        ensures same { OnErr result (self.new ≡ self.old) }
+    {
+        self.uploads.job_done(job, receipt)
+    }
+
+    /// A put failed, and its object is ready again. The job comes back where it is not out: its number is not started, or these are
+    /// not the sealed bytes; then nothing changes. It takes no memory.
+    pub fn job_failed(&mut self, job: Job) -> Result<(), Job>
+        ensures nothing { IsErr result ↔ (IsOut self.old.uploads job.name.number job.bytes → ⊥) }
+        ensures ready { OnOk result (self.new ≡ record self.old { uploads = with_job job.name.number false self.old.uploads }) }
+        ensures back { IfErr result (λ back. back ≡ job) }
+        ensures same { OnErr result (self.new ≡ self.old) }
+    {
+        self.uploads.job_failed(job)
+    }
+
+    /// The places of the sectors from `lba` on, as the shortest list of rows in order; a sector without a place has zeros. The range
+    /// ends below 2^63 (a condition). The one error is out of memory.
+    pub fn look(
+        &self,
+        alloc: Global,
+        lba: u64,
+        sectors: u64,
+    ) -> Result<Vec<Extent<VolumePlace>>, AllocError>
+        requires { lba + sectors < 2 ^ 63 }
+        ensures places { IfOk result (λ rows. (k : ℕ) → place_at volume_on rows.items k ≡ place_in_range lba sectors (volume_place_at self.now.uploads.queue.maps) k) }
+        ensures shortest { IfOk result (λ rows. IsShortest volume_on rows.items) }
+    {
+        self.uploads.look(alloc, lba, sectors)
+    }
+
+    /// The entries that are in no object yet.
+    pub fn batch(&self) -> &Batch
+        ensures { result.now ≡ self.now.batch }
+    {
+        &self.batch
+    }
+
+    /// The frontier: the greatest number up to which all objects are acknowledged.
+    pub fn frontier(&self) -> u64
+        ensures is { result ≡ self.now.uploads.queue.frontier }
+        ensures frontier { IsFrontier self.now.uploads.window result }
+    {
+        self.uploads.frontier()
+    }
+
+    /// The number of the last object that was sealed, or else the one that the list began with.
+    pub fn last(&self) -> u64
+        ensures { result ≡ self.now.uploads.window.last }
+    {
+        self.uploads.window().last()
+    }
+
+    /// How many entries of the history the objects up to the frontier have.
+    pub fn end(&self) -> u64
+        ensures { result ≡ self.now.uploads.queue.end }
+    {
+        self.uploads.end()
+    }
+
+    // What is expected of the next object.
+    fn next(&self) -> Expected
+        requires { self.now.uploads.window.last + 1 < 2 ^ 64 - 1 }
+        ensures { result ≡ next_of self.now }
+    {
+        Expected {
+            uuid: self.uploads.uuid().into_bytes(),
+            number: self.uploads.window().last() + 1,
+            sectors: self.batch.geometry().sectors,
+            ancestors: 0,
+            end_before: Some(self.batch.first_seq()),
+        }
+    }
+}
