@@ -12,6 +12,8 @@ use Rattle.object_stream.specs.Stream.{Stream, end_at, last_number, unsealed, Is
 use Rattle.object_stream.proofs.StreamLemmas.{end_no_earlier}
 use Rattle.batcher.specs.State.{BatchState}
 use Rattle.object_uploads.specs.Queue.{just_sealed, IsEntered}
+use Rattle.volume_maps.specs.Maps.{settled_at, logged_at}
+use Rattle.volume_maps.specs.Laws.{owner_of}
 use Rattle.object_uploads.specs.Order.{IsUploads}
 use Rattle.object_uploads.specs.Stream.{IsSealedOf, AreOfStream}
 use Rattle.object_uploads.specs.Laws.{with_entry, with_data_object}
@@ -20,7 +22,7 @@ use Rattle.object_uploads.proofs.KeepLemmas as keep
 use Rattle.obj_log.specs.State.{ObjLogState}
 use Rattle.obj_log.specs.Changes.{volume_of, next_of, IsSealed}
 use Rattle.obj_log.specs.Stream.{IsOfStream}
-use Rattle.obj_log.specs.Laws.{AddingKeepsStream, SealingKeepsStream, JobsKeepStream, DoneKeepsStream}
+use Rattle.obj_log.specs.Laws.{RoomKeepsStream, AddingKeepsStream, SealingKeepsStream, JobsKeepStream, DoneKeepsStream}
 
 pub jobs_keep_stream : JobsKeepStream
 jobs_keep_stream data_at stream log number started is = record {
@@ -34,6 +36,30 @@ same_volume : (old new : ObjLogState) → new.uploads.uuid ≡ old.uploads.uuid 
 same_volume old new uuid geometry =
     ap (λ (u : List ℕ). record { uuid = u; number = 0; sectors = old.batch.geometry.sectors; ancestors = 0; end_before = None }) (sym uuid)
     ∙ ap (λ (g : Geometry). record { uuid = new.uploads.uuid; number = 0; sectors = g.sectors; ancestors = 0; end_before = None }) (sym geometry)
+
+pub room_keeps_stream : RoomKeepsStream
+room_keeps_stream data_at stream old new is same =
+    let kept = same.uploads in
+    let are = is.objects in
+    let objects : AreOfStream (volume_of old) data_at stream new.uploads =
+    rw (kept.settled.frontier, kept.settled.end, kept.window, kept.sealed) (record {
+      valid = are.valid;
+      from = are.from;
+      last = are.last;
+      end = are.end;
+      settled = λ k.
+          ap (λ (rows : List _). owner_of (settled_at (record new.uploads.queue.maps { settled = record new.uploads.queue.maps.settled { rows = rows } }) k)) kept.settled.places.settled
+          ∙ are.settled k;
+      sealed = are.sealed;
+      logged = λ k.
+          ap (λ (rows : List _). logged_at (record new.uploads.queue.maps { log = record new.uploads.queue.maps.log { rows = rows } }) k) kept.settled.places.log
+          ∙ are.logged k;
+    }) in
+    record {
+      objects = subst (λ v. AreOfStream v data_at stream new.uploads) (same_volume old new kept.uuid same.geometry) objects;
+      first = same.first ∙ is.first;
+      entries = same.entries ∙ is.entries;
+    }
 
 pub done_keeps_stream : DoneKeepsStream
 done_keeps_stream data_at stream old new number receipt uploads is done same =

@@ -7,10 +7,15 @@ use Rattle.object_uploads.specs.Order.{IsUploads}
 use Rattle.object_uploads.specs.Changes.{with_job, IsDone}
 use Rattle.object_uploads.specs.Laws.{with_entry, with_data_object}
 use Rattle.obj_log.specs.State.{ObjLogState}
-use Rattle.obj_log.specs.Changes.{IsAdded, IsSealed}
+use Rattle.obj_log.specs.Changes.{IsSame, IsAdded, IsSealed}
 use Rattle.obj_log.specs.Stream.{IsOfStream}
 
--- a list of a stream is that of the stream with one entry more, once that was added
+-- a list of a stream stays that while nothing changes but room
+abbrev pub RoomKeepsStream : Type 0
+RoomKeepsStream =
+    (data_at : ℕ → ℕ) (stream : Stream) (old new : ObjLogState) → IsOfStream data_at stream old → IsSame old new → IsOfStream data_at stream new
+
+-- it is that of the stream with one entry more, once that was added
 abbrev pub AddingKeepsStream : Type 0
 AddingKeepsStream =
     (data_at : ℕ → ℕ) (stream : Stream) (old new : ObjLogState) (entry : Entry)

@@ -9,6 +9,7 @@ ghost use Rattle.upload_window.specs.Window.{lowest_ready, IsFrontier};
 ghost use Rattle.volume_maps.specs.Places.{volume_on};
 ghost use Rattle.volume_maps.specs.Maps.{volume_place_at};
 ghost use Rattle.batcher.specs.Batch.{data_sectors};
+ghost use Rattle.object_uploads.specs.Order.{IsUploads};
 ghost use Rattle.object_uploads.specs.Changes.{with_job, IsJobOf, IsOut, IsDone};
 ghost use Rattle.obj_log.specs.declared.error.SealError.TheVariants as errors;
 ghost use Rattle.obj_log.specs.State.{ObjLogState};
@@ -195,6 +196,14 @@ impl<R: Receipt> ObjLog<R> {
         ensures { result ≡ self.now.uploads.queue.end }
     {
         self.uploads.end()
+    }
+
+    /// What is so of the objects of every volume, as a fact for the proofs of callers: the open ones are those past the frontier that
+    /// are not acknowledged, the first among them. Nothing is done.
+    pub fn ordered(&self)
+        ensures { IsUploads self.now.uploads.queue self.now.uploads.window }
+    {
+        self.uploads.ordered();
     }
 
     // What is expected of the next object.
