@@ -16,7 +16,7 @@ use Rattle.object_stream.specs.Changes.{sector_of, change_from, change_in}
 use Rattle.batcher.specs.declared.place.BatchPlace.{BatchPlace}
 use Rattle.batcher.specs.declared.place.BatchPlace.TheVariants.{Data, Zeros}
 use Rattle.batcher.specs.Places.{place_on, body_at, change_of}
-use Rattle.batcher.specs.Rows.{row_place, row_of, goes_on, joined, rows_from, rows_of, piece_at, piece_of, payload_bytes, IsInBody, AreInBodies}
+use Rattle.batcher.specs.Rows.{row_place, row_of, joins, joined, rows_from, rows_of, piece_at, piece_of, payload_bytes, IsInBody, AreInBodies}
 use Rattle.batcher.proofs.RowLemmas.{rows_end, rows_start, rows_on, rows_off, payload_same, goes_parts, has_payload}
 use Rattle.batcher.proofs.PieceLemmas.{length-piece}
 use Rattle.batcher.proofs.PlaceLemmas.{within_parts}
@@ -124,7 +124,7 @@ module _ (entries : List Entry) (all : List ℕ) where
         ]
 
     -- a row that the extent goes on with does what both do
-    joined_row : (row : DataRow) → goes_on row (row_of payload extent) ≡ true → EndsAt row.place row.sectors payload → (k : ℕ)
+    joined_row : (row : DataRow) → joins row (row_of payload extent) ≡ true → EndsAt row.place row.sectors payload → (k : ℕ)
         → from_row (joined row (row_of payload extent)) extents k ≡ from_row row (extent ∷ extents) k
     joined_row row goes ends k =
         let parts = goes_parts row (row_of payload extent) goes in
@@ -169,7 +169,7 @@ module _ (entries : List Entry) (all : List ℕ) where
       let more = front ++ piece_of entries extent in
       let bytes = bytes_after payload extent extents front is starts bodies.0 in
       let size = starts_after payload extent extents front is starts bodies.0 in
-      elim (cases_Bool (goes_on row next)) [
+      elim (cases_Bool (joins row next)) [
         | inl goes ↦
             let parts = goes_parts row next goes in
             ap (λ rows. change_in rows all k) (rows_on row payload extent extents goes)

@@ -13,7 +13,7 @@ use Rattle.lsvd_base.specs.Laws.{EndsBy}
 use Rattle.extent_map.specs.Extents.{is_within}
 use Rattle.object_stream.specs.declared.change.Change.{Change}
 use Rattle.object_stream.specs.declared.change.Change.TheVariants.{Put}
-use Rattle.object_stream.specs.Changes.{sector_of, change_by, change_at}
+use Rattle.object_stream.specs.Changes.{sector_of, entry_change, change_at}
 use Rattle.batcher.specs.declared.place.BatchPlace.{BatchPlace}
 use Rattle.batcher.specs.declared.place.BatchPlace.TheVariants.{Data, Zeros}
 use Rattle.batcher.specs.Places.{extent_of, place_from, place_by, body_of, body_at, change_of}
@@ -100,7 +100,7 @@ map_cond f true x = refl
 map_cond f false x = refl
 
 here_changes : (front more : List Entry) (entry : Entry) (index k : ℕ) → index ≡ length front
-    → option_map (change_of (front ++ (entry ∷ more))) (place_from (extent_of index entry) k) ≡ change_by entry k
+    → option_map (change_of (front ++ (entry ∷ more))) (place_from (extent_of index entry) k) ≡ entry_change entry k
 here_changes front more (Write lba body) index k is =
     let all = front ++ (Write lba body ∷ more) in
     let from : 0 + (k - lba) ≡ k - lba = omega arith in

@@ -9,7 +9,7 @@ use Rattle.object_format.specs.declared.data_row.DataRow.{DataRow}
 use Rattle.object_format.specs.Rows.{payload_at, data_payload}
 use Rattle.batcher.specs.declared.place.BatchPlace.{BatchPlace}
 use Rattle.batcher.specs.declared.place.BatchPlace.TheVariants.{Data, Zeros}
-use Rattle.batcher.specs.Rows.{row_place, row_of, goes_on, joined, rows_from, rows_of, extent_payload}
+use Rattle.batcher.specs.Rows.{row_place, row_of, joins, joined, rows_from, rows_of, extent_payload}
 
 -- ---- one extent more
 
@@ -24,7 +24,7 @@ unfolding rows_from
 rows_start payload extent extents = refl
 
 pub rows_on : (row : DataRow) (payload : ℕ) (extent : Extent BatchPlace) (extents : List (Extent BatchPlace))
-    → goes_on row (row_of payload extent) ≡ true
+    → joins row (row_of payload extent) ≡ true
     → rows_from (Some row) payload (extent ∷ extents)
     ≡ rows_from (Some (joined row (row_of payload extent))) (payload + data_payload (row_of payload extent)) extents
 unfolding rows_from
@@ -33,7 +33,7 @@ rows_on row payload extent extents goes =
     ap (λ b. cond b (rows_from (Some (joined row (row_of payload extent))) after extents) (row ∷ rows_from (Some (row_of payload extent)) after extents)) goes
 
 pub rows_off : (row : DataRow) (payload : ℕ) (extent : Extent BatchPlace) (extents : List (Extent BatchPlace))
-    → goes_on row (row_of payload extent) ≡ false
+    → joins row (row_of payload extent) ≡ false
     → rows_from (Some row) payload (extent ∷ extents)
     ≡ row ∷ rows_from (Some (row_of payload extent)) (payload + data_payload (row_of payload extent)) extents
 unfolding rows_from
@@ -56,16 +56,16 @@ module _ (front : List DataRow) (last : Option DataRow) (payload added : ℕ) (e
       ∙ sym (rows_start payload extent more)
       ∙ ap (λ l. rows_from l payload (extent ∷ more)) (sym none))
 
-  pub made_on : (before : DataRow) → last ≡ Some before → goes_on before row ≡ true
+  pub made_on : (before : DataRow) → last ≡ Some before → joins before row ≡ true
       → front ++ rows_from (Some (joined before row)) (payload + added) more ≡ front ++ rows_from last payload (extent ∷ more)
   made_on before some goes =
       ap (λ rows. front ++ rows)
       (ap (λ r. rows_from (Some (joined before r)) (payload + added) more) is
       ∙ ap (λ n. rows_from (Some (joined before (row_of payload extent))) n more) after_is
-      ∙ sym (rows_on before payload extent more (ap (goes_on before) (sym is) ∙ goes))
+      ∙ sym (rows_on before payload extent more (ap (joins before) (sym is) ∙ goes))
       ∙ ap (λ l. rows_from l payload (extent ∷ more)) (sym some))
 
-  pub made_off : (before : DataRow) (rows : List DataRow) → last ≡ Some before → goes_on before row ≡ false → rows ≡ front ++ before ∷ []
+  pub made_off : (before : DataRow) (rows : List DataRow) → last ≡ Some before → joins before row ≡ false → rows ≡ front ++ before ∷ []
       → rows ++ rows_from (Some row) (payload + added) more ≡ front ++ rows_from last payload (extent ∷ more)
   made_off before rows some stops pushed =
       ap (λ list. list ++ rows_from (Some row) (payload + added) more) pushed
@@ -73,7 +73,7 @@ module _ (front : List DataRow) (last : Option DataRow) (payload added : ℕ) (e
       ∙ ap (λ list. front ++ list)
       (ap (λ r. before ∷ rows_from (Some r) (payload + added) more) is
       ∙ ap (λ n. before ∷ rows_from (Some (row_of payload extent)) n more) after_is
-      ∙ sym (rows_off before payload extent more (ap (goes_on before) (sym is) ∙ stops))
+      ∙ sym (rows_off before payload extent more (ap (joins before) (sym is) ∙ stops))
       ∙ ap (λ l. rows_from l payload (extent ∷ more)) (sym some))
 
 -- ---- how many there are, and their payload
@@ -86,7 +86,7 @@ pub payload_same : (payload : ℕ) (extent : Extent BatchPlace) → data_payload
 payload_same payload extent = same_payload payload extent.sectors extent.place
 
 -- two rows touch and have data, or one of this does not hold
-pub goes_parts : (row next : DataRow) → goes_on row next ≡ true
+pub goes_parts : (row next : DataRow) → joins row next ≡ true
     → (row.lba + row.sectors ≡ next.lba) × (is_some row.place ≡ true) × (is_some next.place ≡ true)
 goes_parts row next goes =
     let touches = row.lba + row.sectors == next.lba in
@@ -98,7 +98,7 @@ pub has_payload : (sectors : ℕ) (place : Option ℕ) → is_some place ≡ tru
 has_payload sectors None some = absurd (false≢true some)
 has_payload sectors (Some place) some = refl
 
-pub joined_payload : (row next : DataRow) → goes_on row next ≡ true → data_payload (joined row next) ≡ data_payload row + data_payload next
+pub joined_payload : (row next : DataRow) → joins row next ≡ true → data_payload (joined row next) ≡ data_payload row + data_payload next
 joined_payload row next goes =
     let parts = goes_parts row next goes in
     omega (
@@ -113,7 +113,7 @@ rows_few row payload [] = omega (arith, ap length (rows_end (Some row) payload))
 rows_few row payload (extent ∷ extents) =
     let next = row_of payload extent in
     let after = payload + data_payload next in
-    elim (cases_Bool (goes_on row next)) [
+    elim (cases_Bool (joins row next)) [
       | inl goes ↦ omega (arith, ap length (rows_on row payload extent extents goes), rows_few (joined row next) after extents)
       | inr stops ↦ omega (arith, ap length (rows_off row payload extent extents stops), rows_few next after extents)
     ]
@@ -131,7 +131,7 @@ rows_sum row payload (extent ∷ extents) =
     let after = payload + data_payload next in
     let same = payload_same payload extent in
     let more = sum_by-cons extent_payload extent extents in
-    elim (cases_Bool (goes_on row next)) [
+    elim (cases_Bool (joins row next)) [
       | inl goes ↦
           omega (arith, ap (sum_by data_payload) (rows_on row payload extent extents goes), rows_sum (joined row next) after extents, joined_payload row next goes, same, more)
       | inr stops ↦

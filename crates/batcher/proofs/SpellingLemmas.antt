@@ -12,7 +12,7 @@ use Rattle.object_format.specs.Rows.{is_inside, differ, data_payload, is_at, dat
 use Rattle.batcher.specs.declared.place.BatchPlace.{BatchPlace}
 use Rattle.batcher.specs.declared.place.BatchPlace.TheVariants.{Data, Zeros}
 use Rattle.batcher.specs.Places.{place_on}
-use Rattle.batcher.specs.Rows.{row_place, row_of, goes_on, joined, rows_from, rows_of, extent_payload}
+use Rattle.batcher.specs.Rows.{row_place, row_of, joins, joined, rows_from, rows_of, extent_payload}
 use Rattle.batcher.proofs.RowLemmas.{rows_end, rows_start, rows_on, rows_off, payload_same, goes_parts, joined_payload}
 
 -- ---- a row and the extents after it
@@ -39,7 +39,7 @@ row_follow payload extent (next ∷ extents) before = (
 )
 
 joined_follow : (row : DataRow) (payload : ℕ) (extent : Extent BatchPlace) (extents : List (Extent BatchPlace))
-    → goes_on row (row_of payload extent) ≡ true → ComesBeforeFirst place_on extent extents → Follow (joined row (row_of payload extent)) extents
+    → joins row (row_of payload extent) ≡ true → ComesBeforeFirst place_on extent extents → Follow (joined row (row_of payload extent)) extents
 joined_follow row payload extent [] goes before = tt
 joined_follow row payload extent (next ∷ extents) goes before =
     let parts = goes_parts row (row_of payload extent) goes in (
@@ -74,7 +74,7 @@ not_both a b c is neither = sym (ap (λ x. x && b && c) is) ∙ neither
 
 -- an extent after a row that it does not go on with may follow it
 may_follow : (row : DataRow) (payload : ℕ) (extent : Extent BatchPlace) (extents : List (Extent BatchPlace)) → Follow row (extent ∷ extents)
-    → goes_on row (row_of payload extent) ≡ false → IsTrue (data_may_follow (Some row) (row_of payload extent))
+    → joins row (row_of payload extent) ≡ false → IsTrue (data_may_follow (Some row) (row_of payload extent))
 may_follow row payload extent extents follow stops =
     let end = row.lba + row.sectors in
     let next = row_of payload extent in
@@ -118,7 +118,7 @@ module _ (volume total : ℕ) where
       let more = sum_by-cons extent_payload extent extents in
       let same = payload_same payload extent in
       let sums_after : after + sum_by extent_payload extents ≡ total = omega (arith, sums, more, same) in
-      elim (cases_Bool (goes_on row next)) [
+      elim (cases_Bool (joins row next)) [
         | inl goes ↦
             let parts = goes_parts row next goes in
             subst (λ list. IsTrue (data_rows_may_stand volume total before at list)) (sym (rows_on row payload extent extents goes))

@@ -22,8 +22,8 @@ abbrev pub row_of : (payload : ℕ) → Extent BatchPlace → DataRow
 row_of payload extent = record { lba = extent.lba; sectors = extent.sectors; place = row_place payload extent.place }
 
 -- the next row touches a row, and both have data
-abbrev pub goes_on : DataRow → DataRow → Bool
-goes_on row next = (row.lba + row.sectors == next.lba) && is_some row.place && is_some next.place
+abbrev pub joins : DataRow → DataRow → Bool
+joins row next = (row.lba + row.sectors == next.lba) && is_some row.place && is_some next.place
 
 -- a row and the next one as one row
 abbrev pub joined : DataRow → DataRow → DataRow
@@ -36,7 +36,7 @@ rows_from last payload [] = option_to_list last
 rows_from None payload (extent ∷ extents) =
     rows_from (Some (row_of payload extent)) (payload + data_payload (row_of payload extent)) extents
 rows_from (Some row) payload (extent ∷ extents) =
-    if goes_on row (row_of payload extent)
+    if joins row (row_of payload extent)
     then rows_from (Some (joined row (row_of payload extent))) (payload + data_payload (row_of payload extent)) extents
     else row ∷ rows_from (Some (row_of payload extent)) (payload + data_payload (row_of payload extent)) extents
 

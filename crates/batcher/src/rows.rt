@@ -5,7 +5,7 @@ ghost use Rattle.extent_map.specs.Extents.{AllFit};
 ghost use Rattle.object_format.specs.Rows.{data_payload};
 ghost use Rattle.batcher.specs.declared.place.BatchPlace.{BatchPlace};
 ghost use Rattle.batcher.specs.Places.{place_number};
-ghost use Rattle.batcher.specs.Rows.{row_of, goes_on, joined, rows_of, rows_with, EndsInTime, extent_payload};
+ghost use Rattle.batcher.specs.Rows.{row_of, joins, joined, rows_of, rows_with, EndsInTime, extent_payload};
 
 use crate::place::BatchPlace;
 use extent_map::Extent;
@@ -38,7 +38,7 @@ impl RowMaker {
             self.last = Some(row);
             return Ok(());
         };
-        if goes_on(&last, &row) {
+        if joins(&last, &row) {
             self.last = Some(DataRow {
                 sectors: last.sectors + row.sectors,
                 ..last
@@ -78,9 +78,9 @@ fn row_of(payload: u64, extent: &Extent<BatchPlace>) -> DataRow
 }
 
 // Whether the next row touches a row, and both have data.
-fn goes_on(row: &DataRow, next: &DataRow) -> bool
+fn joins(row: &DataRow, next: &DataRow) -> bool
     requires { row.now.lba + row.now.sectors < 2 ^ 63 }
-    ensures { result ≡ goes_on row.now next.now }
+    ensures { result ≡ joins row.now next.now }
 {
     row.lba + row.sectors == next.lba && row.place.is_some() && next.place.is_some()
 }

@@ -90,7 +90,7 @@ fn change_in(sealed: &SealedBatch, front: u64, k: u64) -> Option<u8> {
 }
 
 // The same of an entry.
-fn change_by(entry: &Entry, k: u64) -> Option<u8> {
+fn entry_byte(entry: &Entry, k: u64) -> Option<u8> {
     match entry {
         Entry::Write { lba, body } => {
             let on = k.checked_sub(*lba)?;
@@ -108,7 +108,7 @@ fn change_by(entry: &Entry, k: u64) -> Option<u8> {
 fn change_at(entries: &[Entry], k: u64) -> Option<u8> {
     let mut change = None;
     for entry in entries {
-        change = change_by(entry, k).or(change);
+        change = entry_byte(entry, k).or(change);
     }
     change
 }

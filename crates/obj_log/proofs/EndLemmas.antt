@@ -5,7 +5,7 @@ use Rattle.lsvd_objstore.specs.Store.{ReceiptState}
 use Rattle.object_format.specs.declared.data_row.DataRow.{DataRow}
 use Rattle.object_uploads.specs.State.{JobState, SealedState, UploadsState}
 use Rattle.object_uploads.specs.Queue.{with_at, with_spare, with_receipt, just_sealed, end_of_last}
-use Rattle.object_uploads.specs.Changes.{index_of, with_job, IsSealed, IsNotSealed, IsDone}
+use Rattle.object_uploads.specs.Changes.{index_of, with_job, IsSealed, IsNotSealed, IsPutDone}
 
 -- an object that is changed keeps its end
 changed_end : (index : ℕ) (change : SealedState → SealedState) → ((s : SealedState) → (change s).end ≡ s.end)
@@ -31,7 +31,7 @@ end_of uploads = end_of_last uploads.queue.end uploads.queue.sealed
 pub job_end : (number : ℕ) (started : Bool) (uploads : UploadsState) → end_of (with_job number started uploads) ≡ end_of uploads
 job_end number started uploads = changed_end (index_of uploads number) (with_spare (not started)) (λ s. refl) uploads.queue.end uploads.queue.sealed
 
-pub done_end : (number : ℕ) (receipt : ReceiptState) (old new : UploadsState) → IsDone number receipt old new → end_of new ≡ end_of old
+pub done_end : (number : ℕ) (receipt : ReceiptState) (old new : UploadsState) → IsPutDone number receipt old new → end_of new ≡ end_of old
 done_end number receipt old new done =
     let list = with_at (index_of old number) (with_receipt receipt) old.queue.sealed in
     ap (λ e. end_of_last e new.queue.sealed) done.settled.end
@@ -54,7 +54,7 @@ end_if_taken (Some job) old new started same = ap end_of started ∙ job_end job
 end_if_taken None old new started same = ap end_of same
 
 pub end_if_done : {A B : Type 0} (result : Result A B) (number : ℕ) (receipt : ReceiptState) (old new : UploadsState)
-    → OnOk result (IsDone number receipt old new) → OnErr result (new ≡ old) → end_of new ≡ end_of old
+    → OnOk result (IsPutDone number receipt old new) → OnErr result (new ≡ old) → end_of new ≡ end_of old
 end_if_done (Ok x) number receipt old new done same = done_end number receipt old new done
 end_if_done (Err x) number receipt old new done same = ap end_of same
 

@@ -20,19 +20,19 @@ use Rattle.object_uploads.specs.Laws.{with_entry, with_data_object}
 use Rattle.object_uploads.proofs.GrowLemmas as grow
 use Rattle.object_uploads.proofs.KeepLemmas as keep
 use Rattle.obj_log.specs.State.{ObjLogState}
-use Rattle.obj_log.specs.Changes.{volume_of, next_of, IsSealed}
+use Rattle.obj_log.specs.Changes.{expected_of_volume, next_of, IsSealed}
 use Rattle.obj_log.specs.Stream.{IsOfStream}
 use Rattle.obj_log.specs.Laws.{RoomKeepsStream, AddingKeepsStream, SealingKeepsStream, JobsKeepStream, DoneKeepsStream}
 
 pub jobs_keep_stream : JobsKeepStream
 jobs_keep_stream data_at stream log number started is = record {
-  objects = keep.jobs_keep_stream (volume_of log) data_at stream log.uploads number started is.objects;
+  objects = keep.jobs_keep_stream (expected_of_volume log) data_at stream log.uploads number started is.objects;
   first = is.first;
   entries = is.entries;
 }
 
 -- what is expected of objects is the same while the uuid and the sizes are
-same_volume : (old new : ObjLogState) → new.uploads.uuid ≡ old.uploads.uuid → new.batch.geometry ≡ old.batch.geometry → volume_of old ≡ volume_of new
+same_volume : (old new : ObjLogState) → new.uploads.uuid ≡ old.uploads.uuid → new.batch.geometry ≡ old.batch.geometry → expected_of_volume old ≡ expected_of_volume new
 same_volume old new uuid geometry =
     ap (λ (u : List ℕ). record { uuid = u; number = 0; sectors = old.batch.geometry.sectors; ancestors = 0; end_before = None }) (sym uuid)
     ∙ ap (λ (g : Geometry). record { uuid = new.uploads.uuid; number = 0; sectors = g.sectors; ancestors = 0; end_before = None }) (sym geometry)
@@ -41,7 +41,7 @@ pub room_keeps_stream : RoomKeepsStream
 room_keeps_stream data_at stream old new is same =
     let kept = same.uploads in
     let are = is.objects in
-    let objects : AreOfStream (volume_of old) data_at stream new.uploads =
+    let objects : AreOfStream (expected_of_volume old) data_at stream new.uploads =
     rw (kept.settled.frontier, kept.settled.end, kept.window, kept.sealed) (record {
       valid = are.valid;
       from = are.from;
@@ -67,7 +67,7 @@ done_keeps_stream data_at stream old new number receipt uploads is done same =
     record {
       objects =
           subst (λ v. AreOfStream v data_at stream new.uploads) volume
-          (keep.done_keeps_stream (volume_of old) data_at stream old.uploads new.uploads number receipt uploads is.objects done);
+          (keep.done_keeps_stream (expected_of_volume old) data_at stream old.uploads new.uploads number receipt uploads is.objects done);
       first = ap (λ (b : BatchState). b.first) same ∙ is.first;
       entries = ap (λ (b : BatchState). b.entries) same ∙ is.entries;
     }
@@ -101,7 +101,7 @@ adding_keeps_stream data_at stream old new entry uploads is added =
     record {
       objects =
           subst (λ v. AreOfStream v data_at (with_entry entry stream) new.uploads) volume
-          (grow.entering_keeps_stream (volume_of old) data_at stream old.uploads new.uploads entry uploads is.objects entered added.window);
+          (grow.entering_keeps_stream (expected_of_volume old) data_at stream old.uploads new.uploads entry uploads is.objects entered added.window);
       first = added.first ∙ is.first;
       entries =
           added.entries
@@ -129,12 +129,12 @@ module _ (data_at : ℕ → ℕ) (stream : Stream) (old new : ObjLogState) (is :
       let size : end - last ≡ sealed.count = omega (arith, is.first) in
       ap (λ n. take n (unsealed stream)) size ∙ ap (take sealed.count) (sym is.entries)
 
-  expected_same : next_of old ≡ expected_at (volume_of old) (last_number stream + 1) last
+  expected_same : next_of old ≡ expected_at (expected_of_volume old) (last_number stream + 1) last
   expected_same =
-      ap (λ n. expected_at (volume_of old) (n + 1) old.batch.first) (sym is.objects.last)
-      ∙ ap (expected_at (volume_of old) (last_number stream + 1)) is.first
+      ap (λ n. expected_at (expected_of_volume old) (n + 1) old.batch.first) (sym is.objects.last)
+      ∙ ap (expected_at (expected_of_volume old) (last_number stream + 1)) is.first
 
-  is_sealed_of : IsSealedOf (expected_at (volume_of old) (last_number stream + 1) last) (take (end - last) (unsealed stream))
+  is_sealed_of : IsSealedOf (expected_at (expected_of_volume old) (last_number stream + 1) last) (take (end - last) (unsealed stream))
       (record { content = content.Data; end = end }) (just_sealed sealed.bytes sealed.rows.items end)
   is_sealed_of = record {
     content = refl;
@@ -162,7 +162,7 @@ module _ (data_at : ℕ → ℕ) (stream : Stream) (old new : ObjLogState) (is :
   grown uploads = record {
     objects =
         subst (λ v. AreOfStream v data_at (with_data_object end stream) new.uploads) (same_volume old new sealed.uploads.uuid sealed.geometry)
-        (grow.sealing_keeps_stream (volume_of old) data_at stream old.uploads new.uploads sealed.bytes sealed.rows.items end uploads is.objects past within is_sealed_of sealed.uploads);
+        (grow.sealing_keeps_stream (expected_of_volume old) data_at stream old.uploads new.uploads sealed.bytes sealed.rows.items end uploads is.objects past within is_sealed_of sealed.uploads);
     first = sealed.first ∙ sym (grow.end_of_more stream end);
     entries = sealed.entries ∙ rest;
   }

@@ -14,7 +14,7 @@ use Rattle.object_uploads.specs.Changes as uploads
 use Rattle.obj_log.specs.State.{ObjLogState}
 
 -- there is memory for an entry more
-pub record HasRoom (log : ObjLogState) : Type 0 where
+pub record HasRoomToAdd (log : ObjLogState) : Type 0 where
   pub batch : 1 ≤ log.batch.reserved
   pub uploads : HasRoomForEntry log.uploads.queue
 
@@ -37,12 +37,12 @@ pub record IsAdded (entry : Entry) (data_at : ℕ) (old new : ObjLogState) : Typ
 -- ---- sealing
 
 -- what is expected of the objects of a volume without ancestors, but for their numbers and ends
-abbrev pub volume_of : ObjLogState → Expected
-volume_of log = record { uuid = log.uploads.uuid; number = 0; sectors = log.batch.geometry.sectors; ancestors = 0; end_before = None }
+abbrev pub expected_of_volume : ObjLogState → Expected
+expected_of_volume log = record { uuid = log.uploads.uuid; number = 0; sectors = log.batch.geometry.sectors; ancestors = 0; end_before = None }
 
 -- and of the next one
 abbrev pub next_of : ObjLogState → Expected
-next_of log = expected_at (volume_of log) (log.uploads.window.last + 1) log.batch.first
+next_of log = expected_at (expected_of_volume log) (log.uploads.window.last + 1) log.batch.first
 
 -- The fewest first entries of the batch that are full, or all where they are never full, were sealed into the next object, which does
 -- to each sector just what they do. The batch goes on with the others.

@@ -4,7 +4,7 @@ use Rattle.lsvd_base.specs.declared.entry.Entry.{Entry}
 use Rattle.lsvd_objstore.specs.Store.{ReceiptState}
 use Rattle.object_stream.specs.Stream.{Stream}
 use Rattle.object_uploads.specs.Order.{IsUploads}
-use Rattle.object_uploads.specs.Changes.{with_job, IsDone}
+use Rattle.object_uploads.specs.Changes.{with_job, IsPutDone}
 use Rattle.object_uploads.specs.Laws.{with_entry, with_data_object}
 use Rattle.obj_log.specs.State.{ObjLogState}
 use Rattle.obj_log.specs.Changes.{IsSame, IsAdded, IsSealed}
@@ -39,4 +39,4 @@ abbrev pub DoneKeepsStream : Type 0
 DoneKeepsStream =
     (data_at : ℕ → ℕ) (stream : Stream) (old new : ObjLogState) (number : ℕ) (receipt : ReceiptState)
     → IsUploads old.uploads.queue old.uploads.window → IsOfStream data_at stream old
-    → IsDone number receipt old.uploads new.uploads → new.batch ≡ old.batch → IsOfStream data_at stream new
+    → IsPutDone number receipt old.uploads new.uploads → new.batch ≡ old.batch → IsOfStream data_at stream new

@@ -10,10 +10,10 @@ ghost use Rattle.volume_maps.specs.Places.{volume_on};
 ghost use Rattle.volume_maps.specs.Maps.{volume_place_at};
 ghost use Rattle.batcher.specs.Batch.{data_sectors};
 ghost use Rattle.object_uploads.specs.Order.{IsUploads};
-ghost use Rattle.object_uploads.specs.Changes.{with_job, IsJobOf, IsOut, IsDone};
+ghost use Rattle.object_uploads.specs.Changes.{with_job, IsJobOf, IsOut, IsPutDone};
 ghost use Rattle.obj_log.specs.declared.error.SealError.TheVariants as errors;
 ghost use Rattle.obj_log.specs.State.{ObjLogState};
-ghost use Rattle.obj_log.specs.Changes.{HasRoom, IsSame, IsAdded, IsSealed, next_of};
+ghost use Rattle.obj_log.specs.Changes.{HasRoomToAdd, IsSame, IsAdded, IsSealed, next_of};
 
 use crate::error::SealError;
 use batcher::Batch;
@@ -72,7 +72,7 @@ impl<R: Receipt> ObjLog<R> {
 
     /// Takes memory for one entry more. The one error is that memory ran out; but for room nothing changes.
     pub fn reserve(&mut self) -> Result<(), AllocError>
-        ensures room { OnOk result (HasRoom self.new) }
+        ensures room { OnOk result (HasRoomToAdd self.new) }
         ensures same { IsSame self.old self.new }
     {
         self.batch.reserve()?;
@@ -83,7 +83,7 @@ impl<R: Receipt> ObjLog<R> {
     /// Memory was taken for it, the volume takes it, its seq and the sectors of data with it fit, and its data end below 2^63
     /// (conditions). It takes no memory.
     pub fn add(&mut self, entry: Entry, data_at: u64)
-        requires room { HasRoom self.old }
+        requires room { HasRoomToAdd self.old }
         requires range { IsTrue (is_in_range self.old.batch.geometry entry) }
         requires seqs { self.old.batch.first + length self.old.batch.entries < 2 ^ 64 - 1 }
         requires sectors { sum_by data_sectors self.old.batch.entries + data_sectors entry < 2 ^ 64 }
@@ -134,7 +134,7 @@ impl<R: Receipt> ObjLog<R> {
     /// It takes no memory.
     pub fn job_done(&mut self, job: &Job, receipt: R) -> Result<u64, R>
         ensures nothing { IsErr result ↔ (IsOut self.old.uploads job.now.name.number job.now.bytes × ((R.state receipt).name ≡ name_of self.old.uploads.uuid job.now.name.number) → ⊥) }
-        ensures done { OnOk result (IsDone job.now.name.number (R.state receipt) self.old.uploads self.new.uploads) }
+        ensures done { OnOk result (IsPutDone job.now.name.number (R.state receipt) self.old.uploads self.new.uploads) }
         ensures batch { self.new.batch ≡ self.old.batch }
         ensures frontier { IfOk result (λ frontier. frontier ≡ self.new.uploads.queue.frontier) }
         ensures back { IfErr result (λ back. back ≡ receipt) }

@@ -10,7 +10,7 @@ use Rattle.lsvd_base.proofs.SectorLemmas.{keeps_count, keeps_others, writes_data
 use Rattle.extent_map.proofs.Places.{within, not_below, not_past}
 use Rattle.object_stream.specs.declared.change.Change.{Change}
 use Rattle.object_stream.specs.declared.change.Change.TheVariants.{Put, Clear}
-use Rattle.object_stream.specs.Changes.{sector_of, change_by, change_at}
+use Rattle.object_stream.specs.Changes.{sector_of, entry_change, change_at}
 use Rattle.std.specs.Option.{option_or}
 use Rattle.object_stream.specs.Laws.{ChangesInParts, ChangesMakeImage, changed_by}
 
@@ -27,8 +27,8 @@ three_parts (Some a) b c = refl
 pub changes_in_parts : ChangesInParts
 changes_in_parts [] later k = sym (none_before (change_at later k))
 changes_in_parts (entry ∷ entries) later k =
-    ap (λ change. option_or change (change_by entry k)) (changes_in_parts entries later k)
-    ∙ three_parts (change_at later k) (change_at entries k) (change_by entry k)
+    ap (λ change. option_or change (entry_change entry k)) (changes_in_parts entries later k)
+    ∙ three_parts (change_at later k) (change_at entries k) (entry_change entry k)
 
 -- ---- in an image
 
@@ -37,15 +37,15 @@ abbrev by_entry : Entry → ℕ → Option Change
 by_entry (Write lba body) k = Some (Put (sector_of (k - lba) body))
 by_entry (Zero lba sectors) k = Some Clear
 
-covered : (entry : Entry) (k : ℕ) → first_sector entry ≤ k → k < first_sector entry + sector_count entry → change_by entry k ≡ by_entry entry k
+covered : (entry : Entry) (k : ℕ) → first_sector entry ≤ k → k < first_sector entry + sector_count entry → entry_change entry k ≡ by_entry entry k
 covered (Write lba body) k from low = ap (λ b. cond b (Some (Put (sector_of (k - lba) body))) None) (within lba (length body / 512) k from low)
 covered (Zero lba sectors) k from low = ap (λ b. cond b (Some Clear) None) (within lba sectors k from low)
 
-below : (entry : Entry) (k : ℕ) → k < first_sector entry → change_by entry k ≡ None
+below : (entry : Entry) (k : ℕ) → k < first_sector entry → entry_change entry k ≡ None
 below (Write lba body) k low = ap (λ b. cond b (Some (Put (sector_of (k - lba) body))) None) (not_below lba (length body / 512) k low)
 below (Zero lba sectors) k low = ap (λ b. cond b (Some Clear) None) (not_below lba sectors k low)
 
-past : (entry : Entry) (k : ℕ) → first_sector entry + sector_count entry ≤ k → change_by entry k ≡ None
+past : (entry : Entry) (k : ℕ) → first_sector entry + sector_count entry ≤ k → entry_change entry k ≡ None
 past (Write lba body) k high = ap (λ b. cond b (Some (Put (sector_of (k - lba) body))) None) (not_past lba (length body / 512) k high)
 past (Zero lba sectors) k high = ap (λ b. cond b (Some Clear) None) (not_past lba sectors k high)
 
@@ -62,9 +62,9 @@ applied_inside (Zero lba sectors) image k ends from low =
 
 -- a sector after an entry
 applied : (entry : Entry) (image : Image) (k : ℕ) → EndsBy (length image) entry
-    → slice_get (apply entry image) k ≡ changed_by (change_by entry k) (slice_get image k)
+    → slice_get (apply entry image) k ≡ changed_by (entry_change entry k) (slice_get image k)
 applied entry image k ends =
-    let same = λ (no : change_by entry k ≡ None) (apart : (k < first_sector entry) ⊎ (first_sector entry + sector_count entry ≤ k)).
+    let same = λ (no : entry_change entry k ≡ None) (apart : (k < first_sector entry) ⊎ (first_sector entry + sector_count entry ≤ k)).
     keeps_others entry image k ends apart ∙ sym (ap (λ change. changed_by change (slice_get image k)) no) in
     elim (cases_lt k (first_sector entry)) [
       | inl low ↦ same (below entry k low) (inl low)
@@ -87,4 +87,4 @@ changes_make_image image (entry ∷ entries) k ends inside =
     let count : length (apply entry image) ≡ length image = keeps_count entry image first in
     changes_make_image (apply entry image) entries k (λ i x at. rw count (ends (suc i) x (omega arith))) (omega arith)
     ∙ (ap (changed_by (change_at entries k)) (applied entry image k first)
-    ∙ later_change (change_at entries k) (change_by entry k) (slice_get image k))
+    ∙ later_change (change_at entries k) (entry_change entry k) (slice_get image k))

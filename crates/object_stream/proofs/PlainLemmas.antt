@@ -10,7 +10,7 @@ use Rattle.object_stream.specs.declared.object.Content.{Content}
 use Rattle.object_stream.specs.declared.object.Content.TheVariants.{Data, Copy, Checkpoint}
 use Rattle.object_stream.specs.declared.object.StreamObject.{StreamObject}
 use Rattle.object_stream.specs.declared.owner.Owner.{Owner}
-use Rattle.object_stream.specs.Changes.{sector_of, change_by, change_at}
+use Rattle.object_stream.specs.Changes.{sector_of, entry_change, change_at}
 use Rattle.std.specs.Option.{option_or}
 use Rattle.object_stream.specs.Stream.{Owners, owner_by_change, owner_by_copy, source_in, after_object, after_objects}
 use Rattle.object_stream.specs.Landed.{Numbers}
@@ -30,11 +30,11 @@ sector_between i start end bytes first last =
 
 -- what the entries up to one more do: what that one does or, where it does nothing, what those before it do
 pub change_more : (entries : List Entry) (i : ℕ) (entry : Entry) (k : ℕ) → i < length entries → entry ≡ get_or entries i entry
-    → change_at (take (i + 1) entries) k ≡ option_or (change_by entry k) (change_at (take i entries) k)
+    → change_at (take (i + 1) entries) k ≡ option_or (entry_change entry k) (change_at (take i entries) k)
 change_more entries i entry k inside is =
     ap (λ part. change_at part k) (take_more entries i entry inside)
     ∙ changes_in_parts (take i entries) (get_or entries i entry ∷ []) k
-    ∙ ap (λ e. option_or (change_by e k) (change_at (take i entries) k)) (sym is)
+    ∙ ap (λ e. option_or (entry_change e k) (change_at (take i entries) k)) (sym is)
 
 pub or_is : (change before : Option Change) → option_or change before ≡ option_or change before
 or_is None before = refl

@@ -23,7 +23,7 @@ use Rattle.object_stream.specs.declared.owner.Owner.{Owner}
 use Rattle.object_stream.specs.Changes.{change_at}
 use Rattle.object_stream.specs.Stream.{Owners, owner_by_change, is_own, owner_by_copy, source_in, after_object, after_objects, end_after, GoesTo, EndsFollow}
 use Rattle.object_stream.specs.Replay.{expected_at}
-use Rattle.object_stream.specs.Value.{put_by, sector_in, HasSector, StandsForSector, IsValue}
+use Rattle.object_stream.specs.Value.{sector_put, sector_in, HasSector, StandsForSector, IsValue}
 use Rattle.object_stream.specs.Stored.{HasContent, IsStored, AreStored}
 use Rattle.object_stream.specs.Laws.{changed_by, ValueIsImageAfter}
 use Rattle.object_stream.proofs.ChangeLemmas.{changes_make_image}
@@ -75,8 +75,8 @@ module _ (objects : Objects) (uuid_at : ℕ → Option (List ℕ)) (volume : Exp
 
   -- what the rows of a data object have is what its entries put
   data_sector : (part : List Entry) (list : Rows) (payload : List ℕ) (k : ℕ) → HasContent objects uuid_at Data part list payload
-      → sector_in list payload k ≡ put_by (change_at part k)
-  data_sector part (rows.Data list) payload k has = ap put_by (has k)
+      → sector_in list payload k ≡ sector_put (change_at part k)
+  data_sector part (rows.Data list) payload k has = ap sector_put (has k)
   data_sector part (rows.Copy list) payload k has = absurd has
   data_sector part rows.Checkpoint payload k has = absurd has
 
@@ -104,7 +104,7 @@ module _ (objects : Objects) (uuid_at : ℕ → Option (List ℕ)) (volume : Exp
         → StandsForSector objects uuid_at (owner_by_change number change (before k)) k sector
     by_change k sector None has e at = value k sector at
     by_change k sector (Some (Put bytes)) has e at =
-        has_sector number end object part is k sector (data_sector part is.rows_of is.payload k has ∙ (ap put_by e ∙ at))
+        has_sector number end object part is k sector (data_sector part is.rows_of is.payload k has ∙ (ap sector_put e ∙ at))
     by_change k sector (Some Clear) has e at = sym (ap (sector_or zero_sector) at)
 
     by_test : (k source : ℕ) (sector : List ℕ) (still : Bool) (pairs : _) → HasContent objects uuid_at (Copy pairs) part is.rows_of is.payload

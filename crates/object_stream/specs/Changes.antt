@@ -15,14 +15,14 @@ sector_of i bytes = take 512 (drop (512 * i) bytes)
 -- ---- by entries
 
 -- what an entry does to a sector: a write puts its part of the data, and a zeroing clears; none where it does not cover it
-abbrev pub change_by : Entry → ℕ → Option Change
-change_by (Write lba body) k = if is_within lba (length body / 512) k then Some (Put (sector_of (k - lba) body)) else None
-change_by (Zero lba sectors) k = if is_within lba sectors k then Some Clear else None
+abbrev pub entry_change : Entry → ℕ → Option Change
+entry_change (Write lba body) k = if is_within lba (length body / 512) k then Some (Put (sector_of (k - lba) body)) else None
+entry_change (Zero lba sectors) k = if is_within lba sectors k then Some Clear else None
 
 -- what entries do to a sector: what the last of them does that covers it
 abbrev pub change_at : List Entry → ℕ → Option Change
 change_at [] k = None
-change_at (entry ∷ entries) k = option_or (change_at entries k) (change_by entry k)
+change_at (entry ∷ entries) k = option_or (change_at entries k) (entry_change entry k)
 
 -- ---- by the rows of a data object
 

@@ -19,10 +19,10 @@ use Rattle.object_stream.specs.Replay.{name_of, HasParts}
 -- ---- what an object has at a sector
 
 -- the sector that a change puts, if it puts one
-abbrev pub put_by : Option Change → Option (List ℕ)
-put_by None = None
-put_by (Some (Put sector)) = Some sector
-put_by (Some Clear) = None
+abbrev pub sector_put : Option Change → Option (List ℕ)
+sector_put None = None
+sector_put (Some (Put sector)) = Some sector
+sector_put (Some Clear) = None
 
 -- the sector that the rows of a copy have in this payload
 abbrev pub copied_in : List CopyRow → (payload : List ℕ) → ℕ → Option (List ℕ)
@@ -32,7 +32,7 @@ copied_in (row ∷ rows) payload k =
 
 -- the sector that rows have in this payload: none where they do not have it, and in no checkpoint
 abbrev pub sector_in : Rows → (payload : List ℕ) → ℕ → Option (List ℕ)
-sector_in (Data rows) payload k = put_by (change_in rows.items payload k)
+sector_in (Data rows) payload k = sector_put (change_in rows.items payload k)
 sector_in (Copy rows) payload k = copied_in rows.items payload k
 sector_in Checkpoint payload k = None
 

@@ -4,7 +4,7 @@ ghost use Rattle.std.specs.Cmp.Lexicographic.{pointwise};
 ghost use Rattle.std.specs.Cmp.Rules.{comparing};
 ghost use Rattle.std.specs.Ordering.{on};
 ghost use Rattle.std.proofs.Common.{rules};
-ghost use Rattle.object_stream.specs.Value.{put_by};
+ghost use Rattle.object_stream.specs.Value.{sector_put};
 
 use lsvd_base::Body;
 
@@ -20,7 +20,7 @@ pub enum Change {
 impl Change {
     /// The bytes that it puts. None is for zeros.
     pub fn data(&self) -> Option<&[u8]>
-        ensures { option_copied result ≡ put_by (Some self.now) }
+        ensures { option_copied result ≡ sector_put (Some self.now) }
     {
         match self {
             Change::Put(body) => Some(body.as_bytes()),
@@ -30,7 +30,7 @@ impl Change {
 }
 
 impl PartialEq for Change {
-    ghost eq = { on (λ change. put_by (Some change)) (option_eq (pointwise ◌==◌)) };
+    ghost eq = { on (λ change. sector_put (Some change)) (option_eq (pointwise ◌==◌)) };
 
     ghost laws = { Prim.search (comparing, rules) };
 

@@ -1,6 +1,6 @@
 ghost use Rattle.std.specs.Prelude.{◌≡◌, ◌%◌, IfOk, length};
 ghost use Rattle.extent_map.specs.Extents.{is_within};
-ghost use Rattle.object_stream.specs.Changes.{sector_of, change_by, change_at, change_from, change_in};
+ghost use Rattle.object_stream.specs.Changes.{sector_of, entry_change, change_at, change_from, change_in};
 
 use crate::change::Change;
 use lsvd_base::{Body, Entry, SECTOR_BYTES};
@@ -18,14 +18,14 @@ pub fn change_at(
 {
     let mut change = None;
     for entry in entries {
-        change = change_by(alloc, entry, sector)?.or(change);
+        change = entry_change(alloc, entry, sector)?.or(change);
     }
     Ok(change)
 }
 
 // What an entry does to a sector.
-fn change_by(alloc: Global, entry: &Entry, sector: u64) -> Result<Option<Change>, AllocError>
-    ensures { IfOk result (λ change. change ≡ change_by entry.now sector) }
+fn entry_change(alloc: Global, entry: &Entry, sector: u64) -> Result<Option<Change>, AllocError>
+    ensures { IfOk result (λ change. change ≡ entry_change entry.now sector) }
 {
     match entry {
         Entry::Write { lba, body } if is_within(*lba, body.sectors(), sector) => {

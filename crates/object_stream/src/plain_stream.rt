@@ -1,5 +1,5 @@
 ghost use Rattle.std.specs.Prelude.{◌≡◌, None, min, slice_index_or};
-ghost use Rattle.object_stream.specs.Changes.{change_by, change_at};
+ghost use Rattle.object_stream.specs.Changes.{entry_change, change_at};
 ghost use Rattle.object_stream.specs.Stream.{owner_by_change, source_in, owner_by_copy, after_object, objects_to, owners, end_after, end_at, unsealed};
 ghost use Rattle.object_stream.specs.Plain.{stream_of};
 
@@ -121,7 +121,7 @@ fn owner_by_data(
 
 // The owner of a sector after an entry that is in the data object of this number.
 fn owner_by_entry(number: u64, entry: &Entry, sector: u64, before: Option<Owner>) -> Option<Owner>
-    ensures { result ≡ owner_by_change number (change_by entry.now sector) before }
+    ensures { result ≡ owner_by_change number (entry_change entry.now sector) before }
 {
     match entry {
         Entry::Write { lba, body } if is_within(*lba, body.sectors(), sector) => {

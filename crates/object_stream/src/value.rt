@@ -1,5 +1,5 @@
 ghost use Rattle.std.specs.Prelude.{◌≡◌, ◌%◌, IfOk, length};
-ghost use Rattle.object_stream.specs.Value.{put_by, copied_in, sector_in};
+ghost use Rattle.object_stream.specs.Value.{sector_put, copied_in, sector_in};
 
 use crate::change::Change;
 use crate::changes::{change_in, is_within, sector_of};
@@ -19,15 +19,15 @@ pub fn sector_in(
     ensures { IfOk result (λ body. body ≡ sector_in rows.now payload.now sector) }
 {
     match rows {
-        Rows::Data(rows) => Ok(put_by(change_in(alloc, rows.as_slice(), payload, sector)?)),
+        Rows::Data(rows) => Ok(sector_put(change_in(alloc, rows.as_slice(), payload, sector)?)),
         Rows::Copy(rows) => copied_in(alloc, rows.as_slice(), payload, sector),
         Rows::Checkpoint => Ok(None),
     }
 }
 
 // The data of the sector that a change puts, if it puts one.
-fn put_by(change: Option<Change>) -> Option<Body>
-    ensures { result ≡ put_by change }
+fn sector_put(change: Option<Change>) -> Option<Body>
+    ensures { result ≡ sector_put change }
 {
     match change {
         Some(Change::Put(body)) => Some(body),

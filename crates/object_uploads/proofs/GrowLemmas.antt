@@ -12,7 +12,7 @@ use Rattle.object_stream.specs.Stream.{Owners, Stream, after_object, after_objec
 use Rattle.object_stream.specs.Replay.{expected_at}
 use Rattle.object_stream.specs.Laws.{from_object}
 use Rattle.object_stream.proofs.StreamLemmas.{goes_on, end_no_earlier, end_in_parts, follow_first}
-use Rattle.volume_maps.specs.Places.{left_by, left_at}
+use Rattle.volume_maps.specs.Places.{place_left_by, left_at}
 use Rattle.volume_maps.specs.Maps.{settled_at, logged_at}
 use Rattle.volume_maps.specs.Laws.{owner_of}
 use Rattle.volume_maps.proofs.SettleLemmas.{left_in_parts}
@@ -133,8 +133,8 @@ module _ (volume : Expected) (data_at : ℕ → ℕ) (stream : Stream) (old : Up
         let seq : old.queue.end + length tail.entries ≡ stream.end + length stream.entries =
         omega (arith, are.end, tail_entries stream from are.valid are.from most, tail_order stream from are.valid are.from most, end_within) in
         entered.logged k
-        ∙ (ap (option_or (left_by (stream.end + length stream.entries) (data_at (stream.end + length stream.entries)) entry k)) (are.logged k)
-        ∙ (ap (λ s. option_or (left_by s (data_at s) entry k) (left_at data_at old.queue.end tail.entries k)) (sym seq)
+        ∙ (ap (option_or (place_left_by (stream.end + length stream.entries) (data_at (stream.end + length stream.entries)) entry k)) (are.logged k)
+        ∙ (ap (λ s. option_or (place_left_by s (data_at s) entry k) (left_at data_at old.queue.end tail.entries k)) (sym seq)
         ∙ (sym (left_in_parts data_at old.queue.end tail.entries (entry ∷ []) k)
         ∙ ap (λ es. left_at data_at old.queue.end es k) (sym tail_with_entry))))
 

@@ -28,7 +28,7 @@ use Rattle.object_uploads.specs.State.{SealedState, UploadsState}
 use Rattle.object_uploads.specs.Queue.{with_at, with_spare, with_receipt, settled_by_all, logged_by_all, end_of_last}
 use Rattle.upload_window.specs.Window.{WindowState}
 use Rattle.object_uploads.specs.Order.{IsUploads}
-use Rattle.object_uploads.specs.Changes.{index_of, IsDone}
+use Rattle.object_uploads.specs.Changes.{index_of, IsPutDone}
 use Rattle.object_uploads.specs.Stream.{AreRows, IsSealedOf, AreSealedOf, AreOfStream}
 use Rattle.object_uploads.proofs.RecoveryLemmas.{same_count}
 use Rattle.object_uploads.specs.Laws.{JobsKeepStream, DoneKeepsStream}
@@ -238,7 +238,7 @@ module _ (stream : Stream) (from : ℕ) (valid : IsStream stream) (least : strea
 -- ---- a put that is done
 
 module _ (volume : Expected) (data_at : ℕ → ℕ) (stream : Stream) (old new : UploadsState) (number : ℕ) (receipt : ReceiptState)
-    (uploads : IsUploads old.queue old.window) (are : AreOfStream volume data_at stream old) (done : IsDone number receipt old new) where
+    (uploads : IsUploads old.queue old.window) (are : AreOfStream volume data_at stream old) (done : IsPutDone number receipt old new) where
   abbrev from : ℕ
   from = old.queue.frontier
 

@@ -55,7 +55,7 @@ pub record IsOut (uploads : UploadsState) (number : ℕ) (bytes : List ℕ) : Ty
 
 -- The put of a number is done, and the store gave this for it: the objects past the frontier are settled up to the first that is not
 -- acknowledged.
-pub record IsDone (number : ℕ) (receipt : ReceiptState) (old new : UploadsState) : Type 0 where
+pub record IsPutDone (number : ℕ) (receipt : ReceiptState) (old new : UploadsState) : Type 0 where
   pub uuid : new.uuid ≡ old.uuid
   pub window : new.window ≡ acknowledged number old.window
   pub count : ℕ

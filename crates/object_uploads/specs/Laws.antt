@@ -15,7 +15,7 @@ use Rattle.upload_window.specs.Window.{WindowState, has_number, was_started}
 use Rattle.object_uploads.specs.State.{UploadsState}
 use Rattle.object_uploads.specs.Queue.{HasBytesAt, IsEntered, just_sealed}
 use Rattle.object_uploads.specs.Order.{IsUploads}
-use Rattle.object_uploads.specs.Changes.{index_of, IsSealed, with_job, IsDone}
+use Rattle.object_uploads.specs.Changes.{index_of, IsSealed, with_job, IsPutDone}
 use Rattle.object_uploads.specs.Stream.{IsSealedOf, AreOfStream}
 
 -- the numbers that were acknowledged
@@ -98,4 +98,4 @@ JobsKeepStream =
 abbrev pub DoneKeepsStream : Type 0
 DoneKeepsStream =
     (volume : Expected) (data_at : ℕ → ℕ) (stream : Stream) (old new : UploadsState) (number : ℕ) (receipt : ReceiptState)
-    → IsUploads old.queue old.window → AreOfStream volume data_at stream old → IsDone number receipt old new → AreOfStream volume data_at stream new
+    → IsUploads old.queue old.window → AreOfStream volume data_at stream old → IsPutDone number receipt old new → AreOfStream volume data_at stream new

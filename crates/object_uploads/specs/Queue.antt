@@ -7,7 +7,7 @@ use Rattle.lsvd_objstore.specs.Store.{ReceiptState}
 use Rattle.object_format.specs.declared.data_row.DataRow.{DataRow}
 use Rattle.volume_maps.specs.declared.place.ObjectPlace.{ObjectPlace}
 use Rattle.volume_maps.specs.declared.place.LogPlace.{LogPlace}
-use Rattle.volume_maps.specs.Places.{left_by}
+use Rattle.volume_maps.specs.Places.{place_left_by}
 use Rattle.volume_maps.specs.Maps.{MapsState, RowsFit, settled_at, logged_at, settled_by, logged_by}
 use Rattle.object_uploads.specs.State.{SealedState, QueueState}
 
@@ -62,7 +62,7 @@ pub record HasSamePlaces (old new : MapsState) : Type 0 where
 
 -- An entry with this seq, whose data begin at a sector of the log, was entered into the log's map: each sector that it covers is there.
 pub record IsEntered (entry : Entry) (seq data_at : ℕ) (old new : QueueState) : Type 0 where
-  pub logged : (k : ℕ) → logged_at new.maps k ≡ option_or (left_by seq data_at entry k) (logged_at old.maps k)
+  pub logged : (k : ℕ) → logged_at new.maps k ≡ option_or (place_left_by seq data_at entry k) (logged_at old.maps k)
   pub settled : new.maps.settled ≡ old.maps.settled
   pub sealed : new.sealed ≡ old.sealed
   pub frontier : new.frontier ≡ old.frontier

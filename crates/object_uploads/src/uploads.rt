@@ -8,7 +8,7 @@ ghost use Rattle.volume_maps.specs.Maps.{RowsFit, volume_place_at};
 ghost use Rattle.object_uploads.specs.Queue.{HasRoomForEntry, IsEntered};
 ghost use Rattle.object_uploads.specs.Order.{IsUploads};
 ghost use Rattle.object_uploads.specs.Invariant.{IsOpenAt};
-ghost use Rattle.object_uploads.specs.Changes.{index_of, IsSealed, IsNotSealed, with_job, IsJobOf, IsOut, IsDone};
+ghost use Rattle.object_uploads.specs.Changes.{index_of, IsSealed, IsNotSealed, with_job, IsJobOf, IsOut, IsPutDone};
 
 use crate::job::Job;
 use crate::queue::Queue;
@@ -107,7 +107,7 @@ impl<R: Receipt> Uploads<R> {
     /// It takes no memory.
     pub fn job_done(&mut self, job: &Job, receipt: R) -> Result<u64, R>
         ensures nothing { IsErr result ↔ (IsOut self.old job.now.name.number job.now.bytes × ((R.state receipt).name ≡ name_of self.old.uuid job.now.name.number) → ⊥) }
-        ensures done { OnOk result (IsDone job.now.name.number (R.state receipt) self.old self.new) }
+        ensures done { OnOk result (IsPutDone job.now.name.number (R.state receipt) self.old self.new) }
         ensures frontier { IfOk result (λ frontier. frontier ≡ self.new.queue.frontier) }
         ensures back { IfErr result (λ back. back ≡ receipt) }
         ensures same { OnErr result (self.new ≡ self.old) }

@@ -14,9 +14,9 @@ use Rattle.object_format.specs.Rows.{data_payload, data_may_stand, data_rows_may
 use Rattle.object_stream.specs.declared.change.Change.{Change}
 use Rattle.object_stream.specs.declared.change.Change.TheVariants.{Put, Clear}
 use Rattle.object_stream.specs.declared.owner.Owner.{Owner}
-use Rattle.object_stream.specs.Changes.{sector_of, change_by, change_at, change_from, change_in}
+use Rattle.object_stream.specs.Changes.{sector_of, entry_change, change_at, change_from, change_in}
 use Rattle.object_stream.specs.Stream.{owner_by_change}
-use Rattle.volume_maps.specs.Places.{seq_of, left_by, left_at}
+use Rattle.volume_maps.specs.Places.{seq_of, place_left_by, left_at}
 use Rattle.volume_maps.specs.Laws.{owner_of, SettlesAsReplay, LogKeepsLaterEntries}
 use Rattle.lsvd_base.specs.declared.entry.Entry.TheVariants.{Write, Zero}
 use Rattle.volume_maps.specs.Maps.{row_place, settled_by_row, settled_by, from_seq, logged_by_row, logged_by}
@@ -105,8 +105,8 @@ left_in_parts data_at first [] later k =
 left_in_parts data_at first (entry ∷ entries) later k =
     let same : first + suc (length entries) ≡ first + 1 + length entries = omega arith in
     rw same (
-    ap (λ place. option_or place (left_by first (data_at first) entry k)) (left_in_parts data_at (first + 1) entries later k)
-    ∙ or_assoc (left_at data_at (first + 1 + length entries) later k) (left_at data_at (first + 1) entries k) (left_by first (data_at first) entry k)
+    ap (λ place. option_or place (place_left_by first (data_at first) entry k)) (left_in_parts data_at (first + 1) entries later k)
+    ∙ or_assoc (left_at data_at (first + 1 + length entries) later k) (left_at data_at (first + 1) entries k) (place_left_by first (data_at first) entry k)
     )
 
 -- the seqs that entries leave are theirs
@@ -118,7 +118,7 @@ seq_by_test : (test : Bool) (seq : ℕ) (place : LogPlace) → seq_of place ≡ 
 seq_by_test true seq place same = (omega arith, omega arith)
 seq_by_test false seq place same = tt
 
-seq_by : (seq data_at : ℕ) (entry : Entry) (k : ℕ) → HasSeqOf seq (seq + 1) (left_by seq data_at entry k)
+seq_by : (seq data_at : ℕ) (entry : Entry) (k : ℕ) → HasSeqOf seq (seq + 1) (place_left_by seq data_at entry k)
 seq_by seq data_at (Write lba body) k = seq_by_test (is_within lba (length body / 512) k) seq (Data seq (data_at + (k - lba))) refl
 seq_by seq data_at (Zero lba sectors) k = seq_by_test (is_within lba sectors k) seq (Zeros seq) refl
 
@@ -131,7 +131,7 @@ seqs_left : (data_at : ℕ → ℕ) (first : ℕ) (entries : List Entry) (k : �
 seqs_left data_at first [] k = tt
 seqs_left data_at first (entry ∷ entries) k =
     let same : first + suc (length entries) ≡ first + 1 + length entries = omega arith in
-    rw same (seq_or first (first + 1) (first + 1 + length entries) (left_at data_at (first + 1) entries k) (left_by first (data_at first) entry k)
+    rw same (seq_or first (first + 1) (first + 1 + length entries) (left_at data_at (first + 1) entries k) (place_left_by first (data_at first) entry k)
     (omega arith) (omega arith) (seqs_left data_at (first + 1) entries k) (seq_by first (data_at first) entry k))
 
 -- what is before a seq goes, and what is not stays
@@ -148,7 +148,7 @@ none_by_test : (test : Bool) (change : Change) (place : LogPlace) → cond test 
 none_by_test true change place none = absurd cc
 none_by_test false change place none = refl
 
-none_by : (seq data_at : ℕ) (entry : Entry) (k : ℕ) → change_by entry k ≡ None → left_by seq data_at entry k ≡ None
+none_by : (seq data_at : ℕ) (entry : Entry) (k : ℕ) → entry_change entry k ≡ None → place_left_by seq data_at entry k ≡ None
 none_by seq data_at (Write lba body) k none =
     none_by_test (is_within lba (length body / 512) k) (Put (sector_of (k - lba) body)) (Data seq (data_at + (k - lba))) none
 none_by seq data_at (Zero lba sectors) k none = none_by_test (is_within lba sectors k) Clear (Zeros seq) none
@@ -160,7 +160,7 @@ both_none (Some a) b none = absurd cc
 left_nowhere : (data_at : ℕ → ℕ) (first : ℕ) (entries : List Entry) (k : ℕ) → change_at entries k ≡ None → left_at data_at first entries k ≡ None
 left_nowhere data_at first [] k none = refl
 left_nowhere data_at first (entry ∷ entries) k none =
-    let both = both_none (change_at entries k) (change_by entry k) none in
+    let both = both_none (change_at entries k) (entry_change entry k) none in
     rw (left_nowhere data_at (first + 1) entries k both.0, none_by first (data_at first) entry k both.1) refl
 
 -- the log's map after rows: as before where none covers a sector, and else without what is older

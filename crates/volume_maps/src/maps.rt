@@ -2,7 +2,7 @@ ghost use Rattle.std.specs.Prelude.{◌≡◌, ◌+◌, ◌<◌, ◌≤◌, ◌^
 ghost use Rattle.std.specs.Option.{option_or};
 ghost use Rattle.lsvd_base.specs.Laws.{first_sector, sector_count};
 ghost use Rattle.extent_map.specs.Extents.{place_at, place_in_range, IsShortest};
-ghost use Rattle.volume_maps.specs.Places.{object_on, volume_on, log_number, left_by, row_left_by};
+ghost use Rattle.volume_maps.specs.Places.{object_on, volume_on, log_number, place_left_by, row_left_by};
 ghost use Rattle.volume_maps.specs.Maps.{settled_at, logged_at, volume_place_at, settled_by_row, settled_by, logged_by_row, logged_by, RowFits, RowsFit};
 
 use crate::look::look;
@@ -64,7 +64,7 @@ impl VolumeMaps {
         requires room { 1 ≤ self.old.log.spare }
         requires range { first_sector entry.now + sector_count entry.now < 2 ^ 63 }
         requires places { log_number (row_left_by seq data_at entry.now).place + sector_count entry.now < 2 ^ 63 }
-        ensures log { (k : ℕ) → logged_at self.new k ≡ option_or (left_by seq data_at entry.now k) (logged_at self.old k) }
+        ensures log { (k : ℕ) → logged_at self.new k ≡ option_or (place_left_by seq data_at entry.now k) (logged_at self.old k) }
         ensures spare { self.old.log.spare ≤ self.new.log.spare + 1 }
         ensures settled { self.new.settled ≡ self.old.settled }
     {
