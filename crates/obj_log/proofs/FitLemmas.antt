@@ -4,14 +4,14 @@ use Rattle.std.specs.Prelude.{IsTrue, IfSome}
 use Rattle.std.specs.Global.{Vec}
 use Rattle.std.proofs.lemmas.Bool.Decides.{nat_tests}
 use Rattle.object_format.specs.declared.data_row.DataRow.{DataRow}
-use Rattle.object_format.specs.Rows.{payload_at, data_payload, is_at, data_may_stand, data_rows_may_stand}
 use Rattle.object_format.specs.declared.header.Header.{Header}
 use Rattle.object_format.specs.declared.expected.Expected.{Expected}
 use Rattle.object_format.specs.declared.rows.Rows.TheVariants.{Data}
 use Rattle.object_format.specs.Writing.{header_of}
 use Rattle.lsvd_base.specs.Limits.{is_within_limits}
 use Rattle.object_stream.specs.Replay.{HasParts}
-use Rattle.volume_maps.specs.Maps.{RowFits, RowsFit}
+use Rattle.volume_maps.specs.Maps.{RowsFit}
+use Rattle.volume_maps.proofs.FitLemmas.{rows_fit}
 use Rattle.batcher.specs.State.{BatchState}
 use Rattle.batcher.specs.declared.sealing.SealedBatch.{SealedBatch}
 use Rattle.batcher.specs.Sealing as batches
@@ -19,26 +19,6 @@ use Rattle.object_uploads.specs.State.{UploadsState}
 use Rattle.object_uploads.specs.Changes as objects
 use Rattle.obj_log.specs.State.{ObjLogState}
 use Rattle.obj_log.specs.Changes.{next_of, IsSealed}
-
-place_fits : (sectors place payload : ℕ) (at : Option ℕ) → IsTrue (is_at place at) → IsTrue (nat_le (place + payload_at sectors at) payload)
-    → payload ≤ 131071 → IfSome at (λ p. p + sectors < 2 ^ 63)
-place_fits sectors place payload None is within most = tt
-place_fits sectors place payload (Some at) is within most = grind (arith, nat_tests)
-
-row_fits : (volume payload place : ℕ) (before : Option DataRow) (row : DataRow) → volume < 2 ^ 63 → payload ≤ 131071
-    → IsTrue (data_may_stand volume payload before place row) → RowFits row
-row_fits volume payload place before row low most stand = record {
-  sectors = grind (arith, nat_tests);
-  place = place_fits row.sectors place payload row.place (grind (arith, nat_tests)) (grind (arith, nat_tests)) most;
-}
-
-pub rows_fit : (volume payload place : ℕ) (before : Option DataRow) (rows : List DataRow) → volume < 2 ^ 63 → payload ≤ 131071
-    → IsTrue (data_rows_may_stand volume payload before place rows) → RowsFit rows
-rows_fit volume payload place before [] low most stand = tt
-rows_fit volume payload place before (row ∷ rows) low most stand = (
-  row_fits volume payload place before row low most (grind (arith, nat_tests)),
-  rows_fit volume payload (place + data_payload row) (Some row) rows low most (grind (arith, nat_tests)),
-)
 
 -- the rows of an object fit that is the expected one of a volume within the limits
 pub sealed_fit : (log : ObjLogState) (expected : Expected) (bytes : List ℕ) (head : Header) (rows : Vec DataRow) (payload : List ℕ)

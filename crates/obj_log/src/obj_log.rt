@@ -3,12 +3,13 @@ ghost use Rattle.std.specs.List.{sum_by, slice_get};
 ghost use Rattle.lsvd_base.specs.Limits.{is_within_limits};
 ghost use Rattle.lsvd_base.specs.Range.{is_in_range};
 ghost use Rattle.lsvd_base.specs.Laws.{sector_count};
-ghost use Rattle.extent_map.specs.Extents.{place_at, place_in_range, IsShortest};
+ghost use Rattle.extent_map.specs.Extents.{place_at, place_in_range, IsShortest, AllFit};
 ghost use Rattle.object_stream.specs.Replay.{name_of};
 ghost use Rattle.upload_window.specs.Window.{lowest_ready, IsFrontier};
-ghost use Rattle.volume_maps.specs.Places.{volume_on};
+ghost use Rattle.volume_maps.specs.Places.{volume_on, volume_number};
 ghost use Rattle.volume_maps.specs.Maps.{volume_place_at};
 ghost use Rattle.batcher.specs.Batch.{data_sectors};
+ghost use Rattle.object_uploads.specs.Queue.{receipt_of};
 ghost use Rattle.object_uploads.specs.Order.{IsUploads};
 ghost use Rattle.object_uploads.specs.Changes.{with_job, IsJobOf, IsOut, IsPutDone};
 ghost use Rattle.obj_log.specs.declared.error.SealError.TheVariants as errors;
@@ -154,8 +155,8 @@ impl<R: Receipt> ObjLog<R> {
         self.uploads.job_failed(job)
     }
 
-    /// The places of the sectors from `lba` on, as the shortest list of rows in order; a sector without a place has zeros. The range
-    /// ends below 2^63 (a condition). The one error is out of memory.
+    /// The places of the sectors from `lba` on, as the shortest list of rows in order; a sector without a place has zeros. The rows
+    /// and their places end below 2^63, and so does the range (a condition). The one error is out of memory.
     pub fn look(
         &self,
         alloc: Global,
@@ -165,8 +166,17 @@ impl<R: Receipt> ObjLog<R> {
         requires { lba + sectors < 2 ^ 63 }
         ensures places { IfOk result (λ rows. (k : ℕ) → place_at volume_on rows.items k ≡ place_in_range lba sectors (volume_place_at self.now.uploads.queue.maps) k) }
         ensures shortest { IfOk result (λ rows. IsShortest volume_on rows.items) }
+        ensures fits { IfOk result (λ rows. AllFit volume_number rows.items) }
     {
         self.uploads.look(alloc, lba, sectors)
+    }
+
+    /// What the store gave for the object of a number. None is for a number past the frontier, and for one whose object was
+    /// acknowledged before the list began.
+    pub fn receipt(&self, number: u64) -> Option<&R>
+        ensures { option_map (λ receipt. R.state receipt.now) result ≡ receipt_of self.now.uploads.queue number }
+    {
+        self.uploads.receipt(number)
     }
 
     /// The entries that are in no object yet.

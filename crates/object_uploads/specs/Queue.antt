@@ -1,6 +1,6 @@
 -- Contract: what changes the objects of a volume in the order of their numbers.
-use Rattle.std.specs.Prelude.{◌≡◌, ℕ, ◌+◌, ◌≤◌, zero, suc, Bool, true, Option, Some, None, IsSome, List, [], ◌∷◌, ◌++◌, length, take, drop, option_to_list, if◌then◌else◌}
-use Rattle.std.specs.List.{AllByRecursion, sum_by}
+use Rattle.std.specs.Prelude.{◌≡◌, ℕ, ◌+◌, ◌-◌, ◌≤◌, nat_le, zero, suc, Bool, true, Option, Some, None, IsSome, List, [], ◌∷◌, ◌++◌, length, take, drop, option_to_list, if◌then◌else◌}
+use Rattle.std.specs.List.{AllByRecursion, sum_by, slice_get}
 use Rattle.std.specs.Option.{option_or}
 use Rattle.lsvd_base.specs.declared.entry.Entry.{Entry}
 use Rattle.lsvd_objstore.specs.Store.{ReceiptState}
@@ -89,6 +89,12 @@ end_of_last end (sealed ∷ more) = end_of_last sealed.end more
 abbrev pub receipts_of : List SealedState → List ReceiptState
 receipts_of [] = []
 receipts_of (sealed ∷ more) = option_to_list sealed.receipt ++ receipts_of more
+
+-- what the store gave for the object of a number: the receipts are those of the last numbers up to the frontier
+abbrev pub receipt_of : QueueState → (number : ℕ) → Option ReceiptState
+receipt_of queue number =
+    if nat_le number (queue.frontier - length queue.receipts) then None
+    else slice_get queue.receipts (number - (queue.frontier - length queue.receipts) - 1)
 
 -- the first objects past the frontier, as many as this, were settled: all of them are acknowledged
 pub record IsSettledBy (count : ℕ) (old new : QueueState) : Type 0 where

@@ -1,11 +1,11 @@
-ghost use Rattle.std.specs.Prelude.{◌≡◌, ◌+◌, ◌-◌, ◌<◌, ◌≤◌, ◌^◌, ℕ, ◌++◌, ◌∷◌, [], length, OnOk, OnErr, IsTrue, IsSome, IfSome, ◌↔◌, false, true};
+ghost use Rattle.std.specs.Prelude.{◌≡◌, ◌+◌, ◌-◌, ◌<◌, ◌≤◌, ◌^◌, ℕ, ◌++◌, ◌∷◌, [], length, OnOk, OnErr, IsTrue, IsSome, IfSome, ◌↔◌, false, true, option_map};
 ghost use Rattle.std.specs.List.{sum_by, slice_get};
 ghost use Rattle.lsvd_base.specs.Laws.{first_sector, sector_count};
 ghost use Rattle.volume_maps.specs.Places.{log_number, row_left_by};
 ghost use Rattle.volume_maps.specs.Maps.{RowsFit};
 ghost use Rattle.object_uploads.specs.Invariant.{IsOpenAt};
 ghost use Rattle.object_uploads.specs.State.{QueueState};
-ghost use Rattle.object_uploads.specs.Queue.{with_at, just_sealed, with_spare, with_receipt, row_count, HasBytesAt, HasRoomForEntry, HasSamePlaces, IsEntered, IsSettledBy, FirstWaits};
+ghost use Rattle.object_uploads.specs.Queue.{with_at, just_sealed, with_spare, with_receipt, row_count, HasBytesAt, HasRoomForEntry, HasSamePlaces, IsEntered, IsSettledBy, FirstWaits, receipt_of};
 
 use crate::sealed::Sealed;
 use lsvd_base::{Entry, ObjectBytes};
@@ -48,6 +48,7 @@ impl<R: Receipt> Model for Queue<R> {
     ghost invariant = { λ q.
         HasRoomForRows q.sealed.items q.maps
         × (q.rows ≡ sum_by row_count q.sealed.items)
+        × (length q.receipts.items ≤ q.frontier)
         × (length q.receipts.items + length q.sealed.items ≤ vec_capacity q.receipts)
         × (q.frontier + length q.sealed.items < 2 ^ 64) };
 }
@@ -208,6 +209,17 @@ impl<R: Receipt> Queue<R> {
         ensures { IsEntered entry.now seq data_at self.old self.new }
     {
         self.maps.enter(entry, seq, data_at);
+    }
+
+    // What the store gave for the object of a number, where that is one of those whose receipts are kept.
+    pub(crate) fn receipt(&self, number: u64) -> Option<&R>
+        ensures { option_map (λ receipt. R.state receipt.now) result ≡ receipt_of self.now number }
+    {
+        let before = self.frontier - self.receipts.len() as u64;
+        if number <= before {
+            return None;
+        }
+        self.receipts.get((number - before - 1) as usize)
     }
 
     // The maps.

@@ -1,11 +1,11 @@
 ghost use Rattle.std.specs.Prelude.{◌≡◌, ◌+◌, ◌-◌, ◌<◌, ◌≤◌, ◌^◌, ℕ, ◌↔◌, [], length, option_map, IsTrue, IsErr, IfOk, IfErr, IfSome, IfNone, OnOk, OnErr, true, false};
 ghost use Rattle.lsvd_base.specs.Laws.{first_sector, sector_count};
-ghost use Rattle.extent_map.specs.Extents.{place_at, place_in_range, IsShortest};
+ghost use Rattle.extent_map.specs.Extents.{place_at, place_in_range, IsShortest, AllFit};
 ghost use Rattle.object_stream.specs.Replay.{name_of};
 ghost use Rattle.upload_window.specs.Window.{lowest_ready, IsFrontier};
-ghost use Rattle.volume_maps.specs.Places.{volume_on, log_number, row_left_by};
+ghost use Rattle.volume_maps.specs.Places.{volume_on, volume_number, log_number, row_left_by};
 ghost use Rattle.volume_maps.specs.Maps.{RowsFit, volume_place_at};
-ghost use Rattle.object_uploads.specs.Queue.{HasRoomForEntry, IsEntered};
+ghost use Rattle.object_uploads.specs.Queue.{HasRoomForEntry, IsEntered, receipt_of};
 ghost use Rattle.object_uploads.specs.Order.{IsUploads};
 ghost use Rattle.object_uploads.specs.Invariant.{IsOpenAt};
 ghost use Rattle.object_uploads.specs.Changes.{index_of, IsSealed, IsNotSealed, with_job, IsJobOf, IsOut, IsPutDone};
@@ -163,8 +163,8 @@ impl<R: Receipt> Uploads<R> {
         self.queue.enter(entry, seq, data_at);
     }
 
-    /// The places of the sectors from `lba` on, as the shortest list of rows in order; a sector without a place has zeros. The range
-    /// ends below 2^63 (a condition). The one error is out of memory.
+    /// The places of the sectors from `lba` on, as the shortest list of rows in order; a sector without a place has zeros. The rows
+    /// and their places end below 2^63, and so does the range (a condition). The one error is out of memory.
     pub fn look(
         &self,
         alloc: Global,
@@ -174,8 +174,17 @@ impl<R: Receipt> Uploads<R> {
         requires { lba + sectors < 2 ^ 63 }
         ensures places { IfOk result (λ rows. (k : ℕ) → place_at volume_on rows.items k ≡ place_in_range lba sectors (volume_place_at self.now.queue.maps) k) }
         ensures shortest { IfOk result (λ rows. IsShortest volume_on rows.items) }
+        ensures fits { IfOk result (λ rows. AllFit volume_number rows.items) }
     {
         self.queue.maps().look(alloc, lba, sectors)
+    }
+
+    /// What the store gave for the object of a number. None is for a number past the frontier, and for one whose object was
+    /// acknowledged before the objects were taken up.
+    pub fn receipt(&self, number: u64) -> Option<&R>
+        ensures { option_map (λ receipt. R.state receipt.now) result ≡ receipt_of self.now.queue number }
+    {
+        self.queue.receipt(number)
     }
 
     /// The uuid of the volume.

@@ -4,7 +4,7 @@ use Rattle.std.specs.Prelude.{slice_get}
 use Rattle.std.specs.Option.{option_or}
 use Rattle.std.proofs.lemmas.Bool.{cases_lt}
 use Rattle.extent_map.specs.declared.extent.Extent.{Extent}
-use Rattle.extent_map.specs.Extents.{is_within, place_at, place_in_range, ComesBefore, IsShortest, IsFirstOfRange, StartsRange, IsBare}
+use Rattle.extent_map.specs.Extents.{is_within, place_at, place_in_range, ComesBefore, IsShortest, IsFirstOfRange, StartsRange, IsBare, Fits, AllFit}
 use Rattle.extent_map.specs.State.{MapState}
 use Rattle.extent_map.proofs.Places.{within, not_below, not_past, at_inside, at_past, none_before}
 use Rattle.volume_maps.specs.declared.place.ObjectPlace.{ObjectPlace}
@@ -156,6 +156,12 @@ module _ (end : ℕ) (places : ℕ → Option VolumePlace) where
   push_closed from lba sectors [] row range breaks = (omega arith, λ here low goes_on. breaks (omega (arith, range, low)) goes_on)
   push_closed from lba sectors (first ∷ []) row range breaks = push_closed from lba sectors [] row range breaks
   push_closed from lba sectors (first ∷ next ∷ rows) row range breaks = push_closed from lba sectors (next ∷ rows) row range breaks
+
+-- rows fit with one more that does
+pub push_fits : {P : Type 0} (number : P → ℕ) (rows : List (Extent P)) (row : Extent P) → AllFit number rows → Fits number row
+    → AllFit number (rows ++ row ∷ [])
+push_fits number [] row all fits = (fits, tt)
+push_fits number (first ∷ rows) row all fits = (all.0, push_fits number rows row all.1 fits)
 
 -- a place by a test, or else another
 by_test : (test : Bool) (place : VolumePlace) (front all more : Option VolumePlace) → all ≡ option_or front more

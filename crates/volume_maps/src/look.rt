@@ -1,6 +1,6 @@
 ghost use Rattle.std.specs.Prelude.{◌≡◌, ◌+◌, ◌<◌, ◌^◌, ◌↔◌, ℕ, IfOk, IfSome, IsNone};
-ghost use Rattle.extent_map.specs.Extents.{place_at, place_in_range, IsShortest, StartsRange, IsBare};
-ghost use Rattle.volume_maps.specs.Places.{volume_on, as_logged, as_settled};
+ghost use Rattle.extent_map.specs.Extents.{place_at, place_in_range, IsShortest, StartsRange, IsBare, Fits, AllFit};
+ghost use Rattle.volume_maps.specs.Places.{volume_on, volume_number, as_logged, as_settled};
 ghost use Rattle.volume_maps.specs.Look.{combined, BreaksOff};
 
 use crate::place::{LogPlace, ObjectPlace, VolumePlace};
@@ -18,6 +18,7 @@ pub(crate) fn look(
     requires { lba + sectors < 2 ^ 63 }
     ensures places { IfOk result (λ rows. (k : ℕ) → place_at volume_on rows.items k ≡ place_in_range lba sectors (combined settled.now log.now) k) }
     ensures shortest { IfOk result (λ rows. IsShortest volume_on rows.items) }
+    ensures fits { IfOk result (λ rows. AllFit volume_number rows.items) }
 {
     let mut rows = Vec::new(alloc);
     let (mut from, end) = (lba, lba + sectors);
@@ -39,6 +40,7 @@ fn first_in(
     ensures none { IsNone result ↔ IsBare lba sectors (combined settled.now log.now) }
     ensures row { IfSome result (StartsRange volume_on lba sectors (combined settled.now log.now)) }
     ensures breaks_off { IfSome result (BreaksOff lba sectors (combined settled.now log.now)) }
+    ensures fits { IfSome result (Fits volume_number) }
 {
     let logged = log.first_in(lba, sectors);
     let end = match logged {

@@ -1,8 +1,8 @@
 ghost use Rattle.std.specs.Prelude.{◌≡◌, ◌+◌, ◌<◌, ◌≤◌, ◌^◌, ℕ, [], length, IfOk, OnOk};
 ghost use Rattle.std.specs.Option.{option_or};
 ghost use Rattle.lsvd_base.specs.Laws.{first_sector, sector_count};
-ghost use Rattle.extent_map.specs.Extents.{place_at, place_in_range, IsShortest};
-ghost use Rattle.volume_maps.specs.Places.{object_on, volume_on, log_number, place_left_by, row_left_by};
+ghost use Rattle.extent_map.specs.Extents.{place_at, place_in_range, IsShortest, AllFit};
+ghost use Rattle.volume_maps.specs.Places.{object_on, volume_on, log_number, volume_number, place_left_by, row_left_by};
 ghost use Rattle.volume_maps.specs.Maps.{settled_at, logged_at, volume_place_at, settled_by_row, settled_by, logged_by_row, logged_by, RowFits, RowsFit};
 
 use crate::look::look;
@@ -106,8 +106,8 @@ impl VolumeMaps {
     }
 
     /// The places of the sectors from `lba` on, as the shortest list of rows in order; a sector without a place has zeros. Each row
-    /// is as long as it can be: a row of the log is one write's. The range ends below 2^63 (a condition). The one error is out of
-    /// memory.
+    /// is as long as it can be: a row of the log is one write's. The rows and their places end below 2^63, and so does the range (a
+    /// condition). The one error is out of memory.
     pub fn look(
         &self,
         alloc: Global,
@@ -117,6 +117,7 @@ impl VolumeMaps {
         requires { lba + sectors < 2 ^ 63 }
         ensures places { IfOk result (λ rows. (k : ℕ) → place_at volume_on rows.items k ≡ place_in_range lba sectors (volume_place_at self.now) k) }
         ensures shortest { IfOk result (λ rows. IsShortest volume_on rows.items) }
+        ensures fits { IfOk result (λ rows. AllFit volume_number rows.items) }
     {
         look(alloc, &self.settled, &self.log, lba, sectors)
     }

@@ -1,9 +1,9 @@
 use Rattle.std.proofs.Common.{◌≡◌, ◌+◌, ◌-◌, [], ◌∷◌, ◌∙◌, ap, arith, refl}
 use Rattle.std.specs.Option.{option_or}
 use Rattle.extent_map.specs.Extents.{place_at}
-use Rattle.volume_maps.specs.Places.{volume_on}
+use Rattle.volume_maps.specs.Places.{volume_on, volume_number}
 use Rattle.volume_maps.specs.Look.{combined}
-use Rattle.volume_maps.proofs.LookLemmas.{volume_on_none, starts_at, push_shortest, push_closed, place_in_parts, push_places}
+use Rattle.volume_maps.proofs.LookLemmas.{volume_on_none, starts_at, push_shortest, push_closed, place_in_parts, push_places, push_fits}
 use Rattle.volume_maps.proofs.look.look.Goals as goal
 
 pub loop-row-preserved : goal.loop-row-preserved
@@ -29,4 +29,5 @@ loop-row-preserved c =
           ∙ (place_in_parts rows (row ∷ []) k
           ∙ (ap (λ p. option_or p (place_at volume_on (row ∷ []) k)) (kept.5 k)
           ∙ push_places lba from places kept.1 (end - from) row starts k)),
+      rw pushed (push_fits volume_number rows row kept.6 c.in-Some.ensures.fits),
     )
