@@ -24,7 +24,7 @@ use Rattle.cache_log.specs.declared.error.AppendError.{AppendError}
 use Rattle.cache_log.specs.declared.error.AppendError.TheVariants.{DeviceFault}
 use Rattle.cache_log.specs.declared.row.Row.{Row}
 use Rattle.cache_log.proofs.CommittedLemmas.{view_of}
-use Rattle.cache_log.proofs.WriteLemmas.{IsPiece, StaysIn, stays_of, stays_then, same_then, written_same, not_written_same, log_since, same_log, mark_with, rows_with, has_place, fail_stays, ready, not_padded, one_more}
+use Rattle.cache_log.proofs.WriteLemmas.{IsPiece, stays_of, stays_then, same_then, written_same, not_written_same, log_since, same_log, mark_with, rows_with, has_place, fail_stays, ready, not_padded, one_more}
 
 -- what one write asks for
 write_asks : (at : ℕ) (piece : List ℕ) (bytes : ℕ) → length piece ≡ bytes → Asks (Write at piece ∷ []) (write_cost bytes)

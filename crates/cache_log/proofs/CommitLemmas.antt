@@ -7,14 +7,14 @@ use Rattle.std.proofs.Math.Path.{subst₂}
 use Rattle.std.proofs.Math.Seq.{take-append_seam, drop-append_seam}
 use Rattle.std.proofs.lemmas.List.{take-append-drop, length-append, length-drop, length-take-le}
 use Rattle.lsvd_base.specs.declared.entry.Entry.{Entry}
-use Rattle.lsvd_device.specs.Medium.{Medium, MayLeave}
+use Rattle.lsvd_device.specs.Medium.{Medium}
 use Rattle.lsvd_device.specs.Device.{HoldsSince, HoldsNow}
-use Rattle.log_room.specs.Room.{Room, IsRoom, room_of}
+use Rattle.log_room.specs.Room.{Room, room_of}
 use Rattle.commit_body.specs.declared.body.CommitBody.{CommitBody}
 use Rattle.commit_body.specs.declared.body.Mark.{Mark}
 use Rattle.commit_body.specs.Body.{MayStand}
 use Rattle.commit_slot.specs.Slots.{log_of}
-use Rattle.commit_slot.specs.Commits.{CommitsState, Leaves, LeavesNow, IsCommit, IsLast, IsLastOr, IsBegun, IsMade, IsMadeInPart, finished_number, finished_body}
+use Rattle.commit_slot.specs.Commits.{CommitsState, Leaves, IsCommit, IsLast, IsLastOr, IsBegun, IsMade, IsMadeInPart, finished_number, finished_body}
 use Rattle.commit_slot.specs.Committing.{IsCommitted, FailsToCommit, IsCrashSafeCommit}
 use Rattle.commit_slot.specs.OnDisk.{AreOnDisk}
 use Rattle.commit_slot.specs.LogArea.{log_area, LeavesAsBefore, LeavesLogArea, KeepsLogArea, MakesLogAreaDurable, IsCommitting}
@@ -24,7 +24,7 @@ use Rattle.cache_log.specs.Rows.{entry_of, StandsFrom, AreNumbered, Follow, end_
 use Rattle.cache_log.specs.Log.{entries_in, LogState}
 use Rattle.cache_log.specs.Committed.{HasRecords, LeavesEntries, LeavesEntriesSince, sectors_from, IsOnDisk, HasSameList, IsReleased, IsCommittedLog, body_of}
 use Rattle.cache_log.specs.Invariant.{Reach, RecordsLast, IsLog, IsLogHeld, EachCommitted, IsCommitOfRows, IsCommitOfLog, AreCommitsOfLog, Holds}
-use Rattle.cache_log.proofs.CommittedLemmas.{view_of, now_entries, now_committed, each_as, each_both, each_same, each_last, each_of, finished_has, has_records, leaves_entries, HeldAt, AreCommits, are_commits}
+use Rattle.cache_log.proofs.CommittedLemmas.{view_of, now_entries, now_committed, each_as, each_both, each_same, each_last, finished_has, has_records, leaves_entries, HeldAt, AreCommits, are_commits}
 use Rattle.cache_log.proofs.LogAreaLemmas.{same_log_area, same_entries}
 use Rattle.cache_log.proofs.Places.{some_size, taken_round, end_is}
 use Rattle.cache_log.proofs.Reaches.{reach_is}

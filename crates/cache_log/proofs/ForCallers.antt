@@ -1,8 +1,7 @@
 -- What the proofs of other crates know of logs: the laws, and what follows from them.
-use Rattle.std.proofs.Common.{◌≡◌, ℕ, ◌+◌, ◌-◌, ◌<◌, List, [], ◌∷◌, ◌++◌, length, map, refl, sym, ◌∙◌, ap, subst, arith}
+use Rattle.std.proofs.Common.{◌≡◌, ℕ, ◌+◌, ◌<◌, List, [], ◌∷◌, ◌++◌, length, map, refl, sym, ◌∙◌, ap, subst, arith}
 use Rattle.std.specs.Prelude.{Option, Some, None, IfSome, true}
 use Rattle.std.specs.Option.{option_map}
-use Rattle.std.proofs.Math.Path.{subst₂}
 use Rattle.std.proofs.lemmas.Bool.Decides.{nat_tests}
 use Rattle.std.proofs.lemmas.List.{length-map}
 use Rattle.lsvd_base.specs.declared.entry.Entry.{Entry}
@@ -17,9 +16,9 @@ use Rattle.commit_slot.specs.LogArea.{log_area}
 use Rattle.cache_log.specs.declared.row.Row.{Row}
 use Rattle.cache_log.specs.Rows.{entry_of, AreNumbered, HaveRecords, since, entries_since, entries_between}
 use Rattle.cache_log.specs.Reads.{reads_cost}
-use Rattle.cache_log.specs.Log.{LogState, all_rows, next_seq, entries_in, HasSameEntries, up_to}
-use Rattle.cache_log.specs.Opening.{distance, sectors_between}
-use Rattle.cache_log.specs.Committed.{HasRecords, LeavesEntries, LeavesEntriesSince, LeavesEntriesNow, HoldsCommittedNow, IsOnDisk, HasSameList, IsReleased, body_of, sectors_from}
+use Rattle.cache_log.specs.Log.{LogState, all_rows, entries_in, HasSameEntries, up_to}
+use Rattle.cache_log.specs.Opening.{sectors_between}
+use Rattle.cache_log.specs.Committed.{HasRecords, LeavesEntries, LeavesEntriesSince, LeavesEntriesNow, HoldsCommittedNow, IsOnDisk, HasSameList, IsReleased, sectors_from}
 use Rattle.cache_log.specs.Laws.{HaveOneList, AreReadAgain, AreAtMostTwoEach}
 use Rattle.cache_log.proofs.LogAreaLemmas as area
 use Rattle.cache_log.proofs.ReadCounts as counts

@@ -12,10 +12,10 @@ use Rattle.commit_slot.specs.Commits.{CommitsState, IsAt, IsCommit, Leaves}
 use Rattle.commit_slot.specs.Formatting.{IsFormatted}
 use Rattle.commit_slot.specs.OnDisk.{AreOnDisk}
 use Rattle.cache_log.specs.declared.row.Row.{Row}
-use Rattle.cache_log.specs.Rows.{entry_of, HaveRecords, since}
+use Rattle.cache_log.specs.Rows.{entry_of, HaveRecords}
 use Rattle.cache_log.specs.Log.{entries_in}
 use Rattle.cache_log.specs.Committed.{first_body, LeavesEntries, IsFormattedLog}
-use Rattle.cache_log.specs.Invariant.{IsLog, IsCommitOfRows, IsCommitOfLog, AreCommitsOfLog, Holds}
+use Rattle.cache_log.specs.Invariant.{IsLog, IsCommitOfRows, IsCommitOfLog, Holds}
 use Rattle.cache_log.proofs.CommittedLemmas.{view_of, none_each, has_records, leaves_entries, HeldAt}
 
 -- the mark of a log at its beginning

@@ -1,6 +1,5 @@
 -- The records of a log from a sector up to its head: with one more, and without the first.
-use Rattle.std.proofs.Common.{◌≡◌, ℕ, ◌+◌, ◌-◌, ◌<◌, ◌≤◌, List, [], ◌∷◌, ◌++◌, zero, suc, length, drop, refl, sym, ◌∙◌, ap, subst, inl, inr, arith, if◌then◌else◌, ◌==◌}
-use Rattle.std.proofs.lemmas.Bool.{cases_lt}
+use Rattle.std.proofs.Common.{◌≡◌, ℕ, ◌+◌, ◌-◌, ◌<◌, ◌≤◌, List, [], ◌∷◌, zero, suc, drop, refl, sym, subst, inl, inr, arith}
 use Rattle.std.proofs.lemmas.Bool.Decides.{nat_tests}
 use Rattle.log_room.specs.Room.{Room, IsRoom}
 use Rattle.cache_log.specs.declared.row.Row.{Row}
@@ -9,7 +8,7 @@ use Rattle.cache_log.specs.Log.{start_of}
 use Rattle.cache_log.specs.Opening.{distance}
 use Rattle.cache_log.specs.Committed.{sectors_from}
 use Rattle.cache_log.specs.Invariant.{IsFurther, Reach}
-use Rattle.cache_log.proofs.Places.{some_size, taken_here, taken_round, step_of, further_on, follow_more}
+use Rattle.cache_log.proofs.Places.{some_size, taken_here, taken_round, step_of, further_on}
 use Rattle.cache_log.proofs.RowLemmas.{run_of}
 
 -- records reach the head from a sector on, and take no more than so many

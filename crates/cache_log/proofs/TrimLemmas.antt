@@ -1,13 +1,12 @@
 -- A log before and after `trim_to`.
 use Rattle.std.proofs.Common.{◌≡◌, ℕ, ◌+◌, ◌-◌, ◌<◌, ◌≤◌, ◌^◌, List, [], ◌∷◌, ◌++◌, zero, suc, length, take, drop, map, refl, sym, ◌∙◌, ap, subst, arith, append_assoc, if◌then◌else◌}
-use Rattle.std.specs.Prelude.{Option, Some, nat_lt, min}
+use Rattle.std.specs.Prelude.{Some, min}
 use Rattle.std.specs.Option.{option_map}
 use Rattle.std.specs.List.{AllByRecursion}
 use Rattle.std.proofs.Math.Path.{subst₂}
 use Rattle.std.proofs.Math.Seq.{take-add}
 use Rattle.std.proofs.lemmas.Bool.{lt-ltb}
 use Rattle.std.proofs.lemmas.List.{take-append-drop, drop-drop, drop-map, take_min, drop_min, length-drop}
-use Rattle.lsvd_base.specs.declared.entry.Entry.{Entry}
 use Rattle.lsvd_device.specs.Medium.{Medium}
 use Rattle.lsvd_device.specs.Device.{HoldsNow}
 use Rattle.log_room.specs.Room.{Room}
@@ -17,7 +16,7 @@ use Rattle.commit_slot.specs.Commits.{CommitsState}
 use Rattle.cache_log.specs.declared.row.Row.{Row}
 use Rattle.cache_log.specs.Rows.{seq_of, entry_of, AreNumbered, HaveRecords, since}
 use Rattle.cache_log.specs.Log.{LogState, entries_in, start_of, IsTrimmed}
-use Rattle.cache_log.specs.Invariant.{IsLog, IsCommitOfRows, IsCommitOfLog, AreCommitsOfLog}
+use Rattle.cache_log.specs.Invariant.{IsLog, IsCommitOfRows, IsCommitOfLog}
 use Rattle.cache_log.proofs.CommittedLemmas.{view_of, HeldAt}
 use Rattle.cache_log.proofs.Reaches.{drop_reach, drop_have, drop_numbered}
 use Rattle.cache_log.proofs.WriteLemmas.{moved_commits, moved_first}

@@ -1,4 +1,4 @@
-use Rattle.std.proofs.Common.{◌≡◌, ◌+◌, ◌-◌, ◌≤◌, ℕ, List, ◌++◌, length, take, drop, sym, ◌∙◌, ap, subst, arith}
+use Rattle.std.proofs.Common.{◌≡◌, ◌-◌, ℕ, List, take, drop, sym, ◌∙◌, ap, subst}
 use Rattle.std.specs.Prelude.{OnOk, OnErr}
 use Rattle.std.proofs.Math.Path.{subst₂}
 use Rattle.commit_body.specs.declared.body.CommitBody.{CommitBody}
@@ -16,7 +16,7 @@ use Rattle.cache_log.specs.Invariant.{IsLog}
 use Rattle.cache_log.proofs.CommitLemmas.{body_with, body_is, all_may, HasTried, left_by, released, IsDropped, dropped_after, log_after, release_log, IsCommitTried, commit_tried}
 use Rattle.cache_log.proofs.CommittedLemmas.{view_of}
 use Rattle.cache_log.proofs.log.CacheLog.commit.Given as given
-use Rattle.cache_log.proofs.log.CacheLog.commit.Goals.{After-drop_below, After-self-2-1}
+use Rattle.cache_log.proofs.log.CacheLog.commit.Goals.{After-drop_below}
 use Rattle.cache_log.proofs.log.CacheLog.commit.Goals as goal
 
 pub commit-committed-requires-clause-may_stand : goal.commit-committed-requires-clause-may_stand
@@ -31,26 +31,7 @@ commit-committed-requires-clause-may_stand g c =
     subst (λ b. MayStand b (log_of old.disk.size)) (sym is) (subst (MayStand (body_with old.body place mark rows)) log.sectors (all_may place mark held rows old log))
 
 -- what the commit of that body left, and what was taken of the rows
-left_then : (g : given.Over) (c : After-drop_below g)
-    → HasTried (body_with c.self.inside.commits.body c.self.inside.room c.self.inside.tail (drop c.self.inside.dropped c.self.inside.rows.items)) c.self.inside.commits c.commit-committed.new.self
-left_then g c =
-    let rows : List Row = drop c.self.inside.dropped c.self.inside.rows.items in
-    let old : CommitsState = c.self.inside.commits in
-    let is = body_is old.body c.self.inside.room c.self.inside.tail rows c.body-body.result c.head-head.result c.next_seq.result c.body-body.ensures.body c.head-head.ensures.head
-    (c.next_seq.ensures ∙ ap next_seq (sym c.self.view_is)) in
-    let e = c.commit-committed.ensures in
-    left_by c.commit-committed.result _ _ _ _ _ _ _ c.self.invariant.1.is is e.ok e.err e.crash_safe e.log_area e.costs.calls.size e.on_disk
-
-dropped_then : (g : given.Over) (c : After-drop_below g)
-    → IsDropped c.self.inside.rows.items c.drop_below.new.rows.items c.self.inside.dropped c.drop_below.result c.commit-committed.new.self.body.tail.seq
-dropped_then g c =
-    dropped_after _ _ _ _ _ _ _ _ _ c.self.invariant.0 c.self.invariant.1.is (left_then g c) (ap (λ (b : CommitBody). b.tail.seq) c.body-last.ensures.body) c.drop_below.ensures.rows c.drop_below.ensures.count
-
-pub overflow_sub-self : goal.overflow_sub-self
-overflow_sub-self g c = (dropped_then g c).few
-
--- the same at the end
-left : (g : given.Over) (c : After-self-2-1 g)
+left : (g : given.Over) (c : After-drop_below g)
     → HasTried (body_with c.self.inside.commits.body c.self.inside.room c.self.inside.tail (drop c.self.inside.dropped c.self.inside.rows.items)) c.self.inside.commits c.commit-committed.new.self
 left g c =
     let rows : List Row = drop c.self.inside.dropped c.self.inside.rows.items in
@@ -60,43 +41,52 @@ left g c =
     let e = c.commit-committed.ensures in
     left_by c.commit-committed.result _ _ _ _ _ _ _ c.self.invariant.1.is is e.ok e.err e.crash_safe e.log_area e.costs.calls.size e.on_disk
 
-dropped : (g : given.Over) (c : After-self-2-1 g)
+dropped : (g : given.Over) (c : After-drop_below g)
     → IsDropped c.self.inside.rows.items c.drop_below.new.rows.items c.self.inside.dropped c.drop_below.result c.commit-committed.new.self.body.tail.seq
 dropped g c =
     dropped_after _ _ _ _ _ _ _ _ _ c.self.invariant.0 c.self.invariant.1.is (left g c) (ap (λ (b : CommitBody). b.tail.seq) c.body-last.ensures.body) c.drop_below.ensures.rows c.drop_below.ensures.count
 
--- the room then
-room_is : (g : given.Over) (c : After-self-2-1 g)
-    → c.at-self-inside.result
-    ≡ released c.self.inside.room c.commit-committed.new.self.body (take c.self.inside.dropped c.self.inside.rows.items) (drop c.self.inside.dropped c.self.inside.rows.items)
-room_is g c =
+pub overflow_sub-self : goal.overflow_sub-self
+overflow_sub-self g c = (dropped g c).few
+
+-- the room at the end
+room_is : (g : given.Over) (c : After-drop_below g) (log used : ℕ) (room : Room)
+    → log ≡ c.self.inside.room.log
+    → used ≡ sectors_from log c.body-last.result.tail.position c.head-head.result c.drop_below.new.rows.items
+    → room ≡ room_of log c.head-head.result used
+    → room ≡ released c.self.inside.room c.commit-committed.new.self.body (take c.self.inside.dropped c.self.inside.rows.items) (drop c.self.inside.dropped c.self.inside.rows.items)
+room_is g c log used room log_is used_is is =
     let place : Room = c.self.inside.room in
     let last : CommitBody = c.body-last.result in
     let items : List Row = c.drop_below.new.rows.items in
-    let used = c.sectors_from-used.ensures.sectors in
-    c.at-self-inside.ensures
-    ∙ ap (room_of c.sectors-log.result c.head-head.result) used
-    ∙ ap (λ l. room_of l c.head-head.result (sectors_from l last.tail.position c.head-head.result items)) c.sectors-log.ensures
+    is
+    ∙ ap (room_of log c.head-head.result) used_is
+    ∙ ap (λ l. room_of l c.head-head.result (sectors_from l last.tail.position c.head-head.result items)) log_is
     ∙ ap (λ h. room_of place.log h (sectors_from place.log last.tail.position h items)) c.head-head.ensures.head
     ∙ ap (λ (b : CommitBody). room_of place.log place.head (sectors_from place.log b.tail.position place.head items)) c.body-last.ensures.body
     ∙ ap (λ r. room_of place.log place.head (sectors_from place.log c.commit-committed.new.self.body.tail.position place.head r)) (dropped g c).whole
 
 pub invariant_of-self : goal.invariant_of-self
 invariant_of-self g c =
+    let before = (goal.at.invariant_of-self g c).After-drop_below in
     let new : CommitsState = c.commit-committed.new.self in
     let mark : Mark = c.self.inside.tail in
-    let is = dropped g c in
-    let log = release_log _ _ _ _ _ (log_after _ _ _ _ _ _ c.self.invariant.1.is (left g c)).log in
+    let is = dropped g before in
+    let log = release_log _ _ _ _ _ (log_after _ _ _ _ _ _ c.self.invariant.1.is (left g before)).log in
     let P : Room → List Row → List Row → Type 0 = λ p h r. IsLog p mark h r new in
     let held : List Row = since new.body.tail.seq (take c.self.inside.dropped c.self.inside.rows.items) in
     let rows : List Row = drop c.self.inside.dropped c.self.inside.rows.items in
-    (is.within, subst₂ (λ h r. P c.at-self-inside.result h r) (sym is.held) (sym is.rows) (subst (λ p. P p held rows) (sym (room_is g c)) log))
+    let room = room_is g before _ _ _ c.sectors-log.ensures c.sectors_from-used.ensures.sectors c.at-self-inside.ensures in
+    (is.within, subst₂ (λ h r. P c.at-self-inside.result h r) (sym is.held) (sym is.rows) (subst (λ p. P p held rows) (sym room) log))
 
-promised : (g : given.Over) (c : After-self-2-1 g) (after : ℕ)
+promised : (g : given.Over) (c : After-drop_below g) (log used after : ℕ) (room : Room)
+    → log ≡ c.self.inside.room.log
+    → used ≡ sectors_from log c.body-last.result.tail.position c.head-head.result c.drop_below.new.rows.items
+    → room ≡ room_of log c.head-head.result used
     → IsCommitTried c.commit-committed.result c.args.self.now
-    (view_of c.at-self-inside.result c.self.inside.tail (take (c.self.inside.dropped - c.drop_below.result) c.drop_below.new.rows.items) (drop (c.self.inside.dropped - c.drop_below.result) c.drop_below.new.rows.items)
+    (view_of room c.self.inside.tail (take (c.self.inside.dropped - c.drop_below.result) c.drop_below.new.rows.items) (drop (c.self.inside.dropped - c.drop_below.result) c.drop_below.new.rows.items)
     c.commit-committed.new.self after)
-promised g c after =
+promised g c log used after room log_is used_is room_of_is =
     let place : Room = c.self.inside.room in
     let mark : Mark = c.self.inside.tail in
     let held : List Row = take c.self.inside.dropped c.self.inside.rows.items in
@@ -108,19 +98,23 @@ promised g c after =
     let done = commit_tried c.commit-committed.result place mark held rows old new _ after c.args.self.now c.self.view_is c.self.invariant.1.is (left g c)
     (subst (λ b. OnOk c.commit-committed.result (IsCommitted b old new)) body c.commit-committed.ensures.ok) in
     let P : Room → List Row → List Row → Type 0 = λ p h r. IsCommitTried c.commit-committed.result c.args.self.now (view_of p mark h r new after) in
-    subst₂ (λ h r. P c.at-self-inside.result h r) (sym is.held) (sym is.rows) (subst (λ p. P p (since new.body.tail.seq held) rows) (sym (room_is g c)) done)
+    subst₂ (λ h r. P room h r) (sym is.held) (sym is.rows) (subst (λ p. P p (since new.body.tail.seq held) rows) (sym (room_is g c log used room log_is used_is room_of_is)) done)
 
 pub returns-clause-same : goal.returns-clause-same
-returns-clause-same g c = (promised g c _).same
+returns-clause-same g c =
+    (promised g (goal.at.returns-clause-same g c).After-drop_below _ _ _ _ c.sectors-log.ensures c.sectors_from-used.ensures.sectors c.at-self-inside.ensures).same
 
 pub returns-clause-released : goal.returns-clause-released
-returns-clause-released g c = (promised g c _).released
+returns-clause-released g c =
+    (promised g (goal.at.returns-clause-released g c).After-drop_below _ _ _ _ c.sectors-log.ensures c.sectors_from-used.ensures.sectors c.at-self-inside.ensures).released
 
 pub returns-clause-ok : goal.returns-clause-ok
-returns-clause-ok g c = (promised g c _).ok
+returns-clause-ok g c =
+    (promised g (goal.at.returns-clause-ok g c).After-drop_below _ _ _ _ c.sectors-log.ensures c.sectors_from-used.ensures.sectors c.at-self-inside.ensures).ok
 
 pub returns-clause-stands : goal.returns-clause-stands
-returns-clause-stands g c = (promised g c 0).stands
+returns-clause-stands g c =
+    (promised g (goal.at.returns-clause-stands g c).After-drop_below _ _ 0 _ c.sectors-log.ensures c.sectors_from-used.ensures.sectors c.at-self-inside.ensures).stands
 
 pub returns-clause-err : goal.returns-clause-err
 returns-clause-err g c =
