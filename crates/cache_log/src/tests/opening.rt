@@ -1,0 +1,85 @@
+use super::{Log, append, commit, emptied, entries, entry_of, open, positions};
+use crate::{AppendError, OpenError};
+use commit_slot::LOG_START;
+use log_record::Reason;
+use lsvd_device::Disk;
+use std::alloc::Global;
+use std::process::Abort;
+use std::test::Fail;
+
+#[test]
+fn a_committed_log_is_opened_again(rt: HostRuntime) -> Result<(), Fail> {
+    // Where the head of the empty log is, the data sectors of the entries (0: a zeroing) that are committed and of
+    // those that are not, and where the record of one more stands then, or the error where there is no room for it.
+    let full = Err(AppendError::NoRoom { need: 1, free: 0 });
+    let cases: [(u64, &[u64], &[u64], u64, Result<u64, AppendError>); 6] = [
+        (37, &[], &[], 0, Ok(37)),
+        (63, &[0], &[], 0, Ok(0)),
+        (60, &[8; 6], &[], 0, Ok(54)),
+        (0, &[8, 8, 8, 8, 8, 8, 8, 0], &[], 0, full),
+        (10, &[8, 8, 8, 8, 8, 8, 8, 0], &[], 0, full),
+        // The record of an entry that was not committed is written over.
+        (0, &[1], &[0], 1, Ok(2)),
+    ];
+    for (head, sectors, lost, next, wanted) in cases {
+        let mut log = emptied(&rt, rt.alloc(), head, 20)?;
+        let _ = positions(&rt, rt.alloc(), &mut log, sectors)?;
+        assert!(rt; commit(&rt, &mut log));
+        let before = entries(rt.alloc(), &mut log, 0)?;
+        assert_eq!(rt; before.len(), sectors.len());
+        let _ = positions(&rt, rt.alloc(), &mut log, lost)?;
+        let mut again = open(&rt, rt.alloc(), log.into_disk())?;
+        assert_eq!(rt; entries(rt.alloc(), &mut again, 0)?, before);
+        assert_eq!(rt; again.next_seq(), 20 + sectors.len() as u64);
+        let answer = append(&rt, &mut again, &entry_of(rt.alloc(), 1, next)?)?;
+        assert_eq!(rt; answer, wanted);
+    }
+    Ok(())
+}
+
+// What opening a log answers when a byte of it is another.
+fn opened_with(
+    rt: &impl Abort,
+    alloc: Global,
+    log: Log,
+    at: u64,
+    byte: u8,
+) -> Result<Option<OpenError>, Fail> {
+    let mut disk = log.into_disk();
+    assert!(rt; at < 65_536 && LOG_START + at < disk.len());
+    disk.write(LOG_START + at, &[byte])?;
+    Ok(open(rt, alloc, disk).err())
+}
+
+#[test]
+fn a_bad_record_is_told(rt: HostRuntime) -> Result<(), Fail> {
+    // Where the head of the empty log is, the data sectors of the entries (0: a zeroing), a byte of the log and what it
+    // becomes, and the record that is bad then.
+    let (plain, padded): (&[u64], &[u64]) = (&[8, 0], &[0, 8, 0]);
+    for (head, sectors, at, byte, seq, reason) in [
+        (0, plain, 0, 0, 20, Some(Reason::Magic)),
+        (0, plain, 11, 4, 20, Some(Reason::Kind)),
+        (0, plain, 19, 21, 20, Some(Reason::Seq)),
+        (0, plain, 27, 64, 20, Some(Reason::Range)),
+        (0, plain, 36, 1, 20, Some(Reason::Zeros)),
+        // A write that is taken for a zeroing: the next record is sought in its data.
+        (0, plain, 11, 2, 21, Some(Reason::Magic)),
+        // The data of a write, and a sector past the head, are any bytes.
+        (0, plain, 512, 1, 20, None),
+        (0, plain, 5_120, 1, 20, None),
+        // The second record, and the last one, which would end before the head.
+        (0, plain, 9 * 512 + 19, 0, 21, Some(Reason::Seq)),
+        (0, plain, 9 * 512 + 11, 1, 21, Some(Reason::Place)),
+        // A pad, the record after it, and a pad that is no longer one.
+        (59, padded, 60 * 512 + 35, 2, 21, Some(Reason::Range)),
+        (59, padded, 11, 3, 21, Some(Reason::Range)),
+        (59, padded, 60 * 512 + 11, 2, 22, Some(Reason::Magic)),
+    ] {
+        let mut log = emptied(&rt, rt.alloc(), head, 20)?;
+        let _ = positions(&rt, rt.alloc(), &mut log, sectors)?;
+        assert!(rt; commit(&rt, &mut log));
+        let wanted = reason.map(|reason| OpenError::BadRecord { seq, reason });
+        assert_eq!(rt; opened_with(&rt, rt.alloc(), log, at, byte)?, wanted);
+    }
+    Ok(())
+}
