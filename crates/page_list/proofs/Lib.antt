@@ -1,0 +1,11 @@
+pub mod Halves
+pub mod Probes
+pub mod Lengths
+pub mod Places
+pub mod Seen
+pub mod Edits
+pub mod Splits
+pub mod Gone
+pub mod Rooms
+pub mod Points
+pub mod Removals
