@@ -1,4 +1,4 @@
-ghost use Rattle.std.specs.Prelude.{◌≡◌, ◌≢◌, ◌↔◌, ◌+◌, ◌-◌, ◌^◌, ◌<◌, ◌≤◌, ◌++◌, ◌∷◌, ℕ, Bool, [], length, take, drop, slice_get, slice_set, slice_index_or, OnOk, IsOk, IsTrue, MatchOption, Some};
+ghost use Rattle.std.specs.Prelude.{◌≡◌, ◌≢◌, ◌↔◌, ◌+◌, ◌-◌, ◌^◌, ◌<◌, ◌≤◌, ◌++◌, ◌∷◌, ℕ, Bool, [], length, take, drop, slice_get, slice_set, slice_index_or, OnOk, IfOk, IsOk, IsTrue, MatchOption, Some};
 ghost use Rattle.std.specs.List.{prefix_len};
 ghost use Rattle.std.specs.List.Sorted.{IsPartitionedBy};
 ghost use Rattle.page_list.specs.Items.{IsIn, cursor_index, page_start, length_at, insert_room, halves_of};
@@ -103,6 +103,17 @@ impl<T: Copy> PageList<T> {
         self.pages.reserve(self.free.len() + missing)?;
         self.free.reserve(self.pages.len() + missing)?;
         add_pages(self.alloc, &mut self.free, missing)
+    }
+
+    /// All items. The one error is out of memory.
+    pub fn to_vec(&self, alloc: Global) -> Result<Vec<T>, AllocError>
+        ensures { IfOk result (λ all. all.items ≡ self.now.items) }
+    {
+        let mut all = Vec::new(alloc);
+        for page in &self.pages {
+            all.extend_from_slice(page.as_slice())?;
+        }
+        Ok(all)
     }
 
     /// The place of the first item, or the end where there is none.

@@ -31,7 +31,7 @@ fn walk(list: &PageList<u64>, from: Cursor, count: usize) -> Cursor
     at
 }
 
-// Whether the items are these.
+// Whether the items are these, one by one from the start.
 fn has(list: &PageList<u64>, items: &[u64]) -> bool {
     let mut at = list.start();
     for item in items {

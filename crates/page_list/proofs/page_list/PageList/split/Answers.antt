@@ -10,8 +10,8 @@ invariant_of-self g c =
     let free = c.self.inside.free.items in
     let here = page_here pages (length free) c.args.self.now c.self.view_is c.args.page c.requires.page in
     let full =
-        sym (length_seen pages (length free) c.args.self.now c.self.view_is c.args.page here c.index_mut.result.now c.split.new.self c.index_mut.ensures.value)
-        ∙ c.requires.full in
+    sym (length_seen pages (length free) c.args.self.now c.self.view_is c.args.page here c.index_mut.result.now c.split.new.self c.index_mut.ensures.value)
+    ∙ c.requires.full in
     let empty = left_empty free c.pop.new.self.items c.in-Some.rest c.in-Some.ensures.items c.self.invariant.empty in
     let ok = c.insert.ensures.succeeds (omega (arith, c.self.inside.pages.ok.0, c.self.invariant.room, empty.2)) in
     split_kept pages free c.self.inside.surplus _ _ c.self.invariant
@@ -25,8 +25,8 @@ returns-in-Some-clause-items g c =
     let free = c.self.inside.free.items in
     let here = page_here pages (length free) c.args.self.now c.self.view_is c.args.page c.requires.page in
     let full =
-        sym (length_seen pages (length free) c.args.self.now c.self.view_is c.args.page here c.index_mut.result.now c.split.new.self c.index_mut.ensures.value)
-        ∙ c.requires.full in
+    sym (length_seen pages (length free) c.args.self.now c.self.view_is c.args.page here c.index_mut.result.now c.split.new.self c.index_mut.ensures.value)
+    ∙ c.requires.full in
     let empty = left_empty free c.pop.new.self.items c.in-Some.rest c.in-Some.ensures.items c.self.invariant.empty in
     let ok = c.insert.ensures.succeeds (omega (arith, c.self.inside.pages.ok.0, c.self.invariant.room, empty.2)) in
     split_items pages free c.self.inside.surplus _ _ c.self.invariant
@@ -40,8 +40,8 @@ returns-in-Some-clause-lengths g c =
     let free = c.self.inside.free.items in
     let here = page_here pages (length free) c.args.self.now c.self.view_is c.args.page c.requires.page in
     let full =
-        sym (length_seen pages (length free) c.args.self.now c.self.view_is c.args.page here c.index_mut.result.now c.split.new.self c.index_mut.ensures.value)
-        ∙ c.requires.full in
+    sym (length_seen pages (length free) c.args.self.now c.self.view_is c.args.page here c.index_mut.result.now c.split.new.self c.index_mut.ensures.value)
+    ∙ c.requires.full in
     let empty = left_empty free c.pop.new.self.items c.in-Some.rest c.in-Some.ensures.items c.self.invariant.empty in
     let ok = c.insert.ensures.succeeds (omega (arith, c.self.inside.pages.ok.0, c.self.invariant.room, empty.2)) in
     split_lengths pages free c.self.inside.surplus _ _ c.self.invariant
