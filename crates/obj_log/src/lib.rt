@@ -8,6 +8,8 @@
 mod error;
 mod laws;
 mod obj_log;
+#[cfg(test)]
+mod tests;
 
 pub use error::SealError;
 pub use laws::the_list_stays_a_stream;
