@@ -1,5 +1,7 @@
-ghost use Rattle.std.specs.Prelude.{IfOk, IsTrue};
+ghost use Rattle.std.specs.Prelude.{IsTrue, ◌+◌, ◌-◌, ◌*◌, ◌^◌, ◌<◌, ◌≤◌, length};
+ghost use Rattle.lsvd_base.specs.Laws.{first_sector, sector_count};
 ghost use Rattle.lsvd_names.specs.Spelling.{IsName};
+ghost use Rattle.volume_maps.specs.Places.{log_number, row_left_by};
 ghost use Rattle.volume_maps.specs.Maps.{RowsFit};
 
 use super::*;
@@ -8,12 +10,17 @@ use Change::{Write, Zero};
 use State::{Acknowledged, Ready, Started};
 use extent_map::Extent;
 use lsvd_base::{Body, Entry, Geometry, ObjectBytes, in_range};
-use lsvd_names::ObjName;
-use lsvd_objstore::{MemReceipt, MemStore, Receipt, Store};
+use lsvd_names::{Kind, ObjName};
+use lsvd_objstore::{MemReceipt, MemStore, Receipt, Store, StoreError};
 use object_format::DataRow;
 use std::alloc::{AllocError, Global};
 use std::test::Fail;
+use upload_window::Window;
+use uuid::Uuid;
 use volume_maps::{LogPlace, ObjectPlace, VolumePlace};
+
+// Each function here is small and owns little, each table is a constant slice, and the tests' one bench is dropped by a call: so they are
+// cheap to prove.
 
 // The volume of the tests.
 const GEOMETRY: Geometry = Geometry {
@@ -25,29 +32,55 @@ const GEOMETRY: Geometry = Geometry {
 
 const SECTORS: u64 = 16;
 
+// The bytes of its uuid.
+const UUID: [u8; 16] = [0, 0, 0, 0, 0, 0, 0x40, 0, 0x80, 0, 0, 0, 0, 0, 0, 1];
+
 // The sectors of the log from one entry's data to the next one's.
 const STEP: u64 = 100;
 
-// The name of the object of a number.
-fn name_of(alloc: Global, number: u64) -> Result<ObjName, Fail>
-    ensures { IfOk result IsName }
-{
-    let text = format!(in alloc; "00000000-0000-4000-8000-000000000001.obj.{number:016x}")?;
-    match ObjName::parse(text.as_str()) {
-        Some(name) => Ok(name),
-        None => Err("no name".into()),
-    }
-}
-
 // A change of N sectors from the first number on.
-#[derive(Clone, Copy, Debug)]
+#[derive(Clone, Copy)]
 enum Change {
     Write(u64, u64),
     Zero(u64, u64),
 }
 
+impl Change {
+    fn is_write(self) -> bool {
+        matches!(self, Write(..))
+    }
+
+    // Whether it changes a sector.
+    fn covers(self, k: u64) -> bool {
+        let (Write(lba, sectors) | Zero(lba, sectors)) = self;
+        k.wrapping_sub(lba) < sectors
+    }
+
+    // Its entry.
+    fn entry(self, alloc: Global) -> Result<Entry, AllocError> {
+        Ok(match self {
+            Write(lba, sectors) => Entry::Write {
+                lba,
+                body: Body::filled(alloc, sectors, 1)?,
+            },
+            Zero(lba, sectors) => Entry::Zero { lba, sectors },
+        })
+    }
+
+    // Where its entry, with this seq, leaves a sector in the log.
+    fn log_place(self, seq: u64, k: u64) -> LogPlace {
+        match self {
+            Write(lba, _) => {
+                let sector = seq.wrapping_mul(STEP).wrapping_add(k.wrapping_sub(lba));
+                LogPlace::Data { seq, sector }
+            }
+            Zero(..) => LogPlace::Zeros { seq },
+        }
+    }
+}
+
 // A call. A number stands for that of an object.
-#[derive(Clone, Copy, Debug)]
+#[derive(Clone, Copy)]
 enum Call {
     Enter(Change),
     // Seals an object of all entries that are in none.
@@ -59,55 +92,112 @@ enum Call {
     Fails(u64, u64),
 }
 
-#[derive(Clone, Copy, Debug, PartialEq, Eq)]
+#[derive(Clone, Copy, PartialEq, Eq)]
 enum State {
     Ready,
     Started,
     Acknowledged,
 }
 
-// A sealed object of the plain program.
+// A sealed object of the plain program, with the changes from `start` to `end`.
 #[derive(Clone, Copy)]
 struct PlainObject {
-    // How many of the entries are in it and in the objects before it.
+    number: u64,
+    start: usize,
     end: usize,
     state: State,
 }
 
-// All entries and all objects, which the plain program keeps.
+// All changes and all objects, which the plain program keeps.
 #[derive(Drop)]
 struct Plain {
-    // The number before that of the first object, and the seq of the first entry.
+    // The number before that of the first object, and the seq of the first change.
     number: u64,
     seq: u64,
-    entries: Vec<Entry>,
+    changes: Vec<Change>,
     objects: Vec<PlainObject>,
 }
 
 impl Plain {
-    // How many objects are acknowledged before the first that is not.
-    fn acknowledged(&self) -> usize {
-        let open = self
-            .objects
-            .iter()
-            .position(|object| object.state != Acknowledged);
-        open.unwrap_or(self.objects.len())
-    }
-
-    // How many objects are not.
-    fn open(&self) -> usize {
-        self.objects
-            .iter()
-            .filter(|object| object.state != Acknowledged)
-            .count()
-    }
-
-    // How many entries the first objects have.
-    fn end_of(&self, objects: usize) -> usize {
-        match self.objects.get(objects.wrapping_sub(1)) {
-            Some(object) => object.end,
-            None => 0,
+    // The number up to which all objects are acknowledged, and the end of the last of these.
+    fn frontier(&self) -> (u64, usize) {
+        let mut frontier = (self.number, 0);
+        for object in &self.objects {
+            if object.state != Acknowledged {
+                return frontier;
+            }
+            frontier = (object.number, object.end);
         }
+        frontier
+    }
+
+    // The number of the last object, and its end.
+    fn last(&self) -> (u64, usize) {
+        match self.objects.last() {
+            Some(object) => (object.number, object.end),
+            None => (self.number, 0),
+        }
+    }
+
+    // How many objects are not acknowledged.
+    fn open(&self) -> usize {
+        let mut count = 0usize;
+        for object in &self.objects {
+            count = count.wrapping_add((object.state != Acknowledged) as usize);
+        }
+        count
+    }
+
+    // The lowest number of a ready object.
+    fn next(&self) -> Option<u64> {
+        for object in &self.objects {
+            if object.state == Ready {
+                return Some(object.number);
+            }
+        }
+        None
+    }
+
+    // Whether the put of a number is under way.
+    fn is_started(&self, number: u64) -> bool {
+        for object in &self.objects {
+            if object.number == number {
+                return object.state == Started;
+            }
+        }
+        false
+    }
+
+    // The changes that are in no object.
+    fn unsealed(&self) -> &[Change] {
+        self.changes.get(self.last().1..).unwrap_or(&[])
+    }
+
+    // The seq of a change.
+    fn seq_of(&self, index: usize) -> u64 {
+        self.seq.wrapping_add(index as u64)
+    }
+
+    // The seq of the next one.
+    fn next_seq(&self) -> u64 {
+        self.seq_of(self.changes.len())
+    }
+
+    // Seals an object, where there is a place and a change for it, and answers its number.
+    fn seal(&mut self) -> Result<Option<u64>, AllocError> {
+        if self.open() == 16 || self.unsealed().is_empty() {
+            return Ok(None);
+        }
+        let (last, start) = self.last();
+        let number = last.wrapping_add(1);
+        let end = self.changes.len();
+        self.objects.push(PlainObject {
+            number,
+            start,
+            end,
+            state: Ready,
+        })?;
+        Ok(Some(number))
     }
 
     // Moves the object of a number from a state to another, where it is in that state.
@@ -122,120 +212,137 @@ impl Plain {
         false
     }
 
-    // Whether the put of a number is under way.
-    fn is_started(&self, number: u64) -> bool {
-        let index = number.wrapping_sub(self.number).wrapping_sub(1);
-        self.objects
-            .get(index as usize)
-            .is_some_and(|object| object.state == Started)
+    // Begins a put, and answers its number.
+    fn take(&mut self) -> Option<u64> {
+        let number = self.next()?;
+        self.set(number, Ready, Started);
+        Some(number)
     }
 
-    // The lowest number of a ready object.
-    fn next(&self) -> Option<u64> {
-        let index = self
-            .objects
-            .iter()
-            .position(|object| object.state == Ready)?;
-        Some(self.number.wrapping_add(index as u64).wrapping_add(1))
+    // What a call answers; none where it does nothing.
+    fn make(&mut self, call: Call) -> Result<Option<u64>, AllocError> {
+        match call {
+            Enter(change) => {
+                let seq = self.next_seq();
+                self.changes.push(change)?;
+                Ok(Some(seq))
+            }
+            Seal => self.seal(),
+            Take => Ok(self.take()),
+            Done(number, bytes, receipt) => {
+                let is_its = bytes == number && receipt == number;
+                let is_done = is_its && self.set(number, Started, Acknowledged);
+                Ok(is_done.then_some(self.frontier().0))
+            }
+            Fails(number, bytes) => {
+                let has_failed = bytes == number && self.set(number, Started, Ready);
+                Ok(has_failed.then_some(number))
+            }
+        }
     }
 
-    // The entries of the object that comes after the first ones.
-    fn entries_after(&self, objects: usize) -> &[Entry] {
-        let end = self.end_of(objects.wrapping_add(1));
-        self.entries.get(self.end_of(objects)..end).unwrap_or(&[])
-    }
-
-    // Where a read finds a sector: where the last entry that covers it left it, or the object that has this entry.
+    // Where a read finds a sector: where the last change that covers it left it, or the object that has this change.
     fn place(&self, k: u64) -> Option<VolumePlace> {
-        let index = last_of(&self.entries, k)?;
-        let entry = self.entries.get(index)?;
-        if self.end_of(self.acknowledged()) <= index {
-            let seq = self.seq.wrapping_add(index as u64);
-            return Some(VolumePlace::Log(place_in_log(entry, seq, k)));
+        let index = last_of(&self.changes, k)?;
+        let change = *self.changes.get(index)?;
+        if self.frontier().1 <= index {
+            Some(VolumePlace::Log(change.log_place(self.seq_of(index), k)))
+        } else if change.is_write() {
+            self.place_in_object(index, k)
+        } else {
+            None
         }
-        let before = self.objects.iter().position(|object| index < object.end)?;
-        let place = ObjectPlace {
+    }
+
+    // Where the object with a change has a sector.
+    fn place_in_object(&self, index: usize, k: u64) -> Option<VolumePlace> {
+        let object = self.object_with(index)?;
+        let changes = self.changes.get(object.start..object.end)?;
+        Some(VolumePlace::Object(ObjectPlace {
             level: 0,
-            number: self.number.wrapping_add(before as u64).wrapping_add(1),
-            sector: sectors_before(self.entries_after(before), k),
-        };
-        is_write(entry).then_some(VolumePlace::Object(place))
+            number: object.number,
+            sector: sectors_before(changes, k),
+        }))
     }
-}
 
-// Where an entry left a sector in the log.
-fn place_in_log(entry: &Entry, seq: u64, k: u64) -> LogPlace {
-    match entry {
-        Entry::Write { lba, .. } => {
-            let sector = seq.wrapping_mul(STEP).wrapping_add(k.wrapping_sub(*lba));
-            LogPlace::Data { seq, sector }
+    // The object with a change.
+    fn object_with(&self, index: usize) -> Option<PlainObject> {
+        for object in &self.objects {
+            if index < object.end {
+                return Some(*object);
+            }
         }
-        Entry::Zero { .. } => LogPlace::Zeros { seq },
+        None
     }
 }
 
-fn is_write(entry: &Entry) -> bool {
-    matches!(entry, Entry::Write { .. })
-}
-
-fn covers(entry: &Entry, k: u64) -> bool {
-    match entry {
-        Entry::Write { lba, body } => k.wrapping_sub(*lba) < body.sectors(),
-        Entry::Zero { lba, sectors } => k.wrapping_sub(*lba) < *sectors,
-    }
-}
-
-// The last of the entries that covers a sector.
-fn last_of(entries: &[Entry], k: u64) -> Option<usize> {
+// The last of the changes that covers a sector.
+fn last_of(changes: &[Change], k: u64) -> Option<usize> {
     let mut last = None;
-    for (index, entry) in entries.iter().enumerate() {
-        if covers(entry, k) {
+    for (index, change) in changes.iter().enumerate() {
+        if change.covers(k) {
             last = Some(index);
         }
     }
     last
 }
 
-// Whether the entries put a sector, or clear it; none where they leave it.
-fn puts(entries: &[Entry], k: u64) -> Option<bool> {
-    let index = last_of(entries, k)?;
-    Some(is_write(entries.get(index)?))
+// Whether the changes put a sector, or clear it; none where they leave it.
+fn puts(changes: &[Change], k: u64) -> Option<bool> {
+    let mut last = None;
+    for change in changes {
+        if change.covers(k) {
+            last = Some(change.is_write());
+        }
+    }
+    last
 }
 
-// How many sectors before one the entries put.
-fn sectors_before(entries: &[Entry], k: u64) -> u64 {
-    (0..k)
-        .filter(|before| puts(entries, *before) == Some(true))
-        .count() as u64
+// How many sectors before one the changes put.
+fn sectors_before(changes: &[Change], k: u64) -> u64 {
+    let mut count = 0u64;
+    for before in 0..k {
+        count = count.wrapping_add((puts(changes, before) == Some(true)) as u64);
+    }
+    count
 }
 
-// The rows of an object of these entries, the fewest that there are.
-fn rows_of(alloc: Global, entries: &[Entry]) -> Result<Vec<DataRow>, AllocError> {
+// How many sectors from one on the changes put or clear as they do that.
+fn sectors_alike(changes: &[Change], k: u64) -> u64 {
+    let here = puts(changes, k);
+    for next in k..SECTORS {
+        if puts(changes, next) != here {
+            return next.wrapping_sub(k);
+        }
+    }
+    SECTORS.wrapping_sub(k)
+}
+
+// Whether a row begins at a sector.
+fn begins(changes: &[Change], k: u64) -> bool {
+    let here = puts(changes, k);
+    here.is_some() && (k == 0 || puts(changes, k.wrapping_sub(1)) != here)
+}
+
+// The row that begins at a sector.
+fn row_at(changes: &[Change], k: u64) -> DataRow {
+    let is_put = puts(changes, k) == Some(true);
+    DataRow {
+        lba: k,
+        sectors: sectors_alike(changes, k),
+        place: is_put.then_some(sectors_before(changes, k)),
+    }
+}
+
+// The rows of an object of these changes, the fewest that there are.
+fn rows_of(alloc: Global, changes: &[Change]) -> Result<Vec<DataRow>, AllocError> {
     let mut rows = Vec::new(alloc);
     for k in 0..SECTORS {
-        if let Some(is_put) = puts(entries, k) {
-            let place = is_put.then_some(sectors_before(entries, k));
-            add_sector(&mut rows, k, place)?;
+        if begins(changes, k) {
+            rows.push(row_at(changes, k))?;
         }
     }
     Ok(rows)
-}
-
-// Adds a sector to rows that end before it.
-fn add_sector(rows: &mut Vec<DataRow>, k: u64, place: Option<u64>) -> Result<(), AllocError> {
-    if let Some(last) = rows.last_mut() {
-        let touches = last.lba.wrapping_add(last.sectors) == k;
-        if touches && last.place.is_some() == place.is_some() {
-            last.sectors = last.sectors.wrapping_add(1);
-            return Ok(());
-        }
-    }
-    rows.push(DataRow {
-        lba: k,
-        sectors: 1,
-        place,
-    })?;
-    Ok(())
 }
 
 // Whether rows end, and their places, inside the volume.
@@ -247,121 +354,154 @@ fn are_inside(rows: &[DataRow]) -> bool
     })
 }
 
+// The name of the object of a number.
+fn name_of(number: u64) -> ObjName
+    ensures { IsName result }
+{
+    ObjName {
+        uuid: Uuid::from_bytes(UUID),
+        kind: Kind::Object,
+        number,
+    }
+}
+
 // The bytes of the object of a number, which are only compared here.
 fn bytes_of(alloc: Global, number: u64) -> Result<ObjectBytes, AllocError> {
     ObjectBytes::from_bytes(number.to_be_bytes().to_vec(alloc)?)
 }
 
 // The put of the object of one number, with the bytes of another's.
-fn job_of(alloc: Global, number: u64, bytes: u64) -> Result<Job, Fail> {
-    Ok(Job::new(name_of(alloc, number)?, bytes_of(alloc, bytes)?))
+fn job_of(alloc: Global, number: u64, bytes: u64) -> Result<Job, AllocError> {
+    Ok(Job::new(name_of(number), bytes_of(alloc, bytes)?))
 }
 
 // The receipt of the object of a number.
-fn receipt_of(alloc: Global, store: &mut MemStore, number: u64) -> Result<MemReceipt, Fail> {
-    let name = name_of(alloc, number)?;
-    Ok(store.put(alloc, &name, &bytes_of(alloc, number)?)?)
+fn receipt_of(alloc: Global, store: &mut MemStore, number: u64) -> Result<MemReceipt, StoreError> {
+    let bytes = bytes_of(alloc, number)?;
+    store.put(alloc, &name_of(number), &bytes)
 }
 
-// Enters the next entry.
+// Whether a job has the bytes of the object of a number.
+fn has_bytes(job: &Job, number: u64) -> bool {
+    job.object().as_bytes() == number.to_be_bytes().as_slice()
+}
+
+// Whether a job is the put of the object of its number.
+fn is_whole(job: &Job) -> bool {
+    let number = job.name().number;
+    *job.name() == name_of(number) && has_bytes(job, number)
+}
+
+// Whether the volume takes an entry with this seq.
+fn is_taken(entry: &Entry, seq: u64) -> bool
+    ensures range { IsTrue result → first_sector entry.now + sector_count entry.now < 2 ^ 63 }
+    ensures places { IsTrue result → log_number (row_left_by seq (100 * seq) entry.now).place + sector_count entry.now < 2 ^ 63 }
+    ensures seq { IsTrue result → seq ≤ 2 ^ 32 }
+{
+    in_range(entry, &GEOMETRY) && seq <= 1 << 32
+}
+
+// Enters a change, whose entry has this seq, and answers the seq. None is where the volume does not take it.
 fn enter(
     alloc: Global,
     uploads: &mut Uploads<MemReceipt>,
-    plain: &mut Plain,
     change: Change,
-) -> Result<bool, Fail> {
-    let entry = match change {
-        Write(lba, sectors) => Entry::Write {
-            lba,
-            body: Body::filled(alloc, sectors, 1)?,
-        },
-        Zero(lba, sectors) => Entry::Zero { lba, sectors },
-    };
-    let seq = plain.seq.wrapping_add(plain.entries.len() as u64);
-    if !in_range(&entry, &GEOMETRY) || 1 << 32 < seq {
-        return Err("an entry that the volume does not take")?;
-    }
+    seq: u64,
+) -> Result<Option<u64>, Fail> {
     uploads.reserve()?;
-    uploads.enter(&entry, seq, STEP * seq);
-    plain.entries.push(entry)?;
-    Ok(true)
-}
-
-// Seals the entries that are in no object; false where there is no place or no such entry.
-fn seal(alloc: Global, uploads: &mut Uploads<MemReceipt>, plain: &mut Plain) -> Result<bool, Fail> {
-    let end = plain.entries.len();
-    let sealed = plain.end_of(plain.objects.len());
-    let number = uploads.window().last();
-    if uploads.window().is_full() || sealed == end || 1 << 32 < number {
-        return Ok(false);
-    }
-    let rows = rows_of(alloc, plain.entries.get(sealed..).unwrap_or(&[]))?;
-    if !are_inside(&rows) {
-        return Err("rows past the end")?;
-    }
-    let object = bytes_of(alloc, number + 1)?;
-    let end_seq = plain.seq.wrapping_add(end as u64);
-    let next = uploads.seal(object.share()?, object, rows, end_seq)?;
-    plain.objects.push(PlainObject { end, state: Ready })?;
-    Ok(next == number + 1)
-}
-
-// The answer of both, where it is the same.
-fn same(found: bool, wanted: bool) -> Result<bool, Fail> {
-    if found == wanted {
-        Ok(found)
+    let entry = change.entry(alloc)?;
+    if is_taken(&entry, seq) {
+        uploads.enter(&entry, seq, STEP * seq);
+        Ok(Some(seq))
     } else {
-        Err("the plain program answers otherwise")?
+        Ok(None)
     }
 }
 
-// Begins a put; false where no object is ready.
-fn take(alloc: Global, uploads: &mut Uploads<MemReceipt>, plain: &mut Plain) -> Result<bool, Fail> {
-    let wanted = plain.next();
-    let Some(job) = uploads.take_job() else {
-        return same(false, wanted.is_some());
-    };
-    let number = job.name().number;
-    plain.set(number, Ready, Started);
-    let is_whole = *job.name() == name_of(alloc, number)?
-        && *job.object() == bytes_of(alloc, number)?;
-    same(is_whole && wanted == Some(number), true)
+// Whether a window takes a further object.
+fn has_place(window: &Window) -> bool
+    ensures places { IsTrue result → length window.now.objects < 16 }
+    ensures numbers { IsTrue result → window.now.last + 1 < 2 ^ 64 - 1 }
+{
+    !window.is_full() && window.last() < 1 << 32
 }
 
-// A put is done, with the bytes of an object and the receipt of another; false where it is not out.
+// Seals an object of these rows, and answers its number.
+fn seal(
+    uploads: &mut Uploads<MemReceipt>,
+    object: ObjectBytes,
+    rows: Vec<DataRow>,
+    end: u64,
+) -> Result<u64, AllocError>
+    requires places { length uploads.old.window.objects < 16 }
+    requires numbers { uploads.old.window.last + 1 < 2 ^ 64 - 1 }
+    requires fit { RowsFit rows.items }
+{
+    uploads.seal(object.share()?, object, rows, end)
+}
+
+// Seals an object of these rows, where there is a place for it and they fit.
+fn seal_rows(
+    uploads: &mut Uploads<MemReceipt>,
+    object: ObjectBytes,
+    rows: Vec<DataRow>,
+    end: u64,
+) -> Result<Option<u64>, Fail> {
+    if has_place(uploads.window()) && are_inside(&rows) {
+        Ok(Some(seal(uploads, object, rows, end)?))
+    } else {
+        Ok(None)
+    }
+}
+
+// A put is done: the frontier that is answered. None is where it was not out; then the receipt has to come back.
 fn done(
-    alloc: Global,
     uploads: &mut Uploads<MemReceipt>,
-    store: &mut MemStore,
-    [number, bytes, other]: [u64; 3],
-) -> Result<bool, Fail> {
-    let job = job_of(alloc, number, bytes)?;
-    match uploads.job_done(&job, receipt_of(alloc, store, other)?) {
-        Ok(frontier) => same(frontier == uploads.frontier(), true),
-        Err(back) => same(back.name() != name_of(alloc, other)?, false),
+    job: &Job,
+    receipt: MemReceipt,
+    is_plain: &mut bool,
+) -> Option<u64> {
+    let name = receipt.name();
+    match uploads.job_done(job, receipt) {
+        Ok(frontier) => Some(frontier),
+        Err(back) => {
+            *is_plain &= back.name() == name;
+            None
+        }
     }
 }
 
-// A put failed, with the bytes of an object; false where it is not out.
+// A put failed, with the bytes of an object: its number. None is where it was not out; then the job has to come back.
 fn fails(
-    alloc: Global,
     uploads: &mut Uploads<MemReceipt>,
-    number: u64,
+    job: Job,
     bytes: u64,
-) -> Result<bool, Fail> {
-    match uploads.job_failed(job_of(alloc, number, bytes)?) {
-        Ok(()) => Ok(true),
-        Err(back) => same(*back.object() != bytes_of(alloc, bytes)?, false),
+    is_plain: &mut bool,
+) -> Option<u64> {
+    let number = job.name().number;
+    match uploads.job_failed(job) {
+        Ok(()) => Some(number),
+        Err(back) => {
+            *is_plain &= has_bytes(&back, bytes);
+            None
+        }
     }
 }
 
 // The place of a sector in rows.
 fn place_in(rows: &[Extent<VolumePlace>], k: u64) -> Option<VolumePlace> {
-    let row = rows
-        .iter()
-        .find(|row| k.wrapping_sub(row.lba) < row.sectors)?;
-    let on = k.wrapping_sub(row.lba);
-    Some(match row.place {
+    for row in rows {
+        let on = k.wrapping_sub(row.lba);
+        if on < row.sectors {
+            return Some(place_on(row.place, on));
+        }
+    }
+    None
+}
+
+// The place N sectors on.
+fn place_on(place: VolumePlace, on: u64) -> VolumePlace {
+    match place {
         VolumePlace::Log(LogPlace::Data { seq, sector }) => {
             let sector = sector.wrapping_add(on);
             VolumePlace::Log(LogPlace::Data { seq, sector })
@@ -371,75 +511,153 @@ fn place_in(rows: &[Extent<VolumePlace>], k: u64) -> Option<VolumePlace> {
             let sector = place.sector.wrapping_add(on);
             VolumePlace::Object(ObjectPlace { sector, ..place })
         }
-    })
+    }
+}
+
+// Whether rows have each sector of the volume where the plain program has it.
+fn have_places(rows: &[Extent<VolumePlace>], plain: &Plain) -> bool {
+    for k in 0..SECTORS {
+        if place_in(rows, k) != plain.place(k) {
+            return false;
+        }
+    }
+    true
+}
+
+// Whether the frontier and its end are as the plain program has them.
+fn has_frontier(uploads: &Uploads<MemReceipt>, plain: &Plain) -> bool {
+    let (frontier, end) = plain.frontier();
+    uploads.frontier() == frontier && uploads.end() == plain.seq_of(end)
+}
+
+// Whether the window is.
+fn has_window(window: &Window, plain: &Plain) -> bool {
+    window.last() == plain.last().0
+        && window.open() == plain.open()
+        && window.next() == plain.next()
+}
+
+// Whether the numbers from the frontier on are started that the plain program has started.
+fn has_started(window: &Window, plain: &Plain) -> bool {
+    let (frontier, _) = plain.frontier();
+    for on in 0..18 {
+        let number = frontier.wrapping_add(on);
+        if window.is_started(number) != plain.is_started(number) {
+            return false;
+        }
+    }
+    true
+}
+
+// Whether all of that is.
+fn has_objects(uploads: &Uploads<MemReceipt>, plain: &Plain) -> bool {
+    let window = uploads.window();
+    has_frontier(uploads, plain) && has_window(window, plain) && has_started(window, plain)
 }
 
 // The uploads with a store, and the plain program beside them.
 #[derive(Drop)]
 struct Bench {
+    alloc: Global,
     uploads: Uploads<MemReceipt>,
     store: MemStore,
     plain: Plain,
+    // Whether all was as the plain program has it so far, with each job that was taken, and each job and receipt that came back.
+    is_plain: bool,
 }
 
 impl Bench {
     // No object is past that of this number, and the next entry has this seq.
-    fn new(alloc: Global, number: u64, seq: u64) -> Result<Bench, Fail> {
-        let uuid = name_of(alloc, number)?.uuid;
+    fn new(alloc: Global, number: u64, seq: u64) -> Bench {
         let plain = Plain {
             number,
             seq,
-            entries: Vec::new(alloc),
+            changes: Vec::new(alloc),
             objects: Vec::new(alloc),
         };
-        Ok(Bench {
-            uploads: Uploads::new(alloc, uuid, number, seq),
+        Bench {
+            alloc,
+            uploads: Uploads::new(alloc, Uuid::from_bytes(UUID), number, seq),
             store: MemStore::new(alloc),
             plain,
-        })
-    }
-
-    // Makes a call of both. The answer is whether it did something.
-    fn make(&mut self, alloc: Global, call: Call) -> Result<bool, Fail> {
-        let plain = &mut self.plain;
-        match call {
-            Enter(change) => enter(alloc, &mut self.uploads, plain, change),
-            Seal => seal(alloc, &mut self.uploads, plain),
-            Take => take(alloc, &mut self.uploads, plain),
-            Done(number, bytes, receipt) => {
-                let is_its = bytes == number && receipt == number;
-                let wanted = is_its && plain.set(number, Started, Acknowledged);
-                let numbers = [number, bytes, receipt];
-                let is_done = done(alloc, &mut self.uploads, &mut self.store, numbers)?;
-                same(is_done, wanted)
-            }
-            Fails(number, bytes) => {
-                let wanted = bytes == number && plain.set(number, Started, Ready);
-                same(fails(alloc, &mut self.uploads, number, bytes)?, wanted)
-            }
+            is_plain: true,
         }
     }
 
-    // Whether the uploads are as the plain program has them.
-    fn is_plain(&self, alloc: Global) -> Result<bool, Fail> {
-        let Bench { uploads, plain, .. } = self;
-        let window = uploads.window();
-        let frontier = uploads.frontier();
-        let acknowledged = plain.acknowledged();
-        let rows = uploads.look(alloc, 0, SECTORS)?;
-        Ok(
-            frontier == plain.number.wrapping_add(acknowledged as u64)
-                && uploads.end() == plain.seq.wrapping_add(plain.end_of(acknowledged) as u64)
-                && window.last() == plain.number.wrapping_add(plain.objects.len() as u64)
-                && window.open() == plain.open()
-                && window.next() == plain.next()
-                && (0..18).all(|on| {
-                    let number = frontier.wrapping_add(on);
-                    window.is_started(number) == plain.is_started(number)
-                })
-                && (0..SECTORS).all(|k| place_in(&rows, k) == plain.place(k)),
-        )
+    // Enters the next entry.
+    fn enter(&mut self, change: Change) -> Result<Option<u64>, Fail> {
+        let seq = self.plain.next_seq();
+        enter(self.alloc, &mut self.uploads, change, seq)
     }
+
+    // Seals the entries that are in no object.
+    fn seal(&mut self) -> Result<Option<u64>, Fail> {
+        let changes = self.plain.unsealed();
+        if changes.is_empty() {
+            return Ok(None);
+        }
+        let rows = rows_of(self.alloc, changes)?;
+        let object = bytes_of(self.alloc, self.plain.last().0.wrapping_add(1))?;
+        let end = self.plain.next_seq();
+        seal_rows(&mut self.uploads, object, rows, end)
+    }
+
+    // Begins a put.
+    fn take(&mut self) -> Option<u64> {
+        let job = self.uploads.take_job()?;
+        self.is_plain &= is_whole(&job);
+        Some(job.name().number)
+    }
+
+    // A put is done, with the bytes of an object and the receipt of another.
+    fn done(&mut self, number: u64, bytes: u64, other: u64) -> Result<Option<u64>, Fail> {
+        let job = job_of(self.alloc, number, bytes)?;
+        self.job_done(&job, other)
+    }
+
+    // A job is done, with the receipt of an object.
+    fn job_done(&mut self, job: &Job, other: u64) -> Result<Option<u64>, Fail> {
+        let receipt = receipt_of(self.alloc, &mut self.store, other)?;
+        Ok(done(&mut self.uploads, job, receipt, &mut self.is_plain))
+    }
+
+    // A put failed, with the bytes of an object.
+    fn fails(&mut self, number: u64, bytes: u64) -> Result<Option<u64>, Fail> {
+        let job = job_of(self.alloc, number, bytes)?;
+        Ok(fails(&mut self.uploads, job, bytes, &mut self.is_plain))
+    }
+
+    // Makes a call of the uploads: the number that it answers, and none where it did nothing.
+    fn make(&mut self, call: Call) -> Result<Option<u64>, Fail> {
+        match call {
+            Enter(change) => self.enter(change),
+            Seal => self.seal(),
+            Take => Ok(self.take()),
+            Done(number, bytes, other) => self.done(number, bytes, other),
+            Fails(number, bytes) => self.fails(number, bytes),
+        }
+    }
+
+    // Compares the uploads with the plain program.
+    fn compare(&mut self) -> Result<(), AllocError> {
+        let rows = self.uploads.look(self.alloc, 0, SECTORS)?;
+        self.is_plain &= has_objects(&self.uploads, &self.plain) && have_places(&rows, &self.plain);
+        Ok(())
+    }
+
+    // Makes a call of both, and compares what they answer and what is there then: whether it did something.
+    fn step(&mut self, call: Call) -> Result<bool, Fail> {
+        let found = self.make(call)?;
+        let wanted = self.plain.make(call)?;
+        self.is_plain &= found == wanted;
+        self.compare()?;
+        Ok(found.is_some())
+    }
+}
+
+// The error for a step, counted from 0, that goes otherwise than it should.
+fn otherwise(step: usize) -> Fail {
+    Fail::new(format_args!("step {step} goes otherwise"))
 }
 
 // The next of a list of numbers in no order, below a limit.
@@ -477,24 +695,64 @@ fn next_call(state: &mut u64, frontier: u64) -> Call {
     }
 }
 
+// Makes 400 calls from an object of this number on, each of which is to go as in the plain program. More than 20 objects are to be settled.
+fn make_many(bench: &mut Bench, number: u64) -> Result<(), Fail> {
+    let mut state = number;
+    for step in 0..400 {
+        let call = next_call(&mut state, bench.uploads.frontier());
+        bench.step(call)?;
+        if !bench.is_plain {
+            return Err(otherwise(step));
+        }
+    }
+    if number.wrapping_add(20) < bench.uploads.frontier() {
+        Ok(())
+    } else {
+        Err("too few objects are settled".into())
+    }
+}
+
+// Makes them from an object of this number and an entry with this seq on.
+fn many_calls(alloc: Global, number: u64, seq: u64) -> Result<(), Fail> {
+    let mut bench = Bench::new(alloc, number, seq);
+    let made = make_many(&mut bench, number);
+    drop(bench);
+    made
+}
+
 #[test]
 fn many_calls_are_those_of_the_plain_program(rt: HostRuntime) -> Result<(), Fail> {
-    let alloc = rt.alloc();
-    for (first, seq) in [(0, 0), (7, 20)] {
-        let mut bench = Bench::new(alloc, first, seq)?;
-        let mut state = first;
-        for step in 0..400 {
-            let call = next_call(&mut state, bench.uploads.frontier());
-            bench.make(alloc, call)?;
-            assert!(rt; bench.is_plain(alloc)?, "{step}: {call:?}");
+    many_calls(rt.alloc(), 0, 0)?;
+    many_calls(rt.alloc(), 7, 20)
+}
+
+// A call with whether it does something, and with the frontier and the end after it.
+type Step = (Call, bool, u64, u64);
+
+// Whether a step goes so, and as in the plain program.
+fn goes(bench: &mut Bench, step: &Step) -> Result<bool, Fail> {
+    let (call, wanted, frontier, end) = *step;
+    let does = bench.step(call)?;
+    Ok(does == wanted && bench.is_plain && is_at(&bench.uploads, frontier, end))
+}
+
+// Whether the frontier and its end are these.
+fn is_at(uploads: &Uploads<MemReceipt>, frontier: u64, end: u64) -> bool {
+    uploads.frontier() == frontier && uploads.end() == end
+}
+
+// Makes the calls of steps, each of which is to go as it says.
+fn make_steps(bench: &mut Bench, steps: &[Step]) -> Result<(), Fail> {
+    for (index, step) in steps.iter().enumerate() {
+        if !goes(bench, step)? {
+            return Err(otherwise(index));
         }
-        assert!(rt; first + 20 < bench.uploads.frontier());
     }
     Ok(())
 }
 
-// Calls from object 7 with the end 20 on, each with whether it does something, and with the frontier and the end after it.
-const CALLS: [(Call, bool, u64, u64); 25] = [
+// Calls from object 7 with the end 20 on.
+const CALLS: &[Step] = &[
     (Enter(Write(0, 2)), true, 7, 20),
     (Seal, true, 7, 20),
     (Enter(Write(1, 3)), true, 7, 20),
@@ -523,76 +781,112 @@ const CALLS: [(Call, bool, u64, u64); 25] = [
     (Done(8, 8, 8), true, 10, 23),
     (Done(8, 8, 8), false, 10, 23),
     (Fails(9, 9), false, 10, 23),
+    (Enter(Write(2, 1)), true, 10, 23),
 ];
 
-#[test]
-fn a_put_is_done_once_with_its_bytes_and_its_receipt(rt: HostRuntime) -> Result<(), Fail> {
-    let alloc = rt.alloc();
-    let mut bench = Bench::new(alloc, 7, 20)?;
-    for (call, wanted, frontier, end) in CALLS {
-        assert_eq!(rt; bench.make(alloc, call)?, wanted, "{call:?}");
-        assert_eq!(rt; bench.uploads.frontier(), frontier, "{call:?}");
-        assert_eq!(rt; bench.uploads.end(), end, "{call:?}");
-        assert!(rt; bench.is_plain(alloc)?, "{call:?}");
-    }
-    // The second write is in object 9, and the next one in the log over it.
-    assert!(rt; bench.make(alloc, Enter(Write(2, 1)))?);
-    let rows = bench.uploads.look(alloc, 0, SECTORS)?;
-    assert_eq!(rt;
-        rows.as_slice(),
-        [in_object(1, 0), IN_LOG, in_object(3, 2)].as_slice()
-    );
-    Ok(())
-}
-
-// A sector of object 9.
-const fn in_object(lba: u64, sector: u64) -> Extent<VolumePlace> {
+// The rows after them: the second write is in object 9, and the last one in the log over it.
+const ROWS: &[Extent<VolumePlace>] = &[
     Extent {
-        lba,
+        lba: 1,
         sectors: 1,
         place: VolumePlace::Object(ObjectPlace {
             level: 0,
             number: 9,
-            sector,
+            sector: 0,
         }),
+    },
+    Extent {
+        lba: 2,
+        sectors: 1,
+        place: VolumePlace::Log(LogPlace::Data {
+            seq: 23,
+            sector: 2_300,
+        }),
+    },
+    Extent {
+        lba: 3,
+        sectors: 1,
+        place: VolumePlace::Object(ObjectPlace {
+            level: 0,
+            number: 9,
+            sector: 2,
+        }),
+    },
+];
+
+// Whether the volume has these rows.
+fn has_rows(bench: &Bench, wanted: &[Extent<VolumePlace>]) -> Result<bool, Fail> {
+    let rows = bench.uploads.look(bench.alloc, 0, SECTORS)?;
+    Ok(rows.as_slice() == wanted)
+}
+
+// Makes these calls, and compares the rows after them.
+fn make_calls(bench: &mut Bench) -> Result<(), Fail> {
+    make_steps(bench, CALLS)?;
+    if has_rows(bench, ROWS)? {
+        Ok(())
+    } else {
+        Err("the volume has other rows".into())
     }
 }
 
-// The sector of the entry with the seq 23.
-const IN_LOG: Extent<VolumePlace> = Extent {
-    lba: 2,
-    sectors: 1,
-    place: VolumePlace::Log(LogPlace::Data {
-        seq: 23,
-        sector: 2_300,
-    }),
-};
+#[test]
+fn a_put_is_done_once_with_its_bytes_and_its_receipt(rt: HostRuntime) -> Result<(), Fail> {
+    let mut bench = Bench::new(rt.alloc(), 7, 20);
+    let made = make_calls(&mut bench);
+    drop(bench);
+    made
+}
 
-// Enters, seals and takes an object of one write for each of the numbers up to one: whether each call did something.
-fn fill(alloc: Global, bench: &mut Bench, last: u64) -> Result<bool, Fail> {
+// Enters, seals and takes an object of one write for each of the numbers up to 16: whether each call did something.
+fn fill(bench: &mut Bench) -> Result<bool, Fail> {
     let mut is_filled = true;
-    for number in 0..last {
+    for number in 0..16 {
         for call in [Enter(Write(number % 9, 2)), Seal, Take] {
-            is_filled &= bench.make(alloc, call)?;
+            is_filled &= bench.step(call)?;
         }
     }
-    Ok(is_filled)
+    Ok(is_filled && bench.is_plain)
+}
+
+// Calls after that.
+const CALLS_OF_SIXTEEN: &[Step] = &[
+    // The 17th finds no place.
+    (Enter(Write(0, 2)), true, 0, 0),
+    (Seal, false, 0, 0),
+    (Take, false, 0, 0),
+    (Done(5, 5, 5), true, 0, 0),
+    (Done(2, 2, 2), true, 0, 0),
+    (Done(9, 9, 9), true, 0, 0),
+    (Done(16, 16, 16), true, 0, 0),
+    (Done(1, 1, 1), true, 2, 2),
+    (Done(3, 3, 3), true, 3, 3),
+    (Done(4, 4, 4), true, 5, 5),
+    (Done(6, 6, 6), true, 6, 6),
+    (Done(8, 8, 8), true, 6, 6),
+    (Done(7, 7, 7), true, 9, 9),
+    (Done(15, 15, 15), true, 9, 9),
+    (Done(14, 14, 14), true, 9, 9),
+    (Done(13, 13, 13), true, 9, 9),
+    (Done(12, 12, 12), true, 9, 9),
+    (Done(11, 11, 11), true, 9, 9),
+    (Done(10, 10, 10), true, 16, 16),
+    (Seal, true, 16, 16),
+];
+
+// Fills 16 places, and makes these calls.
+fn make_sixteen(bench: &mut Bench) -> Result<(), Fail> {
+    if fill(bench)? {
+        make_steps(bench, CALLS_OF_SIXTEEN)
+    } else {
+        Err("16 objects find no places".into())
+    }
 }
 
 #[test]
 fn sixteen_objects_are_acknowledged_in_any_order(rt: HostRuntime) -> Result<(), Fail> {
-    let alloc = rt.alloc();
-    let mut bench = Bench::new(alloc, 0, 0)?;
-    assert!(rt; fill(alloc, &mut bench, 16)?);
-    // The 17th finds no place.
-    assert!(rt; !fill(alloc, &mut bench, 1)?);
-    for number in [5, 2, 9, 16, 1, 3, 4, 6, 8, 7, 15, 14, 13, 12, 11] {
-        assert!(rt; bench.make(alloc, Done(number, number, number))?);
-        assert!(rt; bench.is_plain(alloc)?, "{number}");
-    }
-    assert_eq!(rt; (bench.uploads.frontier(), bench.uploads.end()), (9, 9));
-    assert!(rt; bench.make(alloc, Done(10, 10, 10))?);
-    assert_eq!(rt; (bench.uploads.frontier(), bench.uploads.end()), (16, 16));
-    assert!(rt; bench.make(alloc, Seal)?);
-    Ok(())
+    let mut bench = Bench::new(rt.alloc(), 0, 0);
+    let made = make_sixteen(&mut bench);
+    drop(bench);
+    made
 }

@@ -1,4 +1,4 @@
-ghost use Rattle.std.specs.Prelude.{◌≡◌, ◌*◌, ◌<◌, ◌≤◌, [], IfOk};
+ghost use Rattle.std.specs.Prelude.{◌≡◌, ◌+◌, ◌*◌, ◌<◌, ◌≤◌, [], IfOk, length};
 ghost use Rattle.cache_log.specs.Log.{AreData};
 
 use super::{LOG, Log, UUID, append, commit, disk_of, emptied, entries, entry_of, positions};
@@ -120,9 +120,19 @@ fn entries_are_read_again(rt: HostRuntime) -> Result<(), Fail> {
     let all = [(7, 2, Some(0x41)), (9, 3, None), (11, 1, Some(0x41))];
     for (seq, skipped) in [(0, 0), (1, 1), (2, 2), (3, 3), (4, 3), (u64::MAX, 3)] {
         let read = entries(rt.alloc(), &mut log, seq)?;
-        assert_eq!(rt; read.as_slice(), &all[skipped..]);
+        assert_eq!(rt; Some(read.as_slice()), all.get(skipped..));
     }
     Ok(())
+}
+
+// As many times 1, and then as many times 2.
+fn ones_and_twos(alloc: Global, ones: usize, twos: usize) -> Result<Vec<u8>, AllocError>
+    requires { ones + twos ≤ 1024 }
+    ensures { IfOk result (λ bytes. length bytes.items ≡ ones + twos) }
+{
+    let mut bytes = vec![in alloc; 1; ones + twos]?;
+    bytes[ones..].fill(2);
+    Ok(bytes)
 }
 
 // Appends a write of two sectors to a log with no entry, where it stands at the sector 0: 512 times 1, and 512 times 2.
@@ -131,11 +141,29 @@ fn append_two(rt: &impl Abort, alloc: Global, log: &mut Log) -> Result<(), Fail>
     ensures { IfOk result (λ _.
         AreData log.new.rows 1 1024 × AreData log.new.rows 2 512 × AreData log.new.rows 1 3) }
 {
-    let mut bytes = vec![in alloc; 1; 1_024]?;
-    bytes[512..].fill(2);
-    let body = Body::from_bytes(bytes);
+    let body = Body::from_bytes(ones_and_twos(alloc, 512, 512)?);
     let at = append(rt, log, &Entry::Write { lba: 7, body })??;
     assert_eq!(rt; at, 0);
+    Ok(())
+}
+
+// Reads data sectors of an entry from one on, and asserts that they are as many times 1, and then as many times 2.
+fn assert_data(
+    rt: &impl Abort,
+    alloc: Global,
+    log: &mut Log,
+    sector: u64,
+    ones: usize,
+    twos: usize,
+) -> Result<(), Fail>
+    requires most { ones + twos ≤ 1024 }
+    requires data { AreData log.old.rows sector (ones + twos) }
+    ensures { log.new.rows ≡ log.old.rows }
+{
+    let wanted = ones_and_twos(alloc, ones, twos)?;
+    let mut bytes = vec![in alloc; 0; ones + twos]?;
+    log.read(sector, bytes.as_mut_slice())?;
+    assert_eq!(rt; bytes, wanted);
     Ok(())
 }
 
@@ -143,16 +171,9 @@ fn append_two(rt: &impl Abort, alloc: Global, log: &mut Log) -> Result<(), Fail>
 fn data_are_read_where_they_stand(rt: HostRuntime) -> Result<(), Fail> {
     let mut log = log_of(&rt, rt.alloc(), LOG)?;
     append_two(&rt, rt.alloc(), &mut log)?;
-    let mut part = [0; 3];
-    log.read(1, &mut part)?;
-    assert_eq!(rt; part, [1, 1, 1]);
-    let mut one = [0; 512];
-    log.read(2, &mut one)?;
-    assert_eq!(rt; one, [2; 512]);
-    let mut both = [0; 1_024];
-    log.read(1, &mut both)?;
-    assert_eq!(rt; (both[0], both[511], both[512], both[1_023]), (1, 1, 2, 2));
-    Ok(())
+    assert_data(&rt, rt.alloc(), &mut log, 1, 3, 0)?;
+    assert_data(&rt, rt.alloc(), &mut log, 2, 0, 512)?;
+    assert_data(&rt, rt.alloc(), &mut log, 1, 512, 512)
 }
 
 #[test]

@@ -192,28 +192,25 @@ const TRIMMED: [Step; 6] = [
 
 #[test]
 fn a_commit_after_a_trim_leaves_either_list(rt: HostRuntime) -> Result<(), Fail> {
-    // The calls that pass, the fates of the writes that were not synced, and which of the entries are left: those of the
-    // last commit, also the one that was dropped, or those of the new one.
-    for (calls, number, from, to) in [
-        (8, 0, 0, 2),
-        (9, 0, 0, 2),
-        (10, 0, 0, 2),
-        (11, 0, 0, 2),
-        (12, 0, 0, 2),
-        (13, 0, 1, 3),
-        (13, 1, 0, 2),
-        (13, 2, 0, 2),
-        (14, 0, 1, 3),
+    // The entries of the last commit, also the one that was dropped, and those of the new one.
+    let all = [(0, 3, None), (0, 8, Some(0x41)), (0, 1, Some(0x41))];
+    let (last, new) = (&all[..2], &all[1..]);
+    // The calls that pass, the fates of the writes that were not synced, the entries that are left, and the next seq.
+    for (calls, number, wanted, next) in [
+        (8, 0, last, 7),
+        (9, 0, last, 7),
+        (10, 0, last, 7),
+        (11, 0, last, 7),
+        (12, 0, last, 7),
+        (13, 0, new, 8),
+        (13, 1, last, 7),
+        (13, 2, last, 7),
+        (14, 0, new, 8),
     ] {
         let log = emptied(&rt, rt.alloc(), 60, 5)?;
         let stopped = stop_in_steps(&rt, rt.alloc(), log, &TRIMMED, calls, number)?;
-        let all = [(0, 3, None), (0, 8, Some(0x41)), (0, 1, Some(0x41))];
-        assert_eq!(rt;
-            stopped.entries.as_slice(),
-            &all[from..to],
-            "{calls} {number}"
-        );
-        assert_eq!(rt; stopped.log.next_seq(), 5 + to as u64);
+        assert_eq!(rt; stopped.entries.as_slice(), wanted, "{calls} {number}");
+        assert_eq!(rt; stopped.log.next_seq(), next);
     }
     Ok(())
 }
