@@ -58,14 +58,21 @@ fn reserve(log: &mut Log, calls: u64, bytes: u64) -> Result<(), AllocError>
     log.with_disk(|disk| disk.reserve(calls, bytes))
 }
 
-// A disk in memory for a log of this many sectors, of which 100 calls and 64 KB of writes pass.
+// A disk in memory of this many bytes, of which 100 calls and 64 KB of writes pass.
+fn memory_of(alloc: Global, bytes: u64) -> Result<MemDisk, AllocError> {
+    let mut disk = MemDisk::new(alloc, bytes)?;
+    disk.reserve(100, 65_536)?;
+    Ok(disk)
+}
+
+// Such a disk for a log of this many sectors.
 fn disk_of(rt: &impl Abort, alloc: Global, sectors: u64) -> Result<FuseDisk<MemDisk>, AllocError>
     requires { sectors ≤ 1000 }
     ensures { IfOk result (λ disk. disk.size ≡ 4096 + 512 * sectors) }
 {
-    let mut disk = MemDisk::new(alloc, LOG_START + SECTOR_BYTES * sectors)?;
-    disk.reserve(100, 65_536)?;
-    assert_eq!(rt; disk.len(), LOG_START + SECTOR_BYTES * sectors);
+    let bytes = LOG_START + SECTOR_BYTES * sectors;
+    let disk = memory_of(alloc, bytes)?;
+    assert_eq!(rt; disk.len(), bytes);
     Ok(FuseDisk::new(disk, None))
 }
 

@@ -103,7 +103,7 @@ fn records_stand_on_the_device(rt: HostRuntime) -> Result<(), Fail> {
         assert_eq!(rt; answer, Ok(wanted));
     }
     let mut wanted = sectors_of(&rt, rt.alloc(), 1, &WRITE)?;
-    wanted.extend_from_slice(&[0x41; 512])?;
+    wanted.extend_from_slice(vec![in rt.alloc(); 0x41; 512]?.as_slice())?;
     wanted.extend_from_slice(sectors_of(&rt, rt.alloc(), 16, &ZERO)?.as_slice())?;
     assert_eq!(rt; held(&rt, rt.alloc(), log)?, wanted);
     Ok(())

@@ -7,6 +7,28 @@ use std::alloc::Global;
 use std::process::Abort;
 use std::test::Fail;
 
+// A log with entries of these data sectors (0: a zeroing) that are committed, the first with the seq 20; its head was at
+// this sector before.
+fn committed(rt: &impl Abort, alloc: Global, head: u64, sectors: &[u64]) -> Result<Log, Fail> {
+    let mut log = emptied(rt, alloc, head, 20)?;
+    let _ = positions(rt, alloc, &mut log, sectors)?;
+    assert!(rt; commit(rt, &mut log));
+    let entries = entries(alloc, &mut log, 0)?;
+    assert_eq!(rt; entries.len(), sectors.len());
+    Ok(log)
+}
+
+// Opens a committed log again after entries that are not, and asserts that it has the same entries as before these.
+fn opened_without(rt: &impl Abort, alloc: Global, log: Log, lost: &[u64]) -> Result<Log, Fail> {
+    let mut log = log;
+    let before = entries(alloc, &mut log, 0)?;
+    let _ = positions(rt, alloc, &mut log, lost)?;
+    let mut again = open(rt, alloc, log.into_disk())?;
+    let after = entries(alloc, &mut again, 0)?;
+    assert_eq!(rt; after, before);
+    Ok(again)
+}
+
 #[test]
 fn a_committed_log_is_opened_again(rt: HostRuntime) -> Result<(), Fail> {
     // Where the head of the empty log is, the data sectors of the entries (0: a zeroing) that are committed and of
@@ -22,15 +44,9 @@ fn a_committed_log_is_opened_again(rt: HostRuntime) -> Result<(), Fail> {
         (0, &[1], &[0], 1, Ok(2)),
     ];
     for (head, sectors, lost, next, wanted) in cases {
-        let mut log = emptied(&rt, rt.alloc(), head, 20)?;
-        let _ = positions(&rt, rt.alloc(), &mut log, sectors)?;
-        assert!(rt; commit(&rt, &mut log));
-        let before = entries(rt.alloc(), &mut log, 0)?;
-        assert_eq!(rt; before.len(), sectors.len());
-        let _ = positions(&rt, rt.alloc(), &mut log, lost)?;
-        let mut again = open(&rt, rt.alloc(), log.into_disk())?;
-        assert_eq!(rt; entries(rt.alloc(), &mut again, 0)?, before);
-        assert_eq!(rt; again.next_seq(), 20 + sectors.len() as u64);
+        let log = committed(&rt, rt.alloc(), head, sectors)?;
+        let mut again = opened_without(&rt, rt.alloc(), log, lost)?;
+        assert_eq!(rt; again.next_seq(), (sectors.len() as u64).wrapping_add(20));
         let answer = append(&rt, &mut again, &entry_of(rt.alloc(), 1, next)?)?;
         assert_eq!(rt; answer, wanted);
     }
@@ -75,9 +91,7 @@ fn a_bad_record_is_told(rt: HostRuntime) -> Result<(), Fail> {
         (59, padded, 11, 3, 21, Some(Reason::Range)),
         (59, padded, 60 * 512 + 11, 2, 22, Some(Reason::Magic)),
     ] {
-        let mut log = emptied(&rt, rt.alloc(), head, 20)?;
-        let _ = positions(&rt, rt.alloc(), &mut log, sectors)?;
-        assert!(rt; commit(&rt, &mut log));
+        let log = committed(&rt, rt.alloc(), head, sectors)?;
         let wanted = reason.map(|reason| OpenError::BadRecord { seq, reason });
         assert_eq!(rt; opened_with(&rt, rt.alloc(), log, at, byte)?, wanted);
     }

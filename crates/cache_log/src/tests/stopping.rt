@@ -95,23 +95,25 @@ fn stop_in_steps(
 
 #[test]
 fn a_commit_that_is_broken_off_leaves_either_log(rt: HostRuntime) -> Result<(), Fail> {
-    // Whether the zeroing that was appended is to be committed, the calls that pass, and the fates of the writes that
-    // were not synced; then whether all was made, how many writes were not synced, and how many entries are left.
+    // A zeroing that is appended, and one that is committed.
     let steps = [Step::Append(0), Step::Commit];
-    for (count, calls, number, are_made, pending, kept) in [
+    let (appended, committed) = (&steps[..1], &steps[..]);
+    // The steps, the calls that pass, and the fates of the writes that were not synced; then whether all was made, how
+    // many writes were not synced, and how many entries are left.
+    for (steps, calls, number, are_made, pending, kept) in [
         // Each fate of a record that is not committed.
-        (1, 100, 0, true, 1, 0),
-        (1, 100, 1, true, 1, 0),
-        (1, 100, 2, true, 1, 0),
-        (1, 100, 3, true, 1, 0),
+        (appended, 100, 0, true, 1, 0),
+        (appended, 100, 1, true, 1, 0),
+        (appended, 100, 2, true, 1, 0),
+        (appended, 100, 3, true, 1, 0),
         // A commit that is broken off at each of its calls, and all writes are kept.
-        (2, 1, 0, false, 1, 0),
-        (2, 4, 0, false, 0, 0),
-        (2, 5, 0, false, 1, 1),
-        (2, 6, 0, true, 0, 1),
+        (committed, 1, 0, false, 1, 0),
+        (committed, 4, 0, false, 0, 0),
+        (committed, 5, 0, false, 1, 1),
+        (committed, 6, 0, true, 0, 1),
     ] {
         let log = emptied(&rt, rt.alloc(), 0, 0)?;
-        let stopped = stop_in_steps(&rt, rt.alloc(), log, &steps[..count], calls, number)?;
+        let stopped = stop_in_steps(&rt, rt.alloc(), log, steps, calls, number)?;
         assert_eq!(rt;
             (stopped.are_made, stopped.pending, stopped.entries.len()),
             (are_made, pending, kept)

@@ -4,30 +4,33 @@ use std::alloc::Global;
 use std::process::Abort;
 use std::test::Fail;
 
+// Trims a log to one seq after the other.
+fn trim(log: &mut Log, seqs: &[u64]) {
+    for seq in seqs {
+        log.trim_to(*seq);
+    }
+}
+
 #[test]
 fn a_trim_drops_the_first_entries(rt: HostRuntime) -> Result<(), Fail> {
-    // The seqs of trims, how many of the entries with the seqs 5, 6 and 7 are left, and the next seq.
+    // The seqs of trims, how many of the entries with the seqs 5, 6 and 7 are dropped, and the next seq.
     let cases: [(&[u64], usize, u64); 8] = [
-        (&[0], 3, 8),
-        (&[5], 3, 8),
-        (&[6], 2, 8),
-        (&[7, 6], 1, 8),
-        (&[6, 7], 1, 8),
-        (&[8], 0, 8),
-        (&[9, 8], 0, 9),
-        (&[u64::MAX], 0, u64::MAX),
+        (&[0], 0, 8),
+        (&[5], 0, 8),
+        (&[6], 1, 8),
+        (&[7, 6], 2, 8),
+        (&[6, 7], 2, 8),
+        (&[8], 3, 8),
+        (&[9, 8], 3, 9),
+        (&[u64::MAX], 3, u64::MAX),
     ];
-    for (seqs, left, next) in cases {
+    let all = [(0, 1, Some(0x41)), (0, 3, None), (0, 2, Some(0x41))];
+    for (seqs, dropped, next) in cases {
         let mut log = emptied(&rt, rt.alloc(), 0, 5)?;
         let _ = positions(&rt, rt.alloc(), &mut log, &[1, 0, 2])?;
-        for seq in seqs {
-            log.trim_to(*seq);
-        }
-        let all = [(0, 1, Some(0x41)), (0, 3, None), (0, 2, Some(0x41))];
-        assert_eq!(rt;
-            entries(rt.alloc(), &mut log, 0)?.as_slice(),
-            &all[3 - left..]
-        );
+        trim(&mut log, seqs);
+        let left = entries(rt.alloc(), &mut log, 0)?;
+        assert_eq!(rt; Some(left.as_slice()), all.get(dropped..));
         assert_eq!(rt; log.next_seq(), next);
     }
     Ok(())
@@ -70,11 +73,11 @@ fn dropped_records_are_written_over_after_a_commit(rt: HostRuntime) -> Result<()
 // How many sectors are free, by the refusal of a write of as many sectors as the log has.
 fn free_sectors(rt: &impl Abort, alloc: Global, log: &mut Log) -> Result<u64, Fail> {
     let before = log.next_seq();
-    match append(rt, log, &entry_of(alloc, 0, LOG)?)? {
-        Err(AppendError::NoRoom { free, .. }) => {
-            assert_eq!(rt; log.next_seq(), before);
-            Ok(free)
-        }
+    let entry = entry_of(alloc, 0, LOG)?;
+    let answer = append(rt, log, &entry)?;
+    assert_eq!(rt; log.next_seq(), before);
+    match answer {
+        Err(AppendError::NoRoom { free, .. }) => Ok(free),
         _ => Ok(u64::MAX),
     }
 }
