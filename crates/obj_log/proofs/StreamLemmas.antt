@@ -8,7 +8,7 @@ use Rattle.object_format.specs.Writing.{header_of}
 use Rattle.object_stream.specs.declared.object.Content.TheVariants as content
 use Rattle.object_stream.specs.Changes.{change_at}
 use Rattle.object_stream.specs.Replay.{HasParts, expected_at}
-use Rattle.object_stream.specs.Stream.{Stream, end_at, last_number, unsealed, IsStream}
+use Rattle.object_stream.specs.Stream.{Stream, end_after, end_at, last_number, unsealed, IsStream}
 use Rattle.object_stream.proofs.StreamLemmas.{end_no_earlier}
 use Rattle.batcher.specs.State.{BatchState}
 use Rattle.object_uploads.specs.Queue.{just_sealed, IsEntered}
@@ -22,7 +22,18 @@ use Rattle.object_uploads.proofs.KeepLemmas as keep
 use Rattle.obj_log.specs.State.{ObjLogState}
 use Rattle.obj_log.specs.Changes.{expected_of_volume, next_of, IsSealed}
 use Rattle.obj_log.specs.Stream.{IsOfStream}
-use Rattle.obj_log.specs.Laws.{RoomKeepsStream, AddingKeepsStream, SealingKeepsStream, JobsKeepStream, DoneKeepsStream}
+use Rattle.obj_log.specs.Laws.{NewListBeginsStream, RoomKeepsStream, AddingKeepsStream, SealingKeepsStream, JobsKeepStream, DoneKeepsStream}
+
+pub new_list_begins_stream : NewListBeginsStream
+new_list_begins_stream data_at log number end first entries window frontier end_is sealed settled logged =
+    let stream : Stream = record { number = number; end = end; opening = λ k. None; entries = []; objects = [] } in
+    let last : end_at stream (last_number stream) ≡ end = ap (end_after end) (grow.all_objects stream) in
+    let none : 0 ≡ end_at stream (last_number stream) - end = omega (arith, last) in
+    record {
+      objects = grow.stream_begins (expected_of_volume log) data_at log.uploads number end window frontier end_is sealed settled logged;
+      first = first ∙ sym last;
+      entries = entries ∙ ap (λ n. drop n stream.entries) none;
+    }
 
 pub jobs_keep_stream : JobsKeepStream
 jobs_keep_stream data_at stream log number started is = record {

@@ -1,5 +1,5 @@
 -- Contract: what the calls keep of a stream.
-use Rattle.std.specs.Prelude.{◌≡◌, ℕ, ◌+◌, Bool, length}
+use Rattle.std.specs.Prelude.{◌≡◌, ℕ, ◌+◌, Bool, None, [], length}
 use Rattle.lsvd_base.specs.declared.entry.Entry.{Entry}
 use Rattle.lsvd_objstore.specs.Store.{ReceiptState}
 use Rattle.object_stream.specs.Stream.{Stream}
@@ -9,6 +9,15 @@ use Rattle.object_uploads.specs.Laws.{with_entry, with_data_object}
 use Rattle.obj_log.specs.State.{ObjLogState}
 use Rattle.obj_log.specs.Changes.{IsSame, IsAdded, IsSealed}
 use Rattle.obj_log.specs.Stream.{IsOfStream}
+
+-- a list that was just made, whose objects up to this number have the entries up to this end, is that of a stream that begins there
+abbrev pub NewListBeginsStream : Type 0
+NewListBeginsStream =
+    (data_at : ℕ → ℕ) (log : ObjLogState) (number end : ℕ)
+    → log.batch.first ≡ end → log.batch.entries ≡ []
+    → log.uploads.window ≡ record { last = number; objects = [] } → log.uploads.queue.frontier ≡ number → log.uploads.queue.end ≡ end
+    → log.uploads.queue.sealed ≡ [] → log.uploads.queue.maps.settled.rows ≡ [] → log.uploads.queue.maps.log.rows ≡ []
+    → IsOfStream data_at (record { number = number; end = end; opening = λ k. None; entries = []; objects = [] }) log
 
 -- a list of a stream stays that while nothing changes but room
 abbrev pub RoomKeepsStream : Type 0

@@ -1,8 +1,9 @@
-ghost use Rattle.obj_log.specs.Laws.{RoomKeepsStream, AddingKeepsStream, SealingKeepsStream, JobsKeepStream, DoneKeepsStream};
+ghost use Rattle.obj_log.specs.Laws.{NewListBeginsStream, RoomKeepsStream, AddingKeepsStream, SealingKeepsStream, JobsKeepStream, DoneKeepsStream};
 
-/// A law: the list stays that of a stream of objects while nothing changes but room, while entries are added, the first of them are sealed, and puts begin, fail and
-/// are done, in any order.
+/// A law: a list that was just made is that of a stream without entries and objects. It stays that of a stream while nothing changes but
+/// room, while entries are added, the first of them are sealed, and puts begin, fail and are done, in any order.
 pub fn the_list_stays_a_stream()
+    ensures begins { NewListBeginsStream }
     ensures same { RoomKeepsStream }
     ensures added { AddingKeepsStream }
     ensures sealed { SealingKeepsStream }
