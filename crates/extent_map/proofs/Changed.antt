@@ -1,6 +1,6 @@
 -- What rows give after a range of sectors was taken out of them, and a row was put in its place.
 use Rattle.std.proofs.Common.{ℕ, ◌+◌, ◌-◌, ◌<◌, ◌≤◌, ◌≡◌, inl, inr, cond, Some, None, List, ◌∷◌, ◌++◌, length, take, drop, sym, ◌∙◌, ap, subst, arith}
-use Rattle.std.proofs.lemmas.List.{take_at, drop_at, length-append}
+use Rattle.std.proofs.lemmas.List.{take_at, drop_at}
 use Rattle.std.proofs.lemmas.Bool.{cases_lt}
 use Rattle.extent_map.specs.declared.extent.Extent.{Extent}
 use Rattle.extent_map.specs.Extents.{NumbersGoOn, place_at, place_after_set, place_after_clear, IsShortest, AllFit}
@@ -97,9 +97,6 @@ module _ {P : Type 0} (on : ℕ → P → P) (on_twice : (a b : ℕ) (p : P) →
 
     back_is : drop index out ≡ rows_past
     back_is = ap (drop index) is_out ∙ drop_at (rows_before lba rows) rows_past index (sym is_index)
-
-    pub index_inside : index ≤ length out
-    index_inside = omega (arith, is_index, ap length is_out, length-append (rows_before lba rows) rows_past)
 
     pub front_shortest : IsShortest on (take index out)
     front_shortest = subst (IsShortest on) (sym front_is) (shortest_before on lba rows shortest)

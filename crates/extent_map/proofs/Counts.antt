@@ -1,11 +1,10 @@
 -- How many rows begin before a sector, and what is on either side.
-use Rattle.std.proofs.Common.{ℕ, ◌+◌, ◌<◌, ◌≤◌, ◌≡◌, inl, inr, true, false, cond, nat_lt, List, [], ◌∷◌, length, drop, sym, ap, arith}
+use Rattle.std.proofs.Common.{ℕ, ◌+◌, ◌<◌, ◌≤◌, ◌≡◌, inl, inr, true, false, cond, nat_lt, List, [], ◌∷◌, drop, ap, arith}
 use Rattle.std.proofs.Math.Numerals.{one-add}
-use Rattle.std.specs.List.Sorted.{IsPartitionedBy, IsPartitionPoint}
+use Rattle.std.specs.List.Sorted.{IsPartitionedBy}
 use Rattle.std.proofs.lemmas.Bool.{cases_lt}
 use Rattle.std.proofs.lemmas.Bool.Decides.{nat_tests}
 use Rattle.std.proofs.lemmas.List.Sorted.{IsPartitionedBy-ltb}
-use Rattle.std.proofs.lemmas.List.Sums.{prefix_len_is}
 use Rattle.extent_map.specs.declared.extent.Extent.{Extent}
 use Rattle.extent_map.specs.Extents.{IsShortest}
 use Rattle.extent_map.specs.Cut.{before_count}
@@ -24,23 +23,6 @@ module _ {P : Type 0} where
       let no : nat_lt row.lba at ≡ false = grind (arith, nat_tests) in
       ap (λ b. cond b (1 + before_count at rows) 0) no
 
-  -- where a search by the first sectors ends
-  pub count_is : (at n : ℕ) (rows : List (Extent P)) → n ≤ length rows
-      → IsPartitionPoint (λ row. nat_lt row.lba at ≡ true) (λ row. nat_lt row.lba at ≡ false) rows n
-      → n ≡ before_count at rows
-  count_is at n [] bound point = omega arith
-  count_is at n (row ∷ rows) bound point =
-      sym (prefix_len_is (λ r. nat_lt r.lba at) (row ∷ rows) n row bound (λ k low. point.0 k row (omega arith) low)
-      (λ high. point.1 n row (omega arith) high))
-
-  pub count_bound : (at : ℕ) (rows : List (Extent P)) → before_count at rows ≤ length rows
-  count_bound at [] = omega arith
-  count_bound at (row ∷ rows) =
-      elim (cases_lt row.lba at) [
-        | inl early ↦ omega (arith, count_early at row rows early, count_bound at rows)
-        | inr late ↦ omega (arith, count_late at row rows late)
-      ]
-
   -- the rows from there on begin from the sector on
   pub starts_after : (at : ℕ) (rows : List (Extent P)) → StartsFrom at (drop (before_count at rows) rows)
   starts_after at [] = tt
@@ -48,17 +30,6 @@ module _ {P : Type 0} where
       elim (cases_lt row.lba at) [
         | inl early ↦ rw (count_early at row rows early, one-add) (starts_after at rows)
         | inr late ↦ rw (count_late at row rows late) late
-      ]
-
-  -- no more rows begin before an earlier sector
-  pub count_rises : (low at : ℕ) (rows : List (Extent P)) → low ≤ at → before_count low rows ≤ before_count at rows
-  count_rises low at [] le = omega arith
-  count_rises low at (row ∷ rows) le =
-      elim (cases_lt row.lba low) [
-        | inl early ↦
-            let before : row.lba < at = omega arith in
-            omega (arith, count_early low row rows early, count_early at row rows before, count_rises low at rows le)
-        | inr late ↦ omega (arith, count_late low row rows late)
       ]
 
 module _ {P : Type 0} (on : ℕ → P → P) where

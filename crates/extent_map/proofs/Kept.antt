@@ -1,17 +1,20 @@
--- The loop that keeps what is left of rows, and the rows before and after those of the loop.
-use Rattle.std.proofs.Common.{ℕ, zero, suc, ◌+◌, ◌<◌, ◌≤◌, ◌≡◌, inl, inr, Bool, true, false, List, [], ◌∷◌, ◌++◌, length, get_or, set, take, drop, refl, sym, ◌∙◌, ap, arith}
+-- The loop that keeps what is left of rows.
+use Rattle.std.proofs.Common.{ℕ, ◌+◌, ◌-◌, ◌<◌, ◌≤◌, ◌≡◌, inl, inr, Some, None, Bool, true, false, List, [], ◌∷◌, ◌++◌, take, drop, refl, sym, ◌∙◌, ap, subst, arith, append_assoc}
 use Rattle.std.specs.Prelude.{option_to_list, slice_get}
 use Rattle.std.specs.Option.{option_or}
 use Rattle.std.proofs.lemmas.Bool.{cases_lt, cases_Bool}
-use Rattle.std.proofs.lemmas.List.{append-nil, drop-drop, drop-set-lt, get_or-drop, take_more, take_more_set, length-set}
+use Rattle.std.proofs.lemmas.List.{drop-drop}
 use Rattle.extent_map.specs.declared.extent.Extent.{Extent}
+use Rattle.extent_map.specs.Extents.{IsShortest, Fits, AllFit}
 use Rattle.extent_map.specs.Cut.{part_before, part_from}
 use Rattle.extent_map.specs.Clear.{NoneSpans, parts_left, rows_left}
+use Rattle.extent_map.specs.Laws.{StartsFrom}
 use Rattle.extent_map.proofs.Cuts.{ends, crosses, starts, meets, part_ends, part_crosses, part_starts, rest_starts, rest_crosses, rest_ends}
-use Rattle.extent_map.proofs.Left.{left_true, left_false}
+use Rattle.extent_map.proofs.Left.{left_true, left_false, all_past}
+use Rattle.extent_map.proofs.PutPlaces.{rest_at, none_left}
 
 module _ {P : Type 0} where
-  before_append : (at : ℕ) (row : Extent P) (a b : List (Extent P)) → part_before at row (a ++ b) ≡ part_before at row a ++ b
+  pub before_append : (at : ℕ) (row : Extent P) (a b : List (Extent P)) → part_before at row (a ++ b) ≡ part_before at row a ++ b
   before_append at row a b =
       elim (meets at row) [
         | ends ended ↦ rw (part_ends at row (a ++ b) ended, part_ends at row a ended)
@@ -21,23 +24,17 @@ module _ {P : Type 0} where
             rw (part_starts at row (a ++ b) before inside, part_starts at row a before inside)
       ]
 
-  pub spans_at : (lba end i : ℕ) (rows : List (Extent P)) (d : Extent P) → NoneSpans lba end rows → i < length rows
-      → (get_or rows i d).lba < lba → (get_or rows i d).lba + (get_or rows i d).sectors ≤ end
-  spans_at lba end i [] d spans inside = absurd (omega arith)
-  spans_at lba end zero (row ∷ rows) d spans inside = spans.0
-  spans_at lba end (suc i) (row ∷ rows) d spans inside = spans_at lba end i rows d spans.1 (omega arith)
-
-module _ {P : Type 0} (on : ℕ → P → P) (lba end : ℕ) (test : P → Bool) where
-  -- of the first rows that were read, what is left stands at the front, and the rows from there on are as they were
-  pub record KeptInPlace (old new : List (Extent P)) (kept index : ℕ) : Type 0 where
-    pub front : take kept new ≡ rows_left on lba end test (take index old)
-    pub rest : drop index new ≡ drop index old
+module _ {P : Type 0} (on : ℕ → P → P) (lba end : ℕ) (test : P → Bool) (number : P → ℕ) (whole : List (Extent P)) where
+  -- the rows that were kept, and what is left of those that are still to be read, are these rows
+  pub record KeptSoFar (rows : List (Extent P)) (kept index : ℕ) : Type 0 where
+    pub all : take kept rows ++ rows_left on lba end test (drop index rows) ≡ whole
     pub behind : kept ≤ index
-    pub within : index ≤ length old
-    pub long : length new ≡ length old
+    pub shortest : IsShortest on (drop index rows)
+    pub fits : AllFit number (drop index rows)
+    pub spans : NoneSpans lba end (drop index rows)
 
 module _ {P : Type 0} (on : ℕ → P → P) where
-  from_append : (at : ℕ) (row : Extent P) (a b : List (Extent P))
+  pub from_append : (at : ℕ) (row : Extent P) (a b : List (Extent P))
       → part_from on at row (a ++ b) ≡ part_from on at row a ++ b
   from_append at row a b =
       elim (cases_lt row.lba at) [
@@ -95,67 +92,70 @@ module _ {P : Type 0} (on : ℕ → P → P) where
                 ∙ sym (ap (λ xs. xs ++ rows_left on lba end test b) (left_false on lba end order test row a fails))
           ]
 
-      pub none_left : rows_left on lba end test [] ≡ []
+      left_of_none : rows_left on lba end test [] ≡ []
       unfolding rows_left
-      none_left = refl
+      left_of_none = refl
 
       -- ---- one row
 
       pub kept_row : (row : Extent P) → test row.place ≡ false → row ∷ [] ≡ rows_left on lba end test (row ∷ [])
       kept_row row fails =
-          sym (left_false on lba end order test row [] fails ∙ ap (λ xs. row ∷ xs) none_left)
+          sym (left_false on lba end order test row [] fails ∙ ap (λ xs. row ∷ xs) left_of_none)
 
       pub kept_part : (row : Extent P) → test row.place ≡ true
           → parts_left on lba end row [] ≡ rows_left on lba end test (row ∷ [])
       kept_part row passes =
-          sym (left_true on lba end order test row [] passes ∙ ap (parts_left on lba end row) none_left)
+          sym (left_true on lba end order test row [] passes ∙ ap (parts_left on lba end row) left_of_none)
 
       -- ---- the loop
 
-      module _ (old new : List (Extent P)) (kept index : ℕ) (row : Extent P) (so_far : KeptInPlace on lba end test old new kept index)
-          (inside : index < length new) (read : row ≡ get_or new index row) where
-        -- the row that is read is still as it was
-        pub read_old : row ≡ get_or old index row
-        read_old =
-            let zero_more : index + 0 ≡ index = omega arith in
-            read
-            ∙ ap (λ n. get_or new n row) (sym zero_more)
-            ∙ sym (get_or-drop index new 0 row)
-            ∙ ap (λ xs. get_or xs 0 row) so_far.rest
-            ∙ get_or-drop index old 0 row
-            ∙ ap (λ n. get_or old n row) zero_more
+      module _ (number : P → ℕ) (whole rows : List (Extent P)) (kept index : ℕ)
+          (so_far : KeptSoFar on lba end test number whole rows kept index) where
+        pub kept_all : slice_get rows index ≡ None → take kept rows ++ drop index rows ≡ whole
+        kept_all none =
+            let is = none_left rows index none in
+            ap (λ xs. take kept rows ++ xs) (is ∙ sym (ap (rows_left on lba end test) is ∙ left_of_none)) ∙ so_far.all
 
-        more_left : rows_left on lba end test (take (index + 1) old)
-            ≡ rows_left on lba end test (take index old) ++ rows_left on lba end test (row ∷ [])
-        more_left =
-            ap (rows_left on lba end test) (take_more old index row (omega (arith, so_far.long))
-            ∙ ap (λ r. take index old ++ r ∷ []) (sym read_old))
-            ∙ left_append (take index old) (row ∷ [])
+        module _ (row : Extent P) (read : slice_get rows index ≡ Some row) where
+          is_next : drop index rows ≡ row ∷ drop (index + 1) rows
+          is_next = rest_at rows index row read
 
-        rest_more : drop (index + 1) new ≡ drop (index + 1) old
-        rest_more = sym (drop-drop 1 index new) ∙ ap (drop 1) so_far.rest ∙ drop-drop 1 index old
+          pub next_fits : Fits number row
+          next_fits = (subst (AllFit number) is_next so_far.fits).0
 
-        pub kept_none : [] ≡ rows_left on lba end test (row ∷ []) → KeptInPlace on lba end test old new kept (index + 1)
-        kept_none none = record {
-          front = so_far.front
-              ∙ sym (append-nil (rows_left on lba end test (take index old)))
-              ∙ ap (λ xs. rows_left on lba end test (take index old) ++ xs) none
-              ∙ sym more_left;
-          rest = rest_more;
-          behind = omega (arith, so_far.behind);
-          within = omega (arith, so_far.long);
-          long = so_far.long;
-        }
+          pub next_spans : row.lba < lba → row.lba + row.sectors ≤ end
+          next_spans = (subst (NoneSpans lba end) is_next so_far.spans).0
 
-        pub kept_some : (part : Extent P) → part ∷ [] ≡ rows_left on lba end test (row ∷ [])
-            → KeptInPlace on lba end test old (set new kept part) (kept + 1) (index + 1)
-        kept_some part some = record {
-          front = take_more_set new kept part (omega (arith, so_far.behind))
-              ∙ ap (λ xs. xs ++ part ∷ []) so_far.front
-              ∙ ap (λ xs. rows_left on lba end test (take index old) ++ xs) some
-              ∙ sym more_left;
-          rest = drop-set-lt (index + 1) new kept part (omega (arith, so_far.behind)) ∙ rest_more;
-          behind = omega (arith, so_far.behind);
-          within = omega (arith, so_far.long);
-          long = length-set new kept part ∙ so_far.long;
-        }
+          pub kept_past : end ≤ row.lba → take kept rows ++ drop index rows ≡ whole
+          kept_past late =
+              let start = subst (StartsFrom end) (sym is_next) late in
+              ap (λ xs. take kept rows ++ xs) (sym (all_past on lba end order test (drop index rows) so_far.shortest start)) ∙ so_far.all
+
+          -- what is left of the row is put behind the rows that were kept
+          pub kept_more : (next parts : List (Extent P)) (k m n : ℕ) → parts ≡ rows_left on lba end test (row ∷ [])
+              → take k next ≡ take kept rows ++ parts → drop (kept + 1) next ≡ drop (kept + 1) rows → k ≤ kept + 1 → m ≡ k → n ≡ index + 1
+              → KeptSoFar on lba end test number whole next m n
+          kept_more next parts k m n left front back near same_kept more_read =
+              let far : kept + 1 + (index - kept) ≡ index + 1 = omega (arith, so_far.behind) in
+              let same : drop (index + 1) next ≡ drop (index + 1) rows =
+              ap (λ n. drop n next) (sym far)
+              ∙ sym (drop-drop (index - kept) (kept + 1) next)
+              ∙ ap (drop (index - kept)) back
+              ∙ drop-drop (index - kept) (kept + 1) rows
+              ∙ ap (λ n. drop n rows) far in
+              let more = rows_left on lba end test (drop (index + 1) rows) in
+              let here : KeptSoFar on lba end test number whole next k (index + 1) = record {
+                all = ap (λ xs. xs ++ rows_left on lba end test (drop (index + 1) next)) front
+                    ∙ ap (λ xs. (take kept rows ++ parts) ++ rows_left on lba end test xs) same
+                    ∙ append_assoc (take kept rows) parts more
+                    ∙ ap (λ xs. take kept rows ++ xs) (ap (λ xs. xs ++ more) left
+                    ∙ sym (left_append (row ∷ []) (drop (index + 1) rows))
+                    ∙ ap (rows_left on lba end test) (sym is_next))
+                    ∙ so_far.all;
+                behind = omega (arith, near, so_far.behind);
+                shortest = subst (IsShortest on) (sym same) (subst (IsShortest on) is_next so_far.shortest).2;
+                fits = subst (AllFit number) (sym same) (subst (AllFit number) is_next so_far.fits).1;
+                spans = subst (NoneSpans lba end) (sym same) (subst (NoneSpans lba end) is_next so_far.spans).1;
+              } in
+              subst (λ j. KeptSoFar on lba end test number whole next m j) (sym more_read)
+              (subst (λ j. KeptSoFar on lba end test number whole next j (index + 1)) (sym same_kept) here)

@@ -1,5 +1,5 @@
 -- Rows of which some lose the sectors of a range, row by row.
-use Rattle.std.proofs.Common.{ℕ, ◌+◌, ◌-◌, ◌<◌, ◌≤◌, ◌≡◌, inl, inr, Bool, true, false, cond, List, [], ◌∷◌, length, refl, sym, ◌∙◌, ap, subst, arith}
+use Rattle.std.proofs.Common.{ℕ, ◌+◌, ◌-◌, ◌<◌, ◌≤◌, ◌≡◌, inl, inr, Bool, true, false, cond, List, [], ◌∷◌, refl, sym, ◌∙◌, ap, subst, arith}
 use Rattle.std.proofs.lemmas.Bool.{cases_lt, cases_Bool}
 use Rattle.extent_map.specs.declared.extent.Extent.{Extent}
 use Rattle.extent_map.specs.Extents.{NumbersGoOn, ComesBeforeFirst, IsShortest, AllFit}
@@ -179,23 +179,6 @@ module _ {P : Type 0} (on : ℕ → P → P) (lba end : ℕ) (order : lba < end)
           ]
 
     -- ---- how many rows they are, and where they end
-
-    pub count_left : (rows : List (Extent P)) → IsShortest on rows
-        → length (rows_left on lba end test rows) ≤ length rows + 1
-    unfolding rows_left
-    count_left [] shortest = omega arith
-    count_left (row ∷ rows) shortest =
-        let rest = count_left rows shortest.2 in
-        elim (left_is row rows) [
-          | whole is ↦ omega (arith, rest, ap length is)
-          | front after inside ended is ↦ omega (arith, rest, ap length is)
-          | back from early over is ↦ omega (arith, rest, ap length is)
-          | both after over is ↦
-              let same = all_past rows shortest.2
-              (starts_earlier end (row.lba + row.sectors) rows (omega arith) (after_row on row rows shortest.1)) in
-              omega (arith, ap length is, ap length same)
-          | none is ↦ omega (arith, rest, ap length is)
-        ]
 
     pub fit_left : (number : P → ℕ) → NumbersGoOn on number → (rows : List (Extent P)) → AllFit number rows
         → AllFit number (rows_left on lba end test rows)

@@ -5,7 +5,6 @@ pub mod Cuts
 pub mod CutPlaces
 pub mod Counts
 pub mod CutIndex
-pub mod TakenOut
 pub mod Changed
 pub mod Joined
 pub mod Put
@@ -17,3 +16,8 @@ pub mod Left
 pub mod LeftPlaces
 pub mod Kept
 pub mod Cleared
+pub mod CutEnds
+pub mod CutTwice
+pub mod PutPlaces
+pub mod Walked
+pub mod RowsMet

@@ -1,15 +1,11 @@
--- The rows of a range of sectors alone.
-use Rattle.std.proofs.Common.{ℕ, zero, suc, ◌+◌, ◌-◌, ◌<◌, ◌≤◌, ◌≡◌, inl, inr, List, [], ◌∷◌, ◌++◌, take, drop, sym, ◌∙◌, ap, subst, arith}
+-- The rows that end before the first sector of a range.
+use Rattle.std.proofs.Common.{ℕ, zero, suc, ◌-◌, ◌≡◌, inl, inr, List, [], ◌∷◌, take, sym, subst, arith}
 use Rattle.std.proofs.lemmas.Bool.{cases_lt}
-use Rattle.std.proofs.lemmas.List.Edits.{split_between}
 use Rattle.extent_map.specs.declared.extent.Extent.{Extent}
-use Rattle.extent_map.specs.Extents.{NumbersGoOn, place_at, place_in_range, IsShortest, AllFit}
-use Rattle.extent_map.specs.Cut.{rows_before, rows_from, rows_met, before_count}
+use Rattle.extent_map.specs.Extents.{IsShortest}
+use Rattle.extent_map.specs.Cut.{before_count}
 use Rattle.extent_map.specs.Join.{EndBy}
-use Rattle.extent_map.proofs.Places.{none_before}
-use Rattle.extent_map.proofs.Order.{in_front, past_front, shortest_take, shortest_drop, fit_take, fit_drop}
-use Rattle.extent_map.proofs.Range.{same_in_range, range_shortest, range_places, range_fits}
-use Rattle.extent_map.proofs.Counts.{count_early, count_late, count_rises, starts_after}
+use Rattle.extent_map.proofs.Counts.{count_early, count_late}
 use Rattle.extent_map.proofs.CutIndex.{ends_early}
 
 module _ {P : Type 0} (on : ℕ → P → P) where
@@ -34,48 +30,3 @@ module _ {P : Type 0} (on : ℕ → P → P) where
             let zero_is : before_count at rows - 1 ≡ 0 = omega arith in
             subst (λ n. EndBy at (take n rows)) (sym zero_is) tt
       ]
-
-  module _ (on_twice : (a b : ℕ) (p : P) → on a (on b p) ≡ on (b + a) p) (rows : List (Extent P)) (lba sectors : ℕ)
-      (shortest : IsShortest on rows) where
-    -- the rows of the range
-    abbrev pub found_rows : List (Extent P)
-    found_rows = rows_before (lba + sectors) (rows_from on lba (rows_met lba (lba + sectors) rows))
-
-    pub met_shortest : IsShortest on (rows_met lba (lba + sectors) rows)
-    unfolding rows_met
-    met_shortest =
-        shortest_take on (before_count (lba + sectors) rows - (before_count lba rows - 1)) (drop (before_count lba rows - 1) rows)
-        (shortest_drop on (before_count lba rows - 1) rows shortest)
-
-    -- they give the range its places
-    met_places : (k : ℕ) → lba ≤ k → k < lba + sectors → place_at on (rows_met lba (lba + sectors) rows) k ≡ place_at on rows k
-    unfolding rows_met
-    met_places k from low =
-        let first = before_count lba rows - 1 in
-        let last = before_count (lba + sectors) rows in
-        let part = take (last - first) (drop first rows) in
-        let order : first ≤ last = omega (arith, count_rises lba (lba + sectors) rows (omega arith)) in
-        let none = none_before on (drop last rows) (lba + sectors) k (shortest_drop on last rows shortest)
-        (starts_after (lba + sectors) rows) low in
-        sym (ap (λ xs. place_at on xs k) (split_between rows first last order)
-        ∙ past_front on (take first rows) (part ++ drop last rows) lba k
-        (ends_before lba rows shortest) from
-        ∙ in_front on part (drop last rows) k none)
-
-    pub found_shortest : IsShortest on found_rows
-    found_shortest = range_shortest on on_twice lba sectors (rows_met lba (lba + sectors) rows) met_shortest
-
-    pub found_places : (k : ℕ) → place_at on found_rows k ≡ place_in_range lba sectors (place_at on rows) k
-    found_places k =
-        range_places on on_twice lba sectors (rows_met lba (lba + sectors) rows) met_shortest k
-        ∙ same_in_range lba sectors (place_at on (rows_met lba (lba + sectors) rows)) (place_at on rows) met_places k
-
-    module _ (number : P → ℕ) (number_on : NumbersGoOn on number) (fits : AllFit number rows) where
-      pub met_fits : AllFit number (rows_met lba (lba + sectors) rows)
-      unfolding rows_met
-      met_fits =
-          fit_take number (before_count (lba + sectors) rows - (before_count lba rows - 1)) (drop (before_count lba rows - 1) rows)
-          (fit_drop number (before_count lba rows - 1) rows fits)
-
-      pub found_fits : AllFit number found_rows
-      found_fits = range_fits on on_twice lba sectors (rows_met lba (lba + sectors) rows) met_shortest number number_on met_fits

@@ -6,13 +6,8 @@ use Rattle.extent_map.specs.Extents.{NumbersGoOn, place_at, IsShortest, Fits, Al
 use Rattle.extent_map.specs.Join.{GoesOn, joined, TakesNext, IsPutAfter}
 use Rattle.extent_map.specs.Laws.{StartsFrom}
 use Rattle.extent_map.specs.Join.{EndBy}
-use Rattle.extent_map.proofs.Order.{same_after_all, fit_append, fit_take, fit_drop, fits_at}
+use Rattle.extent_map.proofs.Order.{same_after_all, fit_append, fit_take, fit_drop}
 use Rattle.extent_map.proofs.Joined.{taken_places, taken_shortest, taken_lba, taken_fits, put_places, put_shortest, put_fits}
-
-module _ {P : Type 0} where
-  pub read_fits : (number : P → ℕ) (rows : List (Extent P)) (i : ℕ) (row : Extent P) → AllFit number rows → i < length rows
-      → row ≡ get_or rows i row → Fits number row
-  read_fits number rows i row fits inside read = subst (Fits number) (sym read) (fits_at number i rows row fits inside)
 
 module _ {P : Type 0} (on : ℕ → P → P) where
   -- a row is joined with the one before an index

@@ -25,18 +25,6 @@ module _ {P : Type 0} where
       → place_in_range lba sectors old k ≡ None
   past_range lba sectors old k high = ap (λ b. cond b (old k) None) (not_past lba sectors k high)
 
-  -- places that are the same in a range are the same there alone
-  pub same_in_range : (lba sectors : ℕ) (a b : ℕ → Option P) → ((k : ℕ) → lba ≤ k → k < lba + sectors → a k ≡ b k)
-      → (k : ℕ) → place_in_range lba sectors a k ≡ place_in_range lba sectors b k
-  same_in_range lba sectors a b same k =
-      elim (cases_lt k lba) [
-        | inl early ↦ below_range lba sectors a k early ∙ sym (below_range lba sectors b k early)
-        | inr from ↦ elim (cases_lt k (lba + sectors)) [
-          | inl low ↦ in_range lba sectors a k from low ∙ same k from low ∙ sym (in_range lba sectors b k from low)
-          | inr past ↦ past_range lba sectors a k past ∙ sym (past_range lba sectors b k past)
-        ]
-      ]
-
 module _ {P : Type 0} (on : ℕ → P → P) where
   module _ (on_twice : (a b : ℕ) (p : P) → on a (on b p) ≡ on (b + a) p) (lba sectors : ℕ) (rows : List (Extent P))
       (shortest : IsShortest on rows) where

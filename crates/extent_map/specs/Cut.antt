@@ -1,5 +1,5 @@
 -- For this crate's own clauses: rows that are cut at a sector.
-use Rattle.std.specs.Prelude.{ℕ, ◌+◌, ◌-◌, nat_le, nat_lt, if◌then◌else◌, List, [], ◌∷◌, take, drop}
+use Rattle.std.specs.Prelude.{ℕ, ◌+◌, ◌-◌, nat_le, nat_lt, if◌then◌else◌, List, [], ◌∷◌}
 use Rattle.std.specs.List.{prefix_len}
 use Rattle.extent_map.specs.declared.extent.Extent.{Extent}
 
@@ -23,10 +23,6 @@ module _ {P : Type 0} where
   -- how many rows begin before a sector, up to the first that does not
   abbrev pub before_count : ℕ → List (Extent P) → ℕ
   before_count at rows = prefix_len (λ row. nat_lt row.lba at) rows
-
-  -- the rows that may reach between two sectors: those that begin between them, and the one before
-  unfoldable pub rows_met : ℕ → ℕ → List (Extent P) → List (Extent P)
-  rows_met lba end rows = take (before_count end rows - (before_count lba rows - 1)) (drop (before_count lba rows - 1) rows)
 
 module _ {P : Type 0} (on : ℕ → P → P) where
   -- the rest of a row from a sector of it on

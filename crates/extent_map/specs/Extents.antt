@@ -1,7 +1,5 @@
 -- Contract: a list of rows as a function from sectors to places, and which lists are the shortest of their function.
-use Rattle.std.specs.Prelude.{ℕ, ◌+◌, ◌-◌, ◌^◌, ◌<◌, ◌≤◌, ◌≡◌, ◌⊎◌, Bool, ◌&&◌, nat_le, nat_lt, if◌then◌else◌, Option, Some, None, List, [], ◌∷◌, slice_get}
-use Rattle.std.specs.Borrow.{Bor}
-use Rattle.std.specs.Fn.{Shared, FnReturnsAt}
+use Rattle.std.specs.Prelude.{ℕ, ◌+◌, ◌-◌, ◌^◌, ◌<◌, ◌≤◌, ◌≡◌, ◌⊎◌, Bool, ◌&&◌, nat_le, nat_lt, max, min, count_by, if◌then◌else◌, Option, Some, None, List, [], ◌∷◌, slice_get}
 use Rattle.extent_map.specs.declared.extent.Extent.{Extent}
 
 -- the sector k is one of the N sectors from lba on
@@ -49,10 +47,6 @@ module _ {P : Type 0} where
   abbrev pub place_after_clear : ℕ → ℕ → (ℕ → Option P) → ℕ → Option P
   place_after_clear lba sectors old k = (if is_within lba sectors k then None else old k)
 
-  -- a function answers at each place as a test says
-  abbrev pub AnswersBy : {F : Type 0} → Shared F (Bor P × Unit {0}) Bool → F → (P → Bool) → Type 0
-  AnswersBy g f test = (place : P) (answer : Bool) → FnReturnsAt g f place answer → answer ≡ test place
-
   -- a place, or none where it passes a test
   abbrev pub place_unless : (P → Bool) → Option P → Option P
   place_unless test None = None
@@ -65,6 +59,14 @@ module _ {P : Type 0} where
   -- the places of the sectors from lba on, and no others
   abbrev pub place_in_range : ℕ → ℕ → (ℕ → Option P) → ℕ → Option P
   place_in_range lba sectors old k = (if is_within lba sectors k then old k else None)
+
+  -- a row and the sectors from lba on share a sector: the greater of their first sectors is before the ends of both
+  abbrev pub is_met : ℕ → ℕ → Extent P → Bool
+  is_met lba sectors row = nat_lt (max lba row.lba) (min (lba + sectors) (row.lba + row.sectors))
+
+  -- how many rows the sectors from lba on meet: those that share a sector with them
+  abbrev pub met : ℕ → ℕ → List (Extent P) → ℕ
+  met lba sectors rows = count_by (is_met lba sectors) rows
 
   -- a row ends below 2^63, and so do its places
   pub record Fits (number : P → ℕ) (row : Extent P) : Type 0 where

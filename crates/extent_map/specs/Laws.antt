@@ -1,7 +1,7 @@
 -- Contract: what a function on sectors has to do with its shortest list of rows.
-use Rattle.std.specs.Prelude.{ℕ, ◌+◌, ◌≡◌, ◌≤◌, List, [], ◌∷◌, length}
+use Rattle.std.specs.Prelude.{ℕ, ◌+◌, ◌≡◌, ◌≤◌, ◌↔◌, IsTrue, List, [], ◌∷◌, length}
 use Rattle.extent_map.specs.declared.extent.Extent.{Extent}
-use Rattle.extent_map.specs.Extents.{place_at, IsShortest}
+use Rattle.extent_map.specs.Extents.{place_at, IsShortest, is_within, is_met}
 
 module _ {P : Type 0} where
   -- the first of these rows begins at this sector or past it
@@ -27,3 +27,10 @@ HasNoShorterList {P} on =
     (a b : List (Extent P)) → IsShortest on a → IsInOrder b
     → ((k : ℕ) → place_at on a k ≡ place_at on b k)
     → length a ≤ length b
+
+-- sectors meet a row exactly where one of them is a sector of the row
+abbrev pub MeetsBySectors : Type 0 → Type 0
+MeetsBySectors P =
+    (lba sectors : ℕ) (row : Extent P)
+    → IsTrue (is_met lba sectors row)
+    ↔ ((k : ℕ) × IsTrue (is_within lba sectors k) × IsTrue (is_within row.lba row.sectors k))

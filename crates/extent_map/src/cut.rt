@@ -1,127 +1,175 @@
-ghost use Rattle.std.specs.Prelude.{◌≡◌, ◌+◌, ◌-◌, ◌^◌, ◌<◌, ◌≤◌, ◌++◌, ℕ, length, take, drop, vec_capacity, IfOk};
-ghost use Rattle.extent_map.specs.Cut.{rows_before, rows_from, rows_met, before_count};
-ghost use Rattle.extent_map.specs.Extents.{place_at, place_in_range, IsShortest, AllFit};
+ghost use Rattle.std.specs.Prelude.{◌≡◌, ◌+◌, ◌-◌, ◌^◌, ◌<◌, ◌≤◌, ◌++◌, ◌↔◌, ℕ, false, length, take, drop, IsTrue, MatchOption};
+ghost use Rattle.page_list.specs.Items.{IsIn, cursor_index, insert_room};
+ghost use Rattle.extent_map.specs.Cut.{rows_before, rows_from, before_count};
+ghost use Rattle.extent_map.specs.Extents.{IsShortest, AllFit};
 
 use crate::extent::Extent;
 use crate::part::rest;
 use crate::place::Place;
-use std::alloc::{AllocError, Global};
+use page_list::{Cursor, PageList, Steps};
+use std::sync::ledger::Ledger;
 
-// Cuts the rows from an index on at a sector, so that none reaches over it, and answers the index of the first
-// row from the sector on. There is room for a row.
-pub(crate) fn cut<P: Place>(rows: &mut Vec<Extent<P>>, from: usize, at: u64) -> usize
-    requires from { from ≤ length rows.old.items }
-    requires room { length rows.old.items < vec_capacity rows.old }
-    requires shortest { IsShortest P.on (drop from rows.old.items) }
-    requires fits { AllFit P.number (drop from rows.old.items) }
-    ensures rows { rows.new.items ≡ take from rows.old.items ++ (rows_before at (drop from rows.old.items) ++ rows_from P.on at (drop from rows.old.items)) }
-    ensures index { result ≡ from + length (rows_before at (drop from rows.old.items)) }
-    ensures capacity { vec_capacity rows.old ≤ vec_capacity rows.new }
+// The place of the first row that begins from a sector on.
+pub(crate) fn first_from<P: Place, L: Ledger>(
+    rows: &PageList<Extent<P>>,
+    at: u64,
+    steps: &mut Steps<L>,
+) -> Cursor
+    requires { IsShortest P.on rows.now.items }
+    ensures place { IsIn rows.now.lengths result }
+    ensures index { cursor_index rows.now.lengths result ≡ before_count at rows.now.items }
+    ensures steps { (k : ℕ) → length rows.now.items < 2 ^ k → steps.new ≤ steps.old + k + 9 }
+    ensures bound { steps.new ≤ steps.old + 57 }
+    ensures rises { steps.old ≤ steps.new }
 {
-    let index = first_from(rows, from, at);
-    if index == from {
-        return index;
-    }
-    let row = rows[index - 1];
-    let end = row.lba + row.sectors;
-    if end <= at {
-        return index;
-    }
-    rows[index - 1] = Extent {
-        sectors: at - row.lba,
-        ..row
-    };
-    let _ = rows.insert(index, rest(row, at));
-    index
+    rows.partition_point(|row| row.lba < at, steps)
 }
 
-// The index of the first of the rows from an index on that begins from a sector on.
-pub(crate) fn first_from<P: Place>(rows: &[Extent<P>], from: usize, at: u64) -> usize
-    requires from { from ≤ length rows.now }
-    requires shortest { IsShortest P.on (drop from rows.now) }
-    ensures { result ≡ from + before_count at (drop from rows.now) }
-{
-    from + rows[from..].partition_point(|row| row.lba < at)
-}
-
-// Takes what rows are between two sectors out, and answers the index where they stood. There is room for two rows.
-pub(crate) fn take_out<P: Place>(rows: &mut Vec<Extent<P>>, lba: u64, end: u64) -> usize
+// Takes what rows are between two sectors out, and answers the place where they stood. There is room for a row. Rows are
+// replaced up to one insert or one removal, so that places stay good until then. It takes two searches, and an insert or
+// a removal of rows that begin between both.
+pub(crate) fn take_out<P: Place, L: Ledger>(
+    rows: &mut PageList<Extent<P>>,
+    lba: u64,
+    end: u64,
+    steps: &mut Steps<L>,
+) -> Cursor
     requires order { lba < end }
-    requires room { length rows.old.items + 2 ≤ vec_capacity rows.old }
+    requires room { 1 ≤ insert_room rows.old }
     requires shortest { IsShortest P.on rows.old.items }
     requires fits { AllFit P.number rows.old.items }
     ensures rows { rows.new.items ≡ rows_before lba rows.old.items ++ rows_from P.on end (rows_from P.on lba rows.old.items) }
-    ensures index { result ≡ length (rows_before lba rows.old.items) }
+    ensures place { IsIn rows.new.lengths result }
+    ensures index { cursor_index rows.new.lengths result ≡ length (rows_before lba rows.old.items) }
     ensures length { length rows.new.items ≤ length rows.old.items + 1 }
-    ensures capacity { vec_capacity rows.old ≤ vec_capacity rows.new }
+    ensures room { insert_room rows.old ≤ insert_room rows.new + 1 }
+    ensures steps { steps.new ≤ steps.old + 254 + (before_count end rows.old.items - before_count lba rows.old.items) }
+    ensures rises { steps.old ≤ steps.new }
 {
-    let from = cut(rows, 0, lba);
-    let to = cut(rows, from, end);
-    remove(rows, from, to);
-    from
+    let first = first_from(rows, lba, steps);
+    if !begins_before(rows.get(first), end) {
+        return cut_one(rows, first, lba, end, steps);
+    }
+    let last = first_from(rows, end, steps);
+    let last = cut_front(rows, last, end);
+    cut_back(rows, first, lba);
+    rows.remove(first, last, steps)
 }
 
-// The rows of N sectors from a sector on, cut at both ends. The one error is out of memory.
-pub(crate) fn look<P: Place>(
-    alloc: Global,
-    rows: &[Extent<P>],
-    lba: u64,
-    sectors: u64,
-) -> Result<Vec<Extent<P>>, AllocError>
-    requires range { lba + sectors < 2 ^ 63 }
-    requires shortest { IsShortest P.on rows.now }
-    requires fits { AllFit P.number rows.now }
-    ensures places { IfOk result (λ found. (k : ℕ) → place_at P.on found.items k ≡ place_in_range lba sectors (place_at P.on rows.now) k) }
-    ensures shortest { IfOk result (λ found. IsShortest P.on found.items) }
-    ensures fits { IfOk result (λ found. AllFit P.number found.items) }
+// Whether there is a row, which begins before a sector.
+fn begins_before<P: Place>(row: Option<Extent<P>>, at: u64) -> bool
+    ensures { MatchOption row (result ≡ false) (λ row. IsTrue result ↔ (row.lba < at)) }
 {
-    let mut found = copy_met(alloc, rows, lba, lba + sectors)?;
-    let from = cut(&mut found, 0, lba);
-    let to = cut(&mut found, from, lba + sectors);
-    found.truncate(to);
-    remove(&mut found, 0, from);
-    Ok(found)
+    row.is_some_and(|row| row.lba < at)
 }
 
-// A copy of the rows that may reach between two sectors, with room for two more.
-fn copy_met<P: Place>(
-    alloc: Global,
-    rows: &[Extent<P>],
+// Takes what is between two sectors out of the row before a place, and answers the place after the part in front. No row
+// begins between the sectors. There is room for a row.
+fn cut_one<P: Place, L: Ledger>(
+    rows: &mut PageList<Extent<P>>,
+    next: Cursor,
     lba: u64,
     end: u64,
-) -> Result<Vec<Extent<P>>, AllocError>
-    requires order { lba ≤ end }
-    requires shortest { IsShortest P.on rows.now }
-    ensures rows { IfOk result (λ met. met.items ≡ rows_met lba end rows.now) }
-    ensures room { IfOk result (λ met. length met.items + 2 ≤ vec_capacity met) }
+    steps: &mut Steps<L>,
+) -> Cursor
+    requires order { lba < end }
+    requires room { 1 ≤ insert_room rows.old }
+    requires place { IsIn rows.old.lengths next }
+    requires lba { cursor_index rows.old.lengths next ≡ before_count lba rows.old.items }
+    requires end { cursor_index rows.old.lengths next ≡ before_count end rows.old.items }
+    requires shortest { IsShortest P.on rows.old.items }
+    requires fits { AllFit P.number rows.old.items }
+    ensures rows { rows.new.items ≡ rows_before lba rows.old.items ++ rows_from P.on end rows.old.items }
+    ensures place { IsIn rows.new.lengths result }
+    ensures index { cursor_index rows.new.lengths result ≡ length (rows_before lba rows.old.items) }
+    ensures room { insert_room rows.old ≤ insert_room rows.new + 1 }
+    ensures steps { steps.new ≤ steps.old + 128 }
+    ensures rises { steps.old ≤ steps.new }
 {
-    let (first, last) = met_between(rows, lba, end);
-    let met = &rows[first..last];
-    let mut found = Vec::new(alloc);
-    found.reserve(met.len() + 2)?;
-    found.extend_from_slice(met)?;
-    Ok(found)
+    let Some((last, row)) = rows.before(next) else {
+        return next;
+    };
+    let row_end = row.lba + row.sectors;
+    if row_end <= lba {
+        return next;
+    }
+    rows.replace(
+        last,
+        Extent {
+            sectors: lba - row.lba,
+            ..row
+        },
+    );
+    if row_end <= end {
+        return next;
+    }
+    rows.insert(next, rest(row, end), steps)
 }
 
-// From which index on and up to which the rows may reach between two sectors.
-pub(crate) fn met_between<P: Place>(rows: &[Extent<P>], lba: u64, end: u64) -> (usize, usize)
-    requires order { lba ≤ end }
-    requires shortest { IsShortest P.on rows.now }
-    ensures first { result.0 ≡ before_count lba rows.now - 1 }
-    ensures last { result.1 ≡ before_count end rows.now }
-    ensures order { result.0 ≤ result.1 }
-    ensures bound { result.1 ≤ length rows.now }
+// Cuts the last of the rows before a place at a sector, if it reaches over it, and leaves the part in front. All of them
+// begin before the sector.
+fn cut_back<P: Place>(rows: &mut PageList<Extent<P>>, next: Cursor, at: u64)
+    requires place { IsIn rows.old.lengths next }
+    requires index { cursor_index rows.old.lengths next ≡ before_count at (take (cursor_index rows.old.lengths next) rows.old.items) }
+    requires shortest { IsShortest P.on (take (cursor_index rows.old.lengths next) rows.old.items) }
+    requires fits { AllFit P.number (take (cursor_index rows.old.lengths next) rows.old.items) }
+    ensures front { take (cursor_index rows.old.lengths next) rows.new.items ≡ rows_before at (take (cursor_index rows.old.lengths next) rows.old.items) }
+    ensures back { drop (cursor_index rows.old.lengths next) rows.new.items ≡ drop (cursor_index rows.old.lengths next) rows.old.items }
+    ensures lengths { rows.new.lengths ≡ rows.old.lengths }
+    ensures room { insert_room rows.new ≡ insert_room rows.old }
 {
-    let early = first_from(rows, 0, lba);
-    (early.saturating_sub(1), first_from(rows, 0, end))
+    let Some((last, row)) = rows.before(next) else {
+        return;
+    };
+    if at < row.lba + row.sectors {
+        rows.replace(
+            last,
+            Extent {
+                sectors: at - row.lba,
+                ..row
+            },
+        );
+    }
 }
 
-// Removes the rows between two indices.
-pub(crate) fn remove<P: Place>(rows: &mut Vec<Extent<P>>, from: usize, to: usize)
-    requires order { from ≤ to }
-    requires inside { to ≤ length rows.old.items }
-    ensures rows { rows.new.items ≡ take from rows.old.items ++ drop to rows.old.items }
-    ensures capacity { vec_capacity rows.new ≡ vec_capacity rows.old }
+// Cuts the last row that begins before a sector at it, if it reaches over it, and leaves the part from the sector on. Answers
+// the place of the first row from the sector on.
+fn cut_front<P: Place>(rows: &mut PageList<Extent<P>>, next: Cursor, at: u64) -> Cursor
+    requires place { IsIn rows.old.lengths next }
+    requires index { cursor_index rows.old.lengths next ≡ before_count at rows.old.items }
+    requires shortest { IsShortest P.on rows.old.items }
+    requires fits { AllFit P.number rows.old.items }
+    ensures back { drop (cursor_index rows.old.lengths result) rows.new.items ≡ rows_from P.on at rows.old.items }
+    ensures front { take (cursor_index rows.old.lengths result) rows.new.items ≡ take (cursor_index rows.old.lengths result) rows.old.items }
+    ensures lengths { rows.new.lengths ≡ rows.old.lengths }
+    ensures place { IsIn rows.old.lengths result }
+    ensures near { before_count at rows.old.items ≤ cursor_index rows.old.lengths result + 1 }
+    ensures bound { cursor_index rows.old.lengths result ≤ before_count at rows.old.items }
+    ensures room { insert_room rows.new ≡ insert_room rows.old }
 {
-    drop(rows.drain(from..to));
+    let Some((last, row)) = rows.before(next) else {
+        return next;
+    };
+    if row.lba + row.sectors <= at {
+        return next;
+    }
+    rows.replace(last, rest(row, at));
+    last
+}
+
+// The place of the last row that begins before a sector, or of the first row where none does.
+pub(crate) fn first_met<P: Place, L: Ledger>(
+    rows: &PageList<Extent<P>>,
+    at: u64,
+    steps: &mut Steps<L>,
+) -> Cursor
+    requires { IsShortest P.on rows.now.items }
+    ensures place { IsIn rows.now.lengths result }
+    ensures index { cursor_index rows.now.lengths result ≡ before_count at rows.now.items - 1 }
+{
+    let next = first_from(rows, at, steps);
+    match rows.before(next) {
+        Some((last, _)) => last,
+        None => next,
+    }
 }

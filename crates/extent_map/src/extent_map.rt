@@ -1,21 +1,28 @@
-ghost use Rattle.std.specs.Prelude.{◌≡◌, ◌+◌, ◌≤◌, ◌^◌, ◌<◌, ◌↔◌, ℕ, Bool, [], length, IfOk, OnOk, IsOk, IfSome, IsNone};
-ghost use Rattle.extent_map.specs.Extents.{AnswersBy, IsSteady, place_at, place_after_set, place_after_clear, place_after_clear_if, place_in_range, IsShortest, Fits, AllFit, IsFirstOfRange, StartsRange, IsBare};
+ghost use Rattle.std.specs.Prelude.{◌≡◌, ◌+◌, ◌*◌, ◌≤◌, ◌^◌, ◌<◌, ◌↔◌, ◌++◌, ℕ, Bool, [], length, IfOk, OnOk, IsOk, IfSome, IsNone, slice_get};
+ghost use Rattle.page_list.specs.Items.{insert_room};
+ghost use Rattle.page_list.specs.Test.{AnswersBy};
+ghost use Rattle.extent_map.specs.Clear.{rows_left};
+ghost use Rattle.extent_map.specs.Cut.{rows_before, rows_from};
+ghost use Rattle.extent_map.specs.Extents.{IsSteady, place_at, place_after_set, place_after_clear, place_after_clear_if, place_in_range, IsShortest, Fits, AllFit, IsFirstOfRange, StartsRange, IsBare, met};
 
 use crate::clear::clear_rows;
-use crate::cut::{look, take_out};
+use crate::cut::take_out;
 use crate::extent::Extent;
 use crate::first::first_between;
 use crate::join::put;
+use crate::look::look;
 use crate::place::Place;
+use page_list::{PageList, Steps};
 use std::alloc::{AllocError, Global};
-use std::marker::Model;
+use std::marker::{Brand, Model};
+use std::sync::ledger::{Blank, Ledger};
 
 /// A map from sectors to places. It is a function on sectors: each has a place or none.
 ///
 /// Contracts see it as the one shortest list of rows in order that says that function, with its room for changes.
 #[derive(Drop)]
 pub struct ExtentMap<P: Place> {
-    rows: Vec<Extent<P>>,
+    rows: PageList<Extent<P>>,
 }
 
 impl<P: Place> Model for ExtentMap<P> {
@@ -25,10 +32,11 @@ impl<P: Place> Model for ExtentMap<P> {
 
     ghost coded = { map_state_code P.code };
 
-    ghost use Rattle.std.specs.Prelude.{◌-◌, ◌/◌, length, vec_capacity};
+    ghost use Rattle.std.specs.Prelude.{◌/◌};
+    ghost use Rattle.page_list.specs.Items.{insert_room};
     ghost use Rattle.extent_map.specs.Extents.{IsShortest, AllFit};
 
-    ghost view = { λ m. record { rows = m.rows.items; spare = (vec_capacity m.rows - length m.rows.items) / 2 } };
+    ghost view = { λ m. record { rows = m.rows.items; spare = insert_room m.rows / 2 } };
 
     ghost invariant = { λ m. IsShortest P.on m.rows.items × AllFit P.number m.rows.items };
 }
@@ -42,7 +50,7 @@ impl<P: Place> ExtentMap<P> {
         ensures { result ≡ record { rows = []; spare = 0 } }
     {
         ExtentMap {
-            rows: Vec::new(alloc),
+            rows: PageList::new(alloc),
         }
     }
 
@@ -67,7 +75,7 @@ impl<P: Place> ExtentMap<P> {
     pub fn spare(&self) -> usize
         ensures { result ≡ self.now.spare }
     {
-        (self.rows.capacity() - self.rows.len()) / ROWS_OF_CHANGE
+        self.rows.room() / ROWS_OF_CHANGE
     }
 
     /// All rows. The one error is out of memory.
@@ -76,7 +84,7 @@ impl<P: Place> ExtentMap<P> {
         ensures shortest { IsShortest P.on self.now.rows }
         ensures fits { AllFit P.number self.now.rows }
     {
-        Vec::from_slice(alloc, self.rows.as_slice())
+        self.rows.to_vec(alloc)
     }
 
     /// Gives the sectors from `lba` on the places from `place` on, one by one, whatever they had. No sectors change
@@ -93,13 +101,36 @@ impl<P: Place> ExtentMap<P> {
         ensures spare { self.old.spare ≤ self.new.spare + 1 }
     {
         if sectors != 0 {
-            let index = take_out(&mut self.rows, lba, lba + sectors);
             let row = Extent {
                 lba,
                 sectors,
                 place,
             };
-            put(&mut self.rows, index, row);
+            set_uncounted::<P, Brand>(&mut self.rows, row, Blank::new(1));
+        }
+    }
+
+    /// Does what `set` does, under the same conditions, and counts its steps: comparisons in a search, and rows that are
+    /// moved in memory or dropped. They are at most 512, and as many more as rows share a sector with the range.
+    pub fn set_counted<L: Ledger>(&mut self, lba: u64, sectors: u64, place: P, steps: &mut Steps<L>)
+        requires room { 1 ≤ self.old.spare }
+        requires range { lba + sectors < 2 ^ 63 }
+        requires places { P.number place + sectors < 2 ^ 63 }
+        ensures places { (k : ℕ) → place_at P.on self.new.rows k ≡ place_after_set P.on lba sectors place (place_at P.on self.old.rows) k }
+        ensures shortest { IsShortest P.on self.new.rows }
+        ensures count { length self.new.rows ≤ length self.old.rows + 2 }
+        ensures none { sectors ≡ 0 → self.new ≡ self.old }
+        ensures spare { self.old.spare ≤ self.new.spare + 1 }
+        ensures steps { steps.new ≤ steps.old + 512 + met lba sectors self.old.rows }
+        ensures rises { steps.old ≤ steps.new }
+    {
+        if sectors != 0 {
+            let row = Extent {
+                lba,
+                sectors,
+                place,
+            };
+            set_rows(&mut self.rows, row, steps);
         }
     }
 
@@ -115,7 +146,7 @@ impl<P: Place> ExtentMap<P> {
         ensures spare { self.old.spare ≤ self.new.spare + 1 }
     {
         if sectors != 0 {
-            let _ = take_out(&mut self.rows, lba, lba + sectors);
+            clear_range::<P, Brand>(&mut self.rows, lba, lba + sectors, Blank::new(1));
         }
     }
 
@@ -138,7 +169,13 @@ impl<P: Place> ExtentMap<P> {
         ensures spare { self.old.spare ≤ self.new.spare + 1 }
     {
         if sectors != 0 {
-            clear_rows(&mut self.rows, lba, lba + sectors, &is_cleared);
+            clear_passing::<P, F, Brand>(
+                &mut self.rows,
+                lba,
+                lba + sectors,
+                &is_cleared,
+                Blank::new(1),
+            );
         }
     }
 
@@ -150,7 +187,27 @@ impl<P: Place> ExtentMap<P> {
         ensures shortest { IfOk result (λ rows. IsShortest P.on rows.items) }
         ensures fits { IfOk result (λ rows. AllFit P.number rows.items) }
     {
-        look(alloc, &self.rows, lba, sectors)
+        look_uncounted::<P, Brand>(alloc, &self.rows, lba, lba + sectors, Blank::new(1))
+    }
+
+    /// Answers as `look` does, under the same condition, and counts its steps: comparisons with a row, or with the first row
+    /// of a page. They are at most as many as the number of rows has binary digits, 16 more, and two for each row that is
+    /// given.
+    pub fn look_counted<L: Ledger>(
+        &self,
+        alloc: Global,
+        lba: u64,
+        sectors: u64,
+        steps: &mut Steps<L>,
+    ) -> Result<Vec<Extent<P>>, AllocError>
+        requires { lba + sectors < 2 ^ 63 }
+        ensures places { IfOk result (λ rows. (k : ℕ) → place_at P.on rows.items k ≡ place_in_range lba sectors (place_at P.on self.now.rows) k) }
+        ensures shortest { IfOk result (λ rows. IsShortest P.on rows.items) }
+        ensures fits { IfOk result (λ rows. AllFit P.number rows.items) }
+        ensures steps { IfOk result (λ rows. (k : ℕ) → length self.now.rows < 2 ^ k → steps.new ≤ steps.old + k + 16 + 2 * length rows.items) }
+        ensures rises { steps.old ≤ steps.new }
+    {
+        look(alloc, &self.rows, lba, lba + sectors, steps)
     }
 
     /// The first of the rows that `look` of this range gives, cut at the edges of the range; none where no sector of
@@ -162,6 +219,136 @@ impl<P: Place> ExtentMap<P> {
         ensures row { IfSome result (StartsRange P.on lba sectors (place_at P.on self.now.rows)) }
         ensures fits { IfSome result (Fits P.number) }
     {
-        first_between(&self.rows, lba, lba + sectors)
+        first_of::<P, Brand>(&self.rows, lba, lba + sectors, Blank::new(1))
     }
+}
+
+// Puts a row in place of what is on its sectors. There is room for two rows.
+fn set_rows<P: Place, L: Ledger>(
+    rows: &mut PageList<Extent<P>>,
+    row: Extent<P>,
+    steps: &mut Steps<L>,
+)
+    requires room { 2 ≤ insert_room rows.old }
+    requires shortest { IsShortest P.on rows.old.items }
+    requires fits { AllFit P.number rows.old.items }
+    requires some { 0 < row.sectors }
+    requires row_fits { Fits P.number row }
+    ensures places { (k : ℕ) → place_at P.on rows.new.items k ≡ place_after_set P.on row.lba row.sectors row.place (place_at P.on rows.old.items) k }
+    ensures shortest { IsShortest P.on rows.new.items }
+    ensures fits { AllFit P.number rows.new.items }
+    ensures length { length rows.new.items ≤ length rows.old.items + 2 }
+    ensures room { insert_room rows.old ≤ insert_room rows.new + 2 }
+    ensures steps { steps.new ≤ steps.old + 511 + met row.lba row.sectors rows.old.items }
+    ensures rises { steps.old ≤ steps.new }
+{
+    let at = take_out(rows, row.lba, row.lba + row.sectors, steps);
+    put(rows, at, row, steps);
+}
+
+// The calls below count their steps in a ledger that nothing reads.
+
+// Puts a row in place of what is on its sectors. There is room for two rows.
+fn set_uncounted<P: Place, L: Ledger>(rows: &mut PageList<Extent<P>>, row: Extent<P>, blank: Blank)
+    requires name { blank.name ≡ L.name }
+    requires parts { blank.parts ≡ L.parts }
+    requires counts { 0 < blank.parts }
+    requires room { 2 ≤ insert_room rows.old }
+    requires shortest { IsShortest P.on rows.old.items }
+    requires fits { AllFit P.number rows.old.items }
+    requires some { 0 < row.sectors }
+    requires row_fits { Fits P.number row }
+    ensures places { (k : ℕ) → place_at P.on rows.new.items k ≡ place_after_set P.on row.lba row.sectors row.place (place_at P.on rows.old.items) k }
+    ensures shortest { IsShortest P.on rows.new.items }
+    ensures fits { AllFit P.number rows.new.items }
+    ensures length { length rows.new.items ≤ length rows.old.items + 2 }
+    ensures room { insert_room rows.old ≤ insert_room rows.new + 2 }
+{
+    let mut steps: Steps<L> = Steps::new(blank);
+    set_rows(rows, row, &mut steps);
+}
+
+// Takes what is between two sectors out. There is room for a row.
+fn clear_range<P: Place, L: Ledger>(
+    rows: &mut PageList<Extent<P>>,
+    lba: u64,
+    end: u64,
+    blank: Blank,
+)
+    requires name { blank.name ≡ L.name }
+    requires parts { blank.parts ≡ L.parts }
+    requires counts { 0 < blank.parts }
+    requires order { lba < end }
+    requires room { 1 ≤ insert_room rows.old }
+    requires shortest { IsShortest P.on rows.old.items }
+    requires fits { AllFit P.number rows.old.items }
+    ensures rows { rows.new.items ≡ rows_before lba rows.old.items ++ rows_from P.on end (rows_from P.on lba rows.old.items) }
+    ensures length { length rows.new.items ≤ length rows.old.items + 1 }
+    ensures room { insert_room rows.old ≤ insert_room rows.new + 1 }
+{
+    let mut steps: Steps<L> = Steps::new(blank);
+    take_out(rows, lba, end, &mut steps);
+}
+
+// Takes what is between two sectors out of the rows whose places pass a test.
+fn clear_passing<P: Place, F: Fn(&P) -> bool, L: Ledger>(
+    rows: &mut PageList<Extent<P>>,
+    lba: u64,
+    end: u64,
+    is_cleared: &F,
+    blank: Blank,
+)
+    ghost test: { P → Bool }
+    requires name { blank.name ≡ L.name }
+    requires parts { blank.parts ≡ L.parts }
+    requires counts { 0 < blank.parts }
+    requires order { lba < end }
+    requires room { 1 ≤ insert_room rows.old }
+    requires shortest { IsShortest P.on rows.old.items }
+    requires fits { AllFit P.number rows.old.items }
+    requires callable { F.IsAlwaysCallable is_cleared.now }
+    requires answers { AnswersBy F.Fn is_cleared.now test }
+    ensures rows { rows.new.items ≡ rows_left P.on lba end test rows.old.items }
+    ensures room { insert_room rows.old ≤ insert_room rows.new + 1 }
+{
+    let mut steps: Steps<L> = Steps::new(blank);
+    clear_rows(rows, lba, end, is_cleared, &mut steps);
+}
+
+// The rows between two sectors, cut at both. The one error is out of memory.
+fn look_uncounted<P: Place, L: Ledger>(
+    alloc: Global,
+    rows: &PageList<Extent<P>>,
+    lba: u64,
+    end: u64,
+    blank: Blank,
+) -> Result<Vec<Extent<P>>, AllocError>
+    requires name { blank.name ≡ L.name }
+    requires parts { blank.parts ≡ L.parts }
+    requires counts { 0 < blank.parts }
+    requires order { lba ≤ end }
+    requires shortest { IsShortest P.on rows.now.items }
+    requires fits { AllFit P.number rows.now.items }
+    ensures { IfOk result (λ found. found.items ≡ rows_before end (rows_from P.on lba rows.now.items)) }
+{
+    let mut steps: Steps<L> = Steps::new(blank);
+    look(alloc, rows, lba, end, &mut steps)
+}
+
+// The first of the rows between two sectors, cut at both.
+fn first_of<P: Place, L: Ledger>(
+    rows: &PageList<Extent<P>>,
+    lba: u64,
+    end: u64,
+    blank: Blank,
+) -> Option<Extent<P>>
+    requires name { blank.name ≡ L.name }
+    requires parts { blank.parts ≡ L.parts }
+    requires counts { 0 < blank.parts }
+    requires shortest { IsShortest P.on rows.now.items }
+    requires fits { AllFit P.number rows.now.items }
+    ensures { result ≡ slice_get (rows_before end (rows_from P.on lba rows.now.items)) 0 }
+{
+    let mut steps: Steps<L> = Steps::new(blank);
+    first_between(rows, lba, end, &mut steps)
 }

@@ -1,4 +1,4 @@
-ghost use Rattle.extent_map.specs.Laws.{HasOneShortestList, HasNoShorterList};
+ghost use Rattle.extent_map.specs.Laws.{HasOneShortestList, HasNoShorterList, MeetsBySectors};
 
 use crate::place::Place;
 
@@ -11,4 +11,10 @@ pub fn a_function_has_one_shortest_list<P: Place>()
 /// fewer than its rows.
 pub fn no_list_in_order_is_shorter<P: Place>()
     ensures { HasNoShorterList P.on }
+{}
+
+/// A law: sectors meet a row, for which a set of them may take one step more, exactly where one of them is a sector of the
+/// row.
+pub fn sectors_meet_the_rows_that_have_one_of_them<P: Place>()
+    ensures { MeetsBySectors P }
 {}

@@ -1,5 +1,5 @@
 -- The rows of a data object fit the maps.
-use Rattle.std.proofs.Common.{◌≡◌, ℕ, ◌+◌, ◌<◌, ◌≤◌, ◌^◌, None, List, drop, ◌∙◌, ap, subst, arith}
+use Rattle.std.proofs.Common.{◌≡◌, ℕ, ◌+◌, ◌<◌, ◌≤◌, ◌^◌, ◌&&◌, nat_le, None, List, length, drop, sym, ◌∙◌, ap, subst, arith}
 use Rattle.std.specs.Prelude.{IsTrue}
 use Rattle.std.specs.Global.{Vec}
 use Rattle.std.proofs.lemmas.Bool.Decides.{nat_tests}
@@ -7,27 +7,45 @@ use Rattle.object_format.specs.declared.data_row.DataRow.{DataRow}
 use Rattle.object_format.specs.declared.header.Header.{Header}
 use Rattle.object_format.specs.declared.expected.Expected.{Expected}
 use Rattle.object_format.specs.declared.rows.Rows.TheVariants.{Data}
+use Rattle.object_format.specs.Layout.{data_front_sectors}
+use Rattle.object_format.specs.Header.{most_rows}
 use Rattle.object_format.specs.Writing.{header_of}
 use Rattle.lsvd_base.specs.Limits.{is_within_limits}
 use Rattle.object_stream.specs.Replay.{HasParts}
-use Rattle.volume_maps.specs.Maps.{RowsFit}
 use Rattle.volume_maps.proofs.FitLemmas.{rows_fit}
 use Rattle.batcher.specs.State.{BatchState}
 use Rattle.batcher.specs.declared.sealing.SealedBatch.{SealedBatch}
 use Rattle.batcher.specs.Sealing as batches
 use Rattle.object_uploads.specs.State.{UploadsState}
+use Rattle.object_uploads.specs.Queue.{front_of, FitObject}
 use Rattle.object_uploads.specs.Changes as objects
 use Rattle.obj_log.specs.State.{ObjLogState}
 use Rattle.obj_log.specs.Changes.{next_of, IsSealed}
 
+-- the front of an object with 65,536 rows at most is short
+front_short : (rows : ℕ) → rows ≤ 65536 → data_front_sectors rows < 2 ^ 31
+front_short rows most = omega arith
+
+-- as the header of an object of the grammar says, it has at most that many
+few_rows : (expected : Expected) (bytes : List ℕ) (head : Header) (rows : Vec DataRow) (payload : List ℕ) → HasParts expected bytes head (Data rows) payload
+    → length rows.items ≤ 65536
+few_rows expected bytes head rows payload parts =
+    let limits = subst (λ k. IsTrue (nat_le head.rows (most_rows expected.sectors k) && nat_le head.payload 131071)) (sym parts.is_object.rows_are.kind) parts.is_object.head.limits in
+    let count : length rows.items ≡ head.rows = parts.is_object.rows_are.count in
+    grind (arith, nat_tests)
+
 -- the rows of an object fit that is the expected one of a volume within the limits
 pub sealed_fit : (log : ObjLogState) (expected : Expected) (bytes : List ℕ) (head : Header) (rows : Vec DataRow) (payload : List ℕ)
-    → expected ≡ next_of log → IsTrue (is_within_limits log.batch.geometry) → HasParts expected bytes head (Data rows) payload → RowsFit rows.items
+    → expected ≡ next_of log → IsTrue (is_within_limits log.batch.geometry) → HasParts expected bytes head (Data rows) payload → FitObject rows.items
 sealed_fit log expected bytes head rows payload next limits parts =
     let same : expected.sectors ≡ log.batch.geometry.sectors = ap (λ (e : Expected). e.sectors) next in
     let low : log.batch.geometry.sectors < 2 ^ 63 = grind (arith, nat_tests) in
     let most : head.payload ≤ 131071 = grind (arith, nat_tests, parts.is_object.head.limits) in
-    rows_fit expected.sectors head.payload 0 None rows.items (omega (arith, same, low)) most parts.is_object.rows_are.spelling
+    let few = few_rows expected bytes head rows payload parts in
+    record {
+      count = few;
+      fit = rows_fit (front_of rows.items) expected.sectors head.payload 0 None rows.items (omega (arith, same, low)) most (front_short (length rows.items) few) parts.is_object.rows_are.spelling;
+    }
 
 -- what was sealed of a batch, entered, and released
 pub is_sealed : (old : ObjLogState) (expected : Expected) (sealed : SealedBatch) (end : ℕ) (batch : BatchState) (uploads : UploadsState)

@@ -43,7 +43,7 @@ jobs_keep_stream data_at stream log number started is = record {
 }
 
 -- what is expected of objects is the same while the uuid and the sizes are
-same_volume : (old new : ObjLogState) → new.uploads.uuid ≡ old.uploads.uuid → new.batch.geometry ≡ old.batch.geometry → expected_of_volume old ≡ expected_of_volume new
+pub same_volume : (old new : ObjLogState) → new.uploads.uuid ≡ old.uploads.uuid → new.batch.geometry ≡ old.batch.geometry → expected_of_volume old ≡ expected_of_volume new
 same_volume old new uuid geometry =
     ap (λ (u : List ℕ). record { uuid = u; number = 0; sectors = old.batch.geometry.sectors; ancestors = 0; end_before = None }) (sym uuid)
     ∙ ap (λ (g : Geometry). record { uuid = new.uploads.uuid; number = 0; sectors = g.sectors; ancestors = 0; end_before = None }) (sym geometry)
@@ -98,7 +98,7 @@ module _ (data_at : ℕ → ℕ) (stream : Stream) (log : ObjLogState) (is : IsO
   unsealed_size : length log.batch.entries ≡ length stream.entries - (last_end - stream.end)
   unsealed_size = ap length is.entries ∙ length-drop (last_end - stream.end) stream.entries
 
-  next_seq : log.batch.first + length log.batch.entries ≡ stream.end + length stream.entries
+  pub next_seq : log.batch.first + length log.batch.entries ≡ stream.end + length stream.entries
   next_seq = omega (arith, order, unsealed_size, is.first, is.objects.valid.within)
 
 pub adding_keeps_stream : AddingKeepsStream

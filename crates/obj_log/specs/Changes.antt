@@ -2,6 +2,7 @@
 use Rattle.std.specs.Prelude.{◌≡◌, ℕ, ◌+◌, ◌≤◌, None, List, [], ◌∷◌, ◌++◌, length, take, drop}
 use Rattle.std.specs.Global.{Vec}
 use Rattle.lsvd_base.specs.declared.entry.Entry.{Entry}
+use Rattle.lsvd_objstore.specs.Store.{ReceiptState}
 use Rattle.object_format.specs.declared.data_row.DataRow.{DataRow}
 use Rattle.object_format.specs.declared.expected.Expected.{Expected}
 use Rattle.object_format.specs.declared.rows.Rows.TheVariants.{Data}
@@ -58,3 +59,12 @@ pub record IsSealed (old new : ObjLogState) : Type 0 where
   pub geometry : new.batch.geometry ≡ old.batch.geometry
   pub first : new.batch.first ≡ old.batch.first + count
   pub entries : new.batch.entries ≡ drop count old.batch.entries
+
+-- ---- adopting
+
+-- the object of the next number, with these rows and this end, was counted as acknowledged, and the batch, without entries, goes on there
+pub record IsAdopted (rows : List DataRow) (end : ℕ) (receipt : ReceiptState) (old new : ObjLogState) : Type 0 where
+  pub geometry : new.batch.geometry ≡ old.batch.geometry
+  pub first : new.batch.first ≡ end
+  pub entries : new.batch.entries ≡ []
+  pub uploads : uploads.IsAdopted rows end receipt old.uploads new.uploads

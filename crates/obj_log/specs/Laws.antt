@@ -1,13 +1,17 @@
 -- Contract: what the calls keep of a stream.
-use Rattle.std.specs.Prelude.{◌≡◌, ℕ, ◌+◌, Bool, None, [], length}
+use Rattle.std.specs.Prelude.{◌≡◌, ℕ, ◌+◌, ◌<◌, Bool, None, List, [], length}
 use Rattle.lsvd_base.specs.declared.entry.Entry.{Entry}
 use Rattle.lsvd_objstore.specs.Store.{ReceiptState}
+use Rattle.object_format.specs.declared.data_row.DataRow.{DataRow}
+use Rattle.object_stream.specs.declared.object.Content.TheVariants.{Data}
 use Rattle.object_stream.specs.Stream.{Stream}
 use Rattle.object_uploads.specs.Order.{IsUploads}
 use Rattle.object_uploads.specs.Changes.{with_job, IsPutDone}
-use Rattle.object_uploads.specs.Laws.{with_entry, with_data_object}
+use Rattle.object_uploads.specs.Queue.{just_sealed}
+use Rattle.object_uploads.specs.Stream.{IsSealedOf}
+use Rattle.object_uploads.specs.Laws.{with_entry, with_data_object, with_adopted}
 use Rattle.obj_log.specs.State.{ObjLogState}
-use Rattle.obj_log.specs.Changes.{IsSame, IsAdded, IsSealed}
+use Rattle.obj_log.specs.Changes.{next_of, IsSame, IsAdded, IsSealed, IsAdopted}
 use Rattle.obj_log.specs.Stream.{IsOfStream}
 
 -- a list that was just made, whose objects up to this number have the entries up to this end, is that of a stream that begins there
@@ -49,3 +53,14 @@ DoneKeepsStream =
     (data_at : ℕ → ℕ) (stream : Stream) (old new : ObjLogState) (number : ℕ) (receipt : ReceiptState)
     → IsUploads old.uploads.queue old.uploads.window → IsOfStream data_at stream old
     → IsPutDone number receipt old.uploads new.uploads → new.batch ≡ old.batch → IsOfStream data_at stream new
+
+-- Where all objects are acknowledged, and no entry is in the batch, it is that of the stream with the next entries in a data object more,
+-- once that was adopted.
+abbrev pub AdoptingKeepsStream : Type 0
+AdoptingKeepsStream =
+    (data_at : ℕ → ℕ) (stream : Stream) (old new : ObjLogState) (entries : List Entry) (bytes : List ℕ) (rows : List DataRow) (end : ℕ) (receipt : ReceiptState)
+    → IsUploads old.uploads.queue old.uploads.window → IsOfStream data_at stream old → old.uploads.queue.sealed ≡ [] → old.batch.entries ≡ []
+    → end ≡ old.batch.first + length entries → 0 < length entries
+    → IsSealedOf (next_of old) entries (record { content = Data; end = end }) (just_sealed bytes rows end)
+    → IsAdopted rows end receipt old new
+    → IsOfStream data_at (with_adopted entries end stream) new

@@ -1,7 +1,9 @@
-ghost use Rattle.obj_log.specs.Laws.{NewListBeginsStream, RoomKeepsStream, AddingKeepsStream, SealingKeepsStream, JobsKeepStream, DoneKeepsStream};
+ghost use Rattle.obj_log.specs.Laws.{NewListBeginsStream, RoomKeepsStream, AddingKeepsStream, SealingKeepsStream, JobsKeepStream, DoneKeepsStream, AdoptingKeepsStream};
+ghost use Rattle.obj_log.specs.ImageLaws.{NewListHasBlank, RoomKeepsImage, AddingKeepsImage, SealingKeepsImage, JobsKeepImage, DoneMakesImage, AdoptingMakesImage};
 
 /// A law: a list that was just made is that of a stream without entries and objects. It stays that of a stream while nothing changes but
-/// room, while entries are added, the first of them are sealed, and puts begin, fail and are done, in any order.
+/// room, while entries are added, the first of them are sealed, and puts begin, fail and are done, in any order, and while objects of the
+/// next entries are adopted.
 pub fn the_list_stays_a_stream()
     ensures begins { NewListBeginsStream }
     ensures same { RoomKeepsStream }
@@ -9,4 +11,18 @@ pub fn the_list_stays_a_stream()
     ensures sealed { SealingKeepsStream }
     ensures jobs { JobsKeepStream }
     ensures done { DoneKeepsStream }
+    ensures adopted { AdoptingKeepsStream }
+{}
+
+/// A law: the objects of a list that was just made have the image of zeros. They keep it while nothing changes but room, while entries are
+/// added and sealed, and while puts begin and fail. By a put that is done, and by an object that is adopted, it becomes the image after the
+/// entries of the objects that are settled then, where receipts tell the objects' bytes.
+pub fn the_objects_have_an_image()
+    ensures begins { NewListHasBlank }
+    ensures same { RoomKeepsImage }
+    ensures added { AddingKeepsImage }
+    ensures sealed { SealingKeepsImage }
+    ensures jobs { JobsKeepImage }
+    ensures done { DoneMakesImage }
+    ensures adopted { AdoptingMakesImage }
 {}

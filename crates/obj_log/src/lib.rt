@@ -12,5 +12,5 @@ mod obj_log;
 mod tests;
 
 pub use error::SealError;
-pub use laws::the_list_stays_a_stream;
+pub use laws::{the_list_stays_a_stream, the_objects_have_an_image};
 pub use obj_log::ObjLog;

@@ -9,19 +9,19 @@ ghost use Rattle.upload_window.specs.Window.{lowest_ready, IsFrontier};
 ghost use Rattle.volume_maps.specs.Places.{volume_on, volume_number};
 ghost use Rattle.volume_maps.specs.Maps.{volume_place_at};
 ghost use Rattle.batcher.specs.Batch.{data_sectors};
-ghost use Rattle.object_uploads.specs.Queue.{receipt_of};
+ghost use Rattle.object_uploads.specs.Queue.{FitObject, receipt_of};
 ghost use Rattle.object_uploads.specs.Order.{IsUploads};
 ghost use Rattle.object_uploads.specs.Changes.{with_job, IsJobOf, IsOut, IsPutDone};
 ghost use Rattle.obj_log.specs.declared.error.SealError.TheVariants as errors;
 ghost use Rattle.obj_log.specs.State.{ObjLogState};
-ghost use Rattle.obj_log.specs.Changes.{HasRoomToAdd, IsSame, IsAdded, IsSealed, next_of};
+ghost use Rattle.obj_log.specs.Changes.{HasRoomToAdd, IsSame, IsAdded, IsSealed, IsAdopted, next_of};
 
 use crate::error::SealError;
 use batcher::Batch;
 use extent_map::Extent;
 use lsvd_base::{Entry, Geometry};
 use lsvd_objstore::Receipt;
-use object_format::Expected;
+use object_format::{DataRow, Expected};
 use object_uploads::{Job, Uploads};
 use std::alloc::{AllocError, Global};
 use std::marker::Model;
@@ -118,6 +118,31 @@ impl<R: Receipt> ObjLog<R> {
         let number = self.uploads.seal(sealed.object, spare, sealed.rows, end)?;
         self.batch.release(sealed.rest);
         Ok(number)
+    }
+
+    /// Counts the next number's object, which is in the store, as acknowledged, and settles it: these are its rows, the count of entries
+    /// up to its end, and the receipt that the store gave for it. The batch goes on at that end. No object is past the frontier, the
+    /// batch has no entry, the numbers go on below 2^64 - 1, the end is not before that of the frontier, and the rows are 65,536 at most,
+    /// end below 2^63, and their places in the object below 2^32 (conditions). The one error is out of memory; then nothing changes but
+    /// room.
+    pub fn adopt(
+        &mut self,
+        alloc: Global,
+        rows: &[DataRow],
+        end: u64,
+        receipt: R,
+    ) -> Result<(), AllocError>
+        requires none { self.old.uploads.queue.sealed ≡ [] }
+        requires empty { self.old.batch.entries ≡ [] }
+        requires numbers { self.old.uploads.window.last + 1 < 2 ^ 64 - 1 }
+        requires order { self.old.uploads.queue.end ≤ end }
+        requires fit { FitObject rows.now }
+        ensures adopted { OnOk result (IsAdopted rows.now end (R.state receipt) self.old self.new) }
+        ensures same { OnErr result (IsSame self.old self.new) }
+    {
+        self.uploads.adopt(rows, end, receipt)?;
+        self.batch = Batch::new(alloc, self.batch.geometry(), end);
+        Ok(())
     }
 
     /// Begins the put of the lowest ready object. None is where no object is ready; then nothing changes. It takes no memory.

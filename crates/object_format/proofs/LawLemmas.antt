@@ -9,7 +9,7 @@ use Rattle.object_format.specs.declared.expected.Expected.{Expected}
 use Rattle.object_format.specs.declared.rows.Rows.{Rows}
 use Rattle.object_format.specs.declared.rows.Rows.TheVariants.{Data, Copy, Checkpoint}
 use Rattle.object_format.specs.Layout.{rows_length, rows_end, padding, length_of}
-use Rattle.object_format.specs.Header.{header_bytes, header_in}
+use Rattle.object_format.specs.Header.{header_bytes, header_in, IsHeader}
 use Rattle.object_format.specs.Rows.{data_row_bytes, copy_row_bytes, rows_bytes, kind_of, count_of}
 use Rattle.object_format.specs.Object.{IsObject}
 use Rattle.object_format.specs.Writing.{header_of, front_bytes}
@@ -18,7 +18,7 @@ use Rattle.std.specs.Prelude.{Some}
 use Rattle.object_format.proofs.HeaderLemmas.{length-header_bytes}
 use Rattle.object_format.proofs.TestLemmas.{header_in-IsHeader}
 use Rattle.object_format.proofs.RowLemmas.{length-data_row_bytes, length-copy_row_bytes}
-use Rattle.object_format.proofs.ObjectLemmas.{same_header, data_of_object, copies_of_object}
+use Rattle.object_format.proofs.ObjectLemmas.{data_of_object, copies_of_object}
 
 -- ---- lengths
 
@@ -105,27 +105,34 @@ writes_objects expected first_seq end_seq rows payload widths may size =
 
 -- ---- an object has one reading
 
-same_rows : (bytes : List ℕ) (size : ℕ) (expected : Expected) (header : Header) (rows others : Rows) → expected.sectors < 2 ^ 64
-    → IsObject bytes size expected header rows → IsObject bytes size expected header others → AreSameRows rows others
-same_rows bytes size expected header (Data rows) (Data others) wide is other =
+same_rows : (bytes : List ℕ) (size : ℕ) (expected another : Expected) (header : Header) (rows others : Rows) → expected.sectors < 2 ^ 64 → another.sectors < 2 ^ 64
+    → IsObject bytes size expected header rows → IsObject bytes size another header others → AreSameRows rows others
+same_rows bytes size expected another header (Data rows) (Data others) wide wide_too is other =
     sym (data_of_object bytes size expected header rows.items wide is.head is.rows_are.count is.rows_are.spelling is.row_bytes)
-    ∙ data_of_object bytes size expected header others.items wide other.head other.rows_are.count other.rows_are.spelling other.row_bytes
-same_rows bytes size expected header (Copy rows) (Copy others) wide is other =
+    ∙ data_of_object bytes size another header others.items wide_too other.head other.rows_are.count other.rows_are.spelling other.row_bytes
+same_rows bytes size expected another header (Copy rows) (Copy others) wide wide_too is other =
     sym (copies_of_object bytes size expected header rows.items wide is.head is.rows_are.count is.rows_are.spelling is.row_bytes)
-    ∙ copies_of_object bytes size expected header others.items wide other.head other.rows_are.count other.rows_are.spelling other.row_bytes
-same_rows bytes size expected header Checkpoint Checkpoint wide is other = tt
-same_rows bytes size expected header (Data rows) (Copy others) wide is other = let e = is.rows_are.kind ∙ sym other.rows_are.kind in cc
-same_rows bytes size expected header (Data rows) Checkpoint wide is other = let e = is.rows_are.kind ∙ sym other.rows_are.kind in cc
-same_rows bytes size expected header (Copy rows) (Data others) wide is other = let e = is.rows_are.kind ∙ sym other.rows_are.kind in cc
-same_rows bytes size expected header (Copy rows) Checkpoint wide is other = let e = is.rows_are.kind ∙ sym other.rows_are.kind in cc
-same_rows bytes size expected header Checkpoint (Data others) wide is other = let e = is.rows_are.kind ∙ sym other.rows_are.kind in cc
-same_rows bytes size expected header Checkpoint (Copy others) wide is other = let e = is.rows_are.kind ∙ sym other.rows_are.kind in cc
+    ∙ copies_of_object bytes size another header others.items wide_too other.head other.rows_are.count other.rows_are.spelling other.row_bytes
+same_rows bytes size expected another header Checkpoint Checkpoint wide wide_too is other = tt
+same_rows bytes size expected another header (Data rows) (Copy others) wide wide_too is other = let e = is.rows_are.kind ∙ sym other.rows_are.kind in cc
+same_rows bytes size expected another header (Data rows) Checkpoint wide wide_too is other = let e = is.rows_are.kind ∙ sym other.rows_are.kind in cc
+same_rows bytes size expected another header (Copy rows) (Data others) wide wide_too is other = let e = is.rows_are.kind ∙ sym other.rows_are.kind in cc
+same_rows bytes size expected another header (Copy rows) Checkpoint wide wide_too is other = let e = is.rows_are.kind ∙ sym other.rows_are.kind in cc
+same_rows bytes size expected another header Checkpoint (Data others) wide wide_too is other = let e = is.rows_are.kind ∙ sym other.rows_are.kind in cc
+same_rows bytes size expected another header Checkpoint (Copy others) wide wide_too is other = let e = is.rows_are.kind ∙ sym other.rows_are.kind in cc
+
+-- the header too
+header_of_both : (bytes : List ℕ) (size : ℕ) (expected another : Expected) (a b : Header) → IsHeader bytes size expected a → IsHeader bytes size another b → a ≡ b
+header_of_both bytes size expected another a b is_a is_b =
+    let e : header_in (take 64 bytes) ≡ Some a = header_in-IsHeader bytes size expected a is_a in
+    let f : header_in (take 64 bytes) ≡ Some b = header_in-IsHeader bytes size another b is_b in
+    cc
 
 pub has_one_reading : HasOneReading
-has_one_reading bytes size expected a b rows others wide is_a is_b =
-    let same = same_header bytes size expected a b is_a.head is_b.head in
-    let P : Header → Type 0 = λ h. IsObject bytes size expected h others in
-    (same, same_rows bytes size expected a rows others wide is_a (subst P (sym same) is_b))
+has_one_reading bytes size expected another a b rows others wide wide_too is_a is_b =
+    let same = header_of_both bytes size expected another a b is_a.head is_b.head in
+    let P : Header → Type 0 = λ h. IsObject bytes size another h others in
+    (same, same_rows bytes size expected another a rows others wide wide_too is_a (subst P (sym same) is_b))
 
 -- ---- no object begins another
 

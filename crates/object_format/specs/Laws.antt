@@ -29,11 +29,11 @@ AreSameRows (Copy rows) (Copy others) = rows.items ≡ others.items
 AreSameRows Checkpoint Checkpoint = Unit {0}
 AreSameRows _ _ = ⊥
 
--- bytes are an object with one header and with one list of rows
+-- bytes are an object with one header and with one list of rows, whatever is expected of them
 abbrev pub HasOneReading : Type 0
 HasOneReading =
-    (bytes : List ℕ) (size : ℕ) (expected : Expected) (a b : Header) (rows others : Rows) → expected.sectors < 2 ^ 64
-    → IsObject bytes size expected a rows → IsObject bytes size expected b others
+    (bytes : List ℕ) (size : ℕ) (expected another : Expected) (a b : Header) (rows others : Rows) → expected.sectors < 2 ^ 64 → another.sectors < 2 ^ 64
+    → IsObject bytes size expected a rows → IsObject bytes size another b others
     → (a ≡ b) × AreSameRows rows others
 
 -- no object begins another: where further bytes after those of one make another, there are none

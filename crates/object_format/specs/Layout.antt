@@ -27,9 +27,16 @@ rows_length Checkpoint rows = 36 * rows
 abbrev pub rows_end : Header → ℕ
 rows_end header = 64 + rows_length header.kind header.rows
 
--- the sectors of the header, the rows and the zeros after them
+-- the sectors of the header, this many rows and the zeros after them
+abbrev pub front_with : Kind → ℕ → ℕ
+front_with kind rows = (64 + rows_length kind rows + 511) / 512
+
 abbrev pub front_sectors : Header → ℕ
-front_sectors header = (rows_end header + 511) / 512
+front_sectors header = front_with header.kind header.rows
+
+-- those of a data object with this many rows
+abbrev pub data_front_sectors : ℕ → ℕ
+data_front_sectors rows = front_with Data rows
 
 -- the zeros after the rows
 abbrev pub padding : Header → ℕ

@@ -37,7 +37,7 @@ impl Header {
     pub fn front_sectors(&self) -> u64
         ensures { result ≡ front_sectors self.now }
     {
-        (self.rows_end() + (SECTOR_BYTES - 1)) / SECTOR_BYTES
+        self.kind.front_sectors(self.rows)
     }
 
     /// Whether an object with this header has this many bytes.

@@ -1,5 +1,8 @@
 ghost use Rattle.std.specs.Prelude.{◌≡◌, ◌*◌, ◌≤◌};
-ghost use Rattle.object_format.specs.Layout.{number_of, kind_from, rows_length};
+ghost use Rattle.object_format.specs.Layout.{number_of, kind_from, rows_length, front_with};
+
+use crate::HEADER_BYTES;
+use lsvd_base::SECTOR_BYTES;
 
 /// What an object holds.
 #[derive(Clone, Copy, Debug, PartialEq, Eq)]
@@ -47,5 +50,12 @@ impl Kind {
             Kind::Copy => 44 * rows,
             Kind::Checkpoint => 36 * rows,
         }
+    }
+
+    /// The sectors of the header, this many rows and the zeros after them.
+    pub(crate) fn front_sectors(self, rows: u32) -> u64
+        ensures { result ≡ front_with self rows }
+    {
+        (HEADER_BYTES as u64 + self.rows_bytes(rows) + (SECTOR_BYTES - 1)) / SECTOR_BYTES
     }
 }

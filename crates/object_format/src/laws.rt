@@ -5,7 +5,7 @@ pub fn what_is_written_is_an_object()
     ensures { WritesObjects }
 {}
 
-/// A law: bytes are an object with one header and with one list of rows.
+/// A law: bytes are an object with one header and with one list of rows, whatever is expected of them.
 pub fn an_object_has_one_reading()
     ensures { HasOneReading }
 {}

@@ -21,7 +21,7 @@ mod tests;
 mod writing;
 
 pub use copy_row::{CopyRow, Source};
-pub use data_row::DataRow;
+pub use data_row::{DataRow, data_front_sectors};
 pub use expected::Expected;
 pub use header::Header;
 pub use kind::Kind;

@@ -4,3 +4,4 @@ pub mod LandedLemmas
 pub mod ReplayLemmas
 pub mod ValueLemmas
 pub mod PlainLemmas
+pub mod OneLemmas

@@ -79,7 +79,7 @@ replay_as_stream objects uuid_at volume number end last_end entries before after
     let same_bytes : is.bytes ≡ bytes = cc in
     let P : List ℕ → Type 0 = λ b. HasParts expected b is.header is.rows_of is.payload in
     let same_parts : HasParts expected bytes is.header is.rows_of is.payload = subst P same_bytes is.parts in
-    let one = has_one_reading bytes (length bytes) expected is.header header is.rows_of list_rows wide same_parts.is_object parts.is_object in
+    let one = has_one_reading bytes (length bytes) expected expected is.header header is.rows_of list_rows wide wide same_parts.is_object parts.is_object in
     let same_payload : is.payload ≡ payload =
     same_parts.payload_is ∙ ap (λ h. drop (512 * front_sectors h) bytes) one.0 ∙ sym parts.payload_is in
     let Q : List ℕ → Type 0 = λ p. HasContent objects uuid_at object.content part is.rows_of p in

@@ -1,5 +1,5 @@
 -- The image that owners stand for, object by object.
-use Rattle.std.proofs.Common.{◌≡◌, ℕ, suc, ◌+◌, ◌-◌, ◌<◌, ◌≤◌, inl, inr, Bool, true, false, cond, Option, Some, None, List, [], ◌∷◌, ◌++◌, length, take, drop, refl, sym, ◌∙◌, ap, subst, arith}
+use Rattle.std.proofs.Common.{◌≡◌, ℕ, suc, ◌+◌, ◌-◌, ◌^◌, ◌<◌, ◌≤◌, inl, inr, Bool, true, false, cond, Option, Some, None, List, [], ◌∷◌, ◌++◌, length, take, drop, refl, sym, ◌∙◌, ap, subst, arith}
 use Rattle.std.proofs.lemmas.Bool.Decides.{nat_tests}
 use Rattle.std.proofs.lemmas.Option.{slice_get_past}
 use Rattle.std.proofs.lemmas.Bool.{cases_lt}
@@ -54,7 +54,7 @@ there image k sector at =
       | inr past ↦ let none : slice_get image k ≡ None = slice_get_past image k past in absurd cc
     ]
 
-module _ (objects : Objects) (uuid_at : ℕ → Option (List ℕ)) (volume : Expected) (own : uuid_at 0 ≡ Some volume.uuid) where
+module _ (objects : Objects) (uuid_at : ℕ → Option (List ℕ)) (volume : Expected) (own : uuid_at 0 ≡ Some volume.uuid) (wide : volume.sectors < 2 ^ 64) where
   -- ---- what an object has that is in the store
 
   module _ (number end : ℕ) (object : StreamObject) (part : List Entry) (is : IsStored objects uuid_at (expected_at volume number end) object part) where
@@ -62,6 +62,7 @@ module _ (objects : Objects) (uuid_at : ℕ → Option (List ℕ)) (volume : Exp
         → HasSector objects uuid_at (record { level = 0; number = number }) k sector
     has_sector k sector has = record {
       expected = expected_at volume number end;
+      wide = wide;
       level = own;
       number = refl;
       bytes = is.bytes;
@@ -174,5 +175,5 @@ module _ (objects : Objects) (uuid_at : ℕ → Option (List ℕ)) (volume : Exp
       rw image_is all
 
 pub value_is_image_after : ValueIsImageAfter
-value_is_image_after objects uuid_at volume number end entries before image list own ends follow stored value =
-    value_after objects uuid_at volume own number end entries before image list ends follow stored value
+value_is_image_after objects uuid_at volume number end entries before image list own wide ends follow stored value =
+    value_after objects uuid_at volume own wide number end entries before image list ends follow stored value

@@ -86,12 +86,27 @@ StoredObjectsAreReplayed =
     → ((k : ℕ) → after_them k ≡ after_objects number end entries before list k)
     → Replays objects volume number end before (length list) (end_after end list) after_them
 
+-- one replay of objects gives what any other of them gives, from owners that are the same
+abbrev pub ReplaysAsOne : Type 0
+ReplaysAsOne =
+    (objects : Objects) (volume : Expected) (number end : ℕ) (before earlier : Owners) (count last_end : ℕ) (after_them : Owners) (other_end : ℕ) (others : Owners)
+    → volume.sectors < 2 ^ 64 → ((k : ℕ) → before k ≡ earlier k)
+    → Replays objects volume number end before count last_end after_them → Replays objects volume number end earlier count other_end others
+    → (last_end ≡ other_end) × ((k : ℕ) → after_them k ≡ others k)
+
+-- images of one length that are the value of the same owners are one
+abbrev pub HasOneValue : Type 0
+HasOneValue =
+    (objects : Objects) (uuid_at : ℕ → Option (List ℕ)) (owners others : Owners) (image other : Image)
+    → ((k : ℕ) → owners k ≡ others k) → length image ≡ length other
+    → IsValue objects uuid_at owners image → IsValue objects uuid_at others other → image ≡ other
+
 -- Where the value of the owners before some objects is an image, that of the owners after them is the image after the entries that
 -- they have: the objects up to any of them hold just the writes up to its end.
 abbrev pub ValueIsImageAfter : Type 0
 ValueIsImageAfter =
     (objects : Objects) (uuid_at : ℕ → Option (List ℕ)) (volume : Expected) (number end : ℕ) (entries : List Entry) (before : Owners) (image : Image) (list : List StreamObject)
-    → uuid_at 0 ≡ Some volume.uuid → All (EndsBy (length image)) entries → EndsFollow end list
+    → uuid_at 0 ≡ Some volume.uuid → volume.sectors < 2 ^ 64 → All (EndsBy (length image)) entries → EndsFollow end list
     → AreStored objects uuid_at volume number end entries list
     → IsValue objects uuid_at before image
     → IsValue objects uuid_at (after_objects number end entries before list) (after image (take (end_after end list - end) entries))

@@ -1,5 +1,5 @@
 -- Contract: what the sectors of a volume are, by their owners and the objects of a store.
-use Rattle.std.specs.Prelude.{◌≡◌, ℕ, ◌+◌, ◌-◌, Option, Some, None, List, [], ◌∷◌, if◌then◌else◌}
+use Rattle.std.specs.Prelude.{◌≡◌, ℕ, ◌+◌, ◌-◌, ◌^◌, ◌<◌, Option, Some, None, List, [], ◌∷◌, if◌then◌else◌}
 use Rattle.std.specs.List.{slice_get}
 use Rattle.lsvd_base.specs.Image.{Image, zero_sector}
 use Rattle.lsvd_objstore.specs.Objects.{Objects, found}
@@ -40,6 +40,7 @@ sector_in Checkpoint payload k = None
 -- itself, and then those of its ancestors.
 pub record HasSector (objects : Objects) (uuid_at : ℕ → Option (List ℕ)) (owner : Owner) (k : ℕ) (sector : List ℕ) : Type 0 where
   pub expected : Expected
+  pub wide : expected.sectors < 2 ^ 64
   pub level : uuid_at owner.level ≡ Some expected.uuid
   pub number : owner.number ≡ expected.number
   pub bytes : List ℕ

@@ -1,4 +1,4 @@
-ghost use Rattle.object_stream.specs.Laws.{ChangesInParts, ChangesMakeImage, KeepsOwnersFromObject, OwnsByNumber, HasOneFirstMissing, StoredObjectsReplay, StoredObjectsAreReplayed, ValueIsImageAfter};
+ghost use Rattle.object_stream.specs.Laws.{ChangesInParts, ChangesMakeImage, KeepsOwnersFromObject, OwnsByNumber, HasOneFirstMissing, StoredObjectsReplay, StoredObjectsAreReplayed, ReplaysAsOne, HasOneValue, ValueIsImageAfter};
 
 /// A law: entries change a sector as the later part of them does or, where that does not, as the earlier part.
 pub fn entries_change_in_parts()
@@ -29,6 +29,12 @@ pub fn there_is_one_first_missing()
 pub fn stored_objects_replay_as_the_stream()
     ensures replay { StoredObjectsReplay }
     ensures exists { StoredObjectsAreReplayed }
+{}
+
+/// A law: what objects of a store replay to, and what owners stand for, is one.
+pub fn objects_have_one_replay_and_one_value()
+    ensures replay { ReplaysAsOne }
+    ensures value { HasOneValue }
 {}
 
 /// A law: the owners after some objects of a store stand for the image after the entries that are in these objects.

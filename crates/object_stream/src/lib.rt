@@ -22,9 +22,9 @@ pub use change::Change;
 pub use changes::{change_at, change_in};
 pub use landed::first_missing;
 pub use laws::{
-    changes_make_the_image, entries_change_in_parts, owners_are_opening_or_later,
-    owners_are_the_same_from_a_later_object, owners_stand_for_the_history,
-    stored_objects_replay_as_the_stream, there_is_one_first_missing,
+    changes_make_the_image, entries_change_in_parts, objects_have_one_replay_and_one_value,
+    owners_are_opening_or_later, owners_are_the_same_from_a_later_object,
+    owners_stand_for_the_history, stored_objects_replay_as_the_stream, there_is_one_first_missing,
 };
 pub use object::{Content, CopiedSector, StreamObject};
 pub use owner::Owner;

@@ -75,7 +75,7 @@ module _ (more : List Entry) where
       )
 
   -- and the same owners
-  owners_more : (number end : ℕ) (entries : List Entry) (before : Owners) (list : List StreamObject) → EndsFollow end list → end_after end list ≤ end + length entries
+  pub owners_more : (number end : ℕ) (entries : List Entry) (before : Owners) (list : List StreamObject) → EndsFollow end list → end_after end list ≤ end + length entries
       → after_objects number end (entries ++ more) before list ≡ after_objects number end entries before list
   owners_more number end entries before [] follow within = refl
   owners_more number end entries before (object ∷ list) follow within =
@@ -176,7 +176,7 @@ object_more volume number end entries (next ∷ list) (first ∷ sealed) object 
     rw dropped (subst (λ n. IsSealedOf (expected_at volume n e) (take (object.end - e) (drop (e - end) entries)) object last) counted is) in
     (are.0, object_more volume (number + 1) next.end (drop (next.end - end) entries) list sealed object last are.1 follow.1 is_next)
 
-follow_more : (end : ℕ) (list : List StreamObject) (object : StreamObject) → EndsFollow end list → GoesTo object.content (end_after end list) object.end
+pub follow_more : (end : ℕ) (list : List StreamObject) (object : StreamObject) → EndsFollow end list → GoesTo object.content (end_after end list) object.end
     → EndsFollow end (list ++ object ∷ [])
 follow_more end [] object follow goes = (goes, tt)
 follow_more end (next ∷ list) object follow goes = (follow.0, follow_more next.end list object follow.1 goes)

@@ -25,7 +25,7 @@ use Rattle.volume_maps.specs.Maps.{settled_by, logged_by, settled_at, logged_at}
 use Rattle.volume_maps.specs.Laws.{owner_of}
 use Rattle.volume_maps.proofs.SettleLemmas.{settles_as_replay, log_keeps_later}
 use Rattle.object_uploads.specs.State.{SealedState, UploadsState}
-use Rattle.object_uploads.specs.Queue.{with_at, with_spare, with_receipt, settled_by_all, logged_by_all, end_of_last}
+use Rattle.object_uploads.specs.Queue.{with_at, with_spare, with_receipt, front_of, settled_by_all, logged_by_all, end_of_last}
 use Rattle.upload_window.specs.Window.{WindowState}
 use Rattle.object_uploads.specs.Order.{IsUploads}
 use Rattle.object_uploads.specs.Changes.{index_of, IsPutDone}
@@ -83,7 +83,7 @@ jobs_keep_stream volume data_at stream uploads number started are = record {
 -- ---- objects that are settled
 
 -- the rows of a sealed object may stand, as its grammar says
-rows_stand : (sectors : ℕ) (header : Header) (rows_of : Rows) (items : List DataRow) → AreRows rows_of items → IsTrue (may_stand sectors header rows_of)
+pub rows_stand : (sectors : ℕ) (header : Header) (rows_of : Rows) (items : List DataRow) → AreRows rows_of items → IsTrue (may_stand sectors header rows_of)
     → IsTrue (data_rows_may_stand sectors header.payload None 0 items)
 rows_stand sectors header (rows.Data list) items are stand = subst (λ rs. IsTrue (data_rows_may_stand sectors header.payload None 0 rs)) are stand
 rows_stand sectors header (rows.Copy list) items are stand = absurd are
@@ -95,12 +95,12 @@ data_after : (number : ℕ) (content : Content) (entries : List Entry) (before :
 data_after number content entries before k is = rw is refl
 
 module _ (volume : Expected) (data_at : ℕ → ℕ) (k : ℕ) where
-  settle_one : (number end : ℕ) (entries : List Entry) (object : StreamObject) (sealed : SealedState) (before : Option ObjectPlace) (owned : Owners)
+  pub settle_one : (number end : ℕ) (entries : List Entry) (object : StreamObject) (sealed : SealedState) (before : Option ObjectPlace) (owned : Owners)
       → IsSealedOf (expected_at volume number end) entries object sealed → owner_of before ≡ owned k
-      → owner_of (settled_by number sealed.rows before k) ≡ after_object number object.content entries owned k
+      → owner_of (settled_by number (front_of sealed.rows) sealed.rows before k) ≡ after_object number object.content entries owned k
   settle_one number end entries object sealed before owned is same =
       let stand = rows_stand volume.sectors is.header is.rows_of sealed.rows is.rows_are is.parts.is_object.rows_are.spelling in
-      settles_as_replay volume.sectors is.header.payload number k sealed.rows is.payload before stand
+      settles_as_replay volume.sectors is.header.payload number (front_of sealed.rows) k sealed.rows is.payload before stand
       ∙ (ap (λ change. owner_by_change number change (owner_of before)) (is.changes k)
       ∙ (ap (owner_by_change number (change_at entries k)) same ∙ data_after number object.content entries owned k is.content))
 
@@ -113,7 +113,7 @@ module _ (volume : Expected) (data_at : ℕ → ℕ) (k : ℕ) where
   settle_all (suc count) number end entries (object ∷ list) [] before owned are same = absurd are
   settle_all (suc count) number end entries (object ∷ list) (first ∷ sealed) before owned are same =
       let part = take (object.end - end) entries in
-      settle_all count (number + 1) object.end (drop (object.end - end) entries) list sealed (settled_by (number + 1) first.rows before k)
+      settle_all count (number + 1) object.end (drop (object.end - end) entries) list sealed (settled_by (number + 1) (front_of first.rows) first.rows before k)
       (after_object (number + 1) object.content part owned) are.1
       (settle_one (number + 1) end part object first before owned are.0 same)
 
@@ -132,7 +132,7 @@ module _ (volume : Expected) (data_at : ℕ → ℕ) (k : ℕ) where
       ∙ (kept ∙ ap (λ e. left_at data_at e rest k) size))
 
 -- what is left past the objects that are settled
-record IsLeftOf (volume : Expected) (data_at : ℕ → ℕ) (count number end : ℕ) (entries : List Entry) (list : List StreamObject) (sealed : List SealedState) : Type 0 where
+pub record IsLeftOf (volume : Expected) (data_at : ℕ → ℕ) (count number end : ℕ) (entries : List Entry) (list : List StreamObject) (sealed : List SealedState) : Type 0 where
   pub end_is : end_of_last end (take count sealed) ≡ end_after end (take count list)
   pub order : end ≤ end_after end (take count list)
   pub rest : AreSealedOf volume (number + count) (end_after end (take count list)) (drop (end_after end (take count list) - end) entries) (drop count list) (drop count sealed)
@@ -251,12 +251,12 @@ module _ (volume : Expected) (data_at : ℕ → ℕ) (stream : Stream) (old new 
   most : from ≤ last_number stream
   most = omega (arith, uploads.last, are.last)
 
-  acknowledged_list : AreSealedOf volume from part.end part.entries part.objects list
+  pub acknowledged_list : AreSealedOf volume from part.end part.entries part.objects list
   acknowledged_list =
       changed_at volume (index_of old number) (with_receipt receipt) (λ s. record { bytes = refl; rows_are = refl; end = refl })
       from part.end part.entries part.objects old.queue.sealed (subst (λ e. AreSealedOf volume from e part.entries part.objects old.queue.sealed) are.end are.sealed)
 
-  counted : done.count ≤ length part.objects
+  pub counted : done.count ≤ length part.objects
   counted = let size = same_count volume from part.end part.entries part.objects list acknowledged_list in omega (arith, size, done.settled.within)
 
   within : from + done.count ≤ last_number stream
@@ -264,7 +264,7 @@ module _ (volume : Expected) (data_at : ℕ → ℕ) (stream : Stream) (old new 
       let size : length part.objects ≡ length stream.objects - (from - stream.number) = length-drop (from - stream.number) stream.objects in
       omega (arith, counted, size, most, are.from)
 
-  left : IsLeftOf volume data_at done.count from part.end part.entries part.objects list
+  pub left : IsLeftOf volume data_at done.count from part.end part.entries part.objects list
   left =
       left_of volume data_at done.count from part.end part.entries part.objects list acknowledged_list
       (tail_follow stream from are.valid are.from most) (tail_within stream from are.valid are.from most) counted

@@ -3,3 +3,5 @@ pub mod OpenLemmas
 pub mod RecoveryLemmas
 pub mod KeepLemmas
 pub mod GrowLemmas
+pub mod ImageLemmas
+pub mod AdoptLemmas

@@ -10,7 +10,7 @@ use Rattle.volume_maps.specs.declared.place.ObjectPlace.{ObjectPlace}
 use Rattle.volume_maps.specs.declared.place.LogPlace.{LogPlace}
 use Rattle.volume_maps.specs.Maps.{settled_at, logged_at, settled_by, logged_by}
 use Rattle.object_uploads.specs.State.{SealedState, QueueState}
-use Rattle.object_uploads.specs.Queue.{with_at, HasBytesAt, row_count, settled_by_all, logged_by_all, end_of_last, receipts_of, IsSettledBy}
+use Rattle.object_uploads.specs.Queue.{with_at, HasBytesAt, front_of, row_count, settled_by_all, logged_by_all, end_of_last, receipts_of, IsSettledBy}
 
 -- ---- settling
 
@@ -18,7 +18,7 @@ use Rattle.object_uploads.specs.Queue.{with_at, HasBytesAt, row_count, settled_b
 pub settles_one : (old new : QueueState) (first : SealedState) (rest : List SealedState) (receipt : ReceiptState)
     → old.sealed ≡ first ∷ rest → first.receipt ≡ Some receipt
     → new.frontier ≡ old.frontier + 1 → new.end ≡ first.end → new.sealed ≡ rest → new.receipts ≡ old.receipts ++ receipt ∷ []
-    → ((k : ℕ) → settled_at new.maps k ≡ settled_by (old.frontier + 1) first.rows (settled_at old.maps k) k)
+    → ((k : ℕ) → settled_at new.maps k ≡ settled_by (old.frontier + 1) (front_of first.rows) first.rows (settled_at old.maps k) k)
     → ((k : ℕ) → logged_at new.maps k ≡ logged_by first.end first.rows (logged_at old.maps k) k)
     → IsSettledBy 1 old new
 settles_one old new first rest receipt sealed given frontier end left receipts settled logged =
@@ -41,7 +41,7 @@ pub all_in_parts : (number : ℕ) (a b : List SealedState) (before : Option Obje
 all_in_parts number [] b before k = let same : number + 0 ≡ number = omega arith in rw same refl
 all_in_parts number (sealed ∷ a) b before k =
     let same : number + suc (length a) ≡ number + 1 + length a = omega arith in
-    rw same (all_in_parts (number + 1) a b (settled_by (number + 1) sealed.rows before k) k)
+    rw same (all_in_parts (number + 1) a b (settled_by (number + 1) (front_of sealed.rows) sealed.rows before k) k)
 
 pub log_in_parts : (a b : List SealedState) (before : Option LogPlace) (k : ℕ) → logged_by_all (a ++ b) before k ≡ logged_by_all b (logged_by_all a before k) k
 log_in_parts [] b before k = refl

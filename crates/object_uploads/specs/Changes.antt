@@ -5,7 +5,7 @@ use Rattle.object_format.specs.declared.data_row.DataRow.{DataRow}
 use Rattle.object_stream.specs.Replay.{name_of}
 use Rattle.upload_window.specs.Window.{entered, marked, acknowledged, is_started}
 use Rattle.object_uploads.specs.State.{JobState, QueueState, UploadsState}
-use Rattle.object_uploads.specs.Queue.{with_at, just_sealed, with_spare, with_receipt, HasBytesAt, HasSamePlaces, IsSettledBy, FirstWaits}
+use Rattle.object_uploads.specs.Queue.{with_at, just_sealed, with_spare, with_receipt, HasBytesAt, HasSamePlaces, IsSettledBy, IsNextSettled, FirstWaits}
 
 -- where the object of a number stands past the frontier
 abbrev pub index_of : UploadsState → ℕ → ℕ
@@ -61,3 +61,11 @@ pub record IsPutDone (number : ℕ) (receipt : ReceiptState) (old new : UploadsS
   pub count : ℕ
   pub settled : IsSettledBy count (record old.queue { sealed = with_at (index_of old number) (with_receipt receipt) old.queue.sealed }) new.queue
   pub waits : FirstWaits new.queue.sealed
+
+-- ---- adopting
+
+-- the object of the next number, with these rows and this end, was counted as acknowledged: the store gave this for it, and it is settled
+pub record IsAdopted (rows : List DataRow) (end : ℕ) (receipt : ReceiptState) (old new : UploadsState) : Type 0 where
+  pub uuid : new.uuid ≡ old.uuid
+  pub window : new.window ≡ record { last = old.window.last + 1; objects = [] }
+  pub settled : IsNextSettled rows end receipt old.queue new.queue

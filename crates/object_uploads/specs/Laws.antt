@@ -15,7 +15,7 @@ use Rattle.upload_window.specs.Window.{WindowState, has_number, was_started}
 use Rattle.object_uploads.specs.State.{UploadsState}
 use Rattle.object_uploads.specs.Queue.{HasBytesAt, IsEntered, just_sealed}
 use Rattle.object_uploads.specs.Order.{IsUploads}
-use Rattle.object_uploads.specs.Changes.{index_of, IsSealed, with_job, IsPutDone}
+use Rattle.object_uploads.specs.Changes.{index_of, IsSealed, with_job, IsPutDone, IsAdopted}
 use Rattle.object_uploads.specs.Stream.{IsSealedOf, AreOfStream}
 
 -- the numbers that were acknowledged
@@ -99,3 +99,23 @@ abbrev pub DoneKeepsStream : Type 0
 DoneKeepsStream =
     (volume : Expected) (data_at : ℕ → ℕ) (stream : Stream) (old new : UploadsState) (number : ℕ) (receipt : ReceiptState)
     → IsUploads old.queue old.window → AreOfStream volume data_at stream old → IsPutDone number receipt old new → AreOfStream volume data_at stream new
+
+-- ---- objects that a mount found
+
+-- a stream with these entries more, in a data object more, up to this end
+abbrev pub with_adopted : List Entry → (end : ℕ) → Stream → Stream
+with_adopted entries end stream = record stream {
+  entries = stream.entries ++ entries;
+  objects = stream.objects ++ record { content = Data; end = end } ∷ [];
+}
+
+-- Where all objects are acknowledged, and each entry is in one, objects of a stream stay that while the next object is adopted, which is
+-- the data object of the next entries.
+abbrev pub AdoptingKeepsStream : Type 0
+AdoptingKeepsStream =
+    (volume : Expected) (data_at : ℕ → ℕ) (stream : Stream) (old new : UploadsState) (entries : List Entry) (bytes : List ℕ) (rows : List DataRow) (end : ℕ) (receipt : ReceiptState)
+    → IsUploads old.queue old.window → AreOfStream volume data_at stream old → old.queue.sealed ≡ [] → unsealed stream ≡ []
+    → end ≡ stream.end + length stream.entries + length entries → 0 < length entries
+    → IsSealedOf (expected_at volume (last_number stream + 1) (end_at stream (last_number stream))) entries (record { content = Data; end = end }) (just_sealed bytes rows end)
+    → IsAdopted rows end receipt old new
+    → AreOfStream volume data_at (with_adopted entries end stream) new

@@ -5,3 +5,5 @@ pub mod Invariant
 pub mod Changes
 pub mod Stream
 pub mod Laws
+pub mod Image
+pub mod ImageLaws

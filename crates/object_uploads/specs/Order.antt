@@ -1,5 +1,5 @@
 -- Contract: what the objects on their way to the store always keep.
-use Rattle.std.specs.Prelude.{◌≡◌, ℕ, ◌+◌, Bool, false, not, Option, Some, None, List, [], ◌∷◌, length}
+use Rattle.std.specs.Prelude.{◌≡◌, ℕ, ◌+◌, ◌≤◌, Bool, false, not, Option, Some, None, List, [], ◌∷◌, length}
 use Rattle.lsvd_objstore.specs.Store.{ReceiptState}
 use Rattle.upload_window.specs.declared.object.OpenObject.{OpenObject}
 use Rattle.upload_window.specs.Window.{WindowState}
@@ -19,8 +19,10 @@ abbrev pub AreOpen : (number : ℕ) → List SealedState → List OpenObject →
 AreOpen number [] objects = objects ≡ []
 AreOpen number (sealed ∷ more) objects = IsOpenFirst number sealed.receipt sealed.has_spare objects (AreOpen (number + 1) more)
 
--- The window has those of the sealed objects that are not acknowledged, up to the last of them, and the first of them waits.
+-- The window has those of the sealed objects that are not acknowledged, up to the last of them, and the first of them waits. What the
+-- store gave is for numbers up to the frontier.
 pub record IsUploads (queue : QueueState) (window : WindowState) : Type 0 where
   pub opened : AreOpen (queue.frontier + 1) queue.sealed window.objects
   pub last : queue.frontier + length queue.sealed ≡ window.last
   pub waits : FirstWaits queue.sealed
+  pub receipts : length queue.receipts ≤ queue.frontier

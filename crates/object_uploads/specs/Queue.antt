@@ -5,6 +5,7 @@ use Rattle.std.specs.Option.{option_or}
 use Rattle.lsvd_base.specs.declared.entry.Entry.{Entry}
 use Rattle.lsvd_objstore.specs.Store.{ReceiptState}
 use Rattle.object_format.specs.declared.data_row.DataRow.{DataRow}
+use Rattle.object_format.specs.Layout.{data_front_sectors}
 use Rattle.volume_maps.specs.declared.place.ObjectPlace.{ObjectPlace}
 use Rattle.volume_maps.specs.declared.place.LogPlace.{LogPlace}
 use Rattle.volume_maps.specs.Places.{place_left_by}
@@ -41,6 +42,15 @@ spare_of sealed = if sealed.has_spare then Some sealed.bytes else None
 
 -- ---- room
 
+-- the sectors of an object with these rows before its payload
+abbrev pub front_of : List DataRow → ℕ
+front_of rows = data_front_sectors (length rows)
+
+-- these may be the rows of an object: it has 65,536 at most, and they and their places in it end below 2^63
+pub record FitObject (rows : List DataRow) : Type 0 where
+  pub count : length rows ≤ 65536
+  pub fit : RowsFit (front_of rows) rows
+
 -- how many rows an object has
 abbrev pub row_count : SealedState → ℕ
 row_count sealed = length sealed.rows
@@ -49,7 +59,7 @@ row_count sealed = length sealed.rows
 pub record HasRoomForRows (sealed : List SealedState) (maps : MapsState) : Type 0 where
   pub settled : sum_by row_count sealed ≤ maps.settled.spare
   pub log : sum_by row_count sealed ≤ maps.log.spare
-  pub fit : AllByRecursion (λ sealed. RowsFit sealed.rows) sealed
+  pub fit : AllByRecursion (λ sealed. FitObject sealed.rows) sealed
 
 -- and for a change of the log's map beside these
 abbrev pub HasRoomForEntry : QueueState → Type 0
@@ -74,7 +84,7 @@ pub record IsEntered (entry : Entry) (seq data_at : ℕ) (old new : QueueState) 
 -- the places after objects were settled that come after one of a number
 abbrev pub settled_by_all : (number : ℕ) → List SealedState → Option ObjectPlace → ℕ → Option ObjectPlace
 settled_by_all number [] before k = before
-settled_by_all number (sealed ∷ more) before k = settled_by_all (number + 1) more (settled_by (number + 1) sealed.rows before k) k
+settled_by_all number (sealed ∷ more) before k = settled_by_all (number + 1) more (settled_by (number + 1) (front_of sealed.rows) sealed.rows before k) k
 
 abbrev pub logged_by_all : List SealedState → Option LogPlace → ℕ → Option LogPlace
 logged_by_all [] before k = before
@@ -106,6 +116,15 @@ pub record IsSettledBy (count : ℕ) (old new : QueueState) : Type 0 where
   pub sealed : new.sealed ≡ drop count old.sealed
   pub settled : (k : ℕ) → settled_at new.maps k ≡ settled_by_all old.frontier (take count old.sealed) (settled_at old.maps k) k
   pub logged : (k : ℕ) → logged_at new.maps k ≡ logged_by_all (take count old.sealed) (logged_at old.maps k) k
+
+-- The object of the next number, with these rows and this end, was settled, and the store gave this for it. None is past it.
+pub record IsNextSettled (rows : List DataRow) (end : ℕ) (receipt : ReceiptState) (old new : QueueState) : Type 0 where
+  pub frontier : new.frontier ≡ old.frontier + 1
+  pub ends : new.end ≡ end
+  pub sealed : new.sealed ≡ []
+  pub receipts : new.receipts ≡ old.receipts ++ receipt ∷ []
+  pub settled : (k : ℕ) → settled_at new.maps k ≡ settled_by (old.frontier + 1) (front_of rows) rows (settled_at old.maps k) k
+  pub logged : (k : ℕ) → logged_at new.maps k ≡ logged_by end rows (logged_at old.maps k) k
 
 -- an acknowledged object does not stand first
 abbrev pub IsWaiting : Option ReceiptState → Type 0

@@ -1,4 +1,5 @@
-ghost use Rattle.object_uploads.specs.Laws.{RecoveryFindsStream, StreamBegins, EnteringKeepsStream, SealingKeepsStream, JobsKeepStream, DoneKeepsStream};
+ghost use Rattle.object_uploads.specs.Laws.{RecoveryFindsStream, StreamBegins, EnteringKeepsStream, SealingKeepsStream, JobsKeepStream, DoneKeepsStream, AdoptingKeepsStream};
+ghost use Rattle.object_uploads.specs.ImageLaws.{ImageBegins, EnteringKeepsImage, SealingKeepsImage, RoomKeepsImage, JobsKeepImage, DoneKeepsReceipts, DoneMakesImage, AdoptingMakesImage};
 
 /// A law: whatever of the objects past the frontier has landed, a recovery of the store finds the stream up to the object before
 /// the first that is missing: the replay gives the stream's owners, and each object that these name is there.
@@ -18,4 +19,28 @@ pub fn a_stream_grows()
 pub fn puts_keep_the_stream()
     ensures jobs { JobsKeepStream }
     ensures done { DoneKeepsStream }
+{}
+
+/// A law: the image that the objects up to the frontier have, and what receipts tell, stay while entries are entered, objects are sealed,
+/// and puts begin and fail; and a new volume has the image of zeros.
+pub fn the_objects_keep_their_image()
+    ensures begins { ImageBegins }
+    ensures entered { EnteringKeepsImage }
+    ensures sealed { SealingKeepsImage }
+    ensures same { RoomKeepsImage }
+    ensures jobs { JobsKeepImage }
+{}
+
+/// A law: by a put that is done the objects of a stream come to have the image after the entries of the objects that are settled then,
+/// where receipts tell the objects' bytes; and these go on telling them.
+pub fn puts_make_the_image()
+    ensures receipts { DoneKeepsReceipts }
+    ensures image { DoneMakesImage }
+{}
+
+/// A law: where each entry of a stream is in an object that is acknowledged, an object of the next entries may be adopted: the objects are
+/// those of the stream with it, and have the image after these entries.
+pub fn an_adopted_object_goes_on_with_the_stream()
+    ensures stream { AdoptingKeepsStream }
+    ensures image { AdoptingMakesImage }
 {}

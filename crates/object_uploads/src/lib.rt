@@ -16,5 +16,8 @@ mod tests;
 mod uploads;
 
 pub use job::Job;
-pub use laws::{a_recovery_finds_the_stream, a_stream_grows, puts_keep_the_stream};
+pub use laws::{
+    a_recovery_finds_the_stream, a_stream_grows, an_adopted_object_goes_on_with_the_stream,
+    puts_keep_the_stream, puts_make_the_image, the_objects_keep_their_image,
+};
 pub use uploads::Uploads;

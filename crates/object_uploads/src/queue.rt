@@ -2,15 +2,15 @@ ghost use Rattle.std.specs.Prelude.{◌≡◌, ◌+◌, ◌-◌, ◌<◌, ◌≤
 ghost use Rattle.std.specs.List.{sum_by, slice_get};
 ghost use Rattle.lsvd_base.specs.Laws.{first_sector, sector_count};
 ghost use Rattle.volume_maps.specs.Places.{log_number, row_left_by};
-ghost use Rattle.volume_maps.specs.Maps.{RowsFit};
 ghost use Rattle.object_uploads.specs.Invariant.{IsOpenAt};
 ghost use Rattle.object_uploads.specs.State.{QueueState};
-ghost use Rattle.object_uploads.specs.Queue.{with_at, just_sealed, with_spare, with_receipt, row_count, HasBytesAt, HasRoomForEntry, HasSamePlaces, IsEntered, IsSettledBy, FirstWaits, receipt_of};
+ghost use Rattle.object_uploads.specs.Queue.{with_at, just_sealed, with_spare, with_receipt, front_of, FitObject, row_count, HasBytesAt, HasRoomForEntry, HasSamePlaces, IsEntered, IsSettledBy, IsNextSettled, FirstWaits, receipt_of};
+ghost use Rattle.object_uploads.specs.Changes.{HasSameSettled};
 
 use crate::sealed::Sealed;
 use lsvd_base::{Entry, ObjectBytes};
 use lsvd_objstore::Receipt;
-use object_format::DataRow;
+use object_format::{DataRow, data_front_sectors};
 use std::alloc::{AllocError, Global};
 use std::collections::VecDeque;
 use std::marker::Model;
@@ -82,7 +82,7 @@ impl<R: Receipt> Queue<R> {
         end: u64,
     ) -> Result<(), AllocError>
         requires spare { spare ≡ object }
-        requires fit { RowsFit rows.items }
+        requires fit { FitObject rows.items }
         requires numbers { self.old.frontier + length self.old.sealed + 1 < 2 ^ 64 }
         ensures sealed { OnOk result (self.new.sealed ≡ self.old.sealed ++ just_sealed object rows.items end ∷ []) }
         ensures same { OnErr result (self.new.sealed ≡ self.old.sealed) }
@@ -127,10 +127,30 @@ impl<R: Receipt> Queue<R> {
         self.rows -= rows.len();
         self.frontier += 1;
         self.end = end;
-        self.maps.settle(self.frontier, end, rows.as_slice());
+        let slice = rows.as_slice();
+        let front = front_of(slice);
+        self.maps.settle(self.frontier, front, end, slice);
         if let Some(receipt) = receipt {
             self.receipts.push_reserved(receipt);
         }
+    }
+
+    // Settles the next number's object, where none is past the frontier. The one error is out of memory; then only room changed.
+    pub(crate) fn adopt(&mut self, rows: &[DataRow], end: u64, receipt: R) -> Result<(), AllocError>
+        requires none { self.old.sealed ≡ [] }
+        requires numbers { self.old.frontier + 1 < 2 ^ 64 }
+        requires fit { FitObject rows.now }
+        ensures settled { OnOk result (IsNextSettled rows.now end (R.state receipt) self.old self.new) }
+        ensures sealed { OnErr result (self.new.sealed ≡ self.old.sealed) }
+        ensures same { OnErr result (HasSameSettled self.old self.new) }
+    {
+        self.receipts.reserve(1)?;
+        self.maps.reserve(rows.len(), rows.len())?;
+        self.frontier += 1;
+        self.end = end;
+        self.maps.settle(self.frontier, front_of(rows), end, rows);
+        self.receipts.push_reserved(receipt);
+        Ok(())
     }
 
     // Settles the objects past the frontier in the order of their numbers, up to the first that is not acknowledged.
@@ -242,4 +262,12 @@ impl<R: Receipt> Queue<R> {
     {
         self.end
     }
+}
+
+// The sectors of an object with these rows before its payload.
+fn front_of(rows: &[DataRow]) -> u64
+    requires { length rows.now ≤ 65536 }
+    ensures { result ≡ front_of rows.now }
+{
+    data_front_sectors(rows.len() as u64)
 }

@@ -1,8 +1,8 @@
-ghost use Rattle.std.specs.Prelude.{IsTrue, ◌+◌, ◌-◌, ◌*◌, ◌^◌, ◌<◌, ◌≤◌, length};
+ghost use Rattle.std.specs.Prelude.{IsTrue, OnOk, ◌≡◌, ◌+◌, ◌-◌, ◌*◌, ◌^◌, ◌<◌, ◌≤◌, [], length};
 ghost use Rattle.lsvd_base.specs.Laws.{first_sector, sector_count};
 ghost use Rattle.lsvd_names.specs.Spelling.{IsName};
 ghost use Rattle.volume_maps.specs.Places.{log_number, row_left_by};
-ghost use Rattle.volume_maps.specs.Maps.{RowsFit};
+ghost use Rattle.object_uploads.specs.Queue.{FitObject};
 
 mod plain;
 
@@ -14,7 +14,7 @@ use lsvd_base::{Entry, Geometry, ObjectBytes, in_range};
 use lsvd_names::{Kind, ObjName};
 use lsvd_objstore::{MemReceipt, MemStore, Receipt, Store, StoreError};
 use object_format::DataRow;
-use plain::{Call, Change, Plain, rows_of};
+use plain::{Call, Change, Plain, narrow, rows_of};
 use std::alloc::{AllocError, Global};
 use std::test::Fail;
 use upload_window::Window;
@@ -42,11 +42,12 @@ const STEP: u64 = 100;
 
 // Whether rows end, and their places, inside the volume.
 fn are_inside(rows: &[DataRow]) -> bool
-    ensures { IsTrue result → RowsFit rows.now }
+    ensures { IsTrue result → FitObject rows.now }
 {
-    rows.iter().all(|row| {
-        row.lba <= SECTORS && row.sectors <= SECTORS && row.place.unwrap_or(0) <= SECTORS
-    })
+    rows.len() <= SECTORS as usize
+        && rows.iter().all(|row| {
+            row.lba <= SECTORS && row.sectors <= SECTORS && row.place.unwrap_or(0) <= SECTORS
+        })
 }
 
 // The name of the object of a number.
@@ -130,7 +131,7 @@ fn seal(
 ) -> Result<u64, AllocError>
     requires places { length uploads.old.window.objects < 16 }
     requires numbers { uploads.old.window.last + 1 < 2 ^ 64 - 1 }
-    requires fit { RowsFit rows.items }
+    requires fit { FitObject rows.items }
 {
     uploads.seal(object.share()?, object, rows, end)
 }
@@ -203,7 +204,7 @@ fn place_on(place: VolumePlace, on: u64) -> VolumePlace {
         }
         VolumePlace::Log(place) => VolumePlace::Log(place),
         VolumePlace::Object(place) => {
-            let sector = place.sector.wrapping_add(on);
+            let sector = place.sector.wrapping_add(narrow(on));
             VolumePlace::Object(ObjectPlace { sector, ..place })
         }
     }
@@ -473,7 +474,7 @@ const CALLS: &[Step] = &[
     (Enter(Write(2, 1)), true, 10, 23),
 ];
 
-// The rows after them: the second write is in object 9, and the last one in the log over it.
+// The rows after them: the second write is in object 9, after one sector of header and rows, and the last one in the log over it.
 const ROWS: &[Extent<VolumePlace>] = &[
     Extent {
         lba: 1,
@@ -481,7 +482,7 @@ const ROWS: &[Extent<VolumePlace>] = &[
         place: VolumePlace::Object(ObjectPlace {
             level: 0,
             number: 9,
-            sector: 0,
+            sector: 1,
         }),
     },
     Extent {
@@ -498,7 +499,7 @@ const ROWS: &[Extent<VolumePlace>] = &[
         place: VolumePlace::Object(ObjectPlace {
             level: 0,
             number: 9,
-            sector: 2,
+            sector: 3,
         }),
     },
 ];
@@ -578,4 +579,121 @@ fn sixteen_objects_are_acknowledged_in_any_order(rt: HostRuntime) -> Result<(), 
     let made = make_sixteen(&mut bench);
     drop(bench);
     made
+}
+
+// The rows of two objects that a mount found, with the numbers 8 and 9: the second clears a sector of the first, and puts another.
+const EIGHTH: &[DataRow] = &[DataRow {
+    lba: 0,
+    sectors: 4,
+    place: Some(0),
+}];
+
+const NINTH: &[DataRow] = &[
+    DataRow {
+        lba: 1,
+        sectors: 1,
+        place: None,
+    },
+    DataRow {
+        lba: 3,
+        sectors: 2,
+        place: Some(0),
+    },
+];
+
+// Where the sectors are once both are adopted, after one sector of header and rows.
+const FOUND: &[(u64, u64, u64, u32)] = &[(0, 1, 8, 1), (2, 1, 8, 3), (3, 2, 9, 1)];
+
+// Adopts an object of these rows, where they fit: whether they do.
+fn adopt(
+    uploads: &mut Uploads<MemReceipt>,
+    rows: &[DataRow],
+    end: u64,
+    receipt: MemReceipt,
+) -> Result<bool, AllocError>
+    requires { uploads.old.queue.sealed ≡ [] }
+    ensures { OnOk result (uploads.new.queue.sealed ≡ []) }
+{
+    if !are_inside(rows) || !has_place(uploads.window()) || end < uploads.end() {
+        return Ok(false);
+    }
+    uploads.adopt(rows, end, receipt)?;
+    Ok(true)
+}
+
+// Adopts both.
+fn adopt_both(
+    uploads: &mut Uploads<MemReceipt>,
+    eighth: MemReceipt,
+    ninth: MemReceipt,
+) -> Result<bool, AllocError>
+    requires { uploads.old.queue.sealed ≡ [] }
+{
+    Ok(adopt(uploads, EIGHTH, 22, eighth)? && adopt(uploads, NINTH, 23, ninth)?)
+}
+
+// Whether a row is this one: its first sector, its count of sectors, the number of its object, and the sector there.
+fn is_row(row: &Extent<VolumePlace>, wanted: &(u64, u64, u64, u32)) -> bool {
+    let (lba, sectors, number, sector) = *wanted;
+    let place = VolumePlace::Object(ObjectPlace {
+        level: 0,
+        number,
+        sector,
+    });
+    row.lba == lba && row.sectors == sectors && row.place == place
+}
+
+// Whether the volume has the sectors where both objects have them.
+fn has_found(alloc: Global, uploads: &Uploads<MemReceipt>) -> Result<bool, AllocError> {
+    let rows = uploads.look(alloc, 0, SECTORS)?;
+    Ok(
+        rows.len() == FOUND.len()
+            && rows
+                .iter()
+                .zip(FOUND)
+                .all(|(row, wanted)| is_row(row, wanted)),
+    )
+}
+
+// Whether the receipts of the objects 8 and 9 are there, and no others.
+fn has_receipts(uploads: &Uploads<MemReceipt>) -> bool {
+    for number in 7..11 {
+        let name = uploads.receipt(number).map(|receipt| receipt.name());
+        let wanted = (number == 8 || number == 9).then_some(name_of(number));
+        if name != wanted {
+            return false;
+        }
+    }
+    true
+}
+
+// Whether both are acknowledged, and nothing is on its way.
+fn is_adopted(uploads: &Uploads<MemReceipt>) -> bool {
+    let window = uploads.window();
+    uploads.frontier() == 9 && uploads.end() == 23 && window.last() == 9 && window.open() == 0
+}
+
+// Whether all of that is, once the store has given receipts for both.
+fn finds_both(
+    alloc: Global,
+    uploads: &mut Uploads<MemReceipt>,
+    store: &mut MemStore,
+) -> Result<bool, Fail>
+    requires { uploads.old.queue.sealed ≡ [] }
+{
+    let eighth = receipt_of(alloc, store, 8)?;
+    let ninth = receipt_of(alloc, store, 9)?;
+    let is_done = adopt_both(uploads, eighth, ninth)?;
+    Ok(is_done && is_adopted(uploads) && has_receipts(uploads) && has_found(alloc, uploads)?)
+}
+
+#[test]
+fn objects_that_a_mount_found_are_adopted(rt: HostRuntime) -> Result<(), Fail> {
+    let mut store = MemStore::new(rt.alloc());
+    let mut uploads = Uploads::new(rt.alloc(), Uuid::from_bytes(UUID), 7, 20);
+    let found = finds_both(rt.alloc(), &mut uploads, &mut store);
+    drop(uploads);
+    drop(store);
+    assert!(rt; found?);
+    Ok(())
 }

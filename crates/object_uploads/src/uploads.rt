@@ -4,11 +4,11 @@ ghost use Rattle.extent_map.specs.Extents.{place_at, place_in_range, IsShortest,
 ghost use Rattle.object_stream.specs.Replay.{name_of};
 ghost use Rattle.upload_window.specs.Window.{lowest_ready, IsFrontier};
 ghost use Rattle.volume_maps.specs.Places.{volume_on, volume_number, log_number, row_left_by};
-ghost use Rattle.volume_maps.specs.Maps.{RowsFit, volume_place_at};
-ghost use Rattle.object_uploads.specs.Queue.{HasRoomForEntry, IsEntered, receipt_of};
+ghost use Rattle.volume_maps.specs.Maps.{volume_place_at};
+ghost use Rattle.object_uploads.specs.Queue.{FitObject, HasRoomForEntry, IsEntered, receipt_of};
 ghost use Rattle.object_uploads.specs.Order.{IsUploads};
 ghost use Rattle.object_uploads.specs.Invariant.{IsOpenAt};
-ghost use Rattle.object_uploads.specs.Changes.{index_of, IsSealed, IsNotSealed, with_job, IsJobOf, IsOut, IsPutDone};
+ghost use Rattle.object_uploads.specs.Changes.{index_of, IsSealed, IsNotSealed, with_job, IsJobOf, IsOut, IsPutDone, IsAdopted};
 
 use crate::job::Job;
 use crate::queue::Queue;
@@ -65,8 +65,9 @@ impl<R: Receipt> Uploads<R> {
     }
 
     /// Seals a data object, which is given twice, with its rows and the count of entries up to its end, and answers its number: the
-    /// next one. Fewer than 16 objects are open, the numbers go on below 2^64 - 1, and the rows end below 2^63 (conditions). The one
-    /// error is out of memory, after which the objects are as before: all that acknowledging it takes is made here.
+    /// next one. Fewer than 16 objects are open, the numbers go on below 2^64 - 1, and the rows are 65,536 at most, end below 2^63, and
+    /// their places in the object below 2^32 (conditions). The one error is out of memory, after which the objects are as before: all
+    /// that acknowledging it takes is made here.
     pub fn seal(
         &mut self,
         object: ObjectBytes,
@@ -77,7 +78,7 @@ impl<R: Receipt> Uploads<R> {
         requires places { length self.old.window.objects < 16 }
         requires numbers { self.old.window.last + 1 < 2 ^ 64 - 1 }
         requires spare { spare ≡ object }
-        requires fit { RowsFit rows.items }
+        requires fit { FitObject rows.items }
         ensures number { IfOk result (λ number. number ≡ self.old.window.last + 1) }
         ensures sealed { OnOk result (IsSealed object rows.items end self.old self.new) }
         ensures same { OnErr result (IsNotSealed self.old self.new) }
@@ -86,6 +87,23 @@ impl<R: Receipt> Uploads<R> {
         self.queue.push(object, spare, rows, end)?;
         let _ = self.window.enter(number, false);
         Ok(number)
+    }
+
+    /// Counts the next number's object, which is in the store, as acknowledged, and settles it: these are its rows, the count of entries
+    /// up to its end, and the receipt that the store gave for it. No object is past the frontier, the numbers go on below 2^64 - 1, the
+    /// end is not before that of the frontier, and the rows are 65,536 at most, end below 2^63, and their places in the object below
+    /// 2^32 (conditions). The one error is out of memory; then nothing changes but room.
+    pub fn adopt(&mut self, rows: &[DataRow], end: u64, receipt: R) -> Result<(), AllocError>
+        requires none { self.old.queue.sealed ≡ [] }
+        requires numbers { self.old.window.last + 1 < 2 ^ 64 - 1 }
+        requires order { self.old.queue.end ≤ end }
+        requires fit { FitObject rows.now }
+        ensures adopted { OnOk result (IsAdopted rows.now end (R.state receipt) self.old self.new) }
+        ensures same { OnErr result (IsNotSealed self.old self.new) }
+    {
+        self.queue.adopt(rows, end, receipt)?;
+        self.window = Window::new(self.queue.frontier());
+        Ok(())
     }
 
     /// Begins the put of the lowest ready object. None is where no object is ready; then nothing changes. It takes no memory.

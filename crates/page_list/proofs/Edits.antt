@@ -14,7 +14,7 @@ surplus_bound ns filled =
     sum_by-le (λ n. n - 64) 64 ns (All-weaker (λ n. (0 < n) × (n ≤ 128)) (λ n. n - 64 ≤ 64) (λ n held. omega (arith, held.1)) ns filled)
 
 module _ {T : Type 0} (pages free : List (List T)) (surplus room free_room : ℕ) (kept : AreKept pages free surplus room free_room) where
-  pub surplus_small : surplus ≤ 64 * 2 ^ 48
+  pub surplus_small : surplus ≤ 64 * 2 ^ 47
   surplus_small = omega (arith, kept.surplus_is, kept.few, surplus_bound (lengths_of pages) kept.filled, length-map pages length)
 
   module _ (p : ℕ) (here : p < length pages) (old page : List T) (read : old ≡ get_or pages p old) where

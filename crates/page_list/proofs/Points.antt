@@ -1,12 +1,12 @@
 -- Where a search of pages, and of one page, ends: at the first item that does not pass the test.
-use Rattle.std.proofs.Common.{ℕ, ◌+◌, ◌-◌, ◌<◌, ◌≤◌, ◌≡◌, inl, inr, Bool, true, false, cond, List, [], ◌∷◌, length, get_or, sym, ◌∙◌, ap, subst, arith}
+use Rattle.std.proofs.Common.{ℕ, ◌+◌, ◌-◌, ◌<◌, ◌≤◌, ◌≡◌, inl, inr, Bool, true, false, cond, List, [], ◌∷◌, length, get_or, refl, sym, ◌∙◌, ap, subst, arith}
 use Rattle.std.specs.List.{sum, prefix_len}
 use Rattle.std.specs.List.Sorted.{IsPartitionedBy}
 use Rattle.std.proofs.lemmas.Bool.{cases_lt}
 use Rattle.std.proofs.lemmas.Option.{slice_get-get_or, get_or_from_slice_get}
 use Rattle.std.proofs.lemmas.List.{length-map, get_or_read}
 use Rattle.std.proofs.lemmas.List.Elements.{All-head, All-tail}
-use Rattle.std.proofs.lemmas.List.Sums.{prefix_len_is, sum_by-cons}
+use Rattle.std.proofs.lemmas.List.Sums.{prefix_len_is, prefix_len_stops, prefix_len-le-length, sum_by-cons}
 use Rattle.page_list.specs.Items.{ListState, page_start}
 use Rattle.page_list.specs.Pages.{items_of, lengths_of, AreFilled}
 use Rattle.page_list.specs.Pages.{passes_at_start}
@@ -36,6 +36,29 @@ none_passes p [] fails = omega arith
 none_passes p (x ∷ xs) fails =
     let no : p x ≡ false = fails x (omega arith) in
     sym (ap (λ b. cond b (1 + prefix_len p xs) 0) no)
+
+-- where the last item passes, all do
+pub all_pass : {T : Type 0} (p : T → Bool) (xs : List T) → IsPartitionedBy p xs → ((d : T) → 0 < length xs → p (get_or xs (length xs - 1) d) ≡ true)
+    → length xs ≡ prefix_len p xs
+all_pass p [] partitioned last = refl
+all_pass p (x ∷ xs) partitioned last =
+    let n = prefix_len p (x ∷ xs) in
+    let at_last : length (x ∷ xs) - 1 ≡ length xs = omega arith in
+    let yes : p (get_or (x ∷ xs) (length xs) x) ≡ true = ap (λ i. p (get_or (x ∷ xs) i x)) (sym at_last) ∙ last x (omega arith) in
+    elim (cases_lt n (length (x ∷ xs))) [
+      | inl low ↦
+          let no = prefix_len_stops p (x ∷ xs) x low in
+          elim (cases_lt n (length xs)) [
+            | inl before ↦
+                let too = partitioned n (length xs) x (omega (arith, before)) (omega arith) yes in
+                absurd (cc (no, too))
+            | inr at ↦
+                let same : n ≡ length xs = omega (arith, low, at) in
+                let there = ap (λ i. p (get_or (x ∷ xs) i x)) same in
+                absurd (cc (no, there, yes))
+          ]
+      | inr past ↦ omega (arith, past, prefix_len-le-length p (x ∷ xs))
+    ]
 
 first_of : {T : Type 0} (xs : List T) → 0 < length xs → T
 first_of [] some = absurd (omega arith)

@@ -21,7 +21,7 @@ pub record AreKept {T : Type 0} (pages free : List (List T)) (surplus capacity f
   pub filled : AreFilled (lengths_of pages)
   pub empty : length (items_of free) ≡ 0
   pub surplus_is : surplus ≡ surplus_of (lengths_of pages)
-  pub few : length pages + length free ≤ 2 ^ 48
+  pub few : length pages + length free ≤ 2 ^ 47
   pub room : length pages + length free ≤ capacity
   pub free_room : length pages + length free ≤ free_capacity
 

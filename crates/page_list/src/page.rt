@@ -76,7 +76,7 @@ impl<T: Copy> Page<T> {
         ensures items { self.new ≡ take index self.old ++ item ∷ drop index self.old }
         ensures steps { steps.new ≡ steps.old + (length self.old - index) }
     {
-        steps.add((self.items.len() - index) as u64);
+        steps.count((self.items.len() - index) as u64);
         let _ = self.items.insert(index, item);
     }
 
@@ -88,7 +88,7 @@ impl<T: Copy> Page<T> {
         ensures rest { rest.new ≡ drop 64 self.old }
         ensures steps { steps.new ≡ steps.old + 64 }
     {
-        steps.add(HALF as u64);
+        steps.count(HALF as u64);
         let _ = rest.items.extend_from_slice(&self.items[HALF..]);
         self.items.truncate(HALF);
     }
@@ -100,7 +100,7 @@ impl<T: Copy> Page<T> {
         ensures items { self.new ≡ take from self.old ++ drop to self.old }
         ensures steps { steps.new ≡ steps.old + (length self.old - from) }
     {
-        steps.add((self.items.len() - from) as u64);
+        steps.count((self.items.len() - from) as u64);
         drop(self.items.drain(from..to));
     }
 
@@ -116,7 +116,7 @@ impl<T: Copy> Page<T> {
         ensures items { self.new ≡ [] }
         ensures steps { steps.new ≡ steps.old + length self.old }
     {
-        steps.add(self.items.len() as u64);
+        steps.count(self.items.len() as u64);
         self.items.clear();
     }
 }

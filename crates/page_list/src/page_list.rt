@@ -1,4 +1,4 @@
-ghost use Rattle.std.specs.Prelude.{◌≡◌, ◌≢◌, ◌↔◌, ◌+◌, ◌-◌, ◌^◌, ◌<◌, ◌≤◌, ◌++◌, ◌∷◌, ℕ, Bool, [], length, take, drop, slice_get, slice_set, slice_index_or, OnOk, IfOk, IsOk, IsTrue, MatchOption, Some};
+ghost use Rattle.std.specs.Prelude.{◌≡◌, ◌≢◌, ◌↔◌, ◌+◌, ◌-◌, ◌^◌, ◌<◌, ◌≤◌, ◌++◌, ◌∷◌, ℕ, Bool, [], length, take, drop, slice_get, slice_set, slice_index_or, OnOk, IfOk, IsOk, IsTrue, true, MatchOption, Some};
 ghost use Rattle.std.specs.List.{prefix_len};
 ghost use Rattle.std.specs.List.Sorted.{IsPartitionedBy};
 ghost use Rattle.page_list.specs.Items.{IsIn, cursor_index, page_start, length_at, insert_room, halves_of};
@@ -13,8 +13,8 @@ use std::alloc::{AllocError, Global};
 use std::marker::Model;
 use std::sync::ledger::Ledger;
 
-// More pages than memory can have.
-const MAX_PAGES: usize = 1 << 48;
+// More pages than memory can have. So fewer than 2^55 items stand in a list.
+const MAX_PAGES: usize = 1 << 47;
 
 /// A list whose items stand in pages of at most 128, none of them empty. Each page has the memory for all of its items
 /// from the beginning, and one that becomes empty is kept for later.
@@ -93,7 +93,7 @@ impl<T: Copy> PageList<T> {
 
     // Keeps N empty pages at least.
     fn add_free(&mut self, pages: usize) -> Result<(), AllocError>
-        requires { length self.old.lengths + pages ≤ 2 ^ 48 }
+        requires { length self.old.lengths + pages ≤ 2 ^ 47 }
         ensures ok { OnOk result (pages ≤ self.new.free) }
         ensures items { self.new.items ≡ self.old.items }
         ensures lengths { self.new.lengths ≡ self.old.lengths }
@@ -222,7 +222,8 @@ impl<T: Copy> PageList<T> {
 
     /// The place of the first item that does not pass a test, or the end. That is what it answers where the items that pass
     /// stand before those that do not; else it is some place of the list. The test may be called at any item (a condition).
-    /// Each call of it is a step: at most 8 more than the number of items has binary digits.
+    /// Each call of it is a step: at most 9 more than the number of items has binary digits, and at most 57 in any list. It
+    /// is one where all items pass.
     pub fn partition_point<F: Fn(&T) -> bool, L: Ledger>(
         &self,
         test: F,
@@ -231,20 +232,15 @@ impl<T: Copy> PageList<T> {
         requires { F.IsAlwaysCallable test }
         ensures place { IsIn self.now.lengths result }
         ensures partitioned { (p : T → Bool) → AnswersBy F.Fn test p → IsPartitionedBy p self.now.items → cursor_index self.now.lengths result ≡ prefix_len p self.now.items }
-        ensures steps { (k : ℕ) → length self.now.items < 2 ^ k → steps.new ≤ steps.old + k + 8 }
+        ensures steps { (k : ℕ) → length self.now.items < 2 ^ k → steps.new ≤ steps.old + k + 9 }
+        ensures bound { steps.new ≤ steps.old + 57 }
         ensures rises { steps.old ≤ steps.new }
     {
-        let pages = search_pages(&self.pages, &test, steps);
-        if pages == 0 {
-            return self.start();
+        // Items that are put in ascending order go to the end.
+        if self.last_passes(&test, steps) {
+            return self.end();
         }
-        let page = pages - 1;
-        let item = search(self.pages[page].as_slice(), &test, steps);
-        if item < self.page_len(page) {
-            Cursor { page, item }
-        } else {
-            self.start_at(pages)
-        }
+        self.first_failing(&test, steps)
     }
 
     /// Puts an item at a place of this list, before the item there, and answers its place. There is room for an insert
@@ -266,6 +262,52 @@ impl<T: Copy> PageList<T> {
         let place = self.place_for(at, steps);
         self.put(place, item, steps);
         place
+    }
+
+    // Whether the last item passes a test, or there is no item.
+    fn last_passes<F: Fn(&T) -> bool, L: Ledger>(&self, test: &F, steps: &mut Steps<L>) -> bool
+        requires { F.IsAlwaysCallable test.now }
+        ensures passes { (p : T → Bool) (d : T) → AnswersBy F.Fn test.now p → IsTrue result → 0 < length self.now.items → p (slice_index_or self.now.items (length self.now.items - 1) d) ≡ true }
+        ensures steps { steps.new ≤ steps.old + 1 }
+        ensures rises { steps.old ≤ steps.new }
+    {
+        match self.last() {
+            None => true,
+            Some(item) => {
+                steps.count(1);
+                test(&item)
+            }
+        }
+    }
+
+    // The last item, if there is one.
+    fn last(&self) -> Option<T>
+        ensures { result ≡ slice_get self.now.items (length self.now.items - 1) }
+    {
+        let last = self.previous(self.end())?;
+        self.get(last)
+    }
+
+    // The place of the first item that does not pass a test, or the end, by a search.
+    fn first_failing<F: Fn(&T) -> bool, L: Ledger>(&self, test: &F, steps: &mut Steps<L>) -> Cursor
+        requires { F.IsAlwaysCallable test.now }
+        ensures place { IsIn self.now.lengths result }
+        ensures partitioned { (p : T → Bool) → AnswersBy F.Fn test.now p → IsPartitionedBy p self.now.items → cursor_index self.now.lengths result ≡ prefix_len p self.now.items }
+        ensures steps { (k : ℕ) → length self.now.items < 2 ^ k → steps.new ≤ steps.old + k + 8 }
+        ensures bound { steps.new ≤ steps.old + 56 }
+        ensures rises { steps.old ≤ steps.new }
+    {
+        let pages = search_pages(&self.pages, test, steps);
+        if pages == 0 {
+            return self.start();
+        }
+        let page = pages - 1;
+        let item = search(self.pages[page].as_slice(), test, steps);
+        if item < self.page_len(page) {
+            Cursor { page, item }
+        } else {
+            self.start_at(pages)
+        }
     }
 
     // Whether the last page has no place for an item, or there is no page.

@@ -24,7 +24,7 @@ pub(crate) fn search<X, F: Fn(&X) -> bool, L: Ledger>(
     let mut high = xs.len();
     while low < high {
         let middle = low + (high - low) / 2;
-        steps.add(1);
+        steps.count(1);
         if test(&xs[middle]) {
             low = middle + 1;
         } else {

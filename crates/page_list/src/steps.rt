@@ -3,9 +3,10 @@ ghost use Rattle.std.specs.Prelude.{◌≡◌, ◌+◌, ◌<◌};
 use std::marker::Model;
 use std::sync::ledger::{Blank, Book, Ledger, Share};
 
-/// How many steps were taken. A step is a call of the test of a search, an item that is taken out, or one that moves from
-/// its place. What moves of the list of the pages when a page is begun or taken out is not counted. It takes no bytes,
-/// and to count does nothing when the program runs.
+/// How many steps were taken. A step is a comparison in a search, which is a call of its test; an item that is taken out,
+/// or one that moves from its place; and what a caller counts of its own, as its comparisons with items that it got. What
+/// moves of the list of the pages when a page is begun or taken out is not counted. It takes no bytes, and to count does
+/// nothing when the program runs.
 #[derive(Drop)]
 pub struct Steps<L: Ledger> {
     book: Book<L>,
@@ -34,10 +35,10 @@ impl<L: Ledger> Steps<L> {
         Steps { book, share }
     }
 
-    // N steps more.
-    pub(crate) fn add(&mut self, count: u64)
-        ensures { self.new ≡ self.old + count }
+    /// Counts N steps more.
+    pub fn count(&mut self, steps: u64)
+        ensures { self.new ≡ self.old + steps }
     {
-        self.book.add(&mut self.share, count);
+        self.book.add(&mut self.share, steps);
     }
 }

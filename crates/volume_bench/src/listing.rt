@@ -1,8 +1,7 @@
-use crate::clock::Start;
 use crate::error::BenchError;
 use crate::maps::Maps;
-use crate::numbers::Numbers;
 use crate::volume::Volume;
+use bench_clock::{Numbers, Start};
 use lsvd_base::{Body, Entry};
 use lsvd_objstore::MemReceipt;
 use object_uploads::Job;
@@ -43,7 +42,7 @@ fn fill_and_zero(
     for _ in 0..calls {
         zero(volume, numbers.odd_sector(extents))?;
     }
-    start.nanoseconds(rt)
+    Ok(start.nanoseconds(rt)?)
 }
 
 // Adds a zeroing of one sector.
@@ -132,7 +131,7 @@ fn time_done(
 ) -> Result<u64, BenchError> {
     let start = Start::now(rt)?;
     volume.done(job, receipt)?;
-    start.nanoseconds(rt)
+    Ok(start.nanoseconds(rt)?)
 }
 
 fn time_looks(
@@ -146,7 +145,7 @@ fn time_looks(
     for _ in 0..calls {
         volume.look(rt.alloc(), numbers.odd_sector(extents), 8)?;
     }
-    start.nanoseconds(rt)
+    Ok(start.nanoseconds(rt)?)
 }
 
 // Those of the maps.
@@ -175,7 +174,7 @@ fn time_map_looks(
     maps.write(Numbers::new(OBJECTS), extents, ROWS)?;
     let start = Start::now(rt)?;
     maps.look(rt.alloc(), Numbers::new(0), extents, calls)?;
-    start.nanoseconds(rt)
+    Ok(start.nanoseconds(rt)?)
 }
 
 fn settle_maps(
@@ -187,5 +186,5 @@ fn settle_maps(
     maps.write(Numbers::new(seed), extents, ROWS)?;
     let start = Start::now(rt)?;
     maps.settle(Numbers::new(seed), extents, ROWS)?;
-    start.nanoseconds(rt)
+    Ok(start.nanoseconds(rt)?)
 }

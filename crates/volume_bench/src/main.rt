@@ -2,14 +2,13 @@
 //!
 //! A seal stands beside a plain copy of the same bytes, and `add`, `job_done` and `look` beside the changes and looks of maps of extents
 //! that they come to. With the word `time` it makes whole rounds and tells the processor time of each. Without it the rounds are small
-//! and no time is told, so that what is written is always the same. It stands on `obj_log` and the crates below it.
+//! and no time is told, so that what is written is always the same. It stands on `obj_log` and the crates below
+//! it, and on `bench_clock`.
 #![tactic(auto)]
 
-mod clock;
 mod error;
 mod listing;
 mod maps;
-mod numbers;
 mod sealing;
 mod volume;
 

@@ -1,12 +1,14 @@
-use crate::clock::Start;
 use crate::error::BenchError;
-use crate::numbers::Numbers;
+use bench_clock::{Numbers, Start};
 use extent_map::{ExtentMap, Place};
 use std::alloc::Global;
 use volume_maps::{LogPlace, ObjectPlace};
 
-// No number here comes near its type's end.
+// No sector here comes near its type's end.
 const MOST: u64 = 1 << 40;
+
+// Nor the number of a place, which in an object is below this by as many as an object can have.
+const MOST_NUMBER: u64 = 1 << 63;
 
 /// Maps as those of a volume.
 #[derive(Drop)]
@@ -98,7 +100,7 @@ impl Maps {
         self.fill_log(extents)?;
         let start = Start::now(rt)?;
         self.write(Numbers::new(0), extents, calls)?;
-        start.nanoseconds(rt)
+        Ok(start.nanoseconds(rt)?)
     }
 }
 
@@ -107,7 +109,7 @@ fn object_place(index: u64) -> ObjectPlace {
     ObjectPlace {
         level: 0,
         number: index / 1_024,
-        sector: index % 1_024,
+        sector: (index % 1_024) as u32,
     }
 }
 
@@ -118,7 +120,7 @@ fn log_place(index: u64) -> LogPlace {
 
 // Gives one sector a place.
 fn set<P: Place>(map: &mut ExtentMap<P>, lba: u64, place: P) -> Result<(), BenchError> {
-    if MOST < lba || MOST < place.number() {
+    if MOST < lba || MOST_NUMBER < place.number() {
         return Err(BenchError::Refused);
     }
     map.reserve(1)?;

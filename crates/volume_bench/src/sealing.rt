@@ -1,6 +1,6 @@
-use crate::clock::Start;
 use crate::error::BenchError;
 use crate::volume::Volume;
+use bench_clock::Start;
 use lsvd_base::{Body, Entry};
 use std::alloc::{AllocError, Global};
 
@@ -51,7 +51,7 @@ fn fill_and_seal(rt: &HostRuntime, volume: &mut Volume, batch: &Batch) -> Result
     }
     let start = Start::now(rt)?;
     volume.seal(rt.alloc())?;
-    start.nanoseconds(rt)
+    Ok(start.nanoseconds(rt)?)
 }
 
 // Adds the write of an index.
@@ -66,7 +66,7 @@ fn time_copy(rt: &HostRuntime, batch: &Batch) -> Result<u64, BenchError> {
     let bodies = bodies(rt.alloc(), batch)?;
     let start = Start::now(rt)?;
     copy(rt.alloc(), &bodies, batch.all_sectors())?;
-    start.nanoseconds(rt)
+    Ok(start.nanoseconds(rt)?)
 }
 
 fn bodies(alloc: Global, batch: &Batch) -> Result<Vec<Body>, AllocError> {

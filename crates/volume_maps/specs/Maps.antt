@@ -27,19 +27,19 @@ volume_place_at maps k = place_in (logged_at maps k) (settled_at maps k)
 
 -- ---- a data object is settled
 
--- where the object of this number has the i-th sector of a row; none for zeros
-abbrev pub row_place : (number : ℕ) → Option ℕ → ℕ → Option ObjectPlace
-row_place number None i = None
-row_place number (Some place) i = Some (record { level = 0; number = number; sector = place + i })
+-- where the object of this number, whose payload stands after so many sectors, has the i-th sector of a row; none for zeros
+abbrev pub row_place : (number front : ℕ) → Option ℕ → ℕ → Option ObjectPlace
+row_place number front None i = None
+row_place number front (Some place) i = Some (record { level = 0; number = number; sector = front + place + i })
 
--- a sector's place in the objects' map after a row of the object of this number
-abbrev pub settled_by_row : (number : ℕ) → DataRow → Option ObjectPlace → ℕ → Option ObjectPlace
-settled_by_row number row before k = if is_within row.lba row.sectors k then row_place number row.place (k - row.lba) else before
+-- a sector's place in the objects' map after a row of that object
+abbrev pub settled_by_row : (number front : ℕ) → DataRow → Option ObjectPlace → ℕ → Option ObjectPlace
+settled_by_row number front row before k = if is_within row.lba row.sectors k then row_place number front row.place (k - row.lba) else before
 
 -- and after rows, one after the other
-abbrev pub settled_by : (number : ℕ) → List DataRow → Option ObjectPlace → ℕ → Option ObjectPlace
-settled_by number [] before k = before
-settled_by number (row ∷ rows) before k = settled_by number rows (settled_by_row number row before k) k
+abbrev pub settled_by : (number front : ℕ) → List DataRow → Option ObjectPlace → ℕ → Option ObjectPlace
+settled_by number front [] before k = before
+settled_by number front (row ∷ rows) before k = settled_by number front rows (settled_by_row number front row before k) k
 
 -- a place in the log, unless the entry that left it is before a seq
 abbrev pub from_seq : ℕ → Option LogPlace → Option LogPlace
@@ -55,11 +55,11 @@ abbrev pub logged_by : (end : ℕ) → List DataRow → Option LogPlace → ℕ 
 logged_by end [] before k = before
 logged_by end (row ∷ rows) before k = logged_by end rows (logged_by_row end row before k) k
 
--- a row's sectors, and its place's in the payload, end below 2^63
-pub record RowFits (row : DataRow) : Type 0 where
+-- a row's sectors end below 2^63, and those that it has in an object whose payload stands after so many sectors below 2^32
+pub record RowFits (front : ℕ) (row : DataRow) : Type 0 where
   pub sectors : row.lba + row.sectors < 2 ^ 63
-  pub place : IfSome row.place (λ place. place + row.sectors < 2 ^ 63)
+  pub place : IfSome row.place (λ place. front + place + row.sectors < 2 ^ 32)
 
 -- those of all rows do
-abbrev pub RowsFit : List DataRow → Type 0
-RowsFit rows = AllByRecursion RowFits rows
+abbrev pub RowsFit : (front : ℕ) → List DataRow → Type 0
+RowsFit front rows = AllByRecursion (RowFits front) rows

@@ -1,5 +1,5 @@
 -- Contract: the places of sectors in the log and in objects, and how they go on.
-use Rattle.std.specs.Prelude.{ℕ, ◌+◌, ◌-◌, ◌/◌, Option, Some, None, option_map, List, [], ◌∷◌, length, if◌then◌else◌}
+use Rattle.std.specs.Prelude.{ℕ, ◌+◌, ◌-◌, ◌/◌, ◌^◌, Option, Some, None, option_map, List, [], ◌∷◌, length, if◌then◌else◌}
 use Rattle.std.specs.Option.{option_or}
 use Rattle.lsvd_base.specs.declared.entry.Entry.{Entry}
 use Rattle.lsvd_base.specs.declared.entry.Entry.TheVariants.{Write, Zero}
@@ -31,9 +31,13 @@ abbrev pub log_number : LogPlace → ℕ
 log_number (Data seq sector) = sector
 log_number (Zeros seq) = 0
 
+-- An object's sectors stand in 32 bits, so the last of them has the greatest number that a place may have.
+abbrev pub object_number : ObjectPlace → ℕ
+object_number place = 2 ^ 63 - 2 ^ 32 + place.sector
+
 abbrev pub volume_number : VolumePlace → ℕ
 volume_number (Log place) = log_number place
-volume_number (Object place) = place.sector
+volume_number (Object place) = object_number place
 
 -- the seq of the entry that left a sector there
 abbrev pub seq_of : LogPlace → ℕ

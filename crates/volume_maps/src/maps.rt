@@ -72,35 +72,35 @@ impl VolumeMaps {
         self.log.set(row.lba, row.sectors, row.place);
     }
 
-    /// Settles the data object of this number with these rows, whose entries end before the seq `end`: it has the sectors that its
-    /// rows put from then on, and none has those that they clear; and of its rows' sectors the log's map keeps those alone that
-    /// entries from `end` on changed. There is room for a change of each map for each row, and the rows and their places end below
-    /// 2^63 (conditions). It takes no memory.
-    pub fn settle(&mut self, number: u64, end: u64, rows: &[DataRow])
+    /// Settles the data object of this number with these rows, whose payload stands after `front` sectors, and whose entries end before
+    /// the seq `end`: it has the sectors that its rows put from then on, and none has those that they clear; and of its rows' sectors
+    /// the log's map keeps those alone that entries from `end` on changed. There is room for a change of each map for each row, and the
+    /// rows end below 2^63 and their places in the object below 2^32 (conditions). It takes no memory.
+    pub fn settle(&mut self, number: u64, front: u64, end: u64, rows: &[DataRow])
         requires settled_room { length rows.now ≤ self.old.settled.spare }
         requires log_room { length rows.now ≤ self.old.log.spare }
-        requires fits { RowsFit rows.now }
-        ensures settled { (k : ℕ) → settled_at self.new k ≡ settled_by number rows.now (settled_at self.old k) k }
+        requires fits { RowsFit front rows.now }
+        ensures settled { (k : ℕ) → settled_at self.new k ≡ settled_by number front rows.now (settled_at self.old k) k }
         ensures log { (k : ℕ) → logged_at self.new k ≡ logged_by end rows.now (logged_at self.old k) k }
         ensures settled_spare { self.old.settled.spare ≤ self.new.settled.spare + length rows.now }
         ensures log_spare { self.old.log.spare ≤ self.new.log.spare + length rows.now }
     {
         for row in rows {
-            self.settle_row(number, end, row);
+            self.settle_row(number, front, end, row);
         }
     }
 
     // Settles one row of a data object.
-    fn settle_row(&mut self, number: u64, end: u64, row: &DataRow)
+    fn settle_row(&mut self, number: u64, front: u64, end: u64, row: &DataRow)
         requires settled_room { 1 ≤ self.old.settled.spare }
         requires log_room { 1 ≤ self.old.log.spare }
-        requires fits { RowFits row.now }
-        ensures settled { (k : ℕ) → settled_at self.new k ≡ settled_by_row number row.now (settled_at self.old k) k }
+        requires fits { RowFits front row.now }
+        ensures settled { (k : ℕ) → settled_at self.new k ≡ settled_by_row number front row.now (settled_at self.old k) k }
         ensures log { (k : ℕ) → logged_at self.new k ≡ logged_by_row end row.now (logged_at self.old k) k }
         ensures settled_spare { self.old.settled.spare ≤ self.new.settled.spare + 1 }
         ensures log_spare { self.old.log.spare ≤ self.new.log.spare + 1 }
     {
-        settle_in(&mut self.settled, number, row);
+        settle_in(&mut self.settled, number, front, row);
         self.log
             .clear_if(row.lba, row.sectors, |place| place.seq() < end);
     }
@@ -124,18 +124,18 @@ impl VolumeMaps {
 }
 
 // Settles one row of a data object in the objects' map.
-fn settle_in(settled: &mut ExtentMap<ObjectPlace>, number: u64, row: &DataRow)
+fn settle_in(settled: &mut ExtentMap<ObjectPlace>, number: u64, front: u64, row: &DataRow)
     requires room { 1 ≤ settled.old.spare }
-    requires fits { RowFits row.now }
-    ensures places { (k : ℕ) → place_at object_on settled.new.rows k ≡ settled_by_row number row.now (place_at object_on settled.old.rows k) k }
+    requires fits { RowFits front row.now }
+    ensures places { (k : ℕ) → place_at object_on settled.new.rows k ≡ settled_by_row number front row.now (place_at object_on settled.old.rows k) k }
     ensures spare { settled.old.spare ≤ settled.new.spare + 1 }
 {
     match row.place {
-        Some(sector) => {
+        Some(place) => {
             let place = ObjectPlace {
                 level: 0,
                 number,
-                sector,
+                sector: (front + place) as u32,
             };
             settled.set(row.lba, row.sectors, place);
         }

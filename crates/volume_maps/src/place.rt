@@ -3,32 +3,35 @@ ghost use Rattle.volume_maps.specs.Places.{seq_of};
 
 use extent_map::Place;
 
-/// Where an object has a sector.
+// The number of an object's first sector, as a place: the last of its 2^32 sectors has the greatest number of a place.
+const FIRST_NUMBER: u64 = (1 << 63) - (1 << 32);
+
+/// Where an object has a sector. It takes 16 bytes, since a map of a large volume has millions of rows.
 #[derive(Clone, Copy, Debug, PartialEq, Eq)]
 pub struct ObjectPlace {
-    /// How many clones lie between the volume and the object: 0 is for an object of the volume's own.
-    pub level: u32,
     /// The number of the object.
     pub number: u64,
-    /// The sector of its payload.
-    pub sector: u64,
+    /// How many clones lie between the volume and the object: 0 is for an object of the volume's own.
+    pub level: u32,
+    /// The sector of the whole object, header and rows counted: the sector N is its 512 bytes from byte 512 N on.
+    pub sector: u32,
 }
 
 impl Place for ObjectPlace {
-    ghost use Rattle.std.proofs.Common.{arith, inl, refl};
-    ghost use Rattle.volume_maps.specs.Places.{object_on};
+    ghost use Rattle.std.proofs.Common.{arith, inl};
+    ghost use Rattle.volume_maps.specs.Places.{object_number, object_on};
 
-    ghost number = { λ p. p.sector };
+    ghost number = { object_number };
 
     ghost on = { object_on };
 
     fn number(&self) -> u64 {
-        self.sector
+        FIRST_NUMBER + self.sector as u64
     }
 
     fn on(&self, sectors: u64) -> ObjectPlace {
         ObjectPlace {
-            sector: self.sector + sectors,
+            sector: (self.sector as u64 + sectors) as u32,
             ..*self
         }
     }
@@ -41,7 +44,7 @@ impl Place for ObjectPlace {
 
     ghost on_twice = { λ a b p. Prim.grind arith };
 
-    ghost number_on = { λ n p. inl refl };
+    ghost number_on = { λ n p. inl (Prim.omega arith) };
 }
 
 /// Where the last entry past the frontier that changed a sector left it.
@@ -142,5 +145,5 @@ impl Place for VolumePlace {
 
     ghost on_twice = { λ a b. elim [ Log (Data seq sector) ↦ Prim.grind arith | Log (Zeros seq) ↦ refl | Object place ↦ Prim.grind arith ] };
 
-    ghost number_on = { λ n. elim [ Log (Data seq sector) ↦ inl refl | Log (Zeros seq) ↦ inr (refl, refl) | Object place ↦ inl refl ] };
+    ghost number_on = { λ n. elim [ Log (Data seq sector) ↦ inl refl | Log (Zeros seq) ↦ inr (refl, refl) | Object place ↦ inl (Prim.omega arith) ] };
 }

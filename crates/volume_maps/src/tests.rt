@@ -1,6 +1,6 @@
 ghost use Rattle.std.specs.Prelude.{◌+◌, ◌<◌, ◌^◌, IsTrue};
 ghost use Rattle.lsvd_base.specs.Laws.{first_sector, sector_count};
-ghost use Rattle.volume_maps.specs.Maps.{RowFits};
+ghost use Rattle.volume_maps.specs.Maps.{RowsFit};
 ghost use Rattle.volume_maps.specs.Places.{log_number, row_left_by};
 
 use super::*;
@@ -15,8 +15,10 @@ use std::test::Fail;
 // How many sectors the tests use.
 const SECTORS: u64 = 24;
 
-// The last sector of the log at which they let data begin.
+// The last sector of the log, and of an object, at which they let data begin.
 const LOG_LAST: u64 = 1 << 32;
+
+const OBJECT_LAST: u64 = 1 << 16;
 
 // Two writes, of which the second lies inside the first.
 const OUTER: Call = Write(0, 9, 100);
@@ -42,7 +44,7 @@ enum Spot {
     // In the log, as zeros by the entry with this seq.
     ZerosBy(u64),
     // In the object of the volume's own with this number, at a sector.
-    InObject(u64, u64),
+    InObject(u64, u32),
 }
 
 // The sectors of an entry, and of a write the sector of the log at which its data begin.
@@ -109,12 +111,13 @@ impl Plain {
         let mut payload = 0u64;
         for (k, owner) in self.owners.iter_mut().enumerate() {
             let k = k as u64;
+            let front = front_of(self.objects);
             if let Some(span) = entries.iter().rev().find(|span| span.offset(k).is_some()) {
                 let place = span.data_at.map(|_| payload);
-                *owner = place.map(|sector| ObjectPlace {
+                *owner = place.map(|place| ObjectPlace {
                     level: 0,
                     number: self.objects,
-                    sector,
+                    sector: narrow(front.wrapping_add(place)),
                 });
                 add_changed(&mut rows, k, place)?;
                 payload = payload.wrapping_add(place.is_some() as u64);
@@ -152,6 +155,11 @@ impl Plain {
         }
         Ok(rows)
     }
+}
+
+// The sectors of an object of the tests before its payload: another count for each.
+fn front_of(number: u64) -> u64 {
+    number.wrapping_mul(10)
 }
 
 // Adds a sector that an object puts at a place, or clears, to the last row where it is one with that, or else as a row.
@@ -192,6 +200,11 @@ fn add_placed(
     Ok(())
 }
 
+// A number in 32 bits, or the greatest where it has none.
+fn narrow(number: u64) -> u32 {
+    number.min(u32::MAX as u64) as u32
+}
+
 // The place N sectors on.
 fn place_on(place: VolumePlace, sectors: u64) -> VolumePlace {
     match place {
@@ -201,7 +214,7 @@ fn place_on(place: VolumePlace, sectors: u64) -> VolumePlace {
         }),
         VolumePlace::Log(LogPlace::Zeros { .. }) => place,
         VolumePlace::Object(place) => VolumePlace::Object(ObjectPlace {
-            sector: place.sector.wrapping_add(sectors),
+            sector: place.sector.wrapping_add(narrow(sectors)),
             ..place
         }),
     }
@@ -260,10 +273,11 @@ fn enter(maps: &mut VolumeMaps, entry: &Entry, seq: u64, data_at: u64) -> Result
 // Settles an object of the tests, with just the room that it needs.
 fn settle(maps: &mut VolumeMaps, number: u64, end: u64, rows: &[DataRow]) -> Result<(), Fail> {
     maps.reserve(rows.len(), rows.len())?;
-    if !rows.iter().all(row_fits) {
+    let front = front_of(number);
+    if !rows_fit(front, rows) {
         return Err("past the end")?;
     }
-    maps.settle(number, end, rows);
+    maps.settle(number, front, end, rows);
     Ok(())
 }
 
@@ -280,11 +294,14 @@ fn entry_fits(entry: &Entry, seq: u64, data_at: u64) -> bool
     }
 }
 
-// Whether a row and its payload lie inside what the tests use.
-fn row_fits(row: &DataRow) -> bool
-    ensures { IsTrue result → RowFits row.now }
+// Whether rows and their places in the object lie inside what the tests use.
+fn rows_fit(front: u64, rows: &[DataRow]) -> bool
+    ensures { IsTrue result → RowsFit front rows.now }
 {
-    row.lba <= SECTORS && row.sectors <= SECTORS && row.place.unwrap_or(0) <= SECTORS
+    front <= OBJECT_LAST
+        && rows.iter().all(|row| {
+            row.lba <= SECTORS && row.sectors <= SECTORS && row.place.unwrap_or(0) <= SECTORS
+        })
 }
 
 // The next of a list of numbers in no order, below a limit.
@@ -377,15 +394,15 @@ fn a_look_gives_the_log_over_the_objects(rt: HostRuntime) -> Result<(), Fail> {
             &[OUTER, Settle(1), INNER],
             (0, SECTORS),
             &[
-                (0, 3, InObject(1, 0)),
+                (0, 3, InObject(1, 10)),
                 (3, 2, InLog(1, 200)),
-                (5, 4, InObject(1, 5)),
+                (5, 4, InObject(1, 15)),
             ],
         ),
         (
             &[OUTER, Settle(1), INNER],
             (2, 2),
-            &[(2, 1, InObject(1, 2)), (3, 1, InLog(1, 200))],
+            &[(2, 1, InObject(1, 12)), (3, 1, InLog(1, 200))],
         ),
         // A row of the log that covers the end of one row of objects, a gap, and the beginning of the next.
         (
@@ -397,9 +414,9 @@ fn a_look_gives_the_log_over_the_objects(rt: HostRuntime) -> Result<(), Fail> {
             ],
             (0, SECTORS),
             &[
-                (0, 2, InObject(1, 0)),
+                (0, 2, InObject(1, 10)),
                 (2, 5, InLog(2, 200)),
-                (7, 2, InObject(1, 4)),
+                (7, 2, InObject(1, 14)),
             ],
         ),
         // A zeroing lies over an object. Once it is settled, no object has the sectors.
@@ -407,45 +424,45 @@ fn a_look_gives_the_log_over_the_objects(rt: HostRuntime) -> Result<(), Fail> {
             &[OUTER, Settle(1), Zero(3, 2)],
             (0, SECTORS),
             &[
-                (0, 3, InObject(1, 0)),
+                (0, 3, InObject(1, 10)),
                 (3, 2, ZerosBy(1)),
-                (5, 4, InObject(1, 5)),
+                (5, 4, InObject(1, 15)),
             ],
         ),
         (
             &[OUTER, Settle(1), Zero(3, 2), Settle(1)],
             (0, SECTORS),
-            &[(0, 3, InObject(1, 0)), (5, 4, InObject(1, 5))],
+            &[(0, 3, InObject(1, 10)), (5, 4, InObject(1, 15))],
         ),
         // An object is settled after later entries changed some of its sectors: these stay in the log.
         (
             &[OUTER, INNER, Settle(1)],
             (0, SECTORS),
             &[
-                (0, 3, InObject(1, 0)),
+                (0, 3, InObject(1, 10)),
                 (3, 2, InLog(1, 200)),
-                (5, 4, InObject(1, 5)),
+                (5, 4, InObject(1, 15)),
             ],
         ),
         (
             &[OUTER, Zero(3, 2), Settle(1)],
             (0, SECTORS),
             &[
-                (0, 3, InObject(1, 0)),
+                (0, 3, InObject(1, 10)),
                 (3, 2, ZerosBy(1)),
-                (5, 4, InObject(1, 5)),
+                (5, 4, InObject(1, 15)),
             ],
         ),
         // The payload of an object has no sector that was overwritten or zeroed before it.
         (
             &[OUTER, INNER, Settle(2)],
             (0, SECTORS),
-            &[(0, 9, InObject(1, 0))],
+            &[(0, 9, InObject(1, 10))],
         ),
         (
             &[OUTER, Zero(3, 2), Settle(2)],
             (0, SECTORS),
-            &[(0, 3, InObject(1, 0)), (5, 4, InObject(1, 3))],
+            &[(0, 3, InObject(1, 10)), (5, 4, InObject(1, 13))],
         ),
         // Rows of two writes in the log, or of two objects, stay two; those of two writes in one object are one.
         (
@@ -461,12 +478,12 @@ fn a_look_gives_the_log_over_the_objects(rt: HostRuntime) -> Result<(), Fail> {
         (
             &[Write(0, 4, 100), Settle(1), Write(4, 4, 104), Settle(1)],
             (0, SECTORS),
-            &[(0, 4, InObject(1, 0)), (4, 4, InObject(2, 0))],
+            &[(0, 4, InObject(1, 10)), (4, 4, InObject(2, 20))],
         ),
         (
             &[Write(0, 4, 100), Write(4, 4, 104), Settle(2)],
             (0, SECTORS),
-            &[(0, 8, InObject(1, 0))],
+            &[(0, 8, InObject(1, 10))],
         ),
     ];
     for (calls, (lba, sectors), wanted) in tables {

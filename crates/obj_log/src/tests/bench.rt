@@ -33,7 +33,7 @@ fn name_of(volume: u8, number: u64) -> ObjName
 }
 
 // The receipt of a store that an object was put into under the name of this number. The list reads the name alone.
-fn receipt_of(alloc: Global, volume: u8, number: u64) -> Result<MemReceipt, AllocError> {
+pub fn receipt_of(alloc: Global, volume: u8, number: u64) -> Result<MemReceipt, AllocError> {
     let bytes = ObjectBytes::from_bytes(Vec::new(alloc))?;
     put(alloc, &name_of(volume, number), &bytes).ok_or(AllocError)
 }

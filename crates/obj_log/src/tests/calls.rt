@@ -49,7 +49,8 @@ const CALLS: &[Row] = &[
     (Done(10, 10), Answer::Acknowledged(10), [10, 26, 0, 0, 10]),
 ];
 
-// Where the sectors are after these calls: sector 0 was zeroed by object 9, and sectors 4 and 5 by object 8.
+// Where the sectors are after these calls: sector 0 was zeroed by object 9, and sectors 4 and 5 by object 8. Each object has one sector
+// of header and rows.
 const PLACES: &[Extent<VolumePlace>] = &[
     Extent {
         lba: 1,
@@ -57,7 +58,7 @@ const PLACES: &[Extent<VolumePlace>] = &[
         place: VolumePlace::Object(ObjectPlace {
             level: 0,
             number: 9,
-            sector: 0,
+            sector: 1,
         }),
     },
     Extent {
@@ -66,7 +67,7 @@ const PLACES: &[Extent<VolumePlace>] = &[
         place: VolumePlace::Object(ObjectPlace {
             level: 0,
             number: 10,
-            sector: 0,
+            sector: 1,
         }),
     },
     Extent {
@@ -75,7 +76,7 @@ const PLACES: &[Extent<VolumePlace>] = &[
         place: VolumePlace::Object(ObjectPlace {
             level: 0,
             number: 9,
-            sector: 2,
+            sector: 3,
         }),
     },
     Extent {
@@ -84,7 +85,7 @@ const PLACES: &[Extent<VolumePlace>] = &[
         place: VolumePlace::Object(ObjectPlace {
             level: 0,
             number: 8,
-            sector: 4,
+            sector: 5,
         }),
     },
 ];

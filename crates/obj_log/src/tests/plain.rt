@@ -222,7 +222,7 @@ impl Plain {
                 return Some(ObjectPlace {
                     level: 0,
                     number,
-                    sector: puts_before(changes, k),
+                    sector: narrow(front_of(changes).wrapping_add(puts_before(changes, k))),
                 });
             }
             begin = object.end;
@@ -262,6 +262,34 @@ fn last_of(changes: &[Change], k: u64) -> Option<usize> {
         }
     }
     last
+}
+
+// The sectors of an object of these changes before its payload: a header of 64 bytes, and 24 for each row.
+fn front_of(changes: &[Change]) -> u64 {
+    let mut bytes = 64u64;
+    for k in 0..SECTORS {
+        if begins(changes, k) {
+            bytes = bytes.wrapping_add(24);
+        }
+    }
+    bytes.div_ceil(512)
+}
+
+// Whether a row begins at a sector: the changes do to it what they do not do to the one before it.
+fn begins(changes: &[Change], k: u64) -> bool {
+    let does = does(changes, k);
+    does.is_some() && (k == 0 || does != self::does(changes, k.wrapping_sub(1)))
+}
+
+// Whether the changes put a sector or clear it. None is for one that they leave.
+fn does(changes: &[Change], k: u64) -> Option<bool> {
+    let mut does = None;
+    for change in changes {
+        if change.covers(k) {
+            does = Some(change.is_write());
+        }
+    }
+    does
 }
 
 // Whether the changes put a sector: the last that covers it is a write.
@@ -311,6 +339,11 @@ fn place_in(rows: &[Extent<VolumePlace>], k: u64) -> Option<VolumePlace> {
     None
 }
 
+// A number in 32 bits, or the greatest where it has none.
+fn narrow(number: u64) -> u32 {
+    number.min(u32::MAX as u64) as u32
+}
+
 // The place so many sectors on.
 fn place_on(place: VolumePlace, on: u64) -> VolumePlace {
     match place {
@@ -320,7 +353,7 @@ fn place_on(place: VolumePlace, on: u64) -> VolumePlace {
         }),
         VolumePlace::Log(LogPlace::Zeros { seq }) => VolumePlace::Log(LogPlace::Zeros { seq }),
         VolumePlace::Object(place) => VolumePlace::Object(ObjectPlace {
-            sector: place.sector.wrapping_add(on),
+            sector: place.sector.wrapping_add(narrow(on)),
             ..place
         }),
     }

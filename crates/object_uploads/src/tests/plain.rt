@@ -242,7 +242,7 @@ impl Plain {
         Some(VolumePlace::Object(ObjectPlace {
             level: 0,
             number: object.number,
-            sector: sectors_before(changes, k),
+            sector: narrow(front_of(changes).wrapping_add(sectors_before(changes, k))),
         }))
     }
 
@@ -313,6 +313,22 @@ fn row_at(changes: &[Change], k: u64) -> DataRow {
         sectors: sectors_alike(changes, k),
         place: is_put.then_some(sectors_before(changes, k)),
     }
+}
+
+// A number in 32 bits, or the greatest where it has none.
+pub(super) fn narrow(number: u64) -> u32 {
+    number.min(u32::MAX as u64) as u32
+}
+
+// The sectors of an object of these changes before its payload: a header of 64 bytes, and 24 for each row.
+fn front_of(changes: &[Change]) -> u64 {
+    let mut bytes = 64u64;
+    for k in 0..SECTORS {
+        if begins(changes, k) {
+            bytes = bytes.wrapping_add(24);
+        }
+    }
+    bytes.div_ceil(512)
 }
 
 // The rows of an object of these changes, the fewest that there are.

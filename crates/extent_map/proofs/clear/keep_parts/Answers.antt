@@ -1,94 +1,71 @@
-use Rattle.std.proofs.Common.{◌≡◌, ◌+◌, ◌<◌, ◌≤◌, length, get_or, refl, sym, ◌∙◌, ap, subst, arith, rules}
+use Rattle.std.proofs.Common.{◌+◌, ◌∙◌, ◌++◌, take, drop, refl, sym, ap, subst, arith, rules}
 use Rattle.std.specs.Prelude.{option_to_list}
-use Rattle.std.proofs.lemmas.List.{take_all}
-use Rattle.extent_map.specs.Extents.{Fits}
-use Rattle.extent_map.proofs.Order.{fits_at}
-use Rattle.extent_map.proofs.Kept.{spans_at, none_left, read_old, kept_none, kept_some}
-use Rattle.extent_map.specs.Clear.{rows_left}
-use Rattle.extent_map.proofs.clear.keep_parts.Given as given
-use Rattle.extent_map.proofs.clear.keep_parts.Goals.{in-Some, in_default}
+use Rattle.page_list.specs.Items.{IsIn, cursor_index}
+use Rattle.extent_map.proofs.Kept.{kept_all, kept_past, kept_more, next_fits, next_spans}
 use Rattle.extent_map.proofs.clear.keep_parts.Goals as goal
 
-pub loop-index-init : goal.loop-index-init
-loop-index-init g c =
-    let order = c.requires.1.1.0 in
+pub loop-row-init : goal.loop-row-init
+loop-row-init g c =
+    let place = c.requires.1.1.1.0 in
+    let rows = c.requires.1.1.1.1 in
     record {
-      front = sym (none_left g.P.Place.on c.args.lba c.args.end order g.test);
-      rest = refl;
-      behind = omega arith;
-      within = omega arith;
-      long = refl;
+      lengths = refl;
+      free = refl;
+      kept = place;
+      place = place;
+      so_far = record { all = refl; behind = omega arith; shortest = rows.0; fits = rows.1.0; spans = rows.1.1.0 };
     }
-
--- the row that is read is one of those that were passed
-read_row : (g : given.Over) (c : goal.After-index-rows-index g)
-    → c.index-rows-index.result ≡ get_or c.args.rows.now c.loop-index.index c.index-rows-index.result
-read_row g c =
-    let order = c.requires.1.1.0 in
-    let long = c.loop-index.invariant.long in
-    let inside : c.loop-index.index < length c.loop-index.rows = omega (arith, c.loop-index-test.true) in
-    read_old g.P.Place.on c.args.lba c.args.end order g.test c.args.rows.now c.loop-index.rows
-    c.loop-index.kept c.loop-index.index c.index-rows-index.result c.loop-index.invariant inside c.index-rows-index.is
 
 pub part_kept-requires : goal.part_kept-requires
 part_kept-requires g c κs within =
     let order = c.requires.1.1.0 in
-    let more = c.requires.1.1.1 in
-    let row = c.index-rows-index.result in
-    let rows = c.args.rows.now in
-    let is = sym (read_row g c) in (
+    let calls = c.requires.1.1.1.1.1.1.1 in
+    let so_far = c.loop-row.invariant.so_far in (
       search rules,
       (
         search rules,
         (
           order,
           (
-            subst (Fits g.P.Place.number) is (fits_at g.P.Place.number c.loop-index.index rows row more.0 c.loop-index-test.true),
+            next_fits g.P.Place.on c.args.lba c.args.end order g.test g.P.Place.number _ _ _ _ so_far c.in-Some.row (sym c.get.ensures ∙ c.in-Some.is),
             (
-              subst (λ r. r.lba < c.args.lba → r.lba + r.sectors ≤ c.args.end) is
-                  (spans_at c.args.lba c.args.end c.loop-index.index rows row more.1.0 c.loop-index-test.true),
-              more.1.1,
+              next_spans g.P.Place.on c.args.lba c.args.end order g.test g.P.Place.number _ _ _ _ so_far c.in-Some.row (sym c.get.ensures ∙ c.in-Some.is),
+              calls,
             ),
           ),
         ),
       ),
     )
 
-pub bounds-rows-kept : goal.bounds-rows-kept
-bounds-rows-kept g c = omega (arith, c.loop-index.invariant.behind, c.loop-index.invariant.long, c.loop-index-test.true)
-
-pub offset_bounds-rows-kept : goal.offset_bounds-rows-kept
-offset_bounds-rows-kept g c =
-    let inside : c.loop-index.kept < length c.args.rows.now = omega (arith, c.loop-index.invariant.behind, c.loop-index-test.true) in
-    search rules
-
-pub overflow_add-kept : goal.overflow_add-kept
-overflow_add-kept g c = omega (arith, c.loop-index.invariant.behind, c.loop-index-test.true)
-
-pub loop-index-preserved : goal.loop-index-preserved
-loop-index-preserved g c =
+pub loop-row-preserved : goal.loop-row-preserved
+loop-row-preserved g c =
     let order = c.requires.1.1.0 in
-    let long = c.loop-index.invariant.long in
-    let inside : c.loop-index.index < length c.loop-index.rows = omega (arith, c.loop-index-test.true) in
-    let row = c.index-rows-index.result in
-    elim c.match-part_kept.branch [
-      | in-Some w ↦
-          rw (w.rows-is, w.kept-is)
-          (kept_some g.P.Place.on c.args.lba c.args.end order g.test c.args.rows.now c.loop-index.rows c.loop-index.kept
-          c.loop-index.index row c.loop-index.invariant inside c.index-rows-index.is w.in-Some.part
-          (sym (ap option_to_list w.in-Some.is) ∙ c.part_kept.ensures))
-      | in_default w ↦
-          rw (w.rows-is, w.kept-is)
-          (kept_none g.P.Place.on c.args.lba c.args.end order g.test c.args.rows.now c.loop-index.rows c.loop-index.kept
-          c.loop-index.index row c.loop-index.invariant inside c.index-rows-index.is
-          (sym (ap option_to_list w.in_default.is) ∙ c.part_kept.ensures))
-    ]
+    let so_far = c.loop-row.invariant.so_far in
+    let same = c.keep_part-kept.ensures.lengths in
+    record {
+      lengths = c.keep_part-kept.ensures.lengths ∙ c.loop-row.invariant.lengths;
+      free = c.keep_part-kept.ensures.free ∙ c.loop-row.invariant.free;
+      kept = subst (λ ns. IsIn ns c.keep_part-kept.result) (sym same) c.keep_part-kept.ensures.place;
+      place = c.next-at.ensures.place;
+      so_far = kept_more g.P.Place.on c.args.lba c.args.end order g.test g.P.Place.number _ _ _ _ so_far c.in-Some.row (sym c.get.ensures ∙ c.in-Some.is)
+          c.keep_part-kept.new.rows.items (option_to_list c.part_kept.result) (cursor_index c.loop-row.rows.lengths c.keep_part-kept.result)
+          (cursor_index c.keep_part-kept.new.rows.lengths c.keep_part-kept.result) (cursor_index c.keep_part-kept.new.rows.lengths c.next-at.result)
+          c.part_kept.ensures c.keep_part-kept.ensures.front c.keep_part-kept.ensures.back c.keep_part-kept.ensures.near
+          (ap (λ ns. cursor_index ns c.keep_part-kept.result) same)
+          (c.next-at.ensures.index ∙ ap (λ ns. cursor_index ns c.loop-row.at + 1) same);
+    }
 
-pub returns-clause-rows : goal.returns-clause-rows
-returns-clause-rows g c =
-    let all : length c.args.rows.now ≤ c.loop-index.index = c.loop-index-test.false in
-    c.loop-index.invariant.front
-    ∙ ap (rows_left g.P.Place.on c.args.lba c.args.end g.test) (take_all c.loop-index.index c.args.rows.now all)
+pub returns-then-end-row-clause-rows : goal.returns-then-end-row-clause-rows
+returns-then-end-row-clause-rows g c =
+    let order = c.requires.1.1.0 in
+    let now = c.loop-row in
+    ap (λ ns. take (cursor_index ns now.kept) now.rows.items ++ drop (cursor_index ns now.at) now.rows.items) (sym now.invariant.lengths)
+    ∙ kept_past g.P.Place.on c.args.lba c.args.end order g.test g.P.Place.number _ _ _ _ now.invariant.so_far c.in-Some.row
+    (sym c.get.ensures ∙ c.in-Some.is) c.if-end-row.true
 
-pub returns-clause-bound : goal.returns-clause-bound
-returns-clause-bound g c = omega (arith, c.loop-index.invariant.behind, c.loop-index.invariant.within)
+pub returns-in_default-clause-rows : goal.returns-in_default-clause-rows
+returns-in_default-clause-rows g c =
+    let order = c.requires.1.1.0 in
+    let now = c.loop-row in
+    ap (λ ns. take (cursor_index ns now.kept) now.rows.items ++ drop (cursor_index ns now.at) now.rows.items) (sym now.invariant.lengths)
+    ∙ kept_all g.P.Place.on c.args.lba c.args.end order g.test g.P.Place.number _ _ _ _ now.invariant.so_far (sym c.get.ensures ∙ c.in_default.is)

@@ -1,49 +1,119 @@
-use Rattle.std.proofs.Common.{arith, length, ap, ◌∙◌, zero-add}
-use Rattle.extent_map.specs.Cut.{rows_before}
-use Rattle.extent_map.proofs.TakenOut.{count_once, shortest_once, fit_once, left, count_left}
+use Rattle.std.proofs.Common.{◌≡◌, ◌≤◌, ◌∙◌, ◌++◌, length, take, drop, sym, ap, subst, arith}
+use Rattle.page_list.specs.Items.{cursor_index}
+use Rattle.extent_map.specs.Extents.{IsShortest, AllFit}
+use Rattle.extent_map.specs.Cut.{rows_before, before_count}
+use Rattle.extent_map.proofs.CutTwice.{from_twice, none_between, some_between, before_length, front_count, front_shortest, front_fits, taken, taken_count}
 use Rattle.extent_map.proofs.cut.take_out.Goals as goal
 
-pub cut-to-requires-clause-room : goal.cut-to-requires-clause-room
-cut-to-requires-clause-room g c =
-    let from = c.cut-from.ensures.index ∙ zero-add (length (rows_before c.args.lba c.args.rows.now.items)) in
+pub cut_one-requires-clause-end : goal.cut_one-requires-clause-end
+cut_one-requires-clause-end g c =
+    none_between c.args.end c.args.lba _ c.args.rows.now.items c.get.result c.begins_before.result (omega (arith, c.requires.order)) c.first_from-first.ensures.index
+    c.begins_before.ensures c.get.ensures c.if-not-begins_before.true
+
+pub returns-then-not-begins_before-clause-rows : goal.returns-then-not-begins_before-clause-rows
+returns-then-not-begins_before-clause-rows g c =
+    c.cut_one.ensures.rows
+    ∙ ap (λ xs. rows_before c.args.lba c.args.rows.now.items ++ xs)
+    (sym (from_twice g.P.Place.on g.met.P.Place.on_twice c.args.lba c.args.end c.args.rows.now.items c.requires.order c.requires.shortest))
+
+pub returns-then-not-begins_before-clause-length : goal.returns-then-not-begins_before-clause-length
+returns-then-not-begins_before-clause-length g c =
+    let twice = from_twice g.P.Place.on g.met.P.Place.on_twice c.args.lba c.args.end c.args.rows.now.items c.requires.order c.requires.shortest in
+    let rows = c.cut_one.ensures.rows ∙ ap (λ xs. rows_before c.args.lba c.args.rows.now.items ++ xs) (sym twice) in
     omega (
       arith,
-      c.requires.room,
-      c.cut-from.ensures.capacity,
-      count_once g.P.Place.on g.met.P.Place.on_twice c.args.rows.now.items c.cut-from.new.rows.items c.args.lba c.cut-from.result
-          c.requires.shortest c.cut-from.ensures.rows from,
+      ap length rows,
+      taken_count g.P.Place.on g.met.P.Place.on_twice c.args.lba c.args.end c.args.rows.now.items c.requires.shortest,
     )
 
-pub cut-to-requires-clause-shortest : goal.cut-to-requires-clause-shortest
-cut-to-requires-clause-shortest g c =
-    let from = c.cut-from.ensures.index ∙ zero-add (length (rows_before c.args.lba c.args.rows.now.items)) in
-    shortest_once g.P.Place.on g.met.P.Place.on_twice c.args.rows.now.items c.cut-from.new.rows.items c.args.lba c.cut-from.result
-    c.requires.shortest c.cut-from.ensures.rows from
+pub cut_back-requires-clause-index : goal.cut_back-requires-clause-index
+cut_back-requires-clause-index g c =
+    let found = some_between c.args.end c.args.lba _ c.args.rows.now.items c.get.result c.begins_before.result (omega (arith, c.requires.order)) c.first_from-first.ensures.index
+    c.begins_before.ensures c.get.ensures c.if-not-begins_before.false in
+    let near : cursor_index c.args.rows.now.lengths c.first_from-first.result ≤ cursor_index c.args.rows.now.lengths c.cut_front-last.result =
+    omega (arith, found, c.cut_front-last.ensures.near) in
+    let same = ap (λ ns. cursor_index ns c.first_from-first.result) c.cut_front-last.ensures.lengths in
+    same
+    ∙ front_count g.P.Place.on c.args.rows.now.items c.cut_front-last.new.rows.items c.args.lba c.args.end (cursor_index c.args.rows.now.lengths c.first_from-first.result)
+    (cursor_index c.args.rows.now.lengths c.cut_front-last.result) c.requires.shortest c.first_from-first.ensures.index near
+    c.cut_front-last.ensures.front c.cut_front-last.ensures.back
+    ∙ ap (λ k. before_count c.args.lba (take k c.cut_front-last.new.rows.items)) (sym same)
 
-pub cut-to-requires-clause-fits : goal.cut-to-requires-clause-fits
-cut-to-requires-clause-fits g c =
-    let from = c.cut-from.ensures.index ∙ zero-add (length (rows_before c.args.lba c.args.rows.now.items)) in
-    fit_once g.P.Place.on g.met.P.Place.on_twice c.args.rows.now.items c.cut-from.new.rows.items c.args.lba c.cut-from.result
-    c.requires.shortest c.cut-from.ensures.rows from g.P.Place.number g.met.P.Place.number_on c.requires.fits
+pub cut_back-requires-clause-shortest : goal.cut_back-requires-clause-shortest
+cut_back-requires-clause-shortest g c =
+    let found = some_between c.args.end c.args.lba _ c.args.rows.now.items c.get.result c.begins_before.result (omega (arith, c.requires.order)) c.first_from-first.ensures.index
+    c.begins_before.ensures c.get.ensures c.if-not-begins_before.false in
+    let near : cursor_index c.args.rows.now.lengths c.first_from-first.result ≤ cursor_index c.args.rows.now.lengths c.cut_front-last.result =
+    omega (arith, found, c.cut_front-last.ensures.near) in
+    let same = ap (λ ns. cursor_index ns c.first_from-first.result) c.cut_front-last.ensures.lengths in
+    subst (λ k. IsShortest g.P.Place.on (take k c.cut_front-last.new.rows.items)) (sym same)
+    (front_shortest g.P.Place.on c.args.rows.now.items c.cut_front-last.new.rows.items c.args.lba c.args.end (cursor_index c.args.rows.now.lengths c.first_from-first.result)
+    (cursor_index c.args.rows.now.lengths c.cut_front-last.result) c.requires.shortest c.first_from-first.ensures.index near
+    c.cut_front-last.ensures.front c.cut_front-last.ensures.back)
 
+pub cut_back-requires-clause-fits : goal.cut_back-requires-clause-fits
+cut_back-requires-clause-fits g c =
+    let found = some_between c.args.end c.args.lba _ c.args.rows.now.items c.get.result c.begins_before.result (omega (arith, c.requires.order)) c.first_from-first.ensures.index
+    c.begins_before.ensures c.get.ensures c.if-not-begins_before.false in
+    let near : cursor_index c.args.rows.now.lengths c.first_from-first.result ≤ cursor_index c.args.rows.now.lengths c.cut_front-last.result =
+    omega (arith, found, c.cut_front-last.ensures.near) in
+    let same = ap (λ ns. cursor_index ns c.first_from-first.result) c.cut_front-last.ensures.lengths in
+    subst (λ k. AllFit g.P.Place.number (take k c.cut_front-last.new.rows.items)) (sym same)
+    (front_fits g.P.Place.on c.args.rows.now.items c.cut_front-last.new.rows.items c.args.lba c.args.end (cursor_index c.args.rows.now.lengths c.first_from-first.result)
+    (cursor_index c.args.rows.now.lengths c.cut_front-last.result) c.requires.shortest c.first_from-first.ensures.index near
+    c.cut_front-last.ensures.front c.cut_front-last.ensures.back g.P.Place.number c.requires.fits)
+
+pub remove-requires-clause-order : goal.remove-requires-clause-order
+remove-requires-clause-order g c =
+    let found = some_between c.args.end c.args.lba _ c.args.rows.now.items c.get.result c.begins_before.result (omega (arith, c.requires.order)) c.first_from-first.ensures.index
+    c.begins_before.ensures c.get.ensures c.if-not-begins_before.false in
+    let near : cursor_index c.args.rows.now.lengths c.first_from-first.result ≤ cursor_index c.args.rows.now.lengths c.cut_front-last.result =
+    omega (arith, found, c.cut_front-last.ensures.near) in
+    let lengths = c.cut_back.ensures.lengths ∙ c.cut_front-last.ensures.lengths in
+    omega (
+      arith,
+      near,
+      ap (λ ns. cursor_index ns c.first_from-first.result) lengths,
+      ap (λ ns. cursor_index ns c.cut_front-last.result) lengths,
+    )
+
+-- what the rows are in the end, by their places among the first
 pub returns-clause-rows : goal.returns-clause-rows
 returns-clause-rows g c =
-    let from = c.cut-from.ensures.index ∙ zero-add (length (rows_before c.args.lba c.args.rows.now.items)) in
-    c.remove.ensures.rows
-    ∙ left g.P.Place.on g.met.P.Place.on_twice c.args.rows.now.items c.cut-from.new.rows.items c.args.lba c.cut-from.result
-    c.requires.shortest c.cut-from.ensures.rows from
-    c.cut-to.new.rows.items c.args.end c.cut-to.result c.cut-to.ensures.rows c.cut-to.ensures.index
+    let found = some_between c.args.end c.args.lba _ c.args.rows.now.items c.get.result c.begins_before.result (omega (arith, c.requires.order)) c.first_from-first.ensures.index
+    c.begins_before.ensures c.get.ensures c.if-not-begins_before.false in
+    let near : cursor_index c.args.rows.now.lengths c.first_from-first.result ≤ cursor_index c.args.rows.now.lengths c.cut_front-last.result =
+    omega (arith, found, c.cut_front-last.ensures.near) in
+    let same = ap (λ ns. cursor_index ns c.first_from-first.result) c.cut_front-last.ensures.lengths in
+    let lengths = c.cut_back.ensures.lengths ∙ c.cut_front-last.ensures.lengths in
+    let twice = c.cut_back.new.rows.items in
+    let front = subst (λ k. take k c.cut_back.new.rows.items ≡ rows_before c.args.lba (take k c.cut_front-last.new.rows.items)) same c.cut_back.ensures.front in
+    let back = subst (λ k. drop k c.cut_back.new.rows.items ≡ drop k c.cut_front-last.new.rows.items) same c.cut_back.ensures.back in
+    let left =
+    c.remove.ensures.items
+    ∙ ap (λ ns. take (cursor_index ns c.first_from-first.result) twice ++ drop (cursor_index ns c.cut_front-last.result) twice) lengths in
+    taken g.P.Place.on c.args.rows.now.items c.cut_front-last.new.rows.items c.args.lba c.args.end (cursor_index c.args.rows.now.lengths c.first_from-first.result)
+    (cursor_index c.args.rows.now.lengths c.cut_front-last.result) c.requires.shortest c.first_from-first.ensures.index near
+    c.cut_front-last.ensures.front c.cut_front-last.ensures.back
+    c.cut_back.new.rows.items c.remove.new.self.items front back left
+    ∙ ap (λ xs. rows_before c.args.lba c.args.rows.now.items ++ xs)
+    (sym (from_twice g.P.Place.on g.met.P.Place.on_twice c.args.lba c.args.end c.args.rows.now.items c.requires.order c.requires.shortest))
+
+pub returns-clause-index : goal.returns-clause-index
+returns-clause-index g c =
+    let lengths = c.cut_back.ensures.lengths ∙ c.cut_front-last.ensures.lengths in
+    omega (
+      arith,
+      c.remove.ensures.index,
+      ap (λ ns. cursor_index ns c.first_from-first.result) lengths,
+      c.first_from-first.ensures.index,
+      before_length g.P.Place.on c.args.lba c.args.rows.now.items c.requires.shortest,
+    )
 
 pub returns-clause-length : goal.returns-clause-length
 returns-clause-length g c =
-    let from = c.cut-from.ensures.index ∙ zero-add (length (rows_before c.args.lba c.args.rows.now.items)) in
-    let kept = c.remove.ensures.rows
-    ∙ left g.P.Place.on g.met.P.Place.on_twice c.args.rows.now.items c.cut-from.new.rows.items c.args.lba c.cut-from.result
-    c.requires.shortest c.cut-from.ensures.rows from
-    c.cut-to.new.rows.items c.args.end c.cut-to.result c.cut-to.ensures.rows c.cut-to.ensures.index in
     omega (
       arith,
-      ap length kept,
-      count_left g.P.Place.on g.met.P.Place.on_twice c.args.rows.now.items c.cut-from.new.rows.items c.args.lba c.cut-from.result
-          c.requires.shortest c.cut-from.ensures.rows from c.args.end,
+      ap length (returns-clause-rows g c),
+      taken_count g.P.Place.on g.met.P.Place.on_twice c.args.lba c.args.end c.args.rows.now.items c.requires.shortest,
     )

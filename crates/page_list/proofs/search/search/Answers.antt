@@ -9,7 +9,7 @@ loop-low-preserved-then-test g c =
     let low = c.loop-low.low in
     let high = c.loop-low.high in
     let middle = low + (high - low) / 2 in
-    let is : c.add.new.self - c.args.steps.now ≡ c.loop-low.steps - c.args.steps.now + 1 = omega arith in
+    let is : c.count.new.self - c.args.steps.now ≡ c.loop-low.steps - c.args.steps.now + 1 = omega arith in
     record {
       order = omega arith;
       bound = omega arith;
@@ -28,7 +28,7 @@ loop-low-preserved g c =
     let low = c.loop-low.low in
     let high = c.loop-low.high in
     let middle = low + (high - low) / 2 in
-    let is : c.add.new.self - c.args.steps.now ≡ c.loop-low.steps - c.args.steps.now + 1 = omega arith in
+    let is : c.count.new.self - c.args.steps.now ≡ c.loop-low.steps - c.args.steps.now + 1 = omega arith in
     record {
       order = omega arith;
       bound = omega arith;

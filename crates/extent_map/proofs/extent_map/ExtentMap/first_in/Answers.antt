@@ -1,35 +1,25 @@
-use Rattle.std.proofs.Common.{ap, subst, ◌≡◌, ◌∙◌, ◌+◌}
-use Rattle.std.specs.Prelude.{IfSome, IsNone, ◌↔◌, slice_get}
-use Rattle.extent_map.specs.Cut.{rows_before, rows_from}
+use Rattle.std.proofs.Common.{subst}
+use Rattle.std.specs.Prelude.{IfSome, IsNone, ◌↔◌}
 use Rattle.extent_map.specs.Extents.{place_at, StartsRange, IsBare, IsFirstOfRange}
 use Rattle.extent_map.proofs.Range.{first_of_range, first_is_none, first_starts, first_fits}
-use Rattle.extent_map.proofs.extent_map.ExtentMap.first_in.Given as given
 use Rattle.extent_map.proofs.extent_map.ExtentMap.first_in.Goals as goal
-
--- the result is the first of the rows that the range has of those in the struct
-is_first : (g : given.Over) (c : goal.After-first_between g)
-    → c.first_between.result
-    ≡ slice_get (rows_before (c.args.lba + c.args.sectors) (rows_from g.P.Place.on c.args.lba c.self.inside.rows.items)) 0
-is_first g c =
-    c.first_between.ensures
-    ∙ ap (λ xs. slice_get (rows_before (c.args.lba + c.args.sectors) (rows_from g.P.Place.on c.args.lba xs)) 0) c.deref.ensures.value
 
 pub returns-clause-first : goal.returns-clause-first
 returns-clause-first g c =
-    subst (λ m. IsFirstOfRange g.P.Place.on c.args.lba c.args.sectors (place_at g.P.Place.on m.rows) c.first_between.result) c.self.view_is
-    (first_of_range g.P.Place.on g.met.P.Place.on_twice c.args.lba c.args.sectors c.self.inside.rows.items c.self.invariant.0 c.first_between.result (is_first g c))
+    subst (λ m. IsFirstOfRange g.P.Place.on c.args.lba c.args.sectors (place_at g.P.Place.on m.rows) c.first_of.result) c.self.view_is
+    (first_of_range g.P.Place.on g.met.P.Place.on_twice c.args.lba c.args.sectors c.self.inside.rows.items c.self.invariant.0 c.first_of.result c.first_of.ensures)
 
 pub returns-clause-none : goal.returns-clause-none
 returns-clause-none g c =
-    subst (λ m. IsNone c.first_between.result ↔ IsBare c.args.lba c.args.sectors (place_at g.P.Place.on m.rows)) c.self.view_is
-    (first_is_none g.P.Place.on g.met.P.Place.on_twice c.args.lba c.args.sectors c.self.inside.rows.items c.self.invariant.0 c.first_between.result (is_first g c))
+    subst (λ m. IsNone c.first_of.result ↔ IsBare c.args.lba c.args.sectors (place_at g.P.Place.on m.rows)) c.self.view_is
+    (first_is_none g.P.Place.on g.met.P.Place.on_twice c.args.lba c.args.sectors c.self.inside.rows.items c.self.invariant.0 c.first_of.result c.first_of.ensures)
 
 pub returns-clause-row : goal.returns-clause-row
 returns-clause-row g c =
-    subst (λ m. IfSome c.first_between.result (StartsRange g.P.Place.on c.args.lba c.args.sectors (place_at g.P.Place.on m.rows))) c.self.view_is
-    (first_starts g.P.Place.on g.met.P.Place.on_twice c.args.lba c.args.sectors c.self.inside.rows.items c.self.invariant.0 c.first_between.result (is_first g c))
+    subst (λ m. IfSome c.first_of.result (StartsRange g.P.Place.on c.args.lba c.args.sectors (place_at g.P.Place.on m.rows))) c.self.view_is
+    (first_starts g.P.Place.on g.met.P.Place.on_twice c.args.lba c.args.sectors c.self.inside.rows.items c.self.invariant.0 c.first_of.result c.first_of.ensures)
 
 pub returns-clause-fits : goal.returns-clause-fits
 returns-clause-fits g c =
-    first_fits g.P.Place.on g.met.P.Place.on_twice c.args.lba c.args.sectors c.self.inside.rows.items c.self.invariant.0 c.first_between.result (is_first g c)
+    first_fits g.P.Place.on g.met.P.Place.on_twice c.args.lba c.args.sectors c.self.inside.rows.items c.self.invariant.0 c.first_of.result c.first_of.ensures
     g.P.Place.number g.met.P.Place.number_on c.self.invariant.1

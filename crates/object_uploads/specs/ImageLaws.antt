@@ -1,0 +1,75 @@
+-- Contract: what the calls keep of the image that the objects have.
+use Rattle.std.specs.Prelude.{◌≡◌, ℕ, ◌+◌, ◌-◌, Bool, List, [], length, take}
+use Rattle.std.specs.List.{All}
+use Rattle.lsvd_base.specs.declared.entry.Entry.{Entry}
+use Rattle.lsvd_base.specs.Image.{Image, blank, after}
+use Rattle.lsvd_base.specs.Laws.{EndsBy}
+use Rattle.lsvd_objstore.specs.Store.{ReceiptState}
+use Rattle.object_format.specs.declared.expected.Expected.{Expected}
+use Rattle.object_format.specs.declared.data_row.DataRow.{DataRow}
+use Rattle.object_stream.specs.declared.object.StreamObject.{StreamObject}
+use Rattle.object_stream.specs.Stream.{Stream}
+use Rattle.object_stream.specs.Replay.{expected_at}
+use Rattle.object_stream.specs.Laws.{from_object}
+use Rattle.object_uploads.specs.State.{QueueState, UploadsState}
+use Rattle.object_uploads.specs.Queue.{IsEntered, just_sealed}
+use Rattle.object_uploads.specs.Order.{IsUploads}
+use Rattle.object_uploads.specs.Changes.{IsSealed, IsNotSealed, with_job, IsOut, IsPutDone, IsAdopted}
+use Rattle.object_uploads.specs.Stream.{IsSealedOf, AreOfStream}
+use Rattle.object_uploads.specs.Image.{TellsBytes, HasImage, ReceiptsTellBytes}
+
+-- a call keeps the image that the objects have, and what their receipts tell
+pub record KeepsImage (old new : QueueState) : Type 0 where
+  pub image : (image : Image) → HasImage image old → HasImage image new
+  pub receipts : ReceiptsTellBytes old → ReceiptsTellBytes new
+
+-- where no sector has a place, and no object is past the frontier, the image is that of a new volume
+abbrev pub ImageBegins : Type 0
+ImageBegins =
+    (queue : QueueState) (sectors : ℕ) → queue.sealed ≡ [] → queue.maps.settled.rows ≡ []
+    → HasImage (blank sectors) queue × ReceiptsTellBytes queue
+
+-- it is kept while entries are entered
+abbrev pub EnteringKeepsImage : Type 0
+EnteringKeepsImage = (entry : Entry) (seq data_at : ℕ) (old new : QueueState) → IsEntered entry seq data_at old new → KeepsImage old new
+
+-- while objects are sealed, or nothing changes but room
+abbrev pub SealingKeepsImage : Type 0
+SealingKeepsImage =
+    (bytes : List ℕ) (rows : List DataRow) (end : ℕ) (old new : UploadsState) → IsSealed bytes rows end old new → KeepsImage old.queue new.queue
+
+abbrev pub RoomKeepsImage : Type 0
+RoomKeepsImage = (old new : UploadsState) → IsNotSealed old new → KeepsImage old.queue new.queue
+
+-- and while puts begin and fail
+abbrev pub JobsKeepImage : Type 0
+JobsKeepImage = (number : ℕ) (started : Bool) (uploads : UploadsState) → KeepsImage uploads.queue (with_job number started uploads).queue
+
+-- receipts go on telling their objects' bytes while puts are done whose receipts tell the sealed bytes, where they tell any
+abbrev pub DoneKeepsReceipts : Type 0
+DoneKeepsReceipts =
+    (old new : UploadsState) (number : ℕ) (bytes : List ℕ) (receipt : ReceiptState)
+    → IsPutDone number receipt old new → IsOut old number bytes → TellsBytes bytes receipt
+    → ReceiptsTellBytes old.queue → ReceiptsTellBytes new.queue
+
+-- the entries of a stream that are in the objects that were settled: those past the old frontier, up to the new one
+abbrev pub settled_entries : Stream → (old new : QueueState) → List Entry
+settled_entries stream old new = take (new.end - old.end) (from_object old.frontier stream).entries
+
+-- By such a put the objects of a stream come to have the image after the entries of the objects that were settled.
+abbrev pub DoneMakesImage : Type 0
+DoneMakesImage =
+    (volume : Expected) (data_at : ℕ → ℕ) (stream : Stream) (old new : UploadsState) (number : ℕ) (bytes : List ℕ) (receipt : ReceiptState) (image : Image)
+    → IsUploads old.queue old.window → AreOfStream volume data_at stream old
+    → IsPutDone number receipt old new → IsOut old number bytes → TellsBytes bytes receipt → ReceiptsTellBytes old.queue
+    → All (EndsBy (length image)) (settled_entries stream old.queue new.queue)
+    → HasImage image old.queue → HasImage (after image (settled_entries stream old.queue new.queue)) new.queue
+
+-- An object that is adopted, the data object of these entries, makes it the image after them.
+abbrev pub AdoptingMakesImage : Type 0
+AdoptingMakesImage =
+    (volume : Expected) (end_before : ℕ) (entries : List Entry) (object : StreamObject) (bytes : List ℕ) (rows : List DataRow) (end : ℕ) (receipt : ReceiptState)
+    (old new : UploadsState) (image : Image)
+    → IsUploads old.queue old.window → IsSealedOf (expected_at volume (old.queue.frontier + 1) end_before) entries object (just_sealed bytes rows end)
+    → IsAdopted rows end receipt old new → TellsBytes bytes receipt → All (EndsBy (length image)) entries
+    → HasImage image old.queue → HasImage (after image entries) new.queue
