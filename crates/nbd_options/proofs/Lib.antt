@@ -1,0 +1,3 @@
+mod ExportLemmas
+mod InfoLemmas
+mod ReplyLemmas

@@ -1,0 +1,38 @@
+-- Contract: what is answered to an option, as the NBD protocol document has it for the fixed newstyle.
+use Rattle.std.specs.Prelude.{ℕ, ◌≡◌, ◌⊎◌, ◌↔◌, IsTrue, Bool, true, false, List, []}
+use Rattle.nbd_options.specs.declared.export.Export.{Export}
+use Rattle.nbd_options.specs.declared.answer.Answer.{Answer}
+use Rattle.nbd_options.specs.declared.answer.Answer.TheVariants.{Exported, Closed, Aborted, Listed, Described, Unknown, Invalid, Unsupported}
+use Rattle.nbd_options.specs.Export.{IsNameOf}
+use Rattle.nbd_options.specs.Info.{AsksFor, AsksForNothing, HasType}
+
+-- the number of an option that asks for information, and whether it enters the export too
+abbrev pub info_option : Bool → ℕ
+info_option false = 6
+info_option true = 7
+
+-- an option is one of the two
+abbrev pub IsInfoOption : ℕ → Type 0
+IsInfoOption option = (option ≡ info_option false) ⊎ (option ≡ info_option true)
+
+-- an option is none of those that are answered for themselves
+pub record IsOther (option : ℕ) : Type 0 where
+  pub no_export_name : option ≡ 1 → ⊥
+  pub no_abort : option ≡ 2 → ⊥
+  pub no_list : option ≡ 3 → ⊥
+  pub no_info : IsInfoOption option → ⊥
+
+-- the option with these data has this answer, where its data are not too long
+abbrev pub IsAnswer : Export → ℕ → List ℕ → Answer → Type 0
+IsAnswer export option content Exported = (option ≡ 1) × IsNameOf export content
+IsAnswer export option content Closed = (option ≡ 1) × (IsNameOf export content → ⊥)
+IsAnswer export option content Aborted = option ≡ 2
+IsAnswer export option content Listed = (option ≡ 3) × (content ≡ [])
+IsAnswer export option content (Described enters blocks) =
+    (option ≡ info_option enters) × (name : List ℕ) × (types : List ℕ) × AsksFor content name types × IsNameOf export name
+    × (IsTrue blocks ↔ HasType types 3)
+IsAnswer export option content Unknown =
+    IsInfoOption option × (name : List ℕ) × (types : List ℕ) × AsksFor content name types × (IsNameOf export name → ⊥)
+IsAnswer export option content Invalid =
+    ((option ≡ 3) × (content ≡ [] → ⊥)) ⊎ (IsInfoOption option × AsksForNothing content)
+IsAnswer export option content Unsupported = IsOther option

@@ -1,0 +1,4 @@
+pub mod Export
+pub mod Info
+pub mod Answers
+pub mod Replies

@@ -1,0 +1,3 @@
+pub mod MessageLemmas
+mod ReadingLemmas
+mod WritingLemmas

@@ -1,0 +1,6 @@
+pub mod Messages
+pub mod Reading
+pub mod Writing
+pub mod Fields
+pub mod Heads
+pub mod Laws
