@@ -3,3 +3,13 @@ pub mod Writers
 pub mod Machine
 pub mod Plain
 pub mod Laws
+pub mod Log
+pub mod Cache
+pub mod State
+pub mod Reads
+pub mod Entries
+pub mod Objects
+pub mod Step
+pub mod Stops
+pub mod Valid
+pub mod Fields

@@ -1,5 +1,5 @@
 -- Contract: the plain disk machine: its state, and what each event answers and leaves.
-use Rattle.std.specs.Prelude.{ℕ, ◌≡◌, ◌+◌, ◌/◌, ◌≤◌, ◌==◌, Option, Some, None, is_some, IfSome, unwrap_or, option_map, Bool, true, nat_lt, nat_le, IsTrue, List, [], ◌∷◌, ◌++◌, length, take, drop, if◌then◌else◌}
+use Rattle.std.specs.Prelude.{ℕ, ◌≡◌, ◌+◌, ◌≤◌, ◌==◌, Option, Some, None, is_some, IfSome, unwrap_or, option_map, Bool, true, nat_le, IsTrue, List, [], ◌∷◌, ◌++◌, length, take, drop, if◌then◌else◌}
 use Rattle.std.specs.List.{All, concat, sum_by}
 use Rattle.std.specs.Option.{option_or}
 use Rattle.lsvd_base.specs.declared.geometry.Geometry.{Geometry}

@@ -1,4 +1,4 @@
-ghost use Rattle.std.specs.Prelude.{◌≡◌, ◌^◌, ◌<◌, IsTrue, IfOk};
+ghost use Rattle.std.specs.Prelude.{◌≡◌, ◌^◌, ◌<◌, IsTrue, IfOk, IfSome};
 ghost use Rattle.std.specs.List.{sum_by};
 ghost use Rattle.lsvd_base.specs.Limits.{is_within_limits};
 ghost use Rattle.plain_disk.specs.Machine.{AllInRange, batch_refusal, history_reply};
@@ -61,10 +61,11 @@ pub(crate) fn batch_refusal(
 
 /// How many sectors of data the entry carries: a zeroing carries none.
 pub(crate) fn data_sectors(entry: &Entry) -> u64
-    ensures { result ≡ data_sectors entry.now }
+    ensures sectors { result ≡ data_sectors entry.now }
+    ensures small { result < 2 ^ 63 }
 {
     match entry {
-        Entry::Write { body, .. } => body.sectors(),
+        Entry::Write { body, .. } => body.as_bytes().len() as u64 / SECTOR_BYTES,
         Entry::Zero { .. } => 0,
     }
 }
@@ -79,4 +80,15 @@ pub(crate) fn sum_data_sectors(history: &[Entry]) -> u64
         sum += data_sectors(entry);
     }
     sum
+}
+
+/// How many sectors of data these entries carry; None where their number does not fit, as that of no entries in memory does not.
+pub(crate) fn count_data_sectors(entries: &[Entry]) -> Option<u64>
+    ensures { IfSome result (λ sectors. sectors ≡ sum_by data_sectors entries.now) }
+{
+    let mut sum = 0u64;
+    for entry in entries {
+        sum = sum.checked_add(data_sectors(entry))?;
+    }
+    Some(sum)
 }

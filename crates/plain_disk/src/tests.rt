@@ -1,3 +1,5 @@
+mod volume;
+
 use crate::PlainDisk;
 use crate::writers::run_count;
 use lsvd_base::{Body, Geometry};

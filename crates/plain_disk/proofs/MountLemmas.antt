@@ -1,0 +1,157 @@
+-- A mount of the plain volume, with its cache or without it, gives a plain volume.
+use Rattle.std.proofs.Common.{arith, ℕ, ◌+◌, ◌-◌, ◌<◌, ◌≤◌, ◌≡◌, Bool, true, None, List, length, take, drop, max, length-drop, sym, ◌∙◌, ap, subst₂}
+use Rattle.std.proofs.lemmas.List.{length-take, take-take}
+use Rattle.std.proofs.lemmas.List.Elements.{All-nil, All-take}
+use Rattle.std.proofs.lemmas.List.Sums.{sum_by-take-le}
+use Rattle.std.specs.Prelude.{IsTrue}
+use Rattle.lsvd_base.specs.declared.entry.Entry.{Entry}
+use Rattle.lsvd_base.specs.Range.{is_in_range}
+use Rattle.object_stream.specs.Landed.{Numbers}
+use Rattle.object_stream.specs.Stream.{end_after, end_at, last_number}
+use Rattle.object_stream.proofs.StreamLemmas.{follow_first}
+use Rattle.plain_disk.specs.declared.log.PlainCommit.{PlainCommit}
+use Rattle.plain_disk.specs.declared.log.PlainRecord.{PlainRecord}
+use Rattle.plain_disk.specs.Log.{PlainLog, commit_from, records_from, mounted_log, empty_from}
+use Rattle.plain_disk.specs.Cache.{PlainCache, cache_with, kept_commit}
+use Rattle.plain_disk.specs.State.{PlainState, stream_in, entry_count, frontier_end}
+use Rattle.plain_disk.specs.Stops.{recovered_number, recovered_end, kept_count, cut_to_count, mounted_kept, mounted_lost}
+use Rattle.plain_disk.specs.Valid.{IsLaterCommit, IsPlainLog, IsPlainVolume, MayLand, MountsKeepPlainVolume, MountsCommitEntries}
+use Rattle.plain_disk.proofs.EndLemmas.{ends_from}
+use Rattle.plain_disk.proofs.CommitLemmas.{past_count, past_used, left_used}
+use Rattle.plain_disk.proofs.StopLemmas.{kept_is_later, recovers_frontier, recovers_sealed, recovers_end, recovers_within}
+
+-- ---- the log
+
+-- of a log that a commit of it gives, the records from a seq on are left
+mounted_log_is : (end seq count : ℕ) (log : PlainLog) (found : PlainCommit) → end ≤ seq → IsPlainLog end count log
+    → IsLaterCommit log.size end count log.last found → IsPlainLog seq (max seq found.head.seq) (mounted_log found seq log)
+mounted_log_is end seq count log found from h later =
+    let size : PlainRecord → ℕ = λ r. r.pad + r.sectors in
+    let older = found.tail.seq - log.last.tail.seq in
+    let kept = found.head.seq - found.tail.seq in
+    let held : List PlainRecord = take kept (records_from log found.tail.seq) in
+    let made : PlainCommit = commit_from seq (record log { head = found.head.position; last = found; records = held; unfinished = None }) in
+    let rest : List PlainRecord = drop (seq - found.tail.seq) held in
+    let all = length-drop older log.records in
+    let held_long = length-take kept (records_from log found.tail.seq) in
+    let rest_long = length-drop (seq - found.tail.seq) held in
+    let same = past_count made.tail.position rest in
+    let order = later.within.order in
+    let tail = later.within.tail in
+    let head = later.within.head in
+    let after_last = later.tail in
+    let counted = h.counted in
+    let count_held : length held ≡ kept = omega arith in
+    let next : found.tail.seq + length held ≡ found.head.seq = omega arith in
+    record {
+      counted = omega (arith, same, rest_long, count_held);
+      room = record {
+        limit = h.room.limit;
+        head = later.within.place;
+        used = omega (arith, past_used made.tail.position rest, left_used (seq - found.tail.seq) held, sum_by-take-le size (records_from log found.tail.seq) kept, left_used older log.records, h.room.used);
+      };
+      last = record { order = omega arith; tail = omega arith; head = omega (arith, next); place = later.within.place };
+      unfinished = tt;
+    }
+
+-- ---- the volume
+
+-- with its objects up to a number, and the entries up to a count that is within them and not before that object's end
+cut_is : (state : PlainState) (number count : ℕ) (cache : PlainCache) → IsPlainVolume state
+    → state.number ≤ number → number ≤ last_number (stream_in state)
+    → end_at (stream_in state) number ≤ count → count ≤ entry_count state
+    → cache.log.size ≡ state.geometry.log → IsPlainLog (end_at (stream_in state) number) count cache.log
+    → IsPlainVolume (record (cut_to_count number count state) { cache = cache })
+cut_is state number count cache h from sealed ends within size log =
+    let n = number - state.number in
+    let objects = take n state.objects in
+    let P : Entry → Type 0 = λ e. is_in_range state.geometry e ≡ true in
+    let long = length-take n state.objects in
+    let last : state.number + length objects ≡ number = omega arith in
+    let first = ends_from state number h in
+    let entries_long = length-take (count - state.end) state.entries in
+    let counted : state.end + length (take (count - state.end) state.entries) ≡ count = omega arith in
+    let end : end_after state.end (take n objects) ≡ end_at (stream_in state) number =
+    ap (end_after state.end) (take-take n n state.objects (omega arith)) in
+    let last_end : end_after state.end (take (state.number + length objects - state.number) objects) ≡ end_at (stream_in state) number =
+    ap (λ k. end_after state.end (take (k - state.number) objects)) last ∙ end in
+    record {
+      limits = h.limits;
+      sectors = h.sectors;
+      owned = h.owned;
+      in_range = All-take P (count - state.end) state.entries h.in_range;
+      stream = record { ends = follow_first state.end n state.objects h.stream.ends; within = omega (arith, last_end, counted) };
+      window = record { order = omega arith; starts = All-nil (λ object. IsTrue object.is_started → IsTrue object.was_started) };
+      last = sym last;
+      opened = from;
+      numbered = h.numbered;
+      checkpoint = h.checkpoint;
+      log = subst₂ (λ e c. IsPlainLog e c cache.log) (sym end) (sym counted) log;
+      size = size;
+    }
+
+pub kept_is : (state : PlainState) (landed : Numbers) (kept : List Bool) → IsPlainVolume state → MayLand state landed
+    → IsPlainVolume (mounted_kept landed kept state)
+kept_is state landed kept h may =
+    let found : PlainCommit = kept_commit kept state.cache in
+    let later = kept_is_later (frontier_end state) (entry_count state) kept state.cache h.log in
+    let within = recovers_within state landed h in
+    let head = later.within.head in
+    let frontier = recovers_frontier state landed h may in
+    cut_is state (recovered_number landed state) (kept_count landed found state)
+    (cache_with (mounted_log found (recovered_end landed state) state.cache.log)) h (omega (arith, frontier, h.opened)) (recovers_sealed state landed h)
+    (omega arith) (omega arith) h.size
+    (mounted_log_is (frontier_end state) (recovered_end landed state) (entry_count state) state.cache.log found (recovers_end state landed h may) h.log later)
+
+pub lost_is : (state : PlainState) (landed : Numbers) → IsPlainVolume state → MayLand state landed → IsPlainVolume (mounted_lost landed state)
+lost_is state landed h may =
+    let end = recovered_end landed state in
+    let size = state.cache.log.size in
+    let frontier = recovers_frontier state landed h may in
+    let some : 0 < size = omega (arith, h.log.room.head) in
+    cut_is state (recovered_number landed state) end (cache_with (empty_from size end)) h (omega (arith, frontier, h.opened)) (recovers_sealed state landed h)
+    (omega arith) (recovers_within state landed h) h.size
+    (record {
+      counted = omega arith;
+      room = record { limit = h.log.room.limit; head = some; used = omega arith };
+      last = record { order = omega arith; tail = omega arith; head = omega arith; place = some };
+      unfinished = tt;
+    })
+
+pub mounts_keep : MountsKeepPlainVolume
+mounts_keep state landed kept h may = (kept_is state landed kept h may, lost_is state landed h may)
+
+-- ---- what is committed then
+
+-- the entries of the volume that was cut off
+cut_count : (state : PlainState) (number count : ℕ) → IsPlainVolume state → end_at (stream_in state) number ≤ count → count ≤ entry_count state
+    → state.end + length (take (count - state.end) state.entries) ≡ count
+cut_count state number count h ends within =
+    let first = ends_from state number h in
+    let long = length-take (count - state.end) state.entries in omega arith
+
+-- the commit of a mount is of the entries up to the head that was found
+mounted_head : (end seq count : ℕ) (log : PlainLog) (found : PlainCommit) → IsPlainLog end count log
+    → IsLaterCommit log.size end count log.last found → (mounted_log found seq log).last.head.seq ≡ max seq found.head.seq
+mounted_head end seq count log found h later =
+    let older = found.tail.seq - log.last.tail.seq in
+    let all = length-drop older log.records in
+    let held_long = length-take (found.head.seq - found.tail.seq) (records_from log found.tail.seq) in
+    let order = later.within.order in
+    let head = later.within.head in
+    let after_last = later.tail in
+    let counted = h.counted in
+    omega arith
+
+pub mounts_commit : MountsCommitEntries
+mounts_commit state landed kept h may =
+    let found : PlainCommit = kept_commit kept state.cache in
+    let later = kept_is_later (frontier_end state) (entry_count state) kept state.cache h.log in
+    let number = recovered_number landed state in
+    let end = recovered_end landed state in
+    let within = recovers_within state landed h in
+    let head = later.within.head in (
+      mounted_head (frontier_end state) end (entry_count state) state.cache.log found h.log later
+          ∙ sym (cut_count state number (kept_count landed found state) h (omega arith) (omega arith)),
+      sym (cut_count state number end h (omega arith) within),
+    )

@@ -1,0 +1,96 @@
+-- Contract: the state of the plain volume.
+use Rattle.std.specs.Prelude.{ℕ, ◌+◌, ◌-◌, Option, None, List, [], length, take, drop, map, slice_index_or}
+use Rattle.std.specs.List.{range_with_len}
+use Rattle.lsvd_base.specs.declared.geometry.Geometry.{Geometry}
+use Rattle.lsvd_base.specs.declared.entry.Entry.{Entry}
+use Rattle.lsvd_base.specs.Image.{Image, blank, after}
+use Rattle.object_stream.specs.declared.owner.Owner.{Owner}
+use Rattle.object_stream.specs.declared.object.StreamObject.{StreamObject}
+use Rattle.object_stream.specs.Stream.{Stream, owners, end_at, unsealed}
+use Rattle.upload_window.specs.Window.{WindowState, below_open}
+use Rattle.plain_disk.specs.Log.{empty_from}
+use Rattle.plain_disk.specs.Cache.{PlainCache, cache_with}
+
+-- A volume as lists: the image, the count of entries and the owners of the sectors that it opens with, after the object of a
+-- number; the entries and the objects since then; which of the objects are on their way to the store; the newest checkpoint; the
+-- objects that plans of reads have pinned; and the cache.
+pub record PlainState : Type 0 where
+  pub geometry : Geometry
+  pub opening : Image
+  pub number : ℕ
+  pub end : ℕ
+  pub owned : List (Option Owner)
+  pub entries : List Entry
+  pub objects : List StreamObject
+  pub window : WindowState
+  pub checkpoint : ℕ
+  pub pins : List ℕ
+  pub cache : PlainCache
+
+-- a volume that was just created: its one object is a checkpoint of no sectors, and is acknowledged
+abbrev pub created_volume : Geometry → PlainState
+created_volume g = record {
+  geometry = g;
+  opening = blank g.sectors;
+  number = 1;
+  end = 0;
+  owned = [];
+  entries = [];
+  objects = [];
+  window = record { last = 1; objects = [] };
+  checkpoint = 1;
+  pins = [];
+  cache = cache_with (empty_from g.log 0);
+}
+
+-- its stream of objects
+abbrev pub stream_in : PlainState → Stream
+stream_in state = record {
+  number = state.number;
+  end = state.end;
+  opening = λ k. slice_index_or state.owned k None;
+  entries = state.entries;
+  objects = state.objects;
+}
+
+-- how many entries its history has
+abbrev pub entry_count : PlainState → ℕ
+entry_count state = state.end + length state.entries
+
+-- what it holds: the image that its history makes of the one it opens with
+abbrev pub image_now : PlainState → Image
+image_now state = after state.opening state.entries
+
+-- the frontier: the greatest number up to which all objects are acknowledged; and that object's end
+abbrev pub frontier_of : PlainState → ℕ
+frontier_of state = below_open state.window
+
+abbrev pub frontier_end : PlainState → ℕ
+frontier_end state = end_at (stream_in state) (frontier_of state)
+
+-- the entries past the frontier's end, which a read gets from the log
+abbrev pub logged_entries : PlainState → List Entry
+logged_entries state = drop (frontier_end state - state.end) state.entries
+
+-- the entries that are in no object
+abbrev pub unsealed_entries : PlainState → List Entry
+unsealed_entries state = unsealed (stream_in state)
+
+-- ---- a later opening
+
+-- The owners of the first N sectors after the objects up to a number, as a list.
+abbrev pub owned_after : (sectors : ℕ) → PlainState → (number : ℕ) → List (Option Owner)
+owned_after sectors state number = map (owners (stream_in state) number) (range_with_len 0 sectors)
+
+-- The volume that opens after a later object: the entries up to that object's end are folded into the image.
+abbrev pub folded_to : (number : ℕ) → PlainState → PlainState
+folded_to number state =
+    let ends : ℕ = end_at (stream_in state) number in
+    record state {
+      opening = after state.opening (take (ends - state.end) state.entries);
+      number = number;
+      end = ends;
+      owned = owned_after state.geometry.sectors state number;
+      entries = drop (ends - state.end) state.entries;
+      objects = drop (number - state.number) state.objects;
+    }

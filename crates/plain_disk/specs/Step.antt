@@ -1,0 +1,33 @@
+-- Contract: the plain volume as a machine: what each event answers, and what it leaves.
+use Rattle.lsvd_base.specs.declared.entry.Entry.TheVariants as entries
+use Rattle.plain_disk.specs.declared.event.PlainEvent.{PlainEvent}
+use Rattle.plain_disk.specs.declared.event.PlainEvent.TheVariants.{Write, Zero, Flush, Look, Release, Seal, TakeJob, JobDone, JobFailed, Status}
+use Rattle.plain_disk.specs.declared.event.PlainReply.{PlainReply}
+use Rattle.plain_disk.specs.State.{PlainState}
+use Rattle.plain_disk.specs.Entries.{enter_reply, after_entering, flush_reply, after_flush}
+use Rattle.plain_disk.specs.Reads.{look_reply, after_look, release_reply, after_release}
+use Rattle.plain_disk.specs.Objects.{seal_reply, after_seal, take_reply, after_take, done_reply, after_done, failed_reply, after_failed, status_reply}
+
+abbrev pub plain_reply : PlainState → PlainEvent → PlainReply
+plain_reply state (Write lba body) = enter_reply state (entries.Write lba body)
+plain_reply state (Zero lba sectors) = enter_reply state (entries.Zero lba sectors)
+plain_reply state Flush = flush_reply state
+plain_reply state (Look lba sectors) = look_reply state lba sectors
+plain_reply state (Release numbers) = release_reply state numbers
+plain_reply state Seal = seal_reply state
+plain_reply state TakeJob = take_reply state
+plain_reply state (JobDone job) = done_reply state job
+plain_reply state (JobFailed job) = failed_reply state job
+plain_reply state Status = status_reply state
+
+abbrev pub plain_after : PlainEvent → PlainState → PlainState
+plain_after (Write lba body) state = after_entering (entries.Write lba body) state
+plain_after (Zero lba sectors) state = after_entering (entries.Zero lba sectors) state
+plain_after Flush state = after_flush state
+plain_after (Look lba sectors) state = after_look lba sectors state
+plain_after (Release numbers) state = after_release numbers state
+plain_after Seal state = after_seal state
+plain_after TakeJob state = after_take state
+plain_after (JobDone job) state = after_done job state
+plain_after (JobFailed job) state = after_failed job state
+plain_after Status state = state

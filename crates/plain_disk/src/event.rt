@@ -1,0 +1,79 @@
+use crate::numbers::ObjectNumbers;
+use lsvd_base::Body;
+
+/// What is asked of the plain volume: numbers and sectors alone.
+#[derive(Debug, Drop)]
+pub enum PlainEvent {
+    /// Writes the data at the sectors from `lba` on.
+    Write { lba: u64, body: Body },
+    /// Puts zeros at `sectors` sectors from `lba` on.
+    Zero { lba: u64, sectors: u64 },
+    /// Makes each entry so far durable.
+    Flush,
+    /// Plans a read of `sectors` sectors from `lba` on.
+    Look { lba: u64, sectors: u64 },
+    /// Gives back the plan of a read, which pinned these objects.
+    Release { objects: ObjectNumbers },
+    /// Seals the next data object.
+    Seal,
+    /// Begins the put of the lowest ready object.
+    TakeJob,
+    /// A put is done: that of the object with this number; None where its bytes, or what the store gave for it, are not those of
+    /// the sealed object.
+    JobDone { job: Option<u64> },
+    /// A put failed: that of the object with this number; None where its bytes are not those of the sealed object.
+    JobFailed { job: Option<u64> },
+    /// Asks for the counts.
+    Status,
+}
+
+/// What the plain volume answers.
+#[derive(Debug, Drop)]
+pub enum PlainReply {
+    /// The entry was entered; the history has this length now.
+    Entered(u64),
+    /// Each entry so far is durable; the history has this length.
+    Flushed(u64),
+    /// A plan of a read: how long the history is, the data of its sectors in the image that this history makes, and the objects
+    /// that the plan pins, in ascending order.
+    Planned {
+        front: u64,
+        data: Body,
+        objects: ObjectNumbers,
+    },
+    /// The plan was given back.
+    Released,
+    /// The object with this number was sealed.
+    Sealed(u64),
+    /// The put of the object with this number began.
+    Taken(u64),
+    /// The put is acknowledged; the frontier is this number now.
+    Done(u64),
+    /// The object of the put that failed is ready again.
+    Returned,
+    /// How many entries the history has, and the numbers of the last object that was sealed, of the frontier, and of the newest
+    /// checkpoint.
+    Told {
+        writes: u64,
+        sealed: u64,
+        frontier: u64,
+        checkpoint: u64,
+    },
+    /// The unsealed entries have this many sectors of data, at least those of a batch.
+    BatchFull(u64),
+    /// There are this many unsealed entries, the most of a batch.
+    EntriesFull(u64),
+    /// The log has no room: the record of the entry, with the pad before it, needs `need` sectors, and `free` are free.
+    NoRoom {
+        need: u64,
+        free: u64,
+    },
+    /// The volume does not take a request for these sectors.
+    Range,
+    /// There is nothing to seal, to put, or to give back.
+    Nothing,
+    /// 16 objects are on their way to the store.
+    Busy,
+    /// The device failed a call of the request.
+    Fault,
+}

@@ -1,0 +1,39 @@
+-- Contract: what objects of a store stand for.
+use Rattle.std.specs.Prelude.{◌≡◌, ℕ, ◌+◌, ◌-◌, ◌^◌, ◌<◌, ◌≤◌, Some, Option, List, length, take}
+use Rattle.std.specs.List.{All}
+use Rattle.lsvd_base.specs.Image.{Image, after}
+use Rattle.lsvd_base.specs.Laws.{EndsBy}
+use Rattle.lsvd_objstore.specs.Objects.{Objects}
+use Rattle.object_format.specs.declared.expected.Expected.{Expected}
+use Rattle.object_stream.specs.Stream.{Stream, objects_to, end_at, last_number, IsStream}
+use Rattle.object_stream.specs.Landed.{Numbers, IsFirstMissing}
+use Rattle.object_stream.specs.Stored.{AreStored}
+use Rattle.object_stream.specs.Value.{IsValue}
+use Rattle.stopped_volume.specs.Objects.{landed_in, IsCheckpointOf, AreCheckpoints, ObjectsStandFor}
+
+-- objects stand for one image of a length, with one number and one end
+abbrev pub StandForOneVolume : Type 0
+StandForOneVolume =
+    (volume : Expected) (uuid_at : ℕ → Option (List ℕ)) (objects : Objects) (image other : Image) (number other_number end other_end : ℕ)
+    → volume.sectors < 2 ^ 64 → length image ≡ length other
+    → ObjectsStandFor volume uuid_at objects image number end → ObjectsStandFor volume uuid_at objects other other_number other_end
+    → (number ≡ other_number) × (end ≡ other_end) × (image ≡ other)
+
+-- what a store has of a stream that begins at its newest checkpoint: the objects up to the first missing number
+pub record HasLanded (volume : Expected) (uuid_at : ℕ → Option (List ℕ)) (objects : Objects) (stream : Stream) (opening : Image) (number : ℕ) : Type 0 where
+  pub checkpoint : Numbers
+  pub checkpoints : AreCheckpoints volume objects checkpoint
+  pub missing : IsFirstMissing checkpoint (landed_in objects volume.uuid) (number + 1)
+  pub base : missing.base ≡ stream.number
+  pub based : IsCheckpointOf volume objects stream.number stream.end stream.opening
+  pub value : IsValue objects uuid_at stream.opening opening
+  pub last : number ≤ last_number stream
+  pub stored : AreStored objects uuid_at volume stream.number stream.end stream.entries (objects_to stream number)
+
+-- then its objects stand for the image that the history makes up to the end of the last of them, and no further
+abbrev pub StandForHistory : Type 0
+StandForHistory =
+    (volume : Expected) (uuid_at : ℕ → Option (List ℕ)) (objects : Objects) (stream : Stream) (opening : Image) (number : ℕ)
+    → uuid_at 0 ≡ Some volume.uuid → volume.sectors < 2 ^ 64 → All (EndsBy (length opening)) stream.entries → IsStream stream
+    → HasLanded volume uuid_at objects stream opening number
+    → ObjectsStandFor volume uuid_at objects (after opening (take (end_at stream number - stream.end) stream.entries)) number (end_at stream number)

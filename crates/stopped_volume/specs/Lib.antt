@@ -1,0 +1,5 @@
+pub mod Objects
+pub mod Device
+pub mod Needed
+pub mod Store
+pub mod Laws

@@ -1,0 +1,55 @@
+-- Contract: when the objects of a store stand for a volume: what a mount without the cache finds.
+use Rattle.std.specs.Prelude.{◌≡◌, ℕ, ◌+◌, ◌-◌, ◌↔◌, Option, None, is_some, IsTrue, List, [], take}
+use Rattle.lsvd_base.specs.declared.entry.Entry.{Entry}
+use Rattle.lsvd_base.specs.Image.{Image, after}
+use Rattle.lsvd_objstore.specs.Objects.{Objects, found}
+use Rattle.object_format.specs.declared.header.Header.{Header}
+use Rattle.object_format.specs.declared.expected.Expected.{Expected}
+use Rattle.object_format.specs.declared.rows.Rows.TheVariants.{Checkpoint}
+use Rattle.object_stream.specs.Stream.{Owners}
+use Rattle.object_stream.specs.Landed.{Numbers, IsFirstMissing}
+use Rattle.object_stream.specs.Replay.{name_of, HasParts, Replays}
+use Rattle.object_stream.specs.Value.{IsValue}
+
+-- the numbers of a volume's objects that a store has
+abbrev pub landed_in : Objects → (uuid : List ℕ) → Numbers
+landed_in objects uuid number = is_some (found objects (name_of uuid number))
+
+-- What is expected of a volume's object of this number, where the end before it is not known; the rest is the volume's.
+abbrev pub expected_alone : Expected → (number : ℕ) → Expected
+expected_alone volume number = record volume { number = number; end_before = None }
+
+-- The store has a whole checkpoint under this number, whose end this is, and after which these are the owners of the sectors. A
+-- checkpoint has no rows yet, so that none is owned.
+pub record IsCheckpointOf (volume : Expected) (objects : Objects) (number end : ℕ) (owned : Owners) : Type 0 where
+  pub bytes : List ℕ
+  pub present : found objects (name_of volume.uuid number) ≡ Option.Some bytes
+  pub header : Header
+  pub payload : List ℕ
+  pub parts : HasParts (expected_alone volume number) bytes header Checkpoint payload
+  pub ends : header.end_seq ≡ end
+  pub none : (k : ℕ) → owned k ≡ None
+
+-- these are the numbers of all checkpoints that a store has
+abbrev pub AreCheckpoints : Expected → Objects → Numbers → Type 0
+AreCheckpoints volume objects checkpoint =
+    (number : ℕ) → IsTrue (checkpoint number) ↔ ((end : ℕ) × (owned : Owners) × IsCheckpointOf volume objects number end owned)
+
+-- The objects of a store stand for an image, the number of the object before the first missing one, and that object's end: from
+-- the newest checkpoint on each object up to it is whole and goes on where the one before it ends, and the image is the value
+-- that their replay has. A level's uuid is that of the volume, and then those of its ancestors.
+pub record ObjectsStandFor (volume : Expected) (uuid_at : ℕ → Option (List ℕ)) (objects : Objects) (image : Image) (number end : ℕ) : Type 0 where
+  pub checkpoint : Numbers
+  pub checkpoints : AreCheckpoints volume objects checkpoint
+  pub missing : IsFirstMissing checkpoint (landed_in objects volume.uuid) (number + 1)
+  pub base_end : ℕ
+  pub owned : Owners
+  pub based : IsCheckpointOf volume objects missing.base base_end owned
+  pub owners : Owners
+  pub replayed : Replays objects volume missing.base base_end owned (number - missing.base) end owners
+  pub value : IsValue objects uuid_at owners image
+
+-- they stand for the first entries of a history over an opening image: those of the objects before the first missing one
+abbrev pub ObjectsStandForFirst : Expected → (ℕ → Option (List ℕ)) → Objects → (opening : Image) → List Entry → (number end : ℕ) → Type 0
+ObjectsStandForFirst volume uuid_at objects opening history number end =
+    ObjectsStandFor volume uuid_at objects (after opening (take end history)) number end

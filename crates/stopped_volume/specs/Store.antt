@@ -1,0 +1,24 @@
+-- Contract: what a store may hold after a stop, by the puts that were acknowledged and those that were ever begun.
+use Rattle.std.specs.Prelude.{◌≡◌, ℕ, ◌<◌, ◌⊎◌, Option, Some, None, List}
+use Rattle.lsvd_objstore.specs.Objects.{Objects, found}
+use Rattle.object_stream.specs.Replay.{name_of}
+
+-- the puts of a volume: the object of each number, as far as it was sealed, and how far its put has come
+pub data PutState : Type 0 where
+  -- the store has acknowledged the object
+  Acknowledged : PutState
+  -- its put was begun, once at least, and is not acknowledged
+  Begun : PutState
+  -- its put was never begun
+  NotBegun : PutState
+
+-- what a store may hold under the name of an object whose put has come so far
+abbrev pub MayHoldPut : PutState → (bytes : List ℕ) → Option (List ℕ) → Type 0
+MayHoldPut Acknowledged bytes held = held ≡ Some bytes
+MayHoldPut Begun bytes held = (held ≡ None) ⊎ (held ≡ Some bytes)
+MayHoldPut NotBegun bytes held = held ≡ None
+
+-- What a store may hold of a volume's objects after one of a number, of which these are the puts: nothing past the last of them.
+pub record MayHoldPuts (uuid : List ℕ) (puts : ℕ → Option (PutState × List ℕ)) (after : ℕ) (objects : Objects) : Type 0 where
+  pub puts_are : (number : ℕ) (state : PutState) (bytes : List ℕ) → after < number → puts number ≡ Some (state, bytes) → MayHoldPut state bytes (found objects (name_of uuid number))
+  pub none_else : (number : ℕ) → after < number → puts number ≡ None → found objects (name_of uuid number) ≡ None

@@ -1,0 +1,11 @@
+ghost use Rattle.stopped_volume.specs.Laws.{StandForOneVolume, StandForHistory};
+
+/// A law: objects of a store stand for one image, with one number before the first missing one and one end.
+pub fn objects_stand_for_one_volume()
+    ensures { StandForOneVolume }
+{}
+
+/// A law: where a store has the objects of a stream up to the first missing one, they stand for just the entries that are in these.
+pub fn landed_objects_stand_for_the_history()
+    ensures { StandForHistory }
+{}
