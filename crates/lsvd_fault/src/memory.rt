@@ -233,6 +233,8 @@ impl Source for MemLink {
 
     ghost faults = { λ l. l.faults };
 
+    ghost written = { λ l. Some l.taken };
+
     fn read(&mut self, buf: &mut [u8]) -> Result<usize, Failed> {
         self.incoming.read(buf)
     }
@@ -247,6 +249,8 @@ impl Sink for MemLink {
 
     ghost faults = { λ l. l.faults };
 
+    ghost unread = { λ l. Some l.left };
+
     fn write(&mut self, piece: &[u8]) -> Result<usize, Failed> {
         self.outgoing.write(piece)
     }
@@ -260,4 +264,8 @@ impl Link for MemLink {
     ghost use Rattle.std.proofs.Common.{refl};
 
     ghost one_count = { λ _. refl };
+
+    ghost one_output = { λ _. refl };
+
+    ghost one_input = { λ _. refl };
 }

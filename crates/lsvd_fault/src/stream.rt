@@ -1,4 +1,4 @@
-ghost use Rattle.std.specs.Prelude.{◌≡◌, ℕ, ◌<◌, List, length, Option, IfOk, is_err};
+ghost use Rattle.std.specs.Prelude.{◌≡◌, ℕ, ◌<◌, List, length, Option, None, IfOk, is_err};
 ghost use Rattle.std.specs.Io.{ReadsAtMost, WritesAtMost};
 ghost use Rattle.std.specs.Io.KnownBytes.{ReadConsumes, WriteAppends};
 ghost use Rattle.lsvd_fault.specs.Faults.{Counts};
@@ -18,12 +18,16 @@ pub trait Source {
     /// How often a call has failed. At the greatest number of its type the count stands.
     ghost faults: { Self → ℕ };
 
+    /// The bytes that were written to it so far, where it is a link and tells them. A read leaves them.
+    ghost written: { Self → Option (List ℕ) } = { λ _. None };
+
     /// Reads some bytes into the front of `buf`, and answers how many; it may be fewer than `buf` has room
     /// for. No byte for a `buf` that has room means that the source is at its end. `Failed` comes where the
     /// outside could not be read: the read took nothing and was counted once, and may be tried again.
     fn read(&mut self, buf: &mut [u8]) -> Result<usize, Failed>
         ensures bound { ReadsAtMost result buf.new }
         ensures bytes { ReadConsumes (remaining self.old) (remaining self.new) result buf.new }
+        ensures other { written self.new ≡ written self.old }
         ensures count { Counts (is_err result) (faults self.old) (faults self.new) };
 
     /// How many calls have failed since the stream was made. At `u64::MAX` the count stands.
@@ -39,6 +43,9 @@ pub trait Sink {
     /// How often a call has failed. At the greatest number of its type the count stands.
     ghost faults: { Self → ℕ };
 
+    /// The bytes that are left to be read of it, where it is a link and tells them. A write leaves them.
+    ghost unread: { Self → Option (List ℕ) } = { λ _. None };
+
     /// Takes some bytes from the front of `piece`, and answers how many; it may be fewer than `piece` has.
     /// `Failed` comes where the outside could not be written, or took nothing of a piece that has bytes: the
     /// write took nothing and was counted, and may be tried again.
@@ -46,6 +53,7 @@ pub trait Sink {
         ensures bound { WritesAtMost result piece.now }
         ensures some { IfOk result (λ n. 0 < length piece.now → 0 < n) }
         ensures bytes { WriteAppends (contents self.old) (contents self.new) result piece.now }
+        ensures other { unread self.new ≡ unread self.old }
         ensures count { Counts (is_err result) (faults self.old) (faults self.new) };
 
     /// How many calls have failed since the stream was made. At `u64::MAX` the count stands.
@@ -57,4 +65,10 @@ pub trait Sink {
 pub trait Link: Source + Sink {
     /// Both directions count their faults together.
     ghost one_count: { (link : Self) → Self.Source.faults link ≡ Self.Sink.faults link };
+
+    /// What its source tells as written is what its sink took.
+    ghost one_output: { (link : Self) → Self.written link ≡ Self.contents link };
+
+    /// What its sink tells as unread is what its source has left.
+    ghost one_input: { (link : Self) → Self.unread link ≡ Self.remaining link };
 }

@@ -93,6 +93,7 @@ pub fn read_past_limit<S: Source>(
 pub fn write_all<S: Sink>(sink: &mut S, bytes: &[u8]) -> Result<(), Failed>
     ensures ok { OnOk result (Appends (S.contents sink.old) (S.contents sink.new) bytes.now) }
     ensures front { OnErr result ((n : ℕ) × (n ≤ length bytes.now) × Appends (S.contents sink.old) (S.contents sink.new) (take n bytes.now)) }
+    ensures other { S.unread sink.new ≡ S.unread sink.old }
     ensures count { Counts (is_err result) (S.faults sink.old) (S.faults sink.new) }
 {
     let mut rest = bytes;

@@ -42,6 +42,7 @@ pub fn write_answer<K: Sink>(
     answer: Answer,
 ) -> Result<(), WireEnd>
     ensures bytes { WritesMessage (answer_bytes export.now option zeroes answer) (K.contents link.old) (K.contents link.new) result }
+    ensures other { K.unread link.new ≡ K.unread link.old }
     ensures count { Counts (is_link_fault result) (K.faults link.old) (K.faults link.new) }
 {
     match answer {
@@ -59,6 +60,7 @@ pub fn write_answer<K: Sink>(
 // Writes the name of the export, and the acknowledgement.
 fn write_listed<K: Sink>(link: &mut K, export: &Export, option: u32) -> Result<(), WireEnd>
     ensures bytes { WritesMessage (answer_bytes export.now option true Answer.Listed) (K.contents link.old) (K.contents link.new) result }
+    ensures other { K.unread link.new ≡ K.unread link.old }
     ensures count { Counts (is_link_fault result) (K.faults link.old) (K.faults link.new) }
 {
     write_option_reply(link, option, SERVER, &named_export(export))?;
@@ -74,6 +76,7 @@ fn write_described<K: Sink>(
 ) -> Result<(), WireEnd>
     ensures bytes { WritesMessage (option_reply_bytes option 3 (export_info export.now) ++ block_reply export.now option blocks
         ++ acknowledgement option) (K.contents link.old) (K.contents link.new) result }
+    ensures other { K.unread link.new ≡ K.unread link.old }
     ensures count { Counts (is_link_fault result) (K.faults link.old) (K.faults link.new) }
 {
     write_option_reply(link, option, INFO, &export_info(export))?;
@@ -89,6 +92,7 @@ fn write_blocks<K: Sink>(
     blocks: bool,
 ) -> Result<(), WireEnd>
     ensures bytes { WritesMessage (block_reply export.now option blocks) (K.contents link.old) (K.contents link.new) result }
+    ensures other { K.unread link.new ≡ K.unread link.old }
     ensures count { Counts (is_link_fault result) (K.faults link.old) (K.faults link.new) }
 {
     if blocks {

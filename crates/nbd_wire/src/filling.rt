@@ -12,6 +12,7 @@ pub(crate) fn fill<K: Source>(link: &mut K, buf: &mut [u8]) -> Result<usize, Fai
     ensures bytes { IfOk result (λ n. Consumes (K.remaining link.old) (K.remaining link.new) (take n buf.new)) }
     ensures end { IfOk result (λ n. n < length buf.new → IsAtEnd (K.remaining link.new)) }
     ensures lost { OnErr result (ReadsAtMostOf (length buf.new) (K.remaining link.old) (K.remaining link.new)) }
+    ensures other { K.written link.new ≡ K.written link.old }
     ensures count { Counts (is_err result) (K.faults link.old) (K.faults link.new) }
 {
     let mut filled = 0;

@@ -22,6 +22,7 @@ const PIECE: usize = 4096;
 /// where a bit is set but bit 0, for the fixed newstyle, and bit 1, for no zeros after an export.
 pub fn read_flags<K: Source>(link: &mut K) -> Result<u32, WireEnd>
     ensures bytes { ReadsMessage 4 IsClientFlags (K.remaining link.old) (K.remaining link.new) result }
+    ensures other { K.written link.new ≡ K.written link.old }
     ensures count { Counts (is_link_fault result) (K.faults link.old) (K.faults link.new) }
 {
     let mut bytes = [0; CLIENT_FLAGS_BYTES];
@@ -33,6 +34,7 @@ pub fn read_flags<K: Source>(link: &mut K) -> Result<u32, WireEnd>
 /// inside the head, or where it has another magic.
 pub fn read_option_head<K: Source>(link: &mut K) -> Result<OptionHead, WireEnd>
     ensures bytes { ReadsMessage 16 IsOptionHead (K.remaining link.old) (K.remaining link.new) result }
+    ensures other { K.written link.new ≡ K.written link.old }
     ensures count { Counts (is_link_fault result) (K.faults link.old) (K.faults link.new) }
 {
     let mut bytes = [0; OPTION_HEAD_BYTES];
@@ -44,6 +46,7 @@ pub fn read_option_head<K: Source>(link: &mut K) -> Result<OptionHead, WireEnd>
 /// inside the request, or where it has another magic.
 pub fn read_request<K: Source>(link: &mut K) -> Result<Request, WireEnd>
     ensures bytes { ReadsMessage 28 IsRequest (K.remaining link.old) (K.remaining link.new) result }
+    ensures other { K.written link.new ≡ K.written link.old }
     ensures count { Counts (is_link_fault result) (K.faults link.old) (K.faults link.new) }
 {
     let mut bytes = [0; REQUEST_BYTES];
@@ -60,6 +63,7 @@ pub fn read_option_data<K: Source>(
 ) -> Result<Vec<u8>, WireEnd>
     requires { size ≤ MAX_OPTION_DATA }
     ensures bytes { ReadsData size (λ bytes content. content.items ≡ bytes) (K.remaining link.old) (K.remaining link.new) result }
+    ensures other { K.written link.new ≡ K.written link.old }
     ensures count { Counts (is_link_fault result) (K.faults link.old) (K.faults link.new) }
 {
     let mut content = zeros(alloc, size as usize)?;
@@ -72,6 +76,7 @@ pub fn read_option_data<K: Source>(
 pub fn read_data<K: Source>(link: &mut K, buf: &mut [u8]) -> Result<(), WireEnd>
     ensures bytes { ReadsData (length buf.new) (λ bytes _. buf.new ≡ bytes) (K.remaining link.old) (K.remaining link.new) result }
     ensures memory { HasMemory result }
+    ensures other { K.written link.new ≡ K.written link.old }
     ensures count { Counts (is_link_fault result) (K.faults link.old) (K.faults link.new) }
 {
     let filled = fill(link, buf)?;
@@ -86,6 +91,7 @@ pub fn read_data<K: Source>(link: &mut K, buf: &mut [u8]) -> Result<(), WireEnd>
 pub fn drop_data<K: Source>(link: &mut K, size: u32) -> Result<(), WireEnd>
     ensures bytes { ReadsData size (λ _ _. ⊤) (K.remaining link.old) (K.remaining link.new) result }
     ensures memory { HasMemory result }
+    ensures other { K.written link.new ≡ K.written link.old }
     ensures count { Counts (is_link_fault result) (K.faults link.old) (K.faults link.new) }
 {
     let mut piece = [0; PIECE];
@@ -96,6 +102,7 @@ pub fn drop_data<K: Source>(link: &mut K, size: u32) -> Result<(), WireEnd>
 fn read_head<K: Source>(link: &mut K, buf: &mut [u8]) -> Result<(), WireEnd>
     requires { 0 < length buf.old }
     ensures bytes { ReadsHead buf.new (K.remaining link.old) (K.remaining link.new) result }
+    ensures other { K.written link.new ≡ K.written link.old }
     ensures count { Counts (is_link_fault result) (K.faults link.old) (K.faults link.new) }
 {
     let filled = fill(link, buf)?;
@@ -120,6 +127,7 @@ fn drop_pieces<K: Source>(link: &mut K, piece: &mut [u8], size: u32) -> Result<(
     requires { 0 < length piece.old }
     ensures bytes { ReadsData size (λ _ _. ⊤) (K.remaining link.old) (K.remaining link.new) result }
     ensures memory { HasMemory result }
+    ensures other { K.written link.new ≡ K.written link.old }
     ensures count { Counts (is_link_fault result) (K.faults link.old) (K.faults link.new) }
 {
     let mut left = size as usize;

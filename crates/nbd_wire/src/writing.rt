@@ -1,4 +1,4 @@
-ghost use Rattle.std.specs.Prelude.{◌<◌, ◌^◌, ◌++◌, length};
+ghost use Rattle.std.specs.Prelude.{◌≡◌, ◌<◌, ◌^◌, ◌++◌, length};
 ghost use Rattle.lsvd_fault.specs.Faults.{Counts};
 ghost use Rattle.nbd_wire.specs.Messages.{greeting_bytes, option_reply_bytes, export_bytes, simple_reply_bytes};
 ghost use Rattle.nbd_wire.specs.Reading.{is_link_fault};
@@ -16,6 +16,7 @@ const GREETING: [u8; 18] = *b"NBDMAGICIHAVEOPT\x00\x03";
 /// error is `LinkFault`; a front of the bytes was written then.
 pub fn write_greeting<K: Sink>(link: &mut K) -> Result<(), WireEnd>
     ensures bytes { WritesMessage greeting_bytes (K.contents link.old) (K.contents link.new) result }
+    ensures other { K.unread link.new ≡ K.unread link.old }
     ensures count { Counts (is_link_fault result) (K.faults link.old) (K.faults link.new) }
 {
     write_all(link, &GREETING)?;
@@ -32,6 +33,7 @@ pub fn write_option_reply<K: Sink>(
 ) -> Result<(), WireEnd>
     requires { length content.now < 2 ^ 32 }
     ensures bytes { WritesMessage (option_reply_bytes option kind content.now) (K.contents link.old) (K.contents link.new) result }
+    ensures other { K.unread link.new ≡ K.unread link.old }
     ensures count { Counts (is_link_fault result) (K.faults link.old) (K.faults link.new) }
 {
     let head = option_reply_head(option, kind, content.len() as u32);
@@ -47,6 +49,7 @@ pub fn write_export<K: Sink>(
     zeroes: bool,
 ) -> Result<(), WireEnd>
     ensures bytes { WritesMessage (export_bytes size flags zeroes) (K.contents link.old) (K.contents link.new) result }
+    ensures other { K.unread link.new ≡ K.unread link.old }
     ensures count { Counts (is_link_fault result) (K.faults link.old) (K.faults link.new) }
 {
     let bytes = export_with_zeros(size, flags);
@@ -64,6 +67,7 @@ pub fn write_simple<K: Sink>(
     content: &[u8],
 ) -> Result<(), WireEnd>
     ensures bytes { WritesMessage (simple_reply_bytes error cookie content.now) (K.contents link.old) (K.contents link.new) result }
+    ensures other { K.unread link.new ≡ K.unread link.old }
     ensures count { Counts (is_link_fault result) (K.faults link.old) (K.faults link.new) }
 {
     write_both(link, &simple_reply_head(error, cookie), content)
@@ -72,6 +76,7 @@ pub fn write_simple<K: Sink>(
 // Writes the head of a message and its data, which are not copied for it.
 fn write_both<K: Sink>(link: &mut K, head: &[u8], content: &[u8]) -> Result<(), WireEnd>
     ensures bytes { WritesMessage (head.now ++ content.now) (K.contents link.old) (K.contents link.new) result }
+    ensures other { K.unread link.new ≡ K.unread link.old }
     ensures count { Counts (is_link_fault result) (K.faults link.old) (K.faults link.new) }
 {
     write_all(link, head)?;

@@ -11,5 +11,6 @@ returns-in_err-count-clause-front g c =
 pub loop-rest-preserved : goal.loop-rest-preserved
 loop-rest-preserved g c = record {
   part = part_more _ _ _ _ c.loop-rest.rest.now c.in_ok-count.count c.loop-rest.invariant.part c.in_ok-count.ensures.bytes;
+  other = c.in_ok-count.ensures.other ∙ c.loop-rest.invariant.other;
   none_failed = c.in_ok-count.ensures.count ∙ c.loop-rest.invariant.none_failed;
 }

@@ -16,5 +16,6 @@ loop-filled-preserved g c =
           subst P (sym (filled_more buf c.read.new.buf filled (length buf - filled) count within (search rules)))
           (consumes_more _ _ _ _ _ c.loop-filled.invariant.read c.in_ok-count.ensures.bytes.0);
       within = filled_within buf c.read.new.buf filled count within (search rules) (search rules);
+      other = c.in_ok-count.ensures.other ∙ c.loop-filled.invariant.other;
       none_failed = c.in_ok-count.ensures.count ∙ c.loop-filled.invariant.none_failed;
     }

@@ -6,6 +6,7 @@ abbrev pub invariant-loop-filled : goal.invariant-loop-filled
 invariant-loop-filled g l = record {
   read : Consumes (g.K.Source.remaining l.fn.link) (g.K.Source.remaining l.link) (take l.filled l.buf);
   within : l.filled ≤ length l.buf;
+  other : g.K.Source.written l.link ≡ g.K.Source.written l.fn.link;
   none_failed : g.K.Source.faults l.link ≡ g.K.Source.faults l.fn.link;
 }
 

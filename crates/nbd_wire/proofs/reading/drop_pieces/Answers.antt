@@ -19,5 +19,6 @@ loop-left-preserved g c =
     IsPartRead c.args.size (c.loop-left.left - n) (g.K.Source.remaining c.args.link.now) (g.K.Source.remaining c.read_data.new.link) in
     record {
       part = subst P (read.1 ∙ whole) (part_more _ _ _ _ _ _ c.loop-left.invariant.part (omega (arith, read.1, whole)) read.3);
+      other = search rules;
       none_failed = search rules;
     }
