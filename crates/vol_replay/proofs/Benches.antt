@@ -12,9 +12,9 @@ use Rattle.volume_events.specs.declared.event.Reply.{Reply}
 use Rattle.lsvd_device.specs.Fuse.{with_new_fuse}
 use Rattle.commit_slot.specs.Lending.{ChangesBudgetAlone}
 use Rattle.plain_disk.specs.Machine.{Disk, stopping_after, refusal_of, passes_entry, entry_calls, entry_reply, after_entry, with_entry, without_entry}
-use Rattle.vol_core.specs.Volume.{VolumeState, Unfinished, TellsDevice, fuse_in, with_disk}
-use Rattle.vol_core.specs.Standing.{StopKeeps, IsCountOf, IsCommittedCount, IsCommittingCount, IsCrashSafe}
-use Rattle.vol_core.specs.Stepping.{entry_cost, CanStep, Reaches, FailsByFuse, StopsInCommit, IsClosedAt, IsOpenedAt}
+use Rattle.log_volume.specs.Volume.{VolumeState, Unfinished, TellsDevice, fuse_in, with_disk}
+use Rattle.log_volume.specs.Standing.{StopKeeps, IsCountOf, IsCommittedCount, IsCommittingCount, IsCrashSafe}
+use Rattle.log_volume.specs.Stepping.{entry_cost, CanStep, Reaches, FailsByFuse, StopsInCommit, IsClosedAt, IsOpenedAt}
 use Rattle.vol_replay.specs.Bench.{IsBench, IsUntouched, LeavesPlain}
 
 -- the same fuse

@@ -19,9 +19,9 @@ use Rattle.vol_replay.specs.declared.outcome.Outcome.TheVariants.{Done, BadLine}
 use Rattle.vol_replay.specs.declared.outcome.Reason.{Reason}
 use Rattle.vol_replay.specs.declared.outcome.Reason.TheVariants.{UnknownCommand, WordCount, Form, NotAllowed, Letters, TooLong}
 use Rattle.vol_replay.specs.Answer.{IsUnfit, state_of}
-use Rattle.vol_core.specs.Volume.{VolumeState}
+use Rattle.log_volume.specs.Volume.{VolumeState}
 use Rattle.vol_replay.specs.Letters.{fits_writes, fits_objects, fates_of}
-use Rattle.vol_core.specs.Standing.{keeps_last}
+use Rattle.log_volume.specs.Standing.{keeps_last}
 use Rattle.vol_replay.specs.Transcript.{State, TellsReply, Steps, Answers, text_of_mount, IsAnswered, IsBad, StopsAt, Transcript, IsTranscript, IsFrontOfTranscript, line_after}
 
 -- each reply has a text

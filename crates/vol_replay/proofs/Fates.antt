@@ -7,7 +7,7 @@ use Rattle.std.proofs.lemmas.Grind.{common_steps}
 use Rattle.lsvd_device.specs.declared.fate.Fate.{Fate}
 use Rattle.lsvd_device.specs.declared.fate.Fate.TheVariants.{Kept}
 use Rattle.plain_disk.specs.Machine.{Disk, kept_mark, mounted}
-use Rattle.vol_core.specs.Standing.{keeps_last}
+use Rattle.log_volume.specs.Standing.{keeps_last}
 use Rattle.replay_script.specs.declared.command.Command.TheVariants.{CrashKeep}
 use Rattle.vol_replay.specs.Letters.{is_dash, is_letter, fits_writes, fits_objects, fate_of, fates_of}
 use Rattle.vol_replay.specs.Transcript.{Answers, text_of_mount}

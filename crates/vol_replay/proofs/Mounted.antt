@@ -31,9 +31,9 @@ use Rattle.cache_log.specs.Committed.{HasRecords}
 use Rattle.cache_log.proofs.ForCallers.{are_read_again}
 use Rattle.batcher.specs.Batch.{max_entries}
 use Rattle.plain_disk.specs.Machine.{Disk, Device, Mark, mark_of, device_at, cut_to, mounted, kept_mark, AllInRange}
-use Rattle.vol_core.specs.Volume.{VolumeState, TellsDevice, HoldsEntries, fuse_in, pending_in, room_after, mark_at, broken_in, device_of, plain_of, IsCommitOf, IsLaterCommitOf}
-use Rattle.vol_core.specs.Standing.{keeps_last, ReadsAtMark, ReadsByFates}
-use Rattle.vol_core.specs.Stepping.{HasRoomForCost}
+use Rattle.log_volume.specs.Volume.{VolumeState, TellsDevice, HoldsEntries, fuse_in, pending_in, room_after, mark_at, broken_in, device_of, plain_of, IsCommitOf, IsLaterCommitOf}
+use Rattle.log_volume.specs.Standing.{keeps_last, ReadsAtMark, ReadsByFates}
+use Rattle.log_volume.specs.Stepping.{HasRoomForCost}
 use Rattle.vol_recover.specs.declared.error.MountError.{MountError}
 use Rattle.vol_recover.specs.declared.error.MountError.TheVariants.{NoSlot, Worn, BadRecord, DeviceFault, OutOfMemory}
 use Rattle.vol_recover.specs.Mounting.{IsMounted, IsWorn, IsBadVolume, FailsToMount}

@@ -11,7 +11,7 @@ use Rattle.replay_script.specs.Grammar.{lines_of}
 use Rattle.vol_replay.specs.declared.outcome.Outcome.{Outcome}
 use Rattle.vol_replay.specs.declared.outcome.Outcome.TheVariants.{Done, BadLine}
 use Rattle.vol_replay.specs.Letters.{fates_of}
-use Rattle.vol_core.specs.Standing.{keeps_last}
+use Rattle.log_volume.specs.Standing.{keeps_last}
 use Rattle.vol_replay.specs.Reached.{Reaches, IsKeptByStops}
 use Rattle.vol_replay.specs.Transcript.{State, Answers, Transcript, IsTranscript}
 

@@ -11,7 +11,7 @@ use Rattle.vol_replay.specs.declared.outcome.Reason.{Reason}
 use Rattle.vol_replay.specs.declared.outcome.Reason.TheVariants.{UnknownCommand, WordCount, Form, NotAllowed, Letters, TooLong}
 use Rattle.replay_script.specs.declared.command.Command.{Command}
 use Rattle.vol_replay.specs.Transcript.{State, IsAllowed, FitsLetters, IsBad}
-use Rattle.vol_core.specs.Volume.{VolumeState}
+use Rattle.log_volume.specs.Volume.{VolumeState}
 
 -- where a replay stands that has this volume, or none yet
 abbrev pub state_of : Option VolumeState → State

@@ -8,8 +8,8 @@ use Rattle.commit_slot.specs.Slots.{Reads}
 use Rattle.cache_log.specs.declared.row.Row.{Row}
 use Rattle.cache_log.specs.Opening.{AreRecordsInRange}
 use Rattle.plain_disk.specs.Machine.{Disk}
-use Rattle.vol_core.specs.Volume.{VolumeState}
-use Rattle.vol_core.specs.Stepping.{FailsByFuse}
+use Rattle.log_volume.specs.Volume.{VolumeState}
+use Rattle.log_volume.specs.Stepping.{FailsByFuse}
 
 -- It knows whether its device was told to stop, and that has failed by its fuse alone.
 pub record IsBench (is_stopping : Bool) (volume : VolumeState) : Type 0 where

@@ -13,7 +13,7 @@ use Rattle.vol_replay.specs.declared.outcome.Outcome.{Outcome}
 use Rattle.vol_replay.specs.declared.outcome.Outcome.TheVariants.{Done, BadLine, ReadFault, WriteFault, OutOfMemory}
 use Rattle.vol_replay.specs.declared.outcome.Reason.{Reason}
 use Rattle.vol_replay.specs.declared.outcome.Reason.TheVariants.{UnknownCommand, WordCount, Form, NotAllowed, Letters, TooLong}
-use Rattle.vol_core.specs.Standing.{keeps_last}
+use Rattle.log_volume.specs.Standing.{keeps_last}
 use Rattle.vol_replay.specs.Letters.{fits_writes, fits_objects, fates_of}
 
 -- where a replay stands: there is no disk before the line `new`

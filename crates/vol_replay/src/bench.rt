@@ -11,9 +11,9 @@ ghost use Rattle.cache_log.specs.Rows.{byte_of};
 ghost use Rattle.cache_log.specs.Committed.{IsFormattedLog};
 ghost use Rattle.plain_disk.specs.Machine.{created, reply_of, disk_after, stopping_after, kept_mark, mounted};
 ghost use Rattle.volume_events.specs.declared.event.Event.TheVariants as events;
-ghost use Rattle.vol_core.specs.Volume.{script_uuid};
-ghost use Rattle.vol_core.specs.Standing.{IsCommittedCount, IsCommittingCount, IsCrashSafe, StopKeepsNow, keeps_last};
-ghost use Rattle.vol_core.specs.Stepping.{HasRoomForCost};
+ghost use Rattle.log_volume.specs.Volume.{script_uuid};
+ghost use Rattle.log_volume.specs.Standing.{IsCommittedCount, IsCommittingCount, IsCrashSafe, StopKeepsNow, keeps_last};
+ghost use Rattle.log_volume.specs.Stepping.{HasRoomForCost};
 ghost use Rattle.vol_replay.specs.Bench.{IsUntouched, LeavesPlain};
 
 use crate::crash::{mount_again, stopped_disk};
@@ -23,7 +23,7 @@ use lsvd_base::{Body, Geometry, SECTOR_BYTES};
 use lsvd_device::{Disk, Fate, FuseDisk, MemDisk, StoppedDisk};
 use std::alloc::{AllocError, Global};
 use std::marker::Model;
-use vol_core::Volume;
+use log_volume::Volume;
 use volume_events::Reply;
 
 // The uuid of the volume of a script.
@@ -57,7 +57,7 @@ pub(crate) struct Bench {
 }
 
 impl Model for Bench {
-    ghost use Rattle.vol_core.specs.Volume.{VolumeState};
+    ghost use Rattle.log_volume.specs.Volume.{VolumeState};
     ghost use Rattle.vol_replay.specs.Bench.{IsBench};
 
     ghost Value = { VolumeState };

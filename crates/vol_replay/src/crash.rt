@@ -5,7 +5,7 @@ ghost use Rattle.lsvd_device.specs.Medium.{MayLeave};
 ghost use Rattle.lsvd_device.specs.Device.{IsDisk, HoldsNow};
 ghost use Rattle.lsvd_device.specs.Stop.{left_in_order, IsStopped};
 ghost use Rattle.commit_slot.specs.Slots.{log_of};
-ghost use Rattle.vol_core.specs.Stepping.{HasRoomForCost};
+ghost use Rattle.log_volume.specs.Stepping.{HasRoomForCost};
 ghost use Rattle.vol_recover.specs.Mounting.{IsMounted};
 ghost use Rattle.vol_recover.specs.CrashSafety.{IsCrashSafeMount};
 ghost use Rattle.vol_recover.specs.MountCosts.{mount_cost};

@@ -1,7 +1,7 @@
 use Rattle.std.proofs.Common.{◌≡◌, ◌+◌, ◌<◌, ◌≤◌, ◌^◌, length, sym, ◌∙◌, ap, subst, arith, rules}
 use Rattle.plain_disk.specs.Machine.{kept_mark, mounted}
-use Rattle.vol_core.specs.Volume.{VolumeState}
-use Rattle.vol_core.specs.Standing.{keeps_last}
+use Rattle.log_volume.specs.Volume.{VolumeState}
+use Rattle.log_volume.specs.Standing.{keeps_last}
 use Rattle.vol_replay.proofs.Mounted.{crash_of, crash_may, mounted_again}
 use Rattle.vol_replay.proofs.bench.Bench.crash.Goals as goal
 

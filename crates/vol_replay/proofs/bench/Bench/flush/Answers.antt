@@ -1,6 +1,6 @@
 use Rattle.std.proofs.Common.{subst}
-use Rattle.vol_core.specs.Volume.{VolumeState}
-use Rattle.vol_core.specs.Standing.{IsCommittingCount, IsCrashSafe}
+use Rattle.log_volume.specs.Volume.{VolumeState}
+use Rattle.log_volume.specs.Standing.{IsCommittingCount, IsCrashSafe}
 use Rattle.vol_replay.proofs.Benches.{flush_safe}
 use Rattle.vol_replay.proofs.bench.Bench.flush.Goals as goal
 

@@ -1,7 +1,7 @@
 use Rattle.std.proofs.Common.{◌≡◌, subst}
 use Rattle.lsvd_device.specs.Device.{DiskState, HoldsNow}
 use Rattle.std.specs.Prelude.{length}
-use Rattle.vol_core.specs.Volume.{VolumeState}
+use Rattle.log_volume.specs.Volume.{VolumeState}
 use Rattle.vol_replay.proofs.Mounted.{pending_is}
 use Rattle.vol_replay.proofs.bench.Bench.pending.Goals as goal
 

@@ -1,6 +1,6 @@
 use Rattle.std.proofs.Common.{◌≡◌, rules, subst}
 use Rattle.lsvd_device.specs.Calls.{fuse_of}
-use Rattle.vol_core.specs.Volume.{VolumeState}
+use Rattle.log_volume.specs.Volume.{VolumeState}
 use Rattle.vol_replay.specs.Bench.{IsUntouched}
 use Rattle.vol_replay.proofs.Benches.{room_made, room_bench}
 use Rattle.vol_replay.proofs.bench.Bench.reserve.Goals as goal

@@ -2,7 +2,7 @@ use Rattle.std.proofs.Common.{◌≡◌, ◌∙◌, ap, rules, subst}
 use Rattle.std.specs.Prelude.{Some, None}
 use Rattle.lsvd_device.specs.Fuse.{with_new_fuse}
 use Rattle.plain_disk.specs.Machine.{stopping_after}
-use Rattle.vol_core.specs.Volume.{VolumeState}
+use Rattle.log_volume.specs.Volume.{VolumeState}
 use Rattle.vol_replay.specs.Bench.{LeavesPlain}
 use Rattle.vol_replay.proofs.Benches.{fuse_set, stop_left, stop_bench}
 use Rattle.vol_replay.proofs.bench.Bench.stop.Goals as goal

@@ -2,9 +2,9 @@ use Rattle.std.proofs.Common.{◌≡◌, ◌*◌, ◌+◌, ℕ, List, replicate,
 use Rattle.std.specs.Prelude.{OnOk}
 use Rattle.lsvd_device.specs.Memory.{HasRoom}
 use Rattle.lsvd_base.specs.declared.entry.Entry.TheVariants.{Write}
-use Rattle.vol_core.specs.Volume.{VolumeState}
-use Rattle.vol_core.specs.Standing.{IsCommittedCount, IsCrashSafe}
-use Rattle.vol_core.specs.Stepping.{entry_cost}
+use Rattle.log_volume.specs.Volume.{VolumeState}
+use Rattle.log_volume.specs.Standing.{IsCommittedCount, IsCrashSafe}
+use Rattle.log_volume.specs.Stepping.{entry_cost}
 use Rattle.vol_replay.specs.Bench.{IsUntouched}
 use Rattle.vol_replay.proofs.Benches.{can_write, entry_bench, entry_left, entry_told, safe_on_ok}
 use Rattle.vol_replay.proofs.bench.Bench.write.Goals as goal

@@ -1,7 +1,7 @@
 use Rattle.std.proofs.Common.{subst}
 use Rattle.std.specs.Prelude.{OnOk}
-use Rattle.vol_core.specs.Volume.{VolumeState}
-use Rattle.vol_core.specs.Standing.{IsCommittedCount, IsCrashSafe}
+use Rattle.log_volume.specs.Volume.{VolumeState}
+use Rattle.log_volume.specs.Standing.{IsCommittedCount, IsCrashSafe}
 use Rattle.vol_replay.proofs.Benches.{safe_on_ok}
 use Rattle.vol_replay.proofs.bench.Bench.zero.Goals as goal
 
