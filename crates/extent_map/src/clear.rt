@@ -1,6 +1,7 @@
 ghost use Rattle.std.specs.Prelude.{◌≡◌, ◌+◌, ◌<◌, ◌≤◌, ◌++◌, Bool, [], ◌∷◌, length, take, drop, option_to_list};
 ghost use Rattle.page_list.specs.Items.{IsIn, cursor_index, insert_room};
 ghost use Rattle.page_list.specs.Test.{AnswersBy};
+ghost use Rattle.extent_map.specs.Changes.{MayGrow};
 ghost use Rattle.extent_map.specs.Cut.{cut_short, rest_of};
 ghost use Rattle.extent_map.specs.Clear.{NoneSpans, rows_left};
 ghost use Rattle.extent_map.specs.Extents.{IsShortest, Fits, AllFit};
@@ -10,38 +11,41 @@ use crate::extent::Extent;
 use crate::part::{after, before, rest};
 use crate::place::Place;
 use page_list::{Cursor, PageList, Steps};
-use std::sync::ledger::Ledger;
+use std::sync::ledger::{Blank, Ledger};
 
-// Takes what is between two sectors out of those rows whose places pass the test. There is room for a row.
+// Takes what is between two sectors out of those rows whose places pass the test. There is room for a row. The steps are
+// counted in a ledger that nothing reads.
 pub(crate) fn clear_rows<P: Place, F: Fn(&P) -> bool, L: Ledger>(
     rows: &mut PageList<Extent<P>>,
     lba: u64,
     end: u64,
     is_cleared: &F,
-    steps: &mut Steps<L>,
+    blank: Blank,
 )
     ghost test: { P → Bool }
+    requires name { blank.name ≡ L.name }
+    requires parts { blank.parts ≡ L.parts }
+    requires counts { 0 < blank.parts }
     requires order { lba < end }
-    requires room { 1 ≤ insert_room rows.old }
-    requires shortest { IsShortest P.on rows.old.items }
-    requires fits { AllFit P.number rows.old.items }
+    requires rows { MayGrow P.on P.number 1 rows.old }
     requires callable { F.IsAlwaysCallable is_cleared.now }
     requires answers { AnswersBy F.Fn is_cleared.now test }
     ensures rows { rows.new.items ≡ rows_left P.on lba end test rows.old.items }
     ensures room { insert_room rows.old ≤ insert_room rows.new + 1 }
 {
-    let first = first_met(rows, lba, steps);
+    let mut steps: Steps<L> = Steps::new(blank);
+    let first = first_met(rows, lba, &mut steps);
     let Some(row) = rows.get(first) else {
         return;
     };
     if row.lba < lba && end < row.lba + row.sectors {
         if is_cleared(&row.place) {
-            cut_out(rows, first, row, lba, end, steps);
+            cut_out(rows, first, row, lba, end, &mut steps);
         }
         return;
     }
     let (kept, last) = keep_parts(rows, first, lba, end, is_cleared);
-    rows.remove(kept, last, steps);
+    rows.remove(kept, last, &mut steps);
 }
 
 // Takes what is between two sectors out of a row, which stands at a place and reaches over both. There is room for a

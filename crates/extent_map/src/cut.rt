@@ -1,5 +1,6 @@
 ghost use Rattle.std.specs.Prelude.{◌≡◌, ◌+◌, ◌-◌, ◌^◌, ◌<◌, ◌≤◌, ◌++◌, ◌↔◌, ℕ, false, length, take, drop, IsTrue, MatchOption};
 ghost use Rattle.page_list.specs.Items.{IsIn, cursor_index, insert_room};
+ghost use Rattle.extent_map.specs.Changes.{MayGrow, IsTakenOut};
 ghost use Rattle.extent_map.specs.Cut.{rows_before, rows_from, before_count};
 ghost use Rattle.extent_map.specs.Extents.{IsShortest, AllFit};
 
@@ -35,14 +36,10 @@ pub(crate) fn take_out<P: Place, L: Ledger>(
     steps: &mut Steps<L>,
 ) -> Cursor
     requires order { lba < end }
-    requires room { 1 ≤ insert_room rows.old }
-    requires shortest { IsShortest P.on rows.old.items }
-    requires fits { AllFit P.number rows.old.items }
-    ensures rows { rows.new.items ≡ rows_before lba rows.old.items ++ rows_from P.on end (rows_from P.on lba rows.old.items) }
+    requires rows { MayGrow P.on P.number 1 rows.old }
+    ensures taken { IsTakenOut P.on lba end rows.old rows.new }
     ensures place { IsIn rows.new.lengths result }
     ensures index { cursor_index rows.new.lengths result ≡ length (rows_before lba rows.old.items) }
-    ensures length { length rows.new.items ≤ length rows.old.items + 1 }
-    ensures room { insert_room rows.old ≤ insert_room rows.new + 1 }
     ensures steps { steps.new ≤ steps.old + 254 + (before_count end rows.old.items - before_count lba rows.old.items) }
     ensures rises { steps.old ≤ steps.new }
 {

@@ -1,7 +1,7 @@
-ghost use Rattle.std.specs.Prelude.{◌≡◌, ◌+◌, ◌*◌, ◌≤◌, ◌^◌, ◌<◌, ◌↔◌, ◌++◌, ℕ, Bool, [], length, IfOk, OnOk, IsOk, IfSome, IsNone, slice_get};
+ghost use Rattle.std.specs.Prelude.{◌≡◌, ◌+◌, ◌*◌, ◌≤◌, ◌^◌, ◌<◌, ◌↔◌, ℕ, Bool, [], length, IfOk, OnOk, IsOk, IfSome, IsNone};
 ghost use Rattle.page_list.specs.Items.{insert_room};
 ghost use Rattle.page_list.specs.Test.{AnswersBy};
-ghost use Rattle.extent_map.specs.Clear.{rows_left};
+ghost use Rattle.extent_map.specs.Changes.{MayGrow, IsRow, IsSet, IsTakenOut};
 ghost use Rattle.extent_map.specs.Cut.{rows_before, rows_from};
 ghost use Rattle.extent_map.specs.Extents.{IsSteady, place_at, place_after_set, place_after_clear, place_after_clear_if, place_in_range, IsShortest, Fits, AllFit, IsFirstOfRange, StartsRange, IsBare, met};
 
@@ -169,7 +169,7 @@ impl<P: Place> ExtentMap<P> {
         ensures spare { self.old.spare ≤ self.new.spare + 1 }
     {
         if sectors != 0 {
-            clear_passing::<P, F, Brand>(
+            clear_rows::<P, F, Brand>(
                 &mut self.rows,
                 lba,
                 lba + sectors,
@@ -219,7 +219,7 @@ impl<P: Place> ExtentMap<P> {
         ensures row { IfSome result (StartsRange P.on lba sectors (place_at P.on self.now.rows)) }
         ensures fits { IfSome result (Fits P.number) }
     {
-        first_of::<P, Brand>(&self.rows, lba, lba + sectors, Blank::new(1))
+        first_between::<P, Brand>(&self.rows, lba, lba + sectors, Blank::new(1))
     }
 }
 
@@ -229,16 +229,9 @@ fn set_rows<P: Place, L: Ledger>(
     row: Extent<P>,
     steps: &mut Steps<L>,
 )
-    requires room { 2 ≤ insert_room rows.old }
-    requires shortest { IsShortest P.on rows.old.items }
-    requires fits { AllFit P.number rows.old.items }
-    requires some { 0 < row.sectors }
-    requires row_fits { Fits P.number row }
-    ensures places { (k : ℕ) → place_at P.on rows.new.items k ≡ place_after_set P.on row.lba row.sectors row.place (place_at P.on rows.old.items) k }
-    ensures shortest { IsShortest P.on rows.new.items }
-    ensures fits { AllFit P.number rows.new.items }
-    ensures length { length rows.new.items ≤ length rows.old.items + 2 }
-    ensures room { insert_room rows.old ≤ insert_room rows.new + 2 }
+    requires rows { MayGrow P.on P.number 2 rows.old }
+    requires row { IsRow P.number row }
+    ensures set { IsSet P.on P.number row rows.old rows.new }
     ensures steps { steps.new ≤ steps.old + 511 + met row.lba row.sectors rows.old.items }
     ensures rises { steps.old ≤ steps.new }
 {
@@ -253,16 +246,9 @@ fn set_uncounted<P: Place, L: Ledger>(rows: &mut PageList<Extent<P>>, row: Exten
     requires name { blank.name ≡ L.name }
     requires parts { blank.parts ≡ L.parts }
     requires counts { 0 < blank.parts }
-    requires room { 2 ≤ insert_room rows.old }
-    requires shortest { IsShortest P.on rows.old.items }
-    requires fits { AllFit P.number rows.old.items }
-    requires some { 0 < row.sectors }
-    requires row_fits { Fits P.number row }
-    ensures places { (k : ℕ) → place_at P.on rows.new.items k ≡ place_after_set P.on row.lba row.sectors row.place (place_at P.on rows.old.items) k }
-    ensures shortest { IsShortest P.on rows.new.items }
-    ensures fits { AllFit P.number rows.new.items }
-    ensures length { length rows.new.items ≤ length rows.old.items + 2 }
-    ensures room { insert_room rows.old ≤ insert_room rows.new + 2 }
+    requires rows { MayGrow P.on P.number 2 rows.old }
+    requires row { IsRow P.number row }
+    ensures { IsSet P.on P.number row rows.old rows.new }
 {
     let mut steps: Steps<L> = Steps::new(blank);
     set_rows(rows, row, &mut steps);
@@ -279,40 +265,11 @@ fn clear_range<P: Place, L: Ledger>(
     requires parts { blank.parts ≡ L.parts }
     requires counts { 0 < blank.parts }
     requires order { lba < end }
-    requires room { 1 ≤ insert_room rows.old }
-    requires shortest { IsShortest P.on rows.old.items }
-    requires fits { AllFit P.number rows.old.items }
-    ensures rows { rows.new.items ≡ rows_before lba rows.old.items ++ rows_from P.on end (rows_from P.on lba rows.old.items) }
-    ensures length { length rows.new.items ≤ length rows.old.items + 1 }
-    ensures room { insert_room rows.old ≤ insert_room rows.new + 1 }
+    requires rows { MayGrow P.on P.number 1 rows.old }
+    ensures { IsTakenOut P.on lba end rows.old rows.new }
 {
     let mut steps: Steps<L> = Steps::new(blank);
     take_out(rows, lba, end, &mut steps);
-}
-
-// Takes what is between two sectors out of the rows whose places pass a test.
-fn clear_passing<P: Place, F: Fn(&P) -> bool, L: Ledger>(
-    rows: &mut PageList<Extent<P>>,
-    lba: u64,
-    end: u64,
-    is_cleared: &F,
-    blank: Blank,
-)
-    ghost test: { P → Bool }
-    requires name { blank.name ≡ L.name }
-    requires parts { blank.parts ≡ L.parts }
-    requires counts { 0 < blank.parts }
-    requires order { lba < end }
-    requires room { 1 ≤ insert_room rows.old }
-    requires shortest { IsShortest P.on rows.old.items }
-    requires fits { AllFit P.number rows.old.items }
-    requires callable { F.IsAlwaysCallable is_cleared.now }
-    requires answers { AnswersBy F.Fn is_cleared.now test }
-    ensures rows { rows.new.items ≡ rows_left P.on lba end test rows.old.items }
-    ensures room { insert_room rows.old ≤ insert_room rows.new + 1 }
-{
-    let mut steps: Steps<L> = Steps::new(blank);
-    clear_rows(rows, lba, end, is_cleared, &mut steps);
 }
 
 // The rows between two sectors, cut at both. The one error is out of memory.
@@ -333,22 +290,4 @@ fn look_uncounted<P: Place, L: Ledger>(
 {
     let mut steps: Steps<L> = Steps::new(blank);
     look(alloc, rows, lba, end, &mut steps)
-}
-
-// The first of the rows between two sectors, cut at both.
-fn first_of<P: Place, L: Ledger>(
-    rows: &PageList<Extent<P>>,
-    lba: u64,
-    end: u64,
-    blank: Blank,
-) -> Option<Extent<P>>
-    requires name { blank.name ≡ L.name }
-    requires parts { blank.parts ≡ L.parts }
-    requires counts { 0 < blank.parts }
-    requires shortest { IsShortest P.on rows.now.items }
-    requires fits { AllFit P.number rows.now.items }
-    ensures { result ≡ slice_get (rows_before end (rows_from P.on lba rows.now.items)) 0 }
-{
-    let mut steps: Steps<L> = Steps::new(blank);
-    first_between(rows, lba, end, &mut steps)
 }

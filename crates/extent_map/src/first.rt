@@ -1,4 +1,4 @@
-ghost use Rattle.std.specs.Prelude.{◌≡◌, slice_get};
+ghost use Rattle.std.specs.Prelude.{◌≡◌, ◌<◌, slice_get};
 ghost use Rattle.extent_map.specs.Cut.{rows_before, rows_from};
 ghost use Rattle.extent_map.specs.Extents.{IsShortest, AllFit};
 
@@ -7,20 +7,24 @@ use crate::extent::Extent;
 use crate::part::{before, rest};
 use crate::place::Place;
 use page_list::{PageList, Steps};
-use std::sync::ledger::Ledger;
+use std::sync::ledger::{Blank, Ledger};
 
-// The first of the rows between two sectors, cut at both.
+// The first of the rows between two sectors, cut at both. The steps are counted in a ledger that nothing reads.
 pub(crate) fn first_between<P: Place, L: Ledger>(
     rows: &PageList<Extent<P>>,
     lba: u64,
     end: u64,
-    steps: &mut Steps<L>,
+    blank: Blank,
 ) -> Option<Extent<P>>
+    requires name { blank.name ≡ L.name }
+    requires parts { blank.parts ≡ L.parts }
+    requires counts { 0 < blank.parts }
     requires shortest { IsShortest P.on rows.now.items }
     requires fits { AllFit P.number rows.now.items }
     ensures { result ≡ slice_get (rows_before end (rows_from P.on lba rows.now.items)) 0 }
 {
-    let row = first_past(rows, lba, steps)?;
+    let mut steps: Steps<L> = Steps::new(blank);
+    let row = first_past(rows, lba, &mut steps)?;
     before(row, end)
 }
 

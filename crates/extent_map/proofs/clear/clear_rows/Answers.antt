@@ -10,15 +10,15 @@ use Rattle.extent_map.proofs.clear.clear_rows.Goals as goal
 
 pub returns-in_default-clause-rows : goal.returns-in_default-clause-rows
 returns-in_default-clause-rows g c =
-    let order = c.requires.1.1.1.0 in
-    let shortest = c.requires.1.1.1.1.1.0 in
+    let order = c.requires.1.1.1.1.1.1.0 in
+    let shortest = c.requires.1.1.1.1.1.1.1.0.shortest in
     none_met g.P.Place.on c.args.lba c.args.end order g.test c.args.rows.now.items shortest
     (cursor_index c.args.rows.now.lengths c.first_met-first.result) c.first_met-first.ensures.index (sym c.get.ensures ∙ c.in_default.is)
 
 pub overflow_add-row : goal.overflow_add-row
 overflow_add-row g c =
     let fits = fits_read g.P.Place.number c.args.rows.now.items (cursor_index c.args.rows.now.lengths c.first_met-first.result) c.in-Some.row
-    c.requires.1.1.1.1.1.1.0 (sym c.get.ensures ∙ c.in-Some.is) in
+    c.requires.1.1.1.1.1.1.1.0.fits (sym c.get.ensures ∙ c.in-Some.is) in
     omega (arith, fits.sectors)
 
 pub cut_out-requires-clause-inside : goal.cut_out-requires-clause-inside
@@ -28,13 +28,13 @@ cut_out-requires-clause-inside g c =
 pub cut_out-requires-clause-fits : goal.cut_out-requires-clause-fits
 cut_out-requires-clause-fits g c =
     fits_read g.P.Place.number c.args.rows.now.items (cursor_index c.args.rows.now.lengths c.first_met-first.result) c.in-Some.row
-    c.requires.1.1.1.1.1.1.0 (sym c.get.ensures ∙ c.in-Some.is)
+    c.requires.1.1.1.1.1.1.1.0.fits (sym c.get.ensures ∙ c.in-Some.is)
 
 pub returns-then-end-row-clause-rows : goal.returns-then-end-row-clause-rows
 returns-then-end-row-clause-rows g c =
-    let order = c.requires.1.1.1.0 in
-    let shortest = c.requires.1.1.1.1.1.0 in
-    let answers = c.requires.1.1.1.1.1.1.1.1 in
+    let order = c.requires.1.1.1.1.1.1.0 in
+    let shortest = c.requires.1.1.1.1.1.1.1.0.shortest in
+    let answers = c.requires.1.1.1.1.1.1.1.1.1 in
     let row = c.in-Some.row in
     let n = cursor_index c.args.rows.now.lengths c.first_met-first.result in
     let said = answers row.place c.is_cleared.result (says_at g.F.Fn c.is_cleared.ensures refl) in
@@ -52,10 +52,10 @@ returns-then-end-row-clause-rows g c =
 
 pub keep_parts-requires : goal.keep_parts-requires
 keep_parts-requires g c κs within =
-    let order = c.requires.1.1.1.0 in
-    let shortest = c.requires.1.1.1.1.1.0 in
-    let fits = c.requires.1.1.1.1.1.1.0 in
-    let calls = c.requires.1.1.1.1.1.1.1 in
+    let order = c.requires.1.1.1.1.1.1.0 in
+    let shortest = c.requires.1.1.1.1.1.1.1.0.shortest in
+    let fits = c.requires.1.1.1.1.1.1.1.0.fits in
+    let calls = c.requires.1.1.1.1.1.1.1.1 in
     let rows = c.args.rows.now.items in
     let n = cursor_index c.args.rows.now.lengths c.first_met-first.result in
     let spans : c.in-Some.row.lba < c.args.lba → c.in-Some.row.lba + c.in-Some.row.sectors ≤ c.args.end =
@@ -88,8 +88,8 @@ keep_parts-requires g c κs within =
 
 pub returns-clause-rows : goal.returns-clause-rows
 returns-clause-rows g c =
-    let order = c.requires.1.1.1.0 in
-    let shortest = c.requires.1.1.1.1.1.0 in
+    let order = c.requires.1.1.1.1.1.1.0 in
+    let shortest = c.requires.1.1.1.1.1.1.1.0.shortest in
     let left = c.keep_parts.new.rows.items in
     c.remove.ensures.items
     ∙ ap (λ ns. take (cursor_index ns c.keep_parts.result.0) left ++ drop (cursor_index ns c.keep_parts.result.1) left) c.keep_parts.ensures.lengths

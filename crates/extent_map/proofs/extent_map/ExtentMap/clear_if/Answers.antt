@@ -9,7 +9,7 @@ invariant_of-self g c =
     let on = g.P.Place.on in
     let rows = c.self.inside.rows.items in
     let end = c.args.lba + c.args.sectors in
-    let is = sym c.clear_passing.ensures.rows in
+    let is = sym c.clear_rows.ensures.rows in
     let order : c.args.lba < c.args.lba + c.args.sectors = omega (arith, c.if-sectors-ne0.true) in (
       subst (IsShortest on) is
           (shortest_left on c.args.lba end order g.test g.met.P.Place.on_twice rows c.self.invariant.0),
@@ -23,13 +23,13 @@ returns-then-sectors-ne0-clause-places g c k =
     let on = g.P.Place.on in
     let rows = c.self.inside.rows.items in
     let some : 0 < c.args.sectors = omega (arith, c.if-sectors-ne0.true) in
-    ap (λ xs. place_at on xs k) c.clear_passing.ensures.rows
+    ap (λ xs. place_at on xs k) c.clear_rows.ensures.rows
     ∙ places_left on g.met.P.Place.on_twice c.args.lba c.args.sectors some g.test steady rows k c.self.invariant.0
     ∙ ap (λ m. place_after_clear_if c.args.lba c.args.sectors g.test (place_at on m.rows) k) c.self.view_is
 
 pub returns-then-sectors-ne0-clause-shortest : goal.returns-then-sectors-ne0-clause-shortest
 returns-then-sectors-ne0-clause-shortest g c =
     let order : c.args.lba < c.args.lba + c.args.sectors = omega (arith, c.if-sectors-ne0.true) in
-    subst (IsShortest g.P.Place.on) (sym c.clear_passing.ensures.rows)
+    subst (IsShortest g.P.Place.on) (sym c.clear_rows.ensures.rows)
     (shortest_left g.P.Place.on c.args.lba (c.args.lba + c.args.sectors) order g.test g.met.P.Place.on_twice
     c.self.inside.rows.items c.self.invariant.0)

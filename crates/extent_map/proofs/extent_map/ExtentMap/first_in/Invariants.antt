@@ -1,4 +1,4 @@
 use Rattle.extent_map.proofs.extent_map.ExtentMap.first_in.Given as goal
 
-abbrev pub ghosts-first_of : goal.ghosts-first_of
-ghosts-first_of g a = record { name = a.blank.name; parts = a.blank.parts }
+abbrev pub ghosts-first_between : goal.ghosts-first_between
+ghosts-first_between g a = record { name = a.blank.name; parts = a.blank.parts }
