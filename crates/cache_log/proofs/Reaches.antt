@@ -1,11 +1,10 @@
 -- The records of a log from a sector up to its head: with one more, and without the first.
 use Rattle.std.proofs.Common.{◌≡◌, ℕ, ◌+◌, ◌-◌, ◌<◌, ◌≤◌, List, [], ◌∷◌, zero, suc, drop, refl, sym, subst, inl, inr, arith}
 use Rattle.std.proofs.lemmas.Bool.Decides.{nat_tests}
-use Rattle.log_room.specs.Room.{Room, IsRoom}
+use Rattle.log_room.specs.Room.{Room, IsRoom, distance}
 use Rattle.cache_log.specs.declared.row.Row.{Row}
 use Rattle.cache_log.specs.Rows.{position_of, record_size, StandsFrom, sectors_taken, next, AreNumbered, Follow, HaveRecords}
 use Rattle.cache_log.specs.Log.{start_of}
-use Rattle.cache_log.specs.Opening.{distance}
 use Rattle.cache_log.specs.Committed.{sectors_from}
 use Rattle.cache_log.specs.Invariant.{IsFurther, Reach}
 use Rattle.cache_log.proofs.Places.{some_size, taken_here, taken_round, step_of, further_on}

@@ -11,11 +11,11 @@ use Rattle.commit_slot.specs.Slots.{log_of}
 use Rattle.commit_slot.specs.Commits.{IsAt, IsAsBefore, IsCommit, IsLast, ReadsSettled, finished_number}
 use Rattle.commit_slot.specs.Committing.{IsCommitted}
 use Rattle.commit_slot.specs.OnDisk.{AreOnDisk}
-use Rattle.log_room.specs.Room.{room_of, empty_log}
+use Rattle.log_room.specs.Room.{room_of, empty_log, distance}
 use Rattle.cache_log.specs.declared.row.Row.{Row}
 use Rattle.cache_log.specs.Rows.{entry_of, AreNumbered, since, entries_since, entries_between}
 use Rattle.cache_log.specs.Log.{LogState, all_rows, next_seq, entries_in}
-use Rattle.cache_log.specs.Opening.{AreRecords, distance}
+use Rattle.cache_log.specs.Opening.{AreRecords}
 
 -- ---- what a stop leaves
 

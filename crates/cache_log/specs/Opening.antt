@@ -6,7 +6,7 @@ use Rattle.lsvd_base.specs.Limits.{covers, may_transfer}
 use Rattle.lsvd_base.specs.Range.{is_in_range}
 use Rattle.lsvd_device.specs.Medium.{Medium}
 use Rattle.lsvd_device.specs.Device.{HoldsNow, MakesCalls}
-use Rattle.log_room.specs.Room.{room_of}
+use Rattle.log_room.specs.Room.{room_of, distance}
 use Rattle.log_record.specs.declared.head.Head.TheVariants as heads
 use Rattle.log_record.specs.declared.head.Place.{Place}
 use Rattle.log_record.specs.declared.reason.Reason.{Reason}
@@ -46,10 +46,6 @@ AreRowsInRange geometry rows = AllByRecursion (λ row. IsTrue (is_row_in_range g
 pub record AreRecordsInRange (geometry : Geometry) (body : CommitBody) (rows : List Row) (bytes : List ℕ) : Type 0 where
   pub records : AreRecords geometry.log body rows bytes
   pub in_range : AreRowsInRange geometry rows
-
--- the sectors from one on to another, round the log's end: the whole log where they are one
-abbrev pub distance : (log from to : ℕ) → ℕ
-distance log from to = if nat_lt from to then to - from else log - from + to
 
 -- the sectors from a commit's tail on to its head: none where it has no records
 abbrev pub sectors_between : (log : ℕ) → CommitBody → ℕ

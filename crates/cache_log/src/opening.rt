@@ -10,7 +10,7 @@ ghost use Rattle.cache_log.specs.Rows.{byte_of, log_sectors, seq_of, position_of
 ghost use Rattle.cache_log.specs.Reads.{headers_of, headers_of_rows, AreReadOnly};
 ghost use Rattle.cache_log.specs.Reads.{opens_without_fault};
 ghost use Rattle.cache_log.specs.Opening.{entry_count, AreRecordsInRange, AreRowsOfLog};
-ghost use Rattle.cache_log.specs.Opening.{distance, sectors_between, IsBadLog};
+ghost use Rattle.cache_log.specs.Opening.{sectors_between, IsBadLog};
 ghost use Rattle.cache_log.specs.Headers.{head_of_row, IsPad, HasRow, FitsFrom, IsBadHeader};
 ghost use Rattle.cache_log.specs.Headers.{IsBadRow, AreReadTimes};
 
@@ -20,6 +20,7 @@ use crate::transfer::byte_of;
 use commit_body::CommitBody;
 use commit_slot::Commits;
 use log_record::{Head, Place, decode};
+use log_room::distance;
 use lsvd_base::{Geometry, SECTOR_BYTES};
 use lsvd_device::Disk;
 use std::alloc::Global;
@@ -78,21 +79,6 @@ pub(crate) fn sectors_between(body: &CommitBody, log: u64) -> u64
         0
     } else {
         distance(log, body.tail.position, body.head.position)
-    }
-}
-
-// The sectors from one on to another, round the end of a log of `log` sectors: all where they are one.
-pub(crate) fn distance(log: u64, from: u64, to: u64) -> u64
-    requires log { log ≤ max_log }
-    requires from { from < log }
-    requires to { to < log }
-    ensures distance { result ≡ distance log from to }
-    ensures most { result ≤ log }
-{
-    if from < to {
-        to - from
-    } else {
-        log - from + to
     }
 }
 

@@ -4,8 +4,8 @@ ghost use Rattle.cache_log.specs.Rows.{since};
 ghost use Rattle.cache_log.specs.Log.{start_of};
 ghost use Rattle.cache_log.specs.Committed.{sectors_from};
 
-use crate::opening::distance;
 use crate::row::Row;
+use log_room::distance;
 use std::collections::VecDeque;
 
 // Takes the rows with seqs below this one from the front, and answers how many these were.

@@ -1,5 +1,5 @@
 -- Contract: the room of a circular log, in sectors.
-use Rattle.std.specs.Prelude.{ℕ, ◌+◌, ◌-◌, ◌/◌, ◌^◌, ◌<◌, ◌≤◌, ◌==◌, Bool, nat_le, length, if◌then◌else◌}
+use Rattle.std.specs.Prelude.{ℕ, ◌+◌, ◌-◌, ◌/◌, ◌^◌, ◌<◌, ◌≤◌, ◌==◌, Bool, nat_lt, nat_le, length, if◌then◌else◌}
 use Rattle.lsvd_base.specs.declared.entry.Entry.{Entry}
 use Rattle.lsvd_base.specs.declared.entry.Entry.TheVariants.{Write, Zero}
 
@@ -63,6 +63,10 @@ position room sectors = if fits_before_end room sectors then room.head else 0
 -- the sector at which the next record would stand, after one that ends here: the log's end is its beginning
 abbrev pub head_at : Room → ℕ → ℕ
 head_at room end = if end == room.log then 0 else end
+
+-- the sectors from one on to another, round the log's end: the whole log where they are one
+abbrev pub distance : (log from to : ℕ) → ℕ
+distance log from to = if nat_lt from to then to - from else log - from + to
 
 -- the room after the record: its head is the next sector, and what was needed is in use
 abbrev pub after_record : Room → ℕ → Room

@@ -9,4 +9,4 @@ mod laws;
 mod room;
 
 pub use laws::a_record_takes_what_it_needs;
-pub use room::{LogRoom, record_sectors};
+pub use room::{LogRoom, distance, record_sectors};

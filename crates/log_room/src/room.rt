@@ -1,7 +1,7 @@
 ghost use Rattle.std.specs.Prelude.{◌≡◌, ◌+◌, ◌^◌, ◌<◌, ◌≤◌};
 ghost use Rattle.log_room.specs.Room.{max_log, IsRoom, room_of, empty_log, record_sectors};
 ghost use Rattle.log_room.specs.Room.{pad_before, need, free, position, after_record};
-ghost use Rattle.log_room.specs.Room.{after_release};
+ghost use Rattle.log_room.specs.Room.{after_release, distance};
 
 use lsvd_base::{Entry, SECTOR_BYTES};
 use std::marker::Model;
@@ -140,6 +140,23 @@ pub fn record_sectors(entry: &Entry) -> u64
     match entry {
         Entry::Write { body, .. } => 1 + body.as_bytes().len() as u64 / SECTOR_BYTES,
         Entry::Zero { .. } => 1,
+    }
+}
+
+/// How many sectors there are from the sector `from` on to the sector `to` of a log of `log` sectors, going on
+/// from the log's end at its beginning: a whole log where they are one sector. A log has at most 2^31 sectors, and
+/// both sectors are below its end (conditions).
+pub fn distance(log: u64, from: u64, to: u64) -> u64
+    requires log { log ≤ max_log }
+    requires from { from < log }
+    requires to { to < log }
+    ensures distance { result ≡ distance log from to }
+    ensures most { result ≤ log }
+{
+    if from < to {
+        to - from
+    } else {
+        log - from + to
     }
 }
 
