@@ -196,6 +196,21 @@ impl<D: Disk> CacheLog<D> {
         self.commits.number()
     }
 
+    /// The seq of the first entry that the last commit made has: the sectors of all before it are
+    /// free.
+    pub fn committed_tail(&self) -> u64
+        ensures { result ≡ self.now.commits.body.tail.seq }
+    {
+        self.commits.body().tail.seq
+    }
+
+    /// The seq after the last entry that the last commit made has.
+    pub fn committed_head(&self) -> u64
+        ensures { result ≡ self.now.commits.body.head.seq }
+    {
+        self.commits.body().head.seq
+    }
+
     /// Where the record of an entry stands, by its index in the list of entries (below their count,
     /// a condition). No log goes past the sector 2^31.
     pub fn row(&self, index: usize) -> Row
