@@ -78,26 +78,26 @@ pub record IsOnDisk (log : LogState) : Type 0 where
 
 -- ---- formatting
 
--- the body of the first commit of a volume with this uuid and epoch: its log is empty
-abbrev pub first_body : (uuid : List ℕ) → (epoch : ℕ) → CommitBody
-first_body uuid epoch = record {
+-- the body of the first commit of a volume with this uuid and epoch: its log is empty, and its first entry will have a seq
+abbrev pub first_body : (uuid : List ℕ) → (epoch first : ℕ) → CommitBody
+first_body uuid epoch first = record {
   uuid = uuid;
   epoch = epoch;
-  tail = record { position = 0; seq = 0 };
-  head = record { position = 0; seq = 0 };
+  tail = record { position = 0; seq = first };
+  head = record { position = 0; seq = first };
 }
 
--- the log has no entry, and the first commit is made, which each stop leaves
-pub record IsFormattedLog (uuid : List ℕ) (epoch : ℕ) (old : DiskState) (log : LogState) : Type 0 where
+-- the log has no entry, its first one will have this seq, and the first commit is made, which each stop leaves
+pub record IsFormattedLog (uuid : List ℕ) (epoch first_seq : ℕ) (old : DiskState) (log : LogState) : Type 0 where
   pub room : log.room ≡ empty_log (log_of old.size)
   pub held : log.held ≡ []
   pub start : log.start ≡ 0
-  pub first : log.first ≡ 0
+  pub first : log.first ≡ first_seq
   pub rows : log.rows ≡ []
   pub all : log.all ≡ log.entries
   pub entries : log.entries ≡ entries_in [] log.commits.disk.moments
-  pub commits : IsAt 0 (first_body uuid epoch) None log.commits
-  pub stands : LeavesEntriesNow log (IsCommit 0 (first_body uuid epoch))
+  pub commits : IsAt 0 (first_body uuid epoch first_seq) None log.commits
+  pub stands : LeavesEntriesNow log (IsCommit 0 (first_body uuid epoch first_seq))
   pub synced : HoldsNow IsSynced log.commits.disk.moments
 
 -- ---- appending and committing

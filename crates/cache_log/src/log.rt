@@ -85,30 +85,31 @@ impl<D: Disk> Model for CacheLog<D> {
 impl<D: Disk> CacheLog<D> {
     /// Formats a device, whose sectors past byte 4,096 are the log's: at least one and at most 2^31
     /// (a condition). The device is a disk (a condition, which its `len` tells). The log has no
-    /// entry, its first entry will have the seq 0, and its first commit, with the number 0, this
-    /// uuid and this epoch, is made. `Failed` comes with the device where a call of it failed; it
-    /// is to be formatted again.
+    /// entry, its first entry will have the seq `first`, and its first commit, with the number 0,
+    /// this uuid and this epoch, is made. `Failed` comes with the device where a call of it failed;
+    /// it is to be formatted again.
     pub fn format(
         alloc: Global,
         disk: D,
         uuid: [u8; 16],
         epoch: u64,
+        first: u64,
     ) -> Result<CacheLog<D>, (D, Failed)>
         requires least { byte_of 1 ≤ (D.state disk).size }
         requires most { (D.state disk).size < byte_of (max_log + 1) }
         requires is_disk { IsDisk (D.state disk) }
-        ensures ok { IfOk result (IsFormattedLog uuid epoch (D.state disk)) }
+        ensures ok { IfOk result (IsFormattedLog uuid epoch first (D.state disk)) }
         ensures is_disk { IfErr result (λ error. IsDisk (D.state error.0)) }
         ensures calls { IfOk result (λ log.
-            Costs format_cost (format_calls (first_body uuid epoch)) true
+            Costs format_cost (format_calls (first_body uuid epoch first)) true
             (D.state disk) log.commits.disk) }
         ensures err { IfErr result (λ error.
-            Costs format_cost (format_calls (first_body uuid epoch)) false
+            Costs format_cost (format_calls (first_body uuid epoch first)) false
             (D.state disk) (D.state error.0)) }
     {
         let begin = Mark {
             position: 0,
-            seq: 0,
+            seq: first,
         };
         let body = CommitBody {
             uuid,

@@ -38,7 +38,7 @@ fn enter(rt: &impl Abort, log: &mut CacheLog<MemDisk>, entry: &Entry) -> Result<
 fn stopped(rt: &impl Abort, alloc: Global) -> Result<MemDisk, Fail> {
     let disk = MemDisk::new(alloc, SIZE)?;
     assert!(rt; disk.len() == SIZE);
-    let mut log = CacheLog::format(alloc, disk, [0; 16], 0).map_err(|(_, failed)| failed)?;
+    let mut log = CacheLog::format(alloc, disk, [0; 16], 0, 0).map_err(|(_, failed)| failed)?;
     let body = Body::filled(alloc, 2, 0x41)?;
     enter(rt, &mut log, &Entry::Write { lba: 7, body })?;
     enter(rt, &mut log, &Entry::Zero { lba: 3, sectors: 3 })?;

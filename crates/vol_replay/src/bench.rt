@@ -234,11 +234,11 @@ fn format(alloc: Global, disk: FuseDisk<MemDisk>) -> Result<CacheLog<FuseDisk<Me
     requires fuse { fuse_of disk.budget ≡ Some None }
     requires room { HasRoomForCost format_cost disk }
     requires moments { disk.moments ≡ durable (replicate disk.size 0) ∷ [] }
-    ensures ok { IfOk result (IsFormattedLog script_uuid 0 disk) }
+    ensures ok { IfOk result (IsFormattedLog script_uuid 0 0 disk) }
     ensures still { IfOk result (λ log. HasNow IsSynced log.commits.disk.moments) }
     ensures fuse { IfOk result (λ log. fuse_of log.commits.disk.budget ≡ Some None) }
 {
-    match CacheLog::format(alloc, disk, UUID, EPOCH) {
+    match CacheLog::format(alloc, disk, UUID, EPOCH, 0) {
         Ok(log) => Ok(log),
         Err(_) => {
             // Within the room that was made the disk fails no call.

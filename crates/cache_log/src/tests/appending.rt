@@ -35,7 +35,7 @@ fn log_of(rt: &impl Abort, alloc: Global, sectors: u64) -> Result<Log, Fail>
 {
     let disk = disk_of(rt, alloc, sectors)?;
     assert!(rt; LOG_START <= disk.len());
-    Ok(CacheLog::format(alloc, disk, UUID, 0).map_err(|(_, failed)| failed)?)
+    Ok(CacheLog::format(alloc, disk, UUID, 0, 0).map_err(|(_, failed)| failed)?)
 }
 
 // The bytes of the log.

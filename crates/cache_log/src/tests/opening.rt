@@ -1,5 +1,5 @@
-use super::{Log, append, commit, emptied, entries, entry_of, open, positions};
-use crate::{AppendError, OpenError};
+use super::{LOG, Log, UUID, append, commit, disk_of, emptied, entries, entry_of, open, positions};
+use crate::{AppendError, CacheLog, OpenError};
 use commit_slot::LOG_START;
 use log_record::Reason;
 use lsvd_device::Disk;
@@ -49,6 +49,27 @@ fn a_committed_log_is_opened_again(rt: HostRuntime) -> Result<(), Fail> {
         assert_eq!(rt; again.next_seq(), (sectors.len() as u64).wrapping_add(20));
         let answer = append(&rt, &mut again, &entry_of(rt.alloc(), 1, next)?)?;
         assert_eq!(rt; answer, wanted);
+    }
+    Ok(())
+}
+
+#[test]
+fn a_log_begins_at_the_seq_of_its_first_entry(rt: HostRuntime) -> Result<(), Fail> {
+    let alloc = rt.alloc();
+    for first in [0, 1, 0x1_0000_0000, u64::MAX - 1] {
+        let disk = disk_of(&rt, alloc, LOG)?;
+        assert!(rt; LOG_START <= disk.len());
+        let mut log = CacheLog::format(alloc, disk, UUID, 0, first).map_err(|(_, failed)| failed)?;
+        let committed = (log.committed_tail(), log.committed_head());
+        assert_eq!(rt; (log.next_seq(), committed), (first, (first, first)));
+        let _ = positions(&rt, alloc, &mut log, &[2])?;
+        assert!(rt; commit(&rt, &mut log));
+        let mut again = open(&rt, alloc, log.into_disk())?;
+        let next = first.wrapping_add(1);
+        let committed = (again.committed_tail(), again.committed_head());
+        assert_eq!(rt; (again.next_seq(), committed), (next, (first, next)));
+        let found = entries(alloc, &mut again, first)?;
+        assert_eq!(rt; found.as_slice(), [(0, 2, Some(0x41))].as_slice());
     }
     Ok(())
 }
