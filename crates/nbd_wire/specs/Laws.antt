@@ -7,5 +7,5 @@ IsReadOneWay {T} IsMessage =
     (a b x y : List ℕ) (m n : T) → IsMessage a m → IsMessage b n → a ++ x ≡ b ++ y → (a ≡ b) × (x ≡ y) × (m ≡ n)
 
 -- each message of a grammar has this many bytes
-abbrev pub HasSize : {T : Type 0} → ℕ → (List ℕ → T → Type 0) → Type 0
-HasSize {T} size IsMessage = (bytes : List ℕ) (message : T) → IsMessage bytes message → length bytes ≡ size
+abbrev pub HasFixedSize : {T : Type 0} → ℕ → (List ℕ → T → Type 0) → Type 0
+HasFixedSize {T} size IsMessage = (bytes : List ℕ) (message : T) → IsMessage bytes message → length bytes ≡ size

@@ -19,8 +19,8 @@ StandForOneVolume =
     → ObjectsStandFor volume uuid_at objects image number end → ObjectsStandFor volume uuid_at objects other other_number other_end
     → (number ≡ other_number) × (end ≡ other_end) × (image ≡ other)
 
--- what a store has of a stream that begins at its newest checkpoint: the objects up to the first missing number
-pub record HasLanded (volume : Expected) (uuid_at : ℕ → Option (List ℕ)) (objects : Objects) (stream : Stream) (opening : Image) (number : ℕ) : Type 0 where
+-- a store has a stream, which begins at its newest checkpoint, up to the object of a number, and the next number is the first missing one
+pub record HasStreamUpTo (volume : Expected) (uuid_at : ℕ → Option (List ℕ)) (objects : Objects) (stream : Stream) (opening : Image) (number : ℕ) : Type 0 where
   pub checkpoint : Numbers
   pub checkpoints : AreCheckpoints volume objects checkpoint
   pub missing : IsFirstMissing checkpoint (landed_in objects volume.uuid) (number + 1)
@@ -35,5 +35,5 @@ abbrev pub StandForHistory : Type 0
 StandForHistory =
     (volume : Expected) (uuid_at : ℕ → Option (List ℕ)) (objects : Objects) (stream : Stream) (opening : Image) (number : ℕ)
     → uuid_at 0 ≡ Some volume.uuid → volume.sectors < 2 ^ 64 → All (EndsBy (length opening)) stream.entries → IsStream stream
-    → HasLanded volume uuid_at objects stream opening number
+    → HasStreamUpTo volume uuid_at objects stream opening number
     → ObjectsStandFor volume uuid_at objects (after opening (take (end_at stream number - stream.end) stream.entries)) number (end_at stream number)
