@@ -6,7 +6,7 @@ use Rattle.object_stream.proofs.StreamLemmas.{end_no_earlier, follow_first}
 use Rattle.upload_window.specs.declared.object.OpenObject.{OpenObject}
 use Rattle.upload_window.specs.Window.{Ascends, below_lowest}
 use Rattle.upload_window.proofs.Order.{at_most}
-use Rattle.plain_disk.specs.State.{PlainState, stream_in, entry_count, frontier_of, frontier_end}
+use Rattle.plain_disk.specs.State.{PlainState, stream_in, history_length, frontier_of, frontier_end}
 use Rattle.plain_disk.specs.Valid.{IsPlainVolume}
 
 -- of more objects the last ends no earlier
@@ -38,7 +38,7 @@ frontier_is_sealed state h = omega (arith, below_at_most 0 state.window.objects 
 
 -- an object that there is ends within the entries, and not before those that the volume opens with
 pub ends_within : (state : PlainState) (number : ℕ) → IsPlainVolume state → number ≤ last_number (stream_in state)
-    → end_at (stream_in state) number ≤ entry_count state
+    → end_at (stream_in state) number ≤ history_length state
 ends_within state number h is =
     let grown = ends_grow (stream_in state) number (last_number (stream_in state)) h.stream.ends is in
     omega (arith, h.stream.within, grown)
@@ -47,5 +47,5 @@ pub ends_from : (state : PlainState) (number : ℕ) → IsPlainVolume state → 
 ends_from state number h =
     end_no_earlier state.end (take (number - state.number) state.objects) (follow_first state.end (number - state.number) state.objects h.stream.ends)
 
-pub frontier_ends : (state : PlainState) → IsPlainVolume state → frontier_end state ≤ entry_count state
+pub frontier_ends : (state : PlainState) → IsPlainVolume state → frontier_end state ≤ history_length state
 frontier_ends state h = ends_within state (frontier_of state) h (frontier_is_sealed state h)

@@ -6,7 +6,7 @@ use Rattle.plain_disk.specs.declared.event.PlainReply.{PlainReply}
 use Rattle.plain_disk.specs.declared.event.PlainReply.TheVariants.{Entered, NoRoom, Fault}
 use Rattle.plain_disk.specs.Log.{room_in}
 use Rattle.plain_disk.specs.Cache.{PlainCache, passes_entry, cache_after_entry, passes_commit}
-use Rattle.plain_disk.specs.State.{PlainState, entry_count, frontier_end, unsealed_entries}
+use Rattle.plain_disk.specs.State.{PlainState, history_length, frontier_end, unsealed_entries}
 use Rattle.plain_disk.specs.Entries.{has_room_for, batch_refusal, commits_for_room, commits_are_made, cache_for, room_reply, enter_reply, after_entering}
 use Rattle.plain_disk.specs.Fields.{batch_refusal_of, record_refusal, cache_with_record}
 
@@ -82,15 +82,15 @@ pub enter_refused : (state : PlainState) (entry : Entry) (reply : PlainReply) �
 enter_refused state entry reply none is =
     let ready : PlainCache = cache_for state entry in
     refused_by (commits_for_room state entry) (passes_commit state.cache) (has_room_for ready entry) (passes_entry ready entry)
-    (no_room_for ready entry) (Entered (entry_count state + 1)) reply is
+    (no_room_for ready entry) (Entered (history_length state + 1)) reply is
     ∙ sym (ap (λ refusal. unwrap_or refusal (room_reply state ready entry)) none)
 
 pub enter_taken : (state : PlainState) (entry : Entry) → batch_refusal state entry ≡ None
-    → record_refusal state.cache (frontier_end state) entry ≡ None → Entered (entry_count state + 1) ≡ enter_reply state entry
+    → record_refusal state.cache (frontier_end state) entry ≡ None → Entered (history_length state + 1) ≡ enter_reply state entry
 enter_taken state entry none is =
     let ready : PlainCache = cache_for state entry in
     taken_by (commits_for_room state entry) (passes_commit state.cache) (has_room_for ready entry) (passes_entry ready entry)
-    (no_room_for ready entry) (Entered (entry_count state + 1)) is
+    (no_room_for ready entry) (Entered (history_length state + 1)) is
     ∙ sym (ap (λ refusal. unwrap_or refusal (room_reply state ready entry)) none)
 
 -- what is left, by why the batch refuses it

@@ -25,9 +25,9 @@ use Rattle.plain_disk.specs.declared.event.PlainEvent.TheVariants.{Write, Zero, 
 use Rattle.plain_disk.specs.declared.event.PlainReply.{PlainReply}
 use Rattle.plain_disk.specs.Log.{room_in, with_record}
 use Rattle.plain_disk.specs.Cache.{PlainCache, after_reads, after_writes, writes_of, passes_entry, cache_after_commit}
-use Rattle.plain_disk.specs.State.{PlainState, stream_in, entry_count, frontier_of, frontier_end, unsealed_entries}
+use Rattle.plain_disk.specs.State.{PlainState, stream_in, history_length, frontier_of, frontier_end, unsealed_entries}
 use Rattle.plain_disk.specs.Entries.{batch_refusal, has_room_for, commits_for_room, cache_for, commits_are_made, comes_to_log, after_entering, after_flush}
-use Rattle.plain_disk.specs.Reads.{look_calls, passes_look, objects_read, after_look, are_pinned, without_pins, after_release}
+use Rattle.plain_disk.specs.Reads.{look_calls, passes_look, objects_read, after_look, are_pinned, without_pins, after_plan_release}
 use Rattle.plain_disk.specs.Objects.{sealed_count, is_busy, has_unsealed, end_of_next, after_seal, window_after_take, after_done, after_failed}
 use Rattle.plain_disk.specs.Valid.{IsPlainLog, IsPlainVolume, CreatedIsPlainVolume, EventsKeepPlainVolume}
 use Rattle.plain_disk.proofs.EndLemmas.{ends_grow, below_from, frontier_is_sealed, frontier_ends}
@@ -63,12 +63,12 @@ created_is g limits =
 
 -- ---- the cache changes
 
-log_of : (state : PlainState) → IsPlainVolume state → IsLogOf state.geometry.log (frontier_end state) (entry_count state) state.cache.log
+log_of : (state : PlainState) → IsPlainVolume state → IsLogOf state.geometry.log (frontier_end state) (history_length state) state.cache.log
 log_of state h = (h.size, h.log)
 
 -- with a cache that has a log of the same entries, and any pins
 cache_keeps : (state : PlainState) (cache : PlainCache) (pins : List ℕ) → IsPlainVolume state
-    → IsLogOf state.geometry.log (frontier_end state) (entry_count state) cache.log
+    → IsLogOf state.geometry.log (frontier_end state) (history_length state) cache.log
     → IsPlainVolume (record state { cache = cache; pins = pins })
 cache_keeps state cache pins h log = record {
   limits = h.limits;
@@ -88,7 +88,7 @@ cache_keeps state cache pins h log = record {
 pub flush_keeps : (state : PlainState) → IsPlainVolume state → IsPlainVolume (after_flush state)
 flush_keeps state h =
     cache_keeps state (cache_after_commit (frontier_end state) state.cache) state.pins h
-    (commit_keeps state.geometry.log (frontier_end state) (entry_count state) state.cache (frontier_ends state h) (log_of state h))
+    (commit_keeps state.geometry.log (frontier_end state) (history_length state) state.cache (frontier_ends state h) (log_of state h))
 
 either_state : (P : PlainState → Type 0) (b : Bool) (x y : PlainState) → P x → P y → P (cond b x y)
 either_state P true x y is other = is
@@ -102,7 +102,7 @@ look_keeps state lba sectors h =
     either_state IsPlainVolume _ (record state { cache = cache; pins = pins }) state
     (cache_keeps state cache pins h (log_of state h)) h
 
-pub release_keeps : (state : PlainState) (numbers : List ℕ) → IsPlainVolume state → IsPlainVolume (after_release numbers state)
+pub release_keeps : (state : PlainState) (numbers : List ℕ) → IsPlainVolume state → IsPlainVolume (after_plan_release numbers state)
 release_keeps state numbers h =
     let pins = without_pins numbers state.pins in
     either_state IsPlainVolume (are_pinned numbers state.pins) (record state { pins = pins }) state
@@ -112,12 +112,12 @@ release_keeps state numbers h =
 
 -- with one entry more, whose record the log has
 entry_keeps : (state : PlainState) (cache : PlainCache) (entry : Entry) → IsPlainVolume state → is_in_range state.geometry entry ≡ true
-    → IsLogOf state.geometry.log (frontier_end state) (entry_count state + 1) cache.log
+    → IsLogOf state.geometry.log (frontier_end state) (history_length state + 1) cache.log
     → IsPlainVolume (record state { cache = cache; entries = state.entries ++ entry ∷ [] })
 entry_keeps state cache entry h range log =
     let P : Entry → Type 0 = λ e. is_in_range state.geometry e ≡ true in
     let more = length-append state.entries (entry ∷ []) in
-    let count : state.end + length (state.entries ++ entry ∷ []) ≡ entry_count state + 1 = omega arith in
+    let count : state.end + length (state.entries ++ entry ∷ []) ≡ history_length state + 1 = omega arith in
     let within = h.stream.within in
     record {
       limits = h.limits;
@@ -137,7 +137,7 @@ entry_keeps state cache entry h range log =
 -- what an entry leaves, by what was refused, came to the log, and passed
 entered_keeps : (state : PlainState) (entry : Entry) (ready : PlainCache) (writes : List PendingWrite) (refused comes passed : Bool)
     → IsPlainVolume state → (comes ≡ true → (refused ≡ false) × (is_in_range state.geometry entry ≡ true) × (need (room_in ready.log) (record_sectors entry) ≤ free (room_in ready.log)))
-    → IsLogOf state.geometry.log (frontier_end state) (entry_count state) ready.log
+    → IsLogOf state.geometry.log (frontier_end state) (history_length state) ready.log
     → IsPlainVolume (record state {
       cache = cond refused state.cache (cond comes (cond passed (record (after_writes writes ready) { log = with_record ready.log entry }) (after_writes writes ready)) ready);
       entries = cond (comes && passed) (state.entries ++ entry ∷ []) state.entries;
@@ -149,7 +149,7 @@ entered_keeps state entry ready writes false true false h may log = cache_keeps 
 entered_keeps state entry ready writes false true true h may log =
     let has = may refl in
     entry_keeps state (record (after_writes writes ready) { log = with_record ready.log entry }) entry h has.1
-    (log.0, record_keeps (frontier_end state) (entry_count state) ready.log entry log.1 has.2)
+    (log.0, record_keeps (frontier_end state) (history_length state) ready.log entry log.1 has.2)
 
 comes_by : (refused made room : Bool) → (not refused && made && room) ≡ true → (refused ≡ false) × (room ≡ true)
 comes_by true made room h = let bad : ⊥ = cc in absurd bad
@@ -167,10 +167,10 @@ pub entering_keeps : (state : PlainState) (entry : Entry) → IsPlainVolume stat
 entering_keeps state entry h =
     let ready : PlainCache = cache_for state entry in
     let refused : Bool = is_some (batch_refusal state entry) in
-    let log : IsLogOf state.geometry.log (frontier_end state) (entry_count state) ready.log =
-    either (λ c. IsLogOf state.geometry.log (frontier_end state) (entry_count state) c.log) (commits_for_room state entry)
+    let log : IsLogOf state.geometry.log (frontier_end state) (history_length state) ready.log =
+    either (λ c. IsLogOf state.geometry.log (frontier_end state) (history_length state) c.log) (commits_for_room state entry)
     (cache_after_commit (frontier_end state) state.cache) state.cache
-    (commit_keeps state.geometry.log (frontier_end state) (entry_count state) state.cache (frontier_ends state h) (log_of state h))
+    (commit_keeps state.geometry.log (frontier_end state) (history_length state) state.cache (frontier_ends state h) (log_of state h))
     (log_of state h) in
     entered_keeps state entry ready (writes_of ready.log entry) refused (comes_to_log state entry) (passes_entry ready entry) h
     (λ comes.
@@ -196,7 +196,7 @@ window_keeps state window h is last from =
       opened = omega (arith, h.opened);
       numbered = h.numbered;
       checkpoint = h.checkpoint;
-      log = log_with_later_end (frontier_end state) (end_at (stream_in state) (below_open window)) (entry_count state) state.cache.log end h.log;
+      log = log_with_later_end (frontier_end state) (end_at (stream_in state) (below_open window)) (history_length state) state.cache.log end h.log;
       size = h.size;
     }
 
@@ -353,7 +353,7 @@ sealed_keeps state h has =
       opened = omega (arith, h.opened);
       numbered = h.numbered;
       checkpoint = h.checkpoint;
-      log = subst (λ n. IsPlainLog n (entry_count state) state.cache.log) (sym end) h.log;
+      log = subst (λ n. IsPlainLog n (history_length state) state.cache.log) (sym end) h.log;
       size = h.size;
     }
 

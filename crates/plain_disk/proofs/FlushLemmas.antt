@@ -15,7 +15,7 @@ use Rattle.plain_disk.specs.declared.event.PlainEvent.TheVariants.{Write, Zero, 
 use Rattle.plain_disk.specs.declared.event.PlainReply.TheVariants as replies
 use Rattle.plain_disk.specs.Log.{PlainLog, with_record, commit_from, with_commit}
 use Rattle.plain_disk.specs.Cache.{PlainCache, after_reads, after_writes, writes_of, passes_entry, after_sync_of, after_first_half, after_second_half, after_finishing, commit_calls_after, passes_commit, after_halves, cache_after_commit}
-use Rattle.plain_disk.specs.State.{PlainState, entry_count, frontier_end}
+use Rattle.plain_disk.specs.State.{PlainState, history_length, frontier_end}
 use Rattle.plain_disk.specs.Entries.{batch_refusal, commits_for_room, cache_for, comes_to_log, cache_after}
 use Rattle.plain_disk.specs.Reads.{look_calls, passes_look, objects_read, are_pinned, without_pins}
 use Rattle.plain_disk.specs.Objects.{is_busy, has_unsealed, end_of_next}
@@ -78,8 +78,10 @@ flushed_by false count n h = let bad : ⊥ = cc in absurd bad
 
 pub flush_commits : FlushCommitsEntries
 flush_commits state count h replied =
-    let parts = flushed_by (passes_commit state.cache) (entry_count state) count replied in
-    (parts.1, commit_is_made state.geometry.log (frontier_end state) (entry_count state) state.cache (frontier_ends state h) (h.size, h.log) parts.0)
+    let parts = flushed_by (passes_commit state.cache) (history_length state) count replied in (
+      parts.1,
+      commit_is_made state.geometry.log (frontier_end state) (history_length state) state.cache (frontier_ends state h) (h.size, h.log) parts.0,
+    )
 
 -- ---- no event commits fewer
 
@@ -121,7 +123,8 @@ commit_has n size end count cache inside is h =
 
 flush_has : (state : PlainState) → IsPlainVolume state → HasCommitted state.cache.log.last.head.seq (cache_after_commit (frontier_end state) state.cache)
 flush_has state h =
-    commit_has state.cache.log.last.head.seq state.geometry.log (frontier_end state) (entry_count state) state.cache (frontier_ends state h) (h.size, h.log) (omega arith)
+    commit_has state.cache.log.last.head.seq state.geometry.log (frontier_end state) (history_length state) state.cache
+    (frontier_ends state h) (h.size, h.log) (omega arith)
 
 entering_has : (state : PlainState) (entry : Entry) → IsPlainVolume state → HasCommitted state.cache.log.last.head.seq (cache_after state entry)
 entering_has state entry h =

@@ -24,7 +24,7 @@ use Rattle.object_stream.specs.Changes.{entry_change, change_at, sector_of}
 use Rattle.object_stream.specs.Stream.{Owners, owner_by_change, source_in, owner_by_copy, after_object, after_objects, objects_to, owners, end_after, end_at, last_number, EndsFollow}
 use Rattle.object_stream.specs.Laws.{from_object}
 use Rattle.object_stream.proofs.StreamLemmas.{goes_on, end_no_earlier, keeps_owners}
-use Rattle.plain_disk.specs.State.{PlainState, stream_in, entry_count, image_now, frontier_of, frontier_end, logged_entries, unsealed_entries, owned_after, folded_to}
+use Rattle.plain_disk.specs.State.{PlainState, stream_in, history_length, image_now, frontier_of, frontier_end, logged_entries, unsealed_entries, owned_after, folded_to}
 use Rattle.plain_disk.specs.Valid.{IsPlainVolume}
 use Rattle.plain_disk.proofs.EndLemmas.{ends_grow, frontier_is_sealed, ends_from, ends_within}
 
@@ -105,7 +105,7 @@ module _ (state : PlainState) (number : ℕ) (h : MayFold state number) where
   pub fold_from : state.end ≤ end_at (stream_in state) number
   fold_from = ends_from state number h.valid
 
-  pub fold_within : end_at (stream_in state) number ≤ entry_count state
+  pub fold_within : end_at (stream_in state) number ≤ history_length state
   fold_within = ends_within state number h.valid fold_sealed
 
   pub owners_of_fold : (other : ℕ) → number ≤ other → owners (stream_in (folded_to number state)) other ≡ owners (stream_in state) other
@@ -127,7 +127,7 @@ module _ (state : PlainState) (number : ℕ) (h : MayFold state number) where
   pub frontier_end_of_fold : frontier_end (folded_to number state) ≡ frontier_end state
   frontier_end_of_fold = ends_of_fold (frontier_of state) h.to
 
-  pub count_of_fold : entry_count (folded_to number state) ≡ entry_count state
+  pub count_of_fold : history_length (folded_to number state) ≡ history_length state
   count_of_fold =
       let long = length-drop (end_at (stream_in state) number - state.end) state.entries in
       let from = fold_from in

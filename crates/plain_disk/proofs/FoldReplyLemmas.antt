@@ -19,7 +19,7 @@ use Rattle.plain_disk.specs.Machine.{sectors_at}
 use Rattle.plain_disk.specs.Writers.{covers_sector, read_calls}
 use Rattle.plain_disk.specs.Log.{room_in}
 use Rattle.plain_disk.specs.Cache.{PlainCache, passes_entry, cache_after_commit, passes_commit}
-use Rattle.plain_disk.specs.State.{PlainState, stream_in, entry_count, image_now, frontier_of, frontier_end, logged_entries, unsealed_entries, folded_to}
+use Rattle.plain_disk.specs.State.{PlainState, stream_in, history_length, image_now, frontier_of, frontier_end, logged_entries, unsealed_entries, folded_to}
 use Rattle.plain_disk.specs.Entries.{reply_of_full, has_room_for, enter_reply}
 use Rattle.plain_disk.specs.Reads.{objects_read, look_reply}
 use Rattle.plain_disk.specs.Objects.{is_busy}
@@ -62,7 +62,7 @@ enter_of_fold state number entry h =
     by_three (enter_by state.geometry state.cache entry)
     (unsealed_entries (folded_to number state)) (unsealed_entries state)
     (frontier_end (folded_to number state)) (frontier_end state)
-    (entry_count (folded_to number state)) (entry_count state)
+    (history_length (folded_to number state)) (history_length state)
     (unsealed_of_fold state number h) (frontier_end_of_fold state number h) (count_of_fold state number h)
 
 -- ---- a read, by the owners, the entries in the log and the image
@@ -88,9 +88,11 @@ look_of_fold : (state : PlainState) (number lba sectors : ℕ) → MayFold state
 look_of_fold state number lba sectors h =
     let folded = folded_to number state in
     let calls = read_calls (logged_entries folded) lba sectors in
-    ap (λ l. look_by state lba sectors (read_calls l lba sectors) (entry_count folded) (image_now folded) (objects_read folded lba sectors)) (logged_of_fold state number h)
+    ap (λ l. look_by state lba sectors (read_calls l lba sectors) (history_length folded) (image_now folded) (objects_read folded lba sectors))
+    (logged_of_fold state number h)
     ∙ by_three (look_by state lba sectors (read_calls (logged_entries state) lba sectors))
-    (entry_count folded) (entry_count state) (image_now folded) (image_now state) (objects_read folded lba sectors) (objects_read state lba sectors)
+    (history_length folded) (history_length state) (image_now folded) (image_now state)
+    (objects_read folded lba sectors) (objects_read state lba sectors)
     (count_of_fold state number h) (image_of_fold state number h) (objects_of_fold state number lba sectors h)
 
 -- ---- each event

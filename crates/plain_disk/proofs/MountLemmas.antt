@@ -13,7 +13,7 @@ use Rattle.plain_disk.specs.declared.log.PlainCommit.{PlainCommit}
 use Rattle.plain_disk.specs.declared.log.PlainRecord.{PlainRecord}
 use Rattle.plain_disk.specs.Log.{PlainLog, commit_from, records_from, mounted_log, empty_from}
 use Rattle.plain_disk.specs.Cache.{PlainCache, cache_with, kept_commit}
-use Rattle.plain_disk.specs.State.{PlainState, stream_in, entry_count, frontier_end}
+use Rattle.plain_disk.specs.State.{PlainState, stream_in, history_length, frontier_end}
 use Rattle.plain_disk.specs.Stops.{recovered_number, recovered_end, kept_count, cut_to_count, mounted_kept, mounted_lost}
 use Rattle.plain_disk.specs.Valid.{IsLaterCommit, IsPlainLog, IsPlainVolume, MayLand, MountsKeepPlainVolume, MountsCommitEntries}
 use Rattle.plain_disk.proofs.EndLemmas.{ends_from}
@@ -59,7 +59,7 @@ mounted_log_is end seq count log found from h later =
 -- with its objects up to a number, and the entries up to a count that is within them and not before that object's end
 cut_is : (state : PlainState) (number count : ℕ) (cache : PlainCache) → IsPlainVolume state
     → state.number ≤ number → number ≤ last_number (stream_in state)
-    → end_at (stream_in state) number ≤ count → count ≤ entry_count state
+    → end_at (stream_in state) number ≤ count → count ≤ history_length state
     → cache.log.size ≡ state.geometry.log → IsPlainLog (end_at (stream_in state) number) count cache.log
     → IsPlainVolume (record (cut_to_count number count state) { cache = cache })
 cut_is state number count cache h from sealed ends within size log =
@@ -94,14 +94,15 @@ pub kept_is : (state : PlainState) (landed : Numbers) (kept : List Bool) → IsP
     → IsPlainVolume (mounted_kept landed kept state)
 kept_is state landed kept h may =
     let found : PlainCommit = kept_commit kept state.cache in
-    let later = kept_is_later (frontier_end state) (entry_count state) kept state.cache h.log in
+    let later = kept_is_later (frontier_end state) (history_length state) kept state.cache h.log in
     let within = recovers_within state landed h in
     let head = later.within.head in
     let frontier = recovers_frontier state landed h may in
     cut_is state (recovered_number landed state) (kept_count landed found state)
     (cache_with (mounted_log found (recovered_end landed state) state.cache.log)) h (omega (arith, frontier, h.opened)) (recovers_sealed state landed h)
     (omega arith) (omega arith) h.size
-    (mounted_log_is (frontier_end state) (recovered_end landed state) (entry_count state) state.cache.log found (recovers_end state landed h may) h.log later)
+    (mounted_log_is (frontier_end state) (recovered_end landed state) (history_length state) state.cache.log found
+    (recovers_end state landed h may) h.log later)
 
 pub lost_is : (state : PlainState) (landed : Numbers) → IsPlainVolume state → MayLand state landed → IsPlainVolume (mounted_lost landed state)
 lost_is state landed h may =
@@ -124,7 +125,7 @@ mounts_keep state landed kept h may = (kept_is state landed kept h may, lost_is 
 -- ---- what is committed then
 
 -- the entries of the volume that was cut off
-cut_count : (state : PlainState) (number count : ℕ) → IsPlainVolume state → end_at (stream_in state) number ≤ count → count ≤ entry_count state
+cut_count : (state : PlainState) (number count : ℕ) → IsPlainVolume state → end_at (stream_in state) number ≤ count → count ≤ history_length state
     → state.end + length (take (count - state.end) state.entries) ≡ count
 cut_count state number count h ends within =
     let first = ends_from state number h in
@@ -146,12 +147,12 @@ mounted_head end seq count log found h later =
 pub mounts_commit : MountsCommitEntries
 mounts_commit state landed kept h may =
     let found : PlainCommit = kept_commit kept state.cache in
-    let later = kept_is_later (frontier_end state) (entry_count state) kept state.cache h.log in
+    let later = kept_is_later (frontier_end state) (history_length state) kept state.cache h.log in
     let number = recovered_number landed state in
     let end = recovered_end landed state in
     let within = recovers_within state landed h in
     let head = later.within.head in (
-      mounted_head (frontier_end state) end (entry_count state) state.cache.log found h.log later
+      mounted_head (frontier_end state) end (history_length state) state.cache.log found h.log later
           ∙ sym (cut_count state number (kept_count landed found state) h (omega arith) (omega arith)),
       sym (cut_count state number end h (omega arith) within),
     )

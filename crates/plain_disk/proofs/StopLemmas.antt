@@ -8,7 +8,7 @@ use Rattle.upload_window.proofs.Order.{is_frontier}
 use Rattle.plain_disk.specs.declared.log.PlainCommit.{PlainCommit}
 use Rattle.plain_disk.specs.Log.{PlainLog}
 use Rattle.plain_disk.specs.Cache.{PlainCache, commit_or, keeps_opened_gate, kept_commit}
-use Rattle.plain_disk.specs.State.{PlainState, stream_in, entry_count, frontier_of, frontier_end}
+use Rattle.plain_disk.specs.State.{PlainState, stream_in, history_length, frontier_of, frontier_end}
 use Rattle.plain_disk.specs.Stops.{landed_after, recovered_number, recovered_end}
 use Rattle.plain_disk.specs.Valid.{IsLaterCommit, IsPlainLog, IsPlainVolume, MayLand, StopsKeepPlainVolume, StopKeepsAcknowledged, RecoversBeforeFirstMissing}
 use Rattle.plain_disk.proofs.EndLemmas.{ends_grow, ends_within, frontier_is_sealed}
@@ -92,7 +92,7 @@ pub recovers_end : (state : PlainState) (landed : Numbers) → IsPlainVolume sta
 recovers_end state landed h may =
     ends_grow (stream_in state) (frontier_of state) (recovered_number landed state) h.stream.ends (recovers_frontier state landed h may)
 
-pub recovers_within : (state : PlainState) (landed : Numbers) → IsPlainVolume state → recovered_end landed state ≤ entry_count state
+pub recovers_within : (state : PlainState) (landed : Numbers) → IsPlainVolume state → recovered_end landed state ≤ history_length state
 recovers_within state landed h = ends_within state (recovered_number landed state) h (recovers_sealed state landed h)
 
 -- ---- the commit that a stop leaves
@@ -136,7 +136,7 @@ stops_keep state calls h = record {
 
 pub stop_keeps_acknowledged : StopKeepsAcknowledged
 stop_keeps_acknowledged state landed kept h may =
-    let found = kept_is_later (frontier_end state) (entry_count state) kept state.cache h.log in
+    let found = kept_is_later (frontier_end state) (history_length state) kept state.cache h.log in
     let within = recovers_within state landed h in
     let last = found.head in
     let count = found.within.head in

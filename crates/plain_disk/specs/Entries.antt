@@ -11,7 +11,7 @@ use Rattle.plain_disk.specs.declared.event.PlainReply.{PlainReply}
 use Rattle.plain_disk.specs.declared.event.PlainReply.TheVariants.{Entered, Flushed, BatchFull, EntriesFull, NoRoom, Range, Fault}
 use Rattle.plain_disk.specs.Log.{room_in}
 use Rattle.plain_disk.specs.Cache.{PlainCache, passes_entry, cache_after_entry, passes_commit, cache_after_commit}
-use Rattle.plain_disk.specs.State.{PlainState, entry_count, frontier_end, unsealed_entries}
+use Rattle.plain_disk.specs.State.{PlainState, history_length, frontier_end, unsealed_entries}
 
 -- ---- a flush
 
@@ -20,7 +20,7 @@ abbrev pub after_flush : PlainState → PlainState
 after_flush state = record state { cache = cache_after_commit (frontier_end state) state.cache }
 
 abbrev pub flush_reply : PlainState → PlainReply
-flush_reply state = if passes_commit state.cache then Flushed (entry_count state) else Fault
+flush_reply state = if passes_commit state.cache then Flushed (history_length state) else Fault
 
 -- ---- an entry
 
@@ -59,7 +59,7 @@ abbrev pub room_reply : PlainState → (ready : PlainCache) → Entry → PlainR
 room_reply state ready entry =
     if not (commits_are_made state entry) then Fault else
     (if not (has_room_for ready entry) then NoRoom (need (room_in ready.log) (record_sectors entry)) (free (room_in ready.log)) else
-    (if passes_entry ready entry then Entered (entry_count state + 1) else Fault))
+    (if passes_entry ready entry then Entered (history_length state + 1) else Fault))
 
 abbrev pub enter_reply : PlainState → Entry → PlainReply
 enter_reply state entry = unwrap_or (batch_refusal state entry) (room_reply state (cache_for state entry) entry)

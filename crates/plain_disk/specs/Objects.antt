@@ -8,7 +8,7 @@ use Rattle.object_stream.specs.Stream.{end_at, last_number}
 use Rattle.upload_window.specs.Window.{WindowState, lowest_ready, is_started, entered, marked, acknowledged, below_open}
 use Rattle.plain_disk.specs.declared.event.PlainReply.{PlainReply}
 use Rattle.plain_disk.specs.declared.event.PlainReply.TheVariants.{Sealed, Taken, Done, Returned, Told, Nothing, Busy}
-use Rattle.plain_disk.specs.State.{PlainState, stream_in, entry_count, unsealed_entries, frontier_of}
+use Rattle.plain_disk.specs.State.{PlainState, stream_in, history_length, unsealed_entries, frontier_of}
 
 -- ---- a seal
 
@@ -87,4 +87,4 @@ after_failed job state = record state { window = window_after_failed job state.w
 -- ---- the status
 
 abbrev pub status_reply : PlainState → PlainReply
-status_reply state = Told (entry_count state) state.window.last (frontier_of state) state.checkpoint
+status_reply state = Told (history_length state) state.window.last (frontier_of state) state.checkpoint

@@ -9,7 +9,7 @@ use Rattle.plain_disk.specs.declared.event.PlainReply.TheVariants.{Planned, Rele
 use Rattle.plain_disk.specs.Machine.{sectors_at}
 use Rattle.plain_disk.specs.Writers.{covers_sector, read_calls}
 use Rattle.plain_disk.specs.Cache.{after_reads}
-use Rattle.plain_disk.specs.State.{PlainState, stream_in, entry_count, image_now, frontier_of, logged_entries}
+use Rattle.plain_disk.specs.State.{PlainState, stream_in, history_length, image_now, frontier_of, logged_entries}
 
 -- a read gets the sector from the object of this number: it owns it at the frontier, and no later entry covers it
 abbrev pub is_read_from : PlainState → (number k : ℕ) → Bool
@@ -33,7 +33,7 @@ abbrev pub look_reply : PlainState → (lba sectors : ℕ) → PlainReply
 look_reply state lba sectors =
     if may_transfer state.geometry lba sectors then
     (if passes_look state lba sectors
-    then Planned (entry_count state) (sectors_at lba sectors (image_now state)) (objects_read state lba sectors) else Fault)
+    then Planned (history_length state) (sectors_at lba sectors (image_now state)) (objects_read state lba sectors) else Fault)
     else Range
 
 -- what it leaves: the objects of the plan are pinned
@@ -65,6 +65,6 @@ without_pins (number ∷ numbers) pins = without_pins numbers (unpinned number p
 abbrev pub release_reply : PlainState → List ℕ → PlainReply
 release_reply state numbers = if are_pinned numbers state.pins then Released else Nothing
 
-abbrev pub after_release : List ℕ → PlainState → PlainState
-after_release numbers state =
+abbrev pub after_plan_release : List ℕ → PlainState → PlainState
+after_plan_release numbers state =
     if are_pinned numbers state.pins then record state { pins = without_pins numbers state.pins } else state

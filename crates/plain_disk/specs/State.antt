@@ -54,8 +54,8 @@ stream_in state = record {
 }
 
 -- how many entries its history has
-abbrev pub entry_count : PlainState → ℕ
-entry_count state = state.end + length state.entries
+abbrev pub history_length : PlainState → ℕ
+history_length state = state.end + length state.entries
 
 -- what it holds: the image that its history makes of the one it opens with
 abbrev pub image_now : PlainState → Image

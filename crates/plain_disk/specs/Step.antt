@@ -5,7 +5,7 @@ use Rattle.plain_disk.specs.declared.event.PlainEvent.TheVariants.{Write, Zero, 
 use Rattle.plain_disk.specs.declared.event.PlainReply.{PlainReply}
 use Rattle.plain_disk.specs.State.{PlainState}
 use Rattle.plain_disk.specs.Entries.{enter_reply, after_entering, flush_reply, after_flush}
-use Rattle.plain_disk.specs.Reads.{look_reply, after_look, release_reply, after_release}
+use Rattle.plain_disk.specs.Reads.{look_reply, after_look, release_reply, after_plan_release}
 use Rattle.plain_disk.specs.Objects.{seal_reply, after_seal, take_reply, after_take, done_reply, after_done, failed_reply, after_failed, status_reply}
 
 abbrev pub plain_reply : PlainState → PlainEvent → PlainReply
@@ -25,7 +25,7 @@ plain_after (Write lba body) state = after_entering (entries.Write lba body) sta
 plain_after (Zero lba sectors) state = after_entering (entries.Zero lba sectors) state
 plain_after Flush state = after_flush state
 plain_after (Look lba sectors) state = after_look lba sectors state
-plain_after (Release numbers) state = after_release numbers state
+plain_after (Release numbers) state = after_plan_release numbers state
 plain_after Seal state = after_seal state
 plain_after TakeJob state = after_take state
 plain_after (JobDone job) state = after_done job state

@@ -14,7 +14,7 @@ use Rattle.plain_disk.specs.declared.event.PlainReply.TheVariants.{Flushed}
 use Rattle.plain_disk.specs.declared.log.PlainCommit.{PlainCommit}
 use Rattle.plain_disk.specs.Log.{PlainLog, next_seq, room_in}
 use Rattle.plain_disk.specs.Cache.{kept_commit}
-use Rattle.plain_disk.specs.State.{PlainState, created_volume, stream_in, entry_count, frontier_of, frontier_end, folded_to}
+use Rattle.plain_disk.specs.State.{PlainState, created_volume, stream_in, history_length, frontier_of, frontier_end, folded_to}
 use Rattle.plain_disk.specs.Entries.{flush_reply, after_flush}
 use Rattle.plain_disk.specs.Step.{plain_reply, plain_after}
 use Rattle.plain_disk.specs.Stops.{stopping_after_calls, recovered_number, recovered_end, kept_count, mounted_kept, mounted_lost}
@@ -53,7 +53,7 @@ pub record IsPlainVolume (state : PlainState) : Type 0 where
   pub opened : state.number ≤ frontier_of state
   pub numbered : 0 < state.checkpoint
   pub checkpoint : state.checkpoint ≤ state.number
-  pub log : IsPlainLog (frontier_end state) (entry_count state) state.cache.log
+  pub log : IsPlainLog (frontier_end state) (history_length state) state.cache.log
   pub size : state.cache.log.size ≡ state.geometry.log
 
 -- ---- laws
@@ -82,13 +82,13 @@ MountsKeepPlainVolume =
 abbrev pub FlushCommitsEntries : Type 0
 FlushCommitsEntries =
     (state : PlainState) (count : ℕ) → IsPlainVolume state → flush_reply state ≡ Flushed count
-    → (count ≡ entry_count state) × ((after_flush state).cache.log.last.head.seq ≡ entry_count state)
+    → (count ≡ history_length state) × ((after_flush state).cache.log.last.head.seq ≡ history_length state)
 
 abbrev pub MountsCommitEntries : Type 0
 MountsCommitEntries =
     (state : PlainState) (landed : Numbers) (kept : List Bool) → IsPlainVolume state → MayLand state landed
-    → ((mounted_kept landed kept state).cache.log.last.head.seq ≡ entry_count (mounted_kept landed kept state))
-    × ((mounted_lost landed state).cache.log.last.head.seq ≡ entry_count (mounted_lost landed state))
+    → ((mounted_kept landed kept state).cache.log.last.head.seq ≡ history_length (mounted_kept landed kept state))
+    × ((mounted_lost landed state).cache.log.last.head.seq ≡ history_length (mounted_lost landed state))
 
 -- No event takes an entry back, nor leaves fewer committed.
 abbrev pub EventsKeepCommitted : Type 0
@@ -105,7 +105,7 @@ StopKeepsAcknowledged =
     × (frontier_end state ≤ recovered_end landed state)
     × (recovered_end landed state ≤ kept_count landed (kept_commit kept state.cache) state)
     × (state.cache.log.last.head.seq ≤ kept_count landed (kept_commit kept state.cache) state)
-    × (kept_count landed (kept_commit kept state.cache) state ≤ entry_count state)
+    × (kept_count landed (kept_commit kept state.cache) state ≤ history_length state)
 
 -- the number before the first missing one is the one that a recovery gets to, where the newest checkpoint is the only one
 abbrev pub RecoversBeforeFirstMissing : Type 0

@@ -4,9 +4,9 @@ ghost use Rattle.log_room.specs.Room.{need, free, record_sectors};
 ghost use Rattle.object_stream.specs.Stream.{end_at, last_number};
 ghost use Rattle.object_stream.specs.Plain.{numbers_of};
 ghost use Rattle.plain_disk.specs.Fields.{max_seq, batch_refusal_of, record_refusal, cache_with_record};
-ghost use Rattle.plain_disk.specs.State.{created_volume, stream_in, frontier_of, frontier_end, entry_count, logged_entries};
+ghost use Rattle.plain_disk.specs.State.{created_volume, stream_in, frontier_of, frontier_end, history_length, logged_entries};
 ghost use Rattle.plain_disk.specs.Cache.{kept_commit};
-ghost use Rattle.plain_disk.specs.Reads.{look_calls, look_reply, after_look, release_reply, after_release, objects_read};
+ghost use Rattle.plain_disk.specs.Reads.{look_calls, look_reply, after_look, release_reply, after_plan_release, objects_read};
 ghost use Rattle.plain_disk.specs.Entries.{has_room_for, enter_reply, after_entering, flush_reply, after_flush};
 ghost use Rattle.plain_disk.specs.Objects.{seal_reply, after_seal, take_reply, after_take, done_reply, after_done, failed_reply, after_failed, status_reply};
 ghost use Rattle.plain_disk.specs.declared.event.PlainReply.TheVariants.{NoRoom};
@@ -199,9 +199,9 @@ impl PlainVolume {
         self.stream.end_at(number)
     }
 
-    // How many entries it has.
-    fn entry_count(&self) -> u64
-        ensures { result ≡ entry_count self.now }
+    // How many entries its history has.
+    fn history_length(&self) -> u64
+        ensures { result ≡ history_length self.now }
     {
         self.stream.end + self.stream.entries.len() as u64
     }
@@ -235,7 +235,7 @@ impl PlainVolume {
             return Ok(reply);
         }
         self.stream.entries.push_reserved(entry);
-        Ok(PlainReply::Entered(self.entry_count()))
+        Ok(PlainReply::Entered(self.history_length()))
     }
 
     // Makes each entry so far durable by a commit, if the device passes its calls. The one error is that memory ran out, after
@@ -250,7 +250,7 @@ impl PlainVolume {
         let is_made = cache.commit(end)?;
         self.cache = cache;
         if is_made {
-            Ok(PlainReply::Flushed(self.entry_count()))
+            Ok(PlainReply::Flushed(self.history_length()))
         } else {
             Ok(PlainReply::Fault)
         }
@@ -277,7 +277,7 @@ impl PlainVolume {
         }
         self.pins = pins;
         Ok(PlainReply::Planned {
-            front: self.entry_count(),
+            front: self.history_length(),
             data,
             objects: ObjectNumbers::new(numbers),
         })
@@ -314,7 +314,7 @@ impl PlainVolume {
     // Gives back the pins of a plan, if it has them. The one error is that memory ran out, after which the volume is as before.
     fn release(&mut self, objects: &ObjectNumbers) -> Result<PlainReply, AllocError>
         ensures reply { IfOk result (λ reply. reply ≡ release_reply self.old objects.now) }
-        ensures volume { OnOk result (self.new ≡ after_release objects.now self.old) }
+        ensures volume { OnOk result (self.new ≡ after_plan_release objects.now self.old) }
         ensures err { OnErr result (self.new ≡ self.old) }
     {
         let alloc = *self.pins.allocator();
@@ -414,7 +414,7 @@ impl PlainVolume {
         ensures { result ≡ status_reply self.now }
     {
         PlainReply::Told {
-            writes: self.entry_count(),
+            writes: self.history_length(),
             sealed: self.last,
             frontier: self.frontier(),
             checkpoint: CHECKPOINT,

@@ -1,7 +1,7 @@
 use Rattle.std.proofs.Common.{◌≡◌, ◌+◌, ◌∷◌, [], ◌++◌, List, length, None, sym, ap, ◌∙◌, arith, length-append, rules}
 use Rattle.lsvd_base.specs.declared.entry.Entry.{Entry}
 use Rattle.plain_disk.specs.declared.event.PlainReply.TheVariants.{Entered}
-use Rattle.plain_disk.specs.State.{PlainState, entry_count}
+use Rattle.plain_disk.specs.State.{PlainState, history_length}
 use Rattle.plain_disk.specs.Entries.{enter_reply, after_entering}
 use Rattle.plain_disk.specs.Fields.{batch_refusal_of}
 use Rattle.plain_disk.specs.contracts.volume.PlainVolume.{the_view}
@@ -59,8 +59,8 @@ returns-clause-reply c =
     let taken : c.in_ok-refusal.refusal ≡ None = search rules in
     let longer : c.push_reserved.new.self.items ≡ c.self.inside.stream.entries.items ++ c.args.entry ∷ [] =
     c.push_reserved.ensures.items ∙ ap (λ (xs : List Entry). xs ++ c.args.entry ∷ []) c.reserve.ensures.items in
-    let counted : c.entry_count.result ≡ c.self.inside.stream.end + length c.push_reserved.new.self.items = c.entry_count.ensures in
-    let count : c.entry_count.result ≡ entry_count state + 1 =
+    let counted : c.history_length.result ≡ c.self.inside.stream.end + length c.push_reserved.new.self.items = c.history_length.ensures in
+    let count : c.history_length.result ≡ history_length state + 1 =
     omega (arith, counted, ap length longer, length-append c.self.inside.stream.entries.items (c.args.entry ∷ [])) in
     ap Entered count
     ∙ enter_taken state c.args.entry is.none (sym is.refused ∙ taken)
