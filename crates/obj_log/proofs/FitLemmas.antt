@@ -20,7 +20,7 @@ use Rattle.object_uploads.specs.State.{UploadsState}
 use Rattle.object_uploads.specs.Queue.{front_of, FitObject}
 use Rattle.object_uploads.specs.Changes as objects
 use Rattle.obj_log.specs.State.{ObjLogState}
-use Rattle.obj_log.specs.Changes.{next_of, IsSealed}
+use Rattle.obj_log.specs.Changes.{next_of, HasSealedObject}
 
 -- the front of an object with 65,536 rows at most is short
 front_short : (rows : ℕ) → rows ≤ 65536 → data_front_sectors rows < 2 ^ 31
@@ -52,7 +52,7 @@ pub is_sealed : (old : ObjLogState) (expected : Expected) (sealed : SealedBatch)
     → expected ≡ next_of old → batches.IsSealed old.batch expected sealed → end ≡ old.batch.first + sealed.entries
     → objects.IsSealed sealed.object sealed.rows.items end old.uploads uploads
     → batch.geometry ≡ old.batch.geometry → batch.first ≡ old.batch.first + sealed.rest.after → batch.entries ≡ drop sealed.rest.after old.batch.entries
-    → IsSealed old (record { batch = batch; uploads = uploads })
+    → HasSealedObject old (record { batch = batch; uploads = uploads })
 is_sealed old expected sealed end batch uploads next is end_is entered geometry first entries = record {
   count = sealed.entries;
   is_count = is.count;

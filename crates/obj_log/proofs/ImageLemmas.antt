@@ -14,8 +14,9 @@ use Rattle.object_uploads.proofs.ImageLemmas as images
 use Rattle.obj_log.specs.State.{ObjLogState}
 use Rattle.obj_log.specs.Changes.{expected_of_volume, next_of}
 use Rattle.obj_log.specs.Stream.{IsOfStream}
-use Rattle.obj_log.specs.Laws.{AdoptingKeepsStream}
-use Rattle.obj_log.specs.ImageLaws.{NewListHasBlank, RoomKeepsImage, AddingKeepsImage, SealingKeepsImage, JobsKeepImage, DoneMakesImage, AdoptingMakesImage}
+use Rattle.obj_log.specs.Laws.{AdoptingKeepsStreamOfList}
+use Rattle.obj_log.specs.ImageLaws.{NewListHasBlank, RoomKeepsImageOfList, AddingKeepsImageOfList, SealingKeepsImageOfList}
+use Rattle.obj_log.specs.ImageLaws.{JobsKeepImageOfList, DoneMakesImageOfList, AdoptingMakesImageOfList}
 use Rattle.obj_log.proofs.StreamLemmas.{same_volume, next_seq}
 
 -- what is expected of the next object of a list is what the stream expects
@@ -25,7 +26,7 @@ expected_next data_at stream log is =
     ap (λ n. expected_at (expected_of_volume log) (n + 1) log.batch.first) (sym is.objects.last)
     ∙ ap (expected_at (expected_of_volume log) (last_number stream + 1)) is.first
 
-pub adopting_keeps_stream : AdoptingKeepsStream
+pub adopting_keeps_stream : AdoptingKeepsStreamOfList
 adopting_keeps_stream data_at stream old new entries bytes rows end receipt uploads is none empty ends some sealed adopted =
     let object : StreamObject = record { content = Data; end = end } in
     let all_in : unsealed stream ≡ [] = sym is.entries ∙ empty in
@@ -48,27 +49,27 @@ adopting_keeps_stream data_at stream old new entries bytes rows end receipt uplo
 pub new_list_has_blank : NewListHasBlank
 new_list_has_blank log sectors none settled = images.image_begins log.uploads.queue sectors none settled
 
-pub room_keeps_image : RoomKeepsImage
+pub room_keeps_image : RoomKeepsImageOfList
 room_keeps_image old new same = images.room_keeps_image old.uploads new.uploads same.uploads
 
-pub adding_keeps_image : AddingKeepsImage
+pub adding_keeps_image : AddingKeepsImageOfList
 adding_keeps_image entry data_at old new added =
     images.entering_keeps_image entry (old.batch.first + length old.batch.entries) data_at old.uploads.queue new.uploads.queue added.entered
 
-pub sealing_keeps_image : SealingKeepsImage
+pub sealing_keeps_image : SealingKeepsImageOfList
 sealing_keeps_image old new sealed =
     images.sealing_keeps_image sealed.bytes sealed.rows.items (old.batch.first + sealed.count) old.uploads new.uploads sealed.uploads
 
-pub jobs_keep_image : JobsKeepImage
+pub jobs_keep_image : JobsKeepImageOfList
 jobs_keep_image number started log = images.jobs_keep_image number started log.uploads
 
-pub done_makes_image : DoneMakesImage
+pub done_makes_image : DoneMakesImageOfList
 done_makes_image data_at stream old new number bytes receipt image uploads is done out tells told ends has = (
   images.done_makes_image (expected_of_volume old) data_at stream old.uploads new.uploads number bytes receipt image uploads is.objects done out tells told ends has,
   images.done_keeps_receipts old.uploads new.uploads number bytes receipt done out tells told,
 )
 
-pub adopting_makes_image : AdoptingMakesImage
+pub adopting_makes_image : AdoptingMakesImageOfList
 adopting_makes_image data_at stream old new entries object bytes rows end receipt image uploads is none sealed adopted tells ends has =
     let size : length old.uploads.queue.sealed ≡ 0 = ap length none in
     let at : old.uploads.window.last ≡ old.uploads.queue.frontier = omega (arith, size, uploads.last) in

@@ -20,9 +20,10 @@ use Rattle.object_uploads.specs.Laws.{with_entry, with_data_object}
 use Rattle.object_uploads.proofs.GrowLemmas as grow
 use Rattle.object_uploads.proofs.KeepLemmas as keep
 use Rattle.obj_log.specs.State.{ObjLogState}
-use Rattle.obj_log.specs.Changes.{expected_of_volume, next_of, IsSealed}
+use Rattle.obj_log.specs.Changes.{expected_of_volume, next_of, HasSealedObject}
 use Rattle.obj_log.specs.Stream.{IsOfStream}
-use Rattle.obj_log.specs.Laws.{NewListBeginsStream, RoomKeepsStream, AddingKeepsStream, SealingKeepsStream, JobsKeepStream, DoneKeepsStream}
+use Rattle.obj_log.specs.Laws.{NewListBeginsStream, RoomKeepsStreamOfList, AddingKeepsStreamOfList, SealingKeepsStreamOfList}
+use Rattle.obj_log.specs.Laws.{JobsKeepStreamOfList, DoneKeepsStreamOfList}
 
 pub new_list_begins_stream : NewListBeginsStream
 new_list_begins_stream data_at log number end first entries window frontier end_is sealed settled logged =
@@ -35,7 +36,7 @@ new_list_begins_stream data_at log number end first entries window frontier end_
       entries = entries ∙ ap (λ n. drop n stream.entries) none;
     }
 
-pub jobs_keep_stream : JobsKeepStream
+pub jobs_keep_stream : JobsKeepStreamOfList
 jobs_keep_stream data_at stream log number started is = record {
   objects = keep.jobs_keep_stream (expected_of_volume log) data_at stream log.uploads number started is.objects;
   first = is.first;
@@ -48,7 +49,7 @@ same_volume old new uuid geometry =
     ap (λ (u : List ℕ). record { uuid = u; number = 0; sectors = old.batch.geometry.sectors; ancestors = 0; end_before = None }) (sym uuid)
     ∙ ap (λ (g : Geometry). record { uuid = new.uploads.uuid; number = 0; sectors = g.sectors; ancestors = 0; end_before = None }) (sym geometry)
 
-pub room_keeps_stream : RoomKeepsStream
+pub room_keeps_stream : RoomKeepsStreamOfList
 room_keeps_stream data_at stream old new is same =
     let kept = same.uploads in
     let are = is.objects in
@@ -72,7 +73,7 @@ room_keeps_stream data_at stream old new is same =
       entries = same.entries ∙ is.entries;
     }
 
-pub done_keeps_stream : DoneKeepsStream
+pub done_keeps_stream : DoneKeepsStreamOfList
 done_keeps_stream data_at stream old new number receipt uploads is done same =
     let volume = same_volume old new done.uuid (ap (λ (b : BatchState). b.geometry) same) in
     record {
@@ -101,7 +102,7 @@ module _ (data_at : ℕ → ℕ) (stream : Stream) (log : ObjLogState) (is : IsO
   pub next_seq : log.batch.first + length log.batch.entries ≡ stream.end + length stream.entries
   next_seq = omega (arith, order, unsealed_size, is.first, is.objects.valid.within)
 
-pub adding_keeps_stream : AddingKeepsStream
+pub adding_keeps_stream : AddingKeepsStreamOfList
 adding_keeps_stream data_at stream old new entry uploads is added =
     let volume = same_volume old new added.uuid added.geometry in
     let seq = next_seq data_at stream old is in
@@ -119,7 +120,7 @@ adding_keeps_stream data_at stream old new entry uploads is added =
           ∙ (ap (λ es. es ++ entry ∷ []) is.entries ∙ sym (drop-append-le (last - stream.end) stream.entries (entry ∷ []) less));
     }
 
-module _ (data_at : ℕ → ℕ) (stream : Stream) (old new : ObjLogState) (is : IsOfStream data_at stream old) (sealed : IsSealed old new) where
+module _ (data_at : ℕ → ℕ) (stream : Stream) (old new : ObjLogState) (is : IsOfStream data_at stream old) (sealed : HasSealedObject old new) where
   abbrev last : ℕ
   last = end_at stream (last_number stream)
 
@@ -178,6 +179,6 @@ module _ (data_at : ℕ → ℕ) (stream : Stream) (old new : ObjLogState) (is :
     entries = sealed.entries ∙ rest;
   }
 
-pub sealing_keeps_stream : SealingKeepsStream
+pub sealing_keeps_stream : SealingKeepsStreamOfList
 sealing_keeps_stream data_at stream old new uploads is sealed =
     subst (λ e. IsOfStream data_at (with_data_object e stream) new) (sym sealed.first) (grown data_at stream old new is sealed uploads)

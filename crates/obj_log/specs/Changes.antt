@@ -47,7 +47,7 @@ next_of log = expected_at (expected_of_volume log) (log.uploads.window.last + 1)
 
 -- The fewest first entries of the batch that are full, or all where they are never full, were sealed into the next object, which does
 -- to each sector just what they do. The batch goes on with the others.
-pub record IsSealed (old new : ObjLogState) : Type 0 where
+pub record HasSealedObject (old new : ObjLogState) : Type 0 where
   pub count : ℕ
   pub is_count : IsSealedCount old.batch.geometry.batch old.batch.entries count
   pub bytes : List ℕ
@@ -63,7 +63,7 @@ pub record IsSealed (old new : ObjLogState) : Type 0 where
 -- ---- adopting
 
 -- the object of the next number, with these rows and this end, was counted as acknowledged, and the batch, without entries, goes on there
-pub record IsAdopted (rows : List DataRow) (end : ℕ) (receipt : ReceiptState) (old new : ObjLogState) : Type 0 where
+pub record HasAdoptedObject (rows : List DataRow) (end : ℕ) (receipt : ReceiptState) (old new : ObjLogState) : Type 0 where
   pub geometry : new.batch.geometry ≡ old.batch.geometry
   pub first : new.batch.first ≡ end
   pub entries : new.batch.entries ≡ []

@@ -15,7 +15,7 @@ use Rattle.object_uploads.specs.Stream.{IsSealedOf}
 use Rattle.object_uploads.specs.Image.{HasImage, TellsBytes, ReceiptsTellBytes}
 use Rattle.object_uploads.specs.ImageLaws.{KeepsImage, settled_entries}
 use Rattle.obj_log.specs.State.{ObjLogState}
-use Rattle.obj_log.specs.Changes.{next_of, IsSame, IsAdded, IsSealed, IsAdopted}
+use Rattle.obj_log.specs.Changes.{next_of, IsSame, IsAdded, HasSealedObject, HasAdoptedObject}
 use Rattle.obj_log.specs.Stream.{IsOfStream}
 
 -- the objects of a list that was just made have the image of a new volume
@@ -25,21 +25,22 @@ NewListHasBlank =
     → HasImage (blank sectors) log.uploads.queue × ReceiptsTellBytes log.uploads.queue
 
 -- it is kept while nothing changes but room, while entries are added and sealed, and while puts begin and fail
-abbrev pub RoomKeepsImage : Type 0
-RoomKeepsImage = (old new : ObjLogState) → IsSame old new → KeepsImage old.uploads.queue new.uploads.queue
+abbrev pub RoomKeepsImageOfList : Type 0
+RoomKeepsImageOfList = (old new : ObjLogState) → IsSame old new → KeepsImage old.uploads.queue new.uploads.queue
 
-abbrev pub AddingKeepsImage : Type 0
-AddingKeepsImage = (entry : Entry) (data_at : ℕ) (old new : ObjLogState) → IsAdded entry data_at old new → KeepsImage old.uploads.queue new.uploads.queue
+abbrev pub AddingKeepsImageOfList : Type 0
+AddingKeepsImageOfList =
+    (entry : Entry) (data_at : ℕ) (old new : ObjLogState) → IsAdded entry data_at old new → KeepsImage old.uploads.queue new.uploads.queue
 
-abbrev pub SealingKeepsImage : Type 0
-SealingKeepsImage = (old new : ObjLogState) → IsSealed old new → KeepsImage old.uploads.queue new.uploads.queue
+abbrev pub SealingKeepsImageOfList : Type 0
+SealingKeepsImageOfList = (old new : ObjLogState) → HasSealedObject old new → KeepsImage old.uploads.queue new.uploads.queue
 
-abbrev pub JobsKeepImage : Type 0
-JobsKeepImage = (number : ℕ) (started : Bool) (log : ObjLogState) → KeepsImage log.uploads.queue (with_job number started log.uploads).queue
+abbrev pub JobsKeepImageOfList : Type 0
+JobsKeepImageOfList = (number : ℕ) (started : Bool) (log : ObjLogState) → KeepsImage log.uploads.queue (with_job number started log.uploads).queue
 
 -- by a put that is done it becomes the image after the entries of the objects that are settled then, and receipts go on telling the bytes
-abbrev pub DoneMakesImage : Type 0
-DoneMakesImage =
+abbrev pub DoneMakesImageOfList : Type 0
+DoneMakesImageOfList =
     (data_at : ℕ → ℕ) (stream : Stream) (old new : ObjLogState) (number : ℕ) (bytes : List ℕ) (receipt : ReceiptState) (image : Image)
     → IsUploads old.uploads.queue old.uploads.window → IsOfStream data_at stream old
     → IsPutDone number receipt old.uploads new.uploads → IsOut old.uploads number bytes → TellsBytes bytes receipt → ReceiptsTellBytes old.uploads.queue
@@ -48,10 +49,10 @@ DoneMakesImage =
     → HasImage (after image (settled_entries stream old.uploads.queue new.uploads.queue)) new.uploads.queue × ReceiptsTellBytes new.uploads.queue
 
 -- and by an object that is adopted that after its entries
-abbrev pub AdoptingMakesImage : Type 0
-AdoptingMakesImage =
+abbrev pub AdoptingMakesImageOfList : Type 0
+AdoptingMakesImageOfList =
     (data_at : ℕ → ℕ) (stream : Stream) (old new : ObjLogState) (entries : List Entry) (object : StreamObject) (bytes : List ℕ) (rows : List DataRow) (end : ℕ) (receipt : ReceiptState) (image : Image)
     → IsUploads old.uploads.queue old.uploads.window → IsOfStream data_at stream old → old.uploads.queue.sealed ≡ []
     → IsSealedOf (next_of old) entries object (just_sealed bytes rows end)
-    → IsAdopted rows end receipt old new → TellsBytes bytes receipt → All (EndsBy (length image)) entries
+    → HasAdoptedObject rows end receipt old new → TellsBytes bytes receipt → All (EndsBy (length image)) entries
     → HasImage image old.uploads.queue → HasImage (after image entries) new.uploads.queue × ReceiptsTellBytes new.uploads.queue

@@ -11,7 +11,7 @@ use Rattle.object_uploads.specs.Queue.{just_sealed}
 use Rattle.object_uploads.specs.Stream.{IsSealedOf}
 use Rattle.object_uploads.specs.Laws.{with_entry, with_data_object, with_adopted}
 use Rattle.obj_log.specs.State.{ObjLogState}
-use Rattle.obj_log.specs.Changes.{next_of, IsSame, IsAdded, IsSealed, IsAdopted}
+use Rattle.obj_log.specs.Changes.{next_of, IsSame, IsAdded, HasSealedObject, HasAdoptedObject}
 use Rattle.obj_log.specs.Stream.{IsOfStream}
 
 -- a list that was just made, whose objects up to this number have the entries up to this end, is that of a stream that begins there
@@ -24,43 +24,43 @@ NewListBeginsStream =
     → IsOfStream data_at (record { number = number; end = end; opening = λ k. None; entries = []; objects = [] }) log
 
 -- a list of a stream stays that while nothing changes but room
-abbrev pub RoomKeepsStream : Type 0
-RoomKeepsStream =
+abbrev pub RoomKeepsStreamOfList : Type 0
+RoomKeepsStreamOfList =
     (data_at : ℕ → ℕ) (stream : Stream) (old new : ObjLogState) → IsOfStream data_at stream old → IsSame old new → IsOfStream data_at stream new
 
 -- it is that of the stream with one entry more, once that was added
-abbrev pub AddingKeepsStream : Type 0
-AddingKeepsStream =
+abbrev pub AddingKeepsStreamOfList : Type 0
+AddingKeepsStreamOfList =
     (data_at : ℕ → ℕ) (stream : Stream) (old new : ObjLogState) (entry : Entry)
     → IsUploads old.uploads.queue old.uploads.window → IsOfStream data_at stream old
     → IsAdded entry (data_at (stream.end + length stream.entries)) old new → IsOfStream data_at (with_entry entry stream) new
 
 -- and, once some were sealed, that of the stream with a data object more, which ends where the batch begins then
-abbrev pub SealingKeepsStream : Type 0
-SealingKeepsStream =
+abbrev pub SealingKeepsStreamOfList : Type 0
+SealingKeepsStreamOfList =
     (data_at : ℕ → ℕ) (stream : Stream) (old new : ObjLogState)
     → IsUploads old.uploads.queue old.uploads.window → IsOfStream data_at stream old
-    → IsSealed old new → IsOfStream data_at (with_data_object new.batch.first stream) new
+    → HasSealedObject old new → IsOfStream data_at (with_data_object new.batch.first stream) new
 
 -- while puts begin, fail and are done it stays that of the stream
-abbrev pub JobsKeepStream : Type 0
-JobsKeepStream =
+abbrev pub JobsKeepStreamOfList : Type 0
+JobsKeepStreamOfList =
     (data_at : ℕ → ℕ) (stream : Stream) (log : ObjLogState) (number : ℕ) (started : Bool)
     → IsOfStream data_at stream log → IsOfStream data_at stream (record log { uploads = with_job number started log.uploads })
 
-abbrev pub DoneKeepsStream : Type 0
-DoneKeepsStream =
+abbrev pub DoneKeepsStreamOfList : Type 0
+DoneKeepsStreamOfList =
     (data_at : ℕ → ℕ) (stream : Stream) (old new : ObjLogState) (number : ℕ) (receipt : ReceiptState)
     → IsUploads old.uploads.queue old.uploads.window → IsOfStream data_at stream old
     → IsPutDone number receipt old.uploads new.uploads → new.batch ≡ old.batch → IsOfStream data_at stream new
 
 -- Where all objects are acknowledged, and no entry is in the batch, it is that of the stream with the next entries in a data object more,
 -- once that was adopted.
-abbrev pub AdoptingKeepsStream : Type 0
-AdoptingKeepsStream =
+abbrev pub AdoptingKeepsStreamOfList : Type 0
+AdoptingKeepsStreamOfList =
     (data_at : ℕ → ℕ) (stream : Stream) (old new : ObjLogState) (entries : List Entry) (bytes : List ℕ) (rows : List DataRow) (end : ℕ) (receipt : ReceiptState)
     → IsUploads old.uploads.queue old.uploads.window → IsOfStream data_at stream old → old.uploads.queue.sealed ≡ [] → old.batch.entries ≡ []
     → end ≡ old.batch.first + length entries → 0 < length entries
     → IsSealedOf (next_of old) entries (record { content = Data; end = end }) (just_sealed bytes rows end)
-    → IsAdopted rows end receipt old new
+    → HasAdoptedObject rows end receipt old new
     → IsOfStream data_at (with_adopted entries end stream) new

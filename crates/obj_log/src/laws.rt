@@ -1,17 +1,19 @@
-ghost use Rattle.obj_log.specs.Laws.{NewListBeginsStream, RoomKeepsStream, AddingKeepsStream, SealingKeepsStream, JobsKeepStream, DoneKeepsStream, AdoptingKeepsStream};
-ghost use Rattle.obj_log.specs.ImageLaws.{NewListHasBlank, RoomKeepsImage, AddingKeepsImage, SealingKeepsImage, JobsKeepImage, DoneMakesImage, AdoptingMakesImage};
+ghost use Rattle.obj_log.specs.Laws.{NewListBeginsStream, RoomKeepsStreamOfList, AddingKeepsStreamOfList, SealingKeepsStreamOfList};
+ghost use Rattle.obj_log.specs.Laws.{JobsKeepStreamOfList, DoneKeepsStreamOfList, AdoptingKeepsStreamOfList};
+ghost use Rattle.obj_log.specs.ImageLaws.{NewListHasBlank, RoomKeepsImageOfList, AddingKeepsImageOfList, SealingKeepsImageOfList};
+ghost use Rattle.obj_log.specs.ImageLaws.{JobsKeepImageOfList, DoneMakesImageOfList, AdoptingMakesImageOfList};
 
 /// A law: a list that was just made is that of a stream without entries and objects. It stays that of a stream while nothing changes but
 /// room, while entries are added, the first of them are sealed, and puts begin, fail and are done, in any order, and while objects of the
 /// next entries are adopted.
 pub fn the_list_stays_a_stream()
     ensures begins { NewListBeginsStream }
-    ensures same { RoomKeepsStream }
-    ensures added { AddingKeepsStream }
-    ensures sealed { SealingKeepsStream }
-    ensures jobs { JobsKeepStream }
-    ensures done { DoneKeepsStream }
-    ensures adopted { AdoptingKeepsStream }
+    ensures same { RoomKeepsStreamOfList }
+    ensures added { AddingKeepsStreamOfList }
+    ensures sealed { SealingKeepsStreamOfList }
+    ensures jobs { JobsKeepStreamOfList }
+    ensures done { DoneKeepsStreamOfList }
+    ensures adopted { AdoptingKeepsStreamOfList }
 {}
 
 /// A law: the objects of a list that was just made have the image of zeros. They keep it while nothing changes but room, while entries are
@@ -19,10 +21,10 @@ pub fn the_list_stays_a_stream()
 /// entries of the objects that are settled then, where receipts tell the objects' bytes.
 pub fn the_objects_have_an_image()
     ensures begins { NewListHasBlank }
-    ensures same { RoomKeepsImage }
-    ensures added { AddingKeepsImage }
-    ensures sealed { SealingKeepsImage }
-    ensures jobs { JobsKeepImage }
-    ensures done { DoneMakesImage }
-    ensures adopted { AdoptingMakesImage }
+    ensures same { RoomKeepsImageOfList }
+    ensures added { AddingKeepsImageOfList }
+    ensures sealed { SealingKeepsImageOfList }
+    ensures jobs { JobsKeepImageOfList }
+    ensures done { DoneMakesImageOfList }
+    ensures adopted { AdoptingMakesImageOfList }
 {}

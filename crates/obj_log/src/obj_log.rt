@@ -14,7 +14,7 @@ ghost use Rattle.object_uploads.specs.Order.{IsUploads};
 ghost use Rattle.object_uploads.specs.Changes.{with_job, IsJobOf, IsOut, IsPutDone};
 ghost use Rattle.obj_log.specs.declared.error.SealError.TheVariants as errors;
 ghost use Rattle.obj_log.specs.State.{ObjLogState};
-ghost use Rattle.obj_log.specs.Changes.{HasRoomToAdd, IsSame, IsAdded, IsSealed, IsAdopted, next_of};
+ghost use Rattle.obj_log.specs.Changes.{HasRoomToAdd, IsSame, IsAdded, HasSealedObject, HasAdoptedObject, next_of};
 
 use crate::error::SealError;
 use batcher::Batch;
@@ -103,7 +103,7 @@ impl<R: Receipt> ObjLog<R> {
         ensures nothing { (result ≡ Err errors.Nothing) ↔ (self.old.batch.entries ≡ []) }
         ensures busy { (result ≡ Err errors.Busy) ↔ ((0 < length self.old.batch.entries) × (length self.old.uploads.window.objects ≡ 16)) }
         ensures number { IfOk result (λ number. number ≡ self.old.uploads.window.last + 1) }
-        ensures sealed { OnOk result (IsSealed self.old self.new) }
+        ensures sealed { OnOk result (HasSealedObject self.old self.new) }
         ensures same { OnErr result (IsSame self.old self.new) }
     {
         if self.batch.entries() == 0 {
@@ -137,7 +137,7 @@ impl<R: Receipt> ObjLog<R> {
         requires numbers { self.old.uploads.window.last + 1 < 2 ^ 64 - 1 }
         requires order { self.old.uploads.queue.end ≤ end }
         requires fit { FitObject rows.now }
-        ensures adopted { OnOk result (IsAdopted rows.now end (R.state receipt) self.old self.new) }
+        ensures adopted { OnOk result (HasAdoptedObject rows.now end (R.state receipt) self.old self.new) }
         ensures same { OnErr result (IsSame self.old self.new) }
     {
         self.uploads.adopt(rows, end, receipt)?;
