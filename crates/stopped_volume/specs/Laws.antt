@@ -19,8 +19,9 @@ StandForOneVolume =
     → ObjectsStandFor volume uuid_at objects image number end → ObjectsStandFor volume uuid_at objects other other_number other_end
     → (number ≡ other_number) × (end ≡ other_end) × (image ≡ other)
 
--- a store has a stream, which begins at its newest checkpoint, up to the object of a number, and the next number is the first missing one
-pub record HasStreamUpTo (volume : Expected) (uuid_at : ℕ → Option (List ℕ)) (objects : Objects) (stream : Stream) (opening : Image) (number : ℕ) : Type 0 where
+-- a store has a stream that begins at its newest checkpoint, up to the object of a number: that before the first missing one
+pub record HasStreamUpTo (volume : Expected) (uuid_at : ℕ → Option (List ℕ)) (objects : Objects) (stream : Stream) (opening : Image)
+    (number : ℕ) : Type 0 where
   pub checkpoint : Numbers
   pub checkpoints : AreCheckpoints volume objects checkpoint
   pub missing : IsFirstMissing checkpoint (landed_in objects volume.uuid) (number + 1)
