@@ -360,7 +360,7 @@ impl<D: Disk> CacheLog<D> {
     /// this one, with all entries. The number of the last commit is below 2^64 - 2 (a condition).
     /// `Failed` comes where a call of the device failed; the commit may be tried again then. The
     /// entries are as before. In use are then the sectors from the tail of the last commit made to
-    /// the head.
+    /// the head. What memory was taken for stays so.
     pub fn commit(&mut self) -> Result<(), Failed>
         requires number { self.old.commits.number < 2 ^ 64 - 2 }
         ensures same { HasSameList self.old self.new }
@@ -374,6 +374,7 @@ impl<D: Disk> CacheLog<D> {
             (commit_calls self.old.commits.number self.old.commits.unfinished (body_of self.old))
             (is_ok result) self.old.commits.disk self.new.commits.disk }
         ensures on_disk { AreOnDisk self.new.commits }
+        ensures reserved { self.old.reserved ≤ self.new.reserved }
     {
         let mut body = self.commits.body();
         let head = self.room.head();

@@ -1,4 +1,5 @@
 ghost use Rattle.std.specs.Prelude.{◌≡◌, ◌+◌, ◌<◌, ◌≤◌, length, drop};
+ghost use Rattle.std.specs.VecDeque.{deque_capacity};
 ghost use Rattle.log_room.specs.Room.{max_log};
 ghost use Rattle.cache_log.specs.Rows.{since};
 ghost use Rattle.cache_log.specs.Log.{start_of};
@@ -12,6 +13,7 @@ use std::collections::VecDeque;
 pub(crate) fn drop_below(rows: &mut VecDeque<Row>, seq: u64) -> usize
     ensures rows { rows.new.items ≡ since seq rows.old.items }
     ensures count { result + length rows.new.items ≡ length rows.old.items }
+    ensures capacity { deque_capacity rows.new ≡ deque_capacity rows.old }
 {
     let len = rows.len();
     for count in 0..len {
