@@ -12,7 +12,7 @@ use Rattle.object_uploads.specs.Queue.{just_sealed}
 use Rattle.object_uploads.specs.Order.{IsUploads}
 use Rattle.object_uploads.specs.Changes.{with_job, IsOut, IsPutDone}
 use Rattle.object_uploads.specs.Stream.{IsSealedOf}
-use Rattle.object_uploads.specs.Image.{HasImage, TellsBytes, ReceiptsTellBytes}
+use Rattle.object_uploads.specs.Image.{HasImage, IsReceiptFor, HasOwnReceipts}
 use Rattle.object_uploads.specs.ImageLaws.{KeepsImage, settled_entries}
 use Rattle.obj_log.specs.State.{ObjLogState}
 use Rattle.obj_log.specs.Changes.{next_of, IsSame, IsAdded, HasSealedObject, HasAdoptedObject}
@@ -22,7 +22,7 @@ use Rattle.obj_log.specs.Stream.{IsOfStream}
 abbrev pub NewListHasBlank : Type 0
 NewListHasBlank =
     (log : ObjLogState) (sectors : ℕ) → log.uploads.queue.sealed ≡ [] → log.uploads.queue.maps.settled.rows ≡ []
-    → HasImage (blank sectors) log.uploads.queue × ReceiptsTellBytes log.uploads.queue
+    → HasImage (blank sectors) log.uploads.queue × HasOwnReceipts log.uploads.queue
 
 -- it is kept while nothing changes but room, while entries are added and sealed, and while puts begin and fail
 abbrev pub RoomKeepsImageOfList : Type 0
@@ -38,15 +38,17 @@ SealingKeepsImageOfList = (old new : ObjLogState) → HasSealedObject old new �
 abbrev pub JobsKeepImageOfList : Type 0
 JobsKeepImageOfList = (number : ℕ) (started : Bool) (log : ObjLogState) → KeepsImage log.uploads.queue (with_job number started log.uploads).queue
 
--- by a put that is done it becomes the image after the entries of the objects that are settled then, and receipts go on telling the bytes
+-- By a put that is done it becomes the image after the entries of the objects that are settled then, and receipts stay those of the objects'
+-- own bytes.
 abbrev pub DoneMakesImageOfList : Type 0
 DoneMakesImageOfList =
     (data_at : ℕ → ℕ) (stream : Stream) (old new : ObjLogState) (number : ℕ) (bytes : List ℕ) (receipt : ReceiptState) (image : Image)
     → IsUploads old.uploads.queue old.uploads.window → IsOfStream data_at stream old
-    → IsPutDone number receipt old.uploads new.uploads → IsOut old.uploads number bytes → TellsBytes bytes receipt → ReceiptsTellBytes old.uploads.queue
+    → IsPutDone number receipt old.uploads new.uploads → IsOut old.uploads number bytes → IsReceiptFor bytes receipt
+    → HasOwnReceipts old.uploads.queue
     → All (EndsBy (length image)) (settled_entries stream old.uploads.queue new.uploads.queue)
     → HasImage image old.uploads.queue
-    → HasImage (after image (settled_entries stream old.uploads.queue new.uploads.queue)) new.uploads.queue × ReceiptsTellBytes new.uploads.queue
+    → HasImage (after image (settled_entries stream old.uploads.queue new.uploads.queue)) new.uploads.queue × HasOwnReceipts new.uploads.queue
 
 -- and by an object that is adopted that after its entries
 abbrev pub AdoptingMakesImageOfList : Type 0
@@ -54,5 +56,5 @@ AdoptingMakesImageOfList =
     (data_at : ℕ → ℕ) (stream : Stream) (old new : ObjLogState) (entries : List Entry) (object : StreamObject) (bytes : List ℕ) (rows : List DataRow) (end : ℕ) (receipt : ReceiptState) (image : Image)
     → IsUploads old.uploads.queue old.uploads.window → IsOfStream data_at stream old → old.uploads.queue.sealed ≡ []
     → IsSealedOf (next_of old) entries object (just_sealed bytes rows end)
-    → HasAdoptedObject rows end receipt old new → TellsBytes bytes receipt → All (EndsBy (length image)) entries
-    → HasImage image old.uploads.queue → HasImage (after image entries) new.uploads.queue × ReceiptsTellBytes new.uploads.queue
+    → HasAdoptedObject rows end receipt old new → IsReceiptFor bytes receipt → All (EndsBy (length image)) entries
+    → HasImage image old.uploads.queue → HasImage (after image entries) new.uploads.queue × HasOwnReceipts new.uploads.queue

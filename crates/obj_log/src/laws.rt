@@ -18,7 +18,7 @@ pub fn the_list_stays_a_stream()
 
 /// A law: the objects of a list that was just made have the image of zeros. They keep it while nothing changes but room, while entries are
 /// added and sealed, and while puts begin and fail. By a put that is done, and by an object that is adopted, it becomes the image after the
-/// entries of the objects that are settled then, where receipts tell the objects' bytes.
+/// entries of the objects that are settled then, where the receipts are for the objects' own bytes.
 pub fn the_objects_have_an_image()
     ensures begins { NewListHasBlank }
     ensures same { RoomKeepsImageOfList }

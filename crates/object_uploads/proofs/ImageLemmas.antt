@@ -38,9 +38,10 @@ use Rattle.object_uploads.specs.State.{SealedState, QueueState, UploadsState}
 use Rattle.object_uploads.specs.Queue.{with_at, with_spare, with_receipt, just_sealed, HasBytesAt, front_of, receipts_of, receipt_of, settled_by_all, end_of_last}
 use Rattle.object_uploads.specs.Changes.{index_of, IsOut}
 use Rattle.object_uploads.specs.Stream.{AreRows, IsSealedOf, AreSealedOf}
-use Rattle.object_uploads.specs.Image.{GivesSector, HoldsSector, HasImage, TellsBytes, ReceiptsTellBytes}
+use Rattle.object_uploads.specs.Image.{GivesSector, HoldsSector, HasImage, IsReceiptFor, HasOwnReceipts}
 use Rattle.object_uploads.specs.ImageLaws.{ImageBegins, EnteringKeepsImage, SealingKeepsImage, RoomKeepsImage, JobsKeepImage, DoneKeepsReceipts, settled_entries, DoneMakesImage}
 use Rattle.object_uploads.proofs.KeepLemmas as keep
+use Rattle.object_uploads.proofs.WholeLemmas.{PutsWhole, puts_whole, lies_inside}
 
 -- the two parts of a list
 all_front : {X : Type 0} (P : X → Type 0) (a b : List X) → All P (a ++ b) → All P a
@@ -60,25 +61,23 @@ blank_sector zero k sector at = absurd cc
 blank_sector (suc sectors) zero sector at = sym (ap (sector_or zero_sector) at)
 blank_sector (suc sectors) (suc k) sector at = blank_sector sectors k sector at
 
--- ---- what receipts tell
+-- ---- receipts
 
+-- an object whose receipt, if it has one, is for its own bytes
 abbrev IsTold : SealedState → Type 0
-IsTold sealed = IfSome sealed.receipt (TellsBytes sealed.bytes)
+IsTold sealed = IfSome sealed.receipt (IsReceiptFor sealed.bytes)
 
-told_by : (bytes : List ℕ) (receipt : Option ReceiptState) (given : ReceiptState) → receipt ≡ Some given → TellsBytes bytes given → IfSome receipt (TellsBytes bytes)
-told_by bytes receipt given is tells = rw is tells
-
--- objects of which one is changed, where that one tells its bytes
+-- objects of which one is changed, where that one still has its own receipt
 told_with : (index : ℕ) (change : SealedState → SealedState) (list : List SealedState) → ((s : SealedState) → IsTold s → IsTold (change s))
     → AllByRecursion IsTold list → AllByRecursion IsTold (with_at index change list)
 told_with index change [] still told = tt
 told_with zero change (first ∷ more) still told = (still first told.0, told.1)
 told_with (suc index) change (first ∷ more) still told = (told.0, told_with index change more still told.1)
 
-told_at : (index : ℕ) (receipt : ReceiptState) (bytes : List ℕ) (list : List SealedState) → HasBytesAt index list bytes → TellsBytes bytes receipt
+told_at : (index : ℕ) (receipt : ReceiptState) (bytes : List ℕ) (list : List SealedState) → HasBytesAt index list bytes → IsReceiptFor bytes receipt
     → AllByRecursion IsTold list → AllByRecursion IsTold (with_at index (with_receipt receipt) list)
 told_at index receipt bytes [] has tells told = tt
-told_at zero receipt bytes (first ∷ more) has tells told = (subst (λ b. TellsBytes b receipt) has tells, told.1)
+told_at zero receipt bytes (first ∷ more) has tells told = (subst (λ b. IsReceiptFor b receipt) has tells, told.1)
 told_at (suc index) receipt bytes (first ∷ more) has tells told = (told.0, told_at index receipt bytes more has tells told.1)
 
 told_more : (list : List SealedState) (last : SealedState) → IsTold last → AllByRecursion IsTold list → AllByRecursion IsTold (list ++ last ∷ [])
@@ -146,21 +145,25 @@ module _ (queue : QueueState) (number : ℕ) (receipts : List ReceiptState) (rec
   tells_sector None bytes sector at tells has = tt
   tells_sector (Some told) bytes sector at tells has = rw tells has
 
-  module _ (bytes : List ℕ) (tells : TellsBytes bytes receipt) where
-    put_holds : (at : ℕ) (sector : List ℕ) → sector_of at bytes ≡ sector → HoldsSector now (Some (record { level = 0; number = number + 1; sector = at })) sector
-    put_holds at sector has = (refl, subst (λ r. GivesSector r at sector) (sym is_given) (tells_sector receipt.told bytes sector at tells has))
+  module _ (bytes : List ℕ) (tells : IsReceiptFor bytes receipt) where
+    put_holds : (at : ℕ) (sector : List ℕ) → length sector ≡ 512 → sector_of at bytes ≡ sector
+        → HoldsSector now (Some (record { level = 0; number = number + 1; sector = at })) sector
+    put_holds at sector whole has =
+        let inside : 512 * (at + 1) ≤ receipt.size = omega (arith, tells.size, lies_inside at bytes sector whole has) in
+        (refl, subst (λ r. GivesSector r at sector) (sym is_given) (inside, tells_sector receipt.told bytes sector at tells.told has))
 
     some_sector : (a b : List ℕ) → Some a ≡ Some b → a ≡ b
     some_sector a b same = ap (sector_or a) same
 
     -- a sector after what its object did to it
     changed_holds : (change : Option Change) (old new : Option ObjectPlace) (held : Option (List ℕ)) (sector : List ℕ)
-        → IsPlacedBy (number + 1) bytes change old new → ((s : List ℕ) → held ≡ Some s → HoldsSector before old s)
+        → PutsWhole change → IsPlacedBy (number + 1) bytes change old new → ((s : List ℕ) → held ≡ Some s → HoldsSector before old s)
         → changed_by change held ≡ Some sector → HoldsSector now new sector
-    changed_holds None old new held sector placed holds is = rw placed (still_holds old sector (holds sector is))
-    changed_holds (Some (Put put)) old new held sector placed holds is =
-        subst (λ p. HoldsSector now p sector) (sym placed.1) (put_holds placed.0 sector (placed.2 ∙ some_sector put sector is))
-    changed_holds (Some Clear) old new held sector placed holds is = rw placed (sym (some_sector zero_sector sector is))
+    changed_holds None old new held sector whole placed holds is = rw placed (still_holds old sector (holds sector is))
+    changed_holds (Some (Put put)) old new held sector whole placed holds is =
+        let same = some_sector put sector is in
+        subst (λ p. HoldsSector now p sector) (sym placed.1) (put_holds placed.0 sector (sym (ap length same) ∙ whole) (placed.2 ∙ same))
+    changed_holds (Some Clear) old new held sector whole placed holds is = rw placed (sym (some_sector zero_sector sector is))
 
 -- ---- an object that is settled
 
@@ -178,7 +181,7 @@ module _ (queue : QueueState) (volume : Expected) where
 
   pub has_one : (number end : ℕ) (part : List Entry) (object : StreamObject) (sealed : SealedState) (receipts : List ReceiptState) (receipt : ReceiptState)
       (places : ℕ → Option ObjectPlace) (image : Image) → length receipts ≤ number → IsSealedOf (expected_at volume (number + 1) end) part object sealed
-      → TellsBytes sealed.bytes receipt → All (EndsBy (length image)) part → Has number receipts places image
+      → IsReceiptFor sealed.bytes receipt → All (EndsBy (length image)) part → Has number receipts places image
       → Has (number + 1) (receipts ++ receipt ∷ []) (λ k. settled_by (number + 1) (front_of sealed.rows) sealed.rows (places k) k) (after image part)
   has_one number end part object sealed receipts receipt places image within is tells ends has k sector at =
       let inside : k < length image = rw (sym (length-after image part ends)) (slice_get_within (after image part) k sector at) in
@@ -191,7 +194,8 @@ module _ (queue : QueueState) (volume : Expected) where
       let does = ap (λ p. change_in sealed.rows p k) payload ∙ is.changes k in
       let by = subst (λ c. IsPlacedBy (number + 1) sealed.bytes c (places k) (settled_by (number + 1) (front_of sealed.rows) sealed.rows (places k) k)) does placed in
       changed_holds queue number receipts receipt within sealed.bytes tells (change_at part k) (places k)
-      (settled_by (number + 1) (front_of sealed.rows) sealed.rows (places k) k) (slice_get image k) sector by (λ s held. has k s held) made
+      (settled_by (number + 1) (front_of sealed.rows) sealed.rows (places k) k) (slice_get image k) sector
+      (puts_whole part k) by (λ s held. has k s held) made
 
   -- what the store gave for an acknowledged object
   given : (receipt : Option ReceiptState) → IsSome receipt → (r : ReceiptState) × (receipt ≡ Some r)
@@ -225,7 +229,7 @@ module _ (queue : QueueState) (volume : Expected) where
       let later_ends : All (EndsBy (length (after image part))) (take (last - object.end) later) =
       rw (length-after image part part_ends) (all_back (EndsBy (length image)) part (take (last - object.end) later) ends_split) in
       let r = given first.receipt all.0 in
-      let tells = subst (λ o. IfSome o (TellsBytes first.bytes)) r.1 told.0 in
+      let tells = subst (λ o. IfSome o (IsReceiptFor first.bytes)) r.1 told.0 in
       let one = has_one number end part object first receipts r.0 places image within are.0 tells part_ends has in
       let size : length (receipts ++ r.0 ∷ []) ≡ length receipts + 1 = length-append receipts (r.0 ∷ []) in
       let rest = has_all count (number + 1) object.end later list sealed (receipts ++ r.0 ∷ []) (λ k. settled_by (number + 1) (front_of first.rows) first.rows (places k) k)
@@ -272,9 +276,9 @@ jobs_keep_image number started uploads = record {
   receipts = λ told. told_with (index_of uploads number) (with_spare (not started)) uploads.queue.sealed (λ s is. is) told;
 }
 
--- the objects of which one was acknowledged tell their bytes
-acknowledged_tell : (old : UploadsState) (number : ℕ) (bytes : List ℕ) (receipt : ReceiptState) → IsOut old number bytes → TellsBytes bytes receipt
-    → ReceiptsTellBytes old.queue → AllByRecursion IsTold (with_at (index_of old number) (with_receipt receipt) old.queue.sealed)
+-- the objects of which one was acknowledged have their own receipts
+acknowledged_tell : (old : UploadsState) (number : ℕ) (bytes : List ℕ) (receipt : ReceiptState) → IsOut old number bytes → IsReceiptFor bytes receipt
+    → HasOwnReceipts old.queue → AllByRecursion IsTold (with_at (index_of old number) (with_receipt receipt) old.queue.sealed)
 acknowledged_tell old number bytes receipt out tells told = told_at (index_of old number) receipt bytes old.queue.sealed out.sealed tells told
 
 pub done_keeps_receipts : DoneKeepsReceipts

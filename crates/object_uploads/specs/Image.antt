@@ -1,5 +1,5 @@
 -- Contract: when the objects of a volume have an image: each sector is where the objects' map has it.
-use Rattle.std.specs.Prelude.{◌≡◌, ℕ, Option, Some, None, IfSome, List}
+use Rattle.std.specs.Prelude.{◌≡◌, ℕ, ◌+◌, ◌*◌, ◌≤◌, Option, Some, None, IfSome, List, length}
 use Rattle.std.specs.List.{AllByRecursion, slice_get}
 use Rattle.lsvd_base.specs.Image.{Image, zero_sector}
 use Rattle.lsvd_objstore.specs.Store.{ReceiptState}
@@ -9,10 +9,10 @@ use Rattle.volume_maps.specs.Maps.{settled_at}
 use Rattle.object_uploads.specs.State.{SealedState, QueueState}
 use Rattle.object_uploads.specs.Queue.{receipt_of}
 
--- there is a receipt, and where it tells the bytes of its object, they have this sector there
+-- there is a receipt, the place lies inside its object, and where it tells the object's bytes, they have this sector there
 abbrev pub GivesSector : Option ReceiptState → (at : ℕ) → (sector : List ℕ) → Type 0
 GivesSector None at sector = ⊥
-GivesSector (Some receipt) at sector = IfSome receipt.told (λ bytes. sector_of at bytes ≡ sector)
+GivesSector (Some receipt) at sector = (512 * (at + 1) ≤ receipt.size) × IfSome receipt.told (λ bytes. sector_of at bytes ≡ sector)
 
 -- A sector is held at a place: it is zeros where there is none, and else what the store gave for the volume's own object of the
 -- place's number gives it there.
@@ -24,10 +24,11 @@ HoldsSector queue (Some place) sector = (place.level ≡ 0) × GivesSector (rece
 abbrev pub HasImage : Image → QueueState → Type 0
 HasImage image queue = (k : ℕ) (sector : List ℕ) → slice_get image k ≡ Some sector → HoldsSector queue (settled_at queue.maps k) sector
 
--- a receipt tells no other bytes than these
-abbrev pub TellsBytes : List ℕ → ReceiptState → Type 0
-TellsBytes bytes receipt = IfSome receipt.told (λ told. told ≡ bytes)
+-- a receipt for these bytes: it says how many they are, and tells no others
+pub record IsReceiptFor (bytes : List ℕ) (receipt : ReceiptState) : Type 0 where
+  pub size : receipt.size ≡ length bytes
+  pub told : IfSome receipt.told (λ told. told ≡ bytes)
 
--- each object past the frontier whose receipt tells bytes tells its own
-abbrev pub ReceiptsTellBytes : QueueState → Type 0
-ReceiptsTellBytes queue = AllByRecursion (λ (sealed : SealedState). IfSome sealed.receipt (TellsBytes sealed.bytes)) queue.sealed
+-- each receipt of an object past the frontier is for the object's own bytes
+abbrev pub HasOwnReceipts : QueueState → Type 0
+HasOwnReceipts queue = AllByRecursion (λ (sealed : SealedState). IfSome sealed.receipt (IsReceiptFor sealed.bytes)) queue.sealed

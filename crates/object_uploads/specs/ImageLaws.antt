@@ -16,18 +16,18 @@ use Rattle.object_uploads.specs.Queue.{IsEntered, just_sealed}
 use Rattle.object_uploads.specs.Order.{IsUploads}
 use Rattle.object_uploads.specs.Changes.{IsSealed, IsNotSealed, with_job, IsOut, IsPutDone, IsAdopted}
 use Rattle.object_uploads.specs.Stream.{IsSealedOf, AreOfStream}
-use Rattle.object_uploads.specs.Image.{TellsBytes, HasImage, ReceiptsTellBytes}
+use Rattle.object_uploads.specs.Image.{HasImage, IsReceiptFor, HasOwnReceipts}
 
--- a call keeps the image that the objects have, and what their receipts tell
+-- a call keeps the image that the objects have, and the receipts of their own bytes
 pub record KeepsImage (old new : QueueState) : Type 0 where
   pub image : (image : Image) → HasImage image old → HasImage image new
-  pub receipts : ReceiptsTellBytes old → ReceiptsTellBytes new
+  pub receipts : HasOwnReceipts old → HasOwnReceipts new
 
 -- where no sector has a place, and no object is past the frontier, the image is that of a new volume
 abbrev pub ImageBegins : Type 0
 ImageBegins =
     (queue : QueueState) (sectors : ℕ) → queue.sealed ≡ [] → queue.maps.settled.rows ≡ []
-    → HasImage (blank sectors) queue × ReceiptsTellBytes queue
+    → HasImage (blank sectors) queue × HasOwnReceipts queue
 
 -- it is kept while entries are entered
 abbrev pub EnteringKeepsImage : Type 0
@@ -45,12 +45,12 @@ RoomKeepsImage = (old new : UploadsState) → IsNotSealed old new → KeepsImage
 abbrev pub JobsKeepImage : Type 0
 JobsKeepImage = (number : ℕ) (started : Bool) (uploads : UploadsState) → KeepsImage uploads.queue (with_job number started uploads).queue
 
--- receipts go on telling their objects' bytes while puts are done whose receipts tell the sealed bytes, where they tell any
+-- receipts stay those of their objects' own bytes while puts are done whose receipts are for the sealed bytes
 abbrev pub DoneKeepsReceipts : Type 0
 DoneKeepsReceipts =
     (old new : UploadsState) (number : ℕ) (bytes : List ℕ) (receipt : ReceiptState)
-    → IsPutDone number receipt old new → IsOut old number bytes → TellsBytes bytes receipt
-    → ReceiptsTellBytes old.queue → ReceiptsTellBytes new.queue
+    → IsPutDone number receipt old new → IsOut old number bytes → IsReceiptFor bytes receipt
+    → HasOwnReceipts old.queue → HasOwnReceipts new.queue
 
 -- the entries of a stream that are in the objects that were settled: those past the old frontier, up to the new one
 abbrev pub settled_entries : Stream → (old new : QueueState) → List Entry
@@ -61,7 +61,7 @@ abbrev pub DoneMakesImage : Type 0
 DoneMakesImage =
     (volume : Expected) (data_at : ℕ → ℕ) (stream : Stream) (old new : UploadsState) (number : ℕ) (bytes : List ℕ) (receipt : ReceiptState) (image : Image)
     → IsUploads old.queue old.window → AreOfStream volume data_at stream old
-    → IsPutDone number receipt old new → IsOut old number bytes → TellsBytes bytes receipt → ReceiptsTellBytes old.queue
+    → IsPutDone number receipt old new → IsOut old number bytes → IsReceiptFor bytes receipt → HasOwnReceipts old.queue
     → All (EndsBy (length image)) (settled_entries stream old.queue new.queue)
     → HasImage image old.queue → HasImage (after image (settled_entries stream old.queue new.queue)) new.queue
 
@@ -71,5 +71,5 @@ AdoptingMakesImage =
     (volume : Expected) (end_before : ℕ) (entries : List Entry) (object : StreamObject) (bytes : List ℕ) (rows : List DataRow) (end : ℕ) (receipt : ReceiptState)
     (old new : UploadsState) (image : Image)
     → IsUploads old.queue old.window → IsSealedOf (expected_at volume (old.queue.frontier + 1) end_before) entries object (just_sealed bytes rows end)
-    → IsAdopted rows end receipt old new → TellsBytes bytes receipt → All (EndsBy (length image)) entries
+    → IsAdopted rows end receipt old new → IsReceiptFor bytes receipt → All (EndsBy (length image)) entries
     → HasImage image old.queue → HasImage (after image entries) new.queue

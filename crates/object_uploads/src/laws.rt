@@ -21,8 +21,8 @@ pub fn puts_keep_the_stream()
     ensures done { DoneKeepsStream }
 {}
 
-/// A law: the image that the objects up to the frontier have, and what receipts tell, stay while entries are entered, objects are sealed,
-/// and puts begin and fail; and a new volume has the image of zeros.
+/// A law: the image that the objects up to the frontier have, and the receipts of the objects' own bytes, stay while entries are entered,
+/// objects are sealed, and puts begin and fail; and a new volume has the image of zeros.
 pub fn the_objects_keep_their_image()
     ensures begins { ImageBegins }
     ensures entered { EnteringKeepsImage }
@@ -32,7 +32,7 @@ pub fn the_objects_keep_their_image()
 {}
 
 /// A law: by a put that is done the objects of a stream come to have the image after the entries of the objects that are settled then,
-/// where receipts tell the objects' bytes; and these go on telling them.
+/// where the receipts are for the objects' own bytes; and they stay so.
 pub fn puts_make_the_image()
     ensures receipts { DoneKeepsReceipts }
     ensures image { DoneMakesImage }
