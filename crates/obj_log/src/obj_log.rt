@@ -160,6 +160,8 @@ impl<R: Receipt> ObjLog<R> {
     /// It takes no memory.
     pub fn job_done(&mut self, job: &Job, receipt: R) -> Result<u64, R>
         ensures nothing { IsErr result ↔ (IsOut self.old.uploads job.now.name.number job.now.bytes × ((R.state receipt).name ≡ name_of self.old.uploads.uuid job.now.name.number) → ⊥) }
+        ensures out { OnOk result (IsOut self.old.uploads job.now.name.number job.now.bytes) }
+        ensures named { OnOk result ((R.state receipt).name ≡ name_of self.old.uploads.uuid job.now.name.number) }
         ensures done { OnOk result (IsPutDone job.now.name.number (R.state receipt) self.old.uploads self.new.uploads) }
         ensures batch { self.new.batch ≡ self.old.batch }
         ensures frontier { IfOk result (λ frontier. frontier ≡ self.new.uploads.queue.frontier) }
@@ -173,6 +175,7 @@ impl<R: Receipt> ObjLog<R> {
     /// not the sealed bytes; then nothing changes. It takes no memory.
     pub fn job_failed(&mut self, job: Job) -> Result<(), Job>
         ensures nothing { IsErr result ↔ (IsOut self.old.uploads job.name.number job.bytes → ⊥) }
+        ensures out { OnOk result (IsOut self.old.uploads job.name.number job.bytes) }
         ensures ready { OnOk result (self.new ≡ record self.old { uploads = with_job job.name.number false self.old.uploads }) }
         ensures back { IfErr result (λ back. back ≡ job) }
         ensures same { OnErr result (self.new ≡ self.old) }

@@ -125,6 +125,8 @@ impl<R: Receipt> Uploads<R> {
     /// It takes no memory.
     pub fn job_done(&mut self, job: &Job, receipt: R) -> Result<u64, R>
         ensures nothing { IsErr result ↔ (IsOut self.old job.now.name.number job.now.bytes × ((R.state receipt).name ≡ name_of self.old.uuid job.now.name.number) → ⊥) }
+        ensures out { OnOk result (IsOut self.old job.now.name.number job.now.bytes) }
+        ensures named { OnOk result ((R.state receipt).name ≡ name_of self.old.uuid job.now.name.number) }
         ensures done { OnOk result (IsPutDone job.now.name.number (R.state receipt) self.old self.new) }
         ensures frontier { IfOk result (λ frontier. frontier ≡ self.new.queue.frontier) }
         ensures back { IfErr result (λ back. back ≡ receipt) }
@@ -147,6 +149,7 @@ impl<R: Receipt> Uploads<R> {
     /// not the sealed bytes; then nothing changes. It takes no memory.
     pub fn job_failed(&mut self, job: Job) -> Result<(), Job>
         ensures nothing { IsErr result ↔ (IsOut self.old job.name.number job.bytes → ⊥) }
+        ensures out { OnOk result (IsOut self.old job.name.number job.bytes) }
         ensures ready { OnOk result (self.new ≡ with_job job.name.number false self.old) }
         ensures back { IfErr result (λ back. back ≡ job) }
         ensures same { OnErr result (self.new ≡ self.old) }
