@@ -1,0 +1,3 @@
+pub mod ShowLemmas
+pub mod SealLemmas
+pub mod JobLemmas
