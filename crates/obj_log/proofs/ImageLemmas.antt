@@ -1,12 +1,10 @@
 -- An object that is adopted, and the image that the objects have.
-use Rattle.std.proofs.Common.{◌≡◌, ℕ, ◌+◌, ◌-◌, [], List, length, drop, refl, sym, ◌∙◌, ap, subst, arith}
-use Rattle.object_format.specs.declared.expected.Expected.{Expected}
+use Rattle.std.proofs.Common.{◌≡◌, ℕ, ◌+◌, [], length, sym, ◌∙◌, ap, subst, arith}
 use Rattle.object_stream.specs.declared.object.Content.TheVariants.{Data}
 use Rattle.object_stream.specs.declared.object.StreamObject.{StreamObject}
 use Rattle.object_stream.specs.Replay.{expected_at}
 use Rattle.object_stream.specs.Stream.{Stream, end_at, last_number, unsealed}
 use Rattle.object_uploads.specs.Queue.{just_sealed}
-use Rattle.object_uploads.specs.Order.{IsUploads}
 use Rattle.object_uploads.specs.Stream.{IsSealedOf, AreOfStream}
 use Rattle.object_uploads.specs.Laws.{with_adopted}
 use Rattle.object_uploads.proofs.AdoptLemmas as adopt
