@@ -1,0 +1,7 @@
+mod Following
+mod Lists
+pub mod Shown
+pub mod Appended
+pub mod PlainCommits
+pub mod Commits
+pub mod FuseLemmas

@@ -1,0 +1,4 @@
+pub mod Shows
+pub mod Logged
+pub mod Fuses
+pub mod Laws
