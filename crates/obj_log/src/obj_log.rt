@@ -236,6 +236,13 @@ impl<R: Receipt> ObjLog<R> {
         self.uploads.end()
     }
 
+    /// The uuid of the volume.
+    pub fn uuid(&self) -> Uuid
+        ensures { result ≡ self.now.uploads.uuid }
+    {
+        self.uploads.uuid()
+    }
+
     /// What is so of the objects of every volume, as a fact for the proofs of callers: the open ones are those past the frontier that
     /// are not acknowledged, the first among them. Nothing is done.
     pub fn ordered(&self)
@@ -250,7 +257,7 @@ impl<R: Receipt> ObjLog<R> {
         ensures { result ≡ next_of self.now }
     {
         Expected {
-            uuid: self.uploads.uuid().into_bytes(),
+            uuid: self.uuid().into_bytes(),
             number: self.uploads.window().last() + 1,
             sectors: self.batch.geometry().sectors,
             ancestors: 0,
