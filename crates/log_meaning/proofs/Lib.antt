@@ -1,4 +1,4 @@
-mod Following
+pub mod Following
 mod Lists
 pub mod Shown
 pub mod Appended

@@ -41,7 +41,7 @@ below_either true first second last below is other = is
 below_either false first second last below is other = other
 
 -- a mark leaves the frontier
-below_marked : (number : ℕ) (started : Bool) (objects : List OpenObject) (last : ℕ)
+pub below_marked : (number : ℕ) (started : Bool) (objects : List OpenObject) (last : ℕ)
     → below_lowest (with_started number started objects) last ≡ below_lowest objects last
 below_marked number started [] last = refl
 below_marked number started (object ∷ objects) last =
@@ -113,8 +113,9 @@ module _ (data_at : ℕ → ℕ) (old new : ObjLogState) (plain : PlainState) (n
   abbrev later : ℕ
   later = below_open (acknowledged number plain.window)
 
-  later_is : new.uploads.queue.frontier ≡ later
-  later_is =
+  -- the frontier then
+  pub done_frontier : new.uploads.queue.frontier ≡ later
+  done_frontier =
       let queue = old.uploads.queue in
       let found = started_at number (queue.frontier + 1) queue.sealed old.uploads.window.objects uploads.opened out.started in
       let past : queue.frontier < number = omega (arith, found.0) in
@@ -129,7 +130,7 @@ module _ (data_at : ℕ → ℕ) (old new : ObjLogState) (plain : PlainState) (n
   later_end = end_at (stream_in plain) later
 
   end_now : new.uploads.queue.end ≡ later_end
-  end_now = stream_now.objects.end ∙ ap (end_at (stream_in plain)) later_is
+  end_now = stream_now.objects.end ∙ ap (end_at (stream_in plain)) done_frontier
 
   -- the entries of the objects that are settled now come after those of the settled image
   abbrev first : ℕ
@@ -148,7 +149,7 @@ module _ (data_at : ℕ → ℕ) (old new : ObjLogState) (plain : PlainState) (n
   image_is : after (settled_image plain) part ≡ after plain.opening (take (later_end - plain.end) plain.entries)
   image_is =
       let counts = shown_have_counts data_at old plain uploads valid shows in
-      let grows : frontier_of plain ≤ later = omega (arith, counts.frontier, done.settled.frontier, later_is) in
+      let grows : frontier_of plain ≤ later = omega (arith, counts.frontier, done.settled.frontier, done_frontier) in
       let from = ends_from plain (frontier_of plain) valid in
       let to = ends_grow (stream_in plain) (frontier_of plain) later valid.stream.ends grows in
       let sum : first + (later_end - frontier_end plain) ≡ later_end - plain.end = omega (arith, from, to) in

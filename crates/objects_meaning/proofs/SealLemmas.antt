@@ -78,24 +78,26 @@ below_entered (first ∷ objects) last object is = refl
 -- ---- the seal
 
 -- the plain volume with a data object more, which a seal leaves
-abbrev with_sealed : PlainState → PlainState
+abbrev pub with_sealed : PlainState → PlainState
 with_sealed plain = record plain {
   objects = plain.objects ++ record { content = Data; end = end_of_next plain } ∷ [];
   window = entered (plain.window.last + 1) false plain.window;
 }
 
-image_same : (plain : PlainState) → IsPlainVolume plain → settled_image (with_sealed plain) ≡ settled_image plain
-image_same plain valid =
+-- it leaves the frontier's end, and the image up to there
+pub sealed_end : (plain : PlainState) → IsPlainVolume plain → frontier_end (with_sealed plain) ≡ frontier_end plain
+sealed_end plain valid =
     let object : StreamObject = record { content = Data; end = end_of_next plain } in
     let opened : OpenObject = record { number = plain.window.last + 1; is_checkpoint = false; is_started = false; was_started = false } in
     let objects = plain.objects ++ object ∷ [] in
     let count = frontier_of plain - plain.number in
     let below : frontier_of (with_sealed plain) ≡ frontier_of plain = below_entered plain.window.objects plain.window.last opened refl in
     let within : count ≤ length plain.objects = omega (arith, frontier_is_sealed plain valid) in
-    let ends : frontier_end (with_sealed plain) ≡ frontier_end plain =
     ap (λ n. end_after plain.end (take (n - plain.number) objects)) below
-    ∙ ap (end_after plain.end) (take-append-le count plain.objects (object ∷ []) within) in
-    ap (λ end. after plain.opening (take (end - plain.end) plain.entries)) ends
+    ∙ ap (end_after plain.end) (take-append-le count plain.objects (object ∷ []) within)
+
+image_same : (plain : PlainState) → IsPlainVolume plain → settled_image (with_sealed plain) ≡ settled_image plain
+image_same plain valid = ap (λ end. after plain.opening (take (end - plain.end) plain.entries)) (sealed_end plain valid)
 
 module _ (data_at : ℕ → ℕ) (old new : ObjLogState) (plain : PlainState) (uploads : IsUploads old.uploads.queue old.uploads.window)
     (valid : IsPlainVolume plain) (shows : ShowsObjects data_at old plain) (sealed : HasSealedObject old new) where

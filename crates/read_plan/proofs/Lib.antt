@@ -1,0 +1,9 @@
+pub mod PinLemmas
+mod PartLemmas
+mod RowLemmas
+mod LogLemmas
+mod PieceLemmas
+mod NumberLemmas
+mod PlanLemmas
+mod GivenLemmas
+mod TestLemmas

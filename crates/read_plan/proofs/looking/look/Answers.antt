@@ -1,0 +1,75 @@
+use Rattle.std.proofs.Common.{◌≡◌, ℕ, ◌*◌, ◌/◌, ◌+◌, ◌-◌, List, length, refl, sym, ◌∙◌, ap, subst, arith}
+use Rattle.std.specs.Prelude.{replicate}
+use Rattle.std.proofs.lemmas.List.{length-replicate}
+use Rattle.extent_map.specs.declared.extent.Extent.{Extent}
+use Rattle.volume_maps.specs.declared.place.VolumePlace.{VolumePlace}
+use Rattle.object_uploads.specs.State.{QueueState}
+use Rattle.cache_log.specs.Log.{LogState}
+use Rattle.read_plan.specs.Pins.{times}
+use Rattle.read_plan.specs.Rows.{AreRowsRead}
+use Rattle.read_plan.specs.Look.{AreRowsIn}
+use Rattle.read_plan.proofs.PlanLemmas.{CanRead, can_read, are_readable, are_fetchable, lie_inside, is_plan}
+use Rattle.read_plan.proofs.looking.look.Given as given
+use Rattle.read_plan.proofs.looking.look.Goals.{After-deref, After-deref-4, After-next_seq}
+use Rattle.read_plan.proofs.looking.look.Goals as goal
+
+-- the rows of the range can be read
+rows_can : (g : given.Over) (c : After-deref g)
+    → CanRead c.args.lba c.args.sectors c.args.log.now c.args.objects.now.uploads.queue c.in_ok-rows.rows.items
+rows_can g c =
+    let looked = c.in_ok-rows.ensures in
+    can_read c.args.lba c.args.sectors c.args.log.now c.args.objects.now.uploads.queue c.in_ok-rows.rows.items c.requires.log c.requires.objects
+    looked.shortest looked.places
+
+pub pieces_of-requires : goal.pieces_of-requires
+pieces_of-requires g c =
+    let queue : QueueState = c.args.objects.now.uploads.queue in
+    rw c.deref.ensures.value
+    (are_fetchable c.args.lba c.args.sectors c.args.log.now queue c.in_ok-rows.rows.items c.requires.range.inside (rows_can g c))
+
+-- the bytes of the range are zeros before they are read
+zeros : (g : given.Over) (c : After-deref-4 g) → c.in_ok-bytes.bytes.items ≡ replicate (512 * c.args.sectors) 0
+zeros g c = c.in_ok-bytes.ensures.items_if_clones_equal (λ y is. is)
+
+count : (g : given.Over) (c : After-deref-4 g) → length c.in_ok-bytes.bytes.items / 512 ≡ c.args.sectors
+count g c =
+    let len : length c.in_ok-bytes.bytes.items ≡ 512 * c.args.sectors = ap length (zeros g c) ∙ length-replicate (512 * c.args.sectors) 0 in
+    omega (arith, len)
+
+pub read_rows-requires : goal.read_rows-requires
+read_rows-requires g c =
+    let can = rows_can g (goal.at.read_rows-requires g c).After-deref in
+    let readable = are_readable c.args.lba c.args.sectors c.args.log.now c.args.objects.now.uploads.queue c.in_ok-rows.rows.items can in
+    rw c.deref-4.ensures.value (rw (count g c) readable)
+
+-- what the log has was read over zeros
+read : (g : given.Over) (c : After-next_seq g) → c.in_ok-bytes.bytes.items ≡ replicate (512 * c.args.sectors) 0
+    → AreRowsRead c.args.log.now c.args.lba c.in_ok-rows.rows.items (replicate (512 * c.args.sectors) 0) c.in-Ok.bytes.items
+read g c zeros_are = rw c.deref-4.ensures.value at (rw zeros_are at c.in-Ok.ensures.read)
+
+pub returns-in_default-clause-same_pins : goal.returns-in_default-clause-same_pins
+returns-in_default-clause-same_pins g c = λ number.
+    let out = rw c.deref-in_default.ensures.value at c.unpin.ensures in
+    let in_ = rw c.deref-3.ensures.value at c.in_ok-pin.ensures.pinned in
+    let before = out number in
+    let pinned = in_ number in
+    omega (arith, before, pinned)
+
+pub invariant_of-result : goal.invariant_of-result
+invariant_of-result g c =
+    let before = goal.at.invariant_of-result g c in (
+      lie_inside c.args.lba c.args.sectors c.args.log.now c.args.objects.now.uploads.queue c.in_ok-rows.rows.items c.in-Ok.bytes.items c.in_ok-pieces.pieces.items
+          (rows_can g before.After-deref) (read g c (zeros g before.After-deref-4)) (rw c.deref.ensures.value at c.in_ok-pieces.ensures),
+      c.in_ok-numbers.ensures.ascending,
+    )
+
+pub returns-clause-plan : goal.returns-clause-plan
+returns-clause-plan g c =
+    let before = goal.at.returns-clause-plan g c in
+    is_plan c.args.lba c.args.sectors c.args.objects.now c.args.log.now c.in_ok-rows.rows.items
+    (record { front = c.next_seq.result; bytes = c.in-Ok.bytes.items; pieces = c.in_ok-pieces.pieces.items; objects = c.in_ok-numbers.numbers.items })
+    (rows_can g before.After-deref) (rw c.batch.ensures at c.next_seq.ensures) (read g before.After-next_seq (zeros g before.After-deref-4)) (rw c.deref.ensures.value at c.in_ok-pieces.ensures)
+    c.in_ok-numbers.ensures.ascending (rw c.deref-2.ensures.value at c.in_ok-numbers.ensures.same)
+
+pub returns-clause-pinned : goal.returns-clause-pinned
+returns-clause-pinned g c = rw c.deref-3.ensures.value at c.in_ok-pin.ensures.pinned

@@ -1,0 +1,7 @@
+pub mod Pins
+pub mod Plan
+pub mod Places
+pub mod Rows
+pub mod Look
+pub mod Laws
+pub mod Tests

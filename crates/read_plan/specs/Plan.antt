@@ -1,0 +1,49 @@
+-- Contract: what is seen of the plan of a read, and the bytes that it gives.
+use Rattle.std.specs.Prelude.{◌≡◌, ℕ, ◌+◌, ◌≤◌, IfSome, List, [], ◌∷◌, length}
+use Rattle.std.specs.List.{AllByRecursion}
+use Rattle.lsvd_objstore.specs.Store.{ReceiptState}
+use Rattle.lsvd_bytes.specs.Places.{bytes_at, with_bytes}
+
+-- a part of a read that an object has
+pub record PieceState : Type 0 where
+  -- the byte of the read at which it begins, and how many bytes it has
+  pub at : ℕ
+  pub count : ℕ
+  -- what the store gave for the object, and the byte of the object at which the part begins
+  pub receipt : ReceiptState
+  pub from : ℕ
+
+-- the plan of a read
+pub record PlanState : Type 0 where
+  -- how many entries the history had
+  pub front : ℕ
+  -- the bytes that the log has, and zeros elsewhere
+  pub bytes : List ℕ
+  pub pieces : List PieceState
+  -- the numbers of the objects that it takes sectors from
+  pub objects : List ℕ
+
+-- a piece lies inside a read of so many bytes, and inside its object
+pub record PieceFits (size : ℕ) (piece : PieceState) : Type 0 where
+  pub read : piece.at + piece.count ≤ size
+  pub object : piece.from + piece.count ≤ piece.receipt.size
+
+-- each piece of a plan does
+abbrev pub PiecesFit : PlanState → Type 0
+PiecesFit plan = AllByRecursion (PieceFits (length plan.bytes)) plan.pieces
+
+-- ---- the bytes that it gives
+
+-- bytes with a piece pasted over them, where the first are the bytes of its object
+abbrev pub pasted : PieceState → (told bytes : List ℕ) → List ℕ
+pasted piece told bytes = with_bytes piece.at (bytes_at piece.from piece.count told) bytes
+
+-- These bytes are others with pieces pasted over them, one after the other. Of the first piece whose receipt tells no bytes, and of those
+-- after it, nothing is said.
+abbrev pub GivesOver : List PieceState → (under bytes : List ℕ) → Type 0
+GivesOver [] under bytes = bytes ≡ under
+GivesOver (piece ∷ pieces) under bytes = IfSome piece.receipt.told (λ told. GivesOver pieces (pasted piece told under) bytes)
+
+-- a plan gives these bytes: its own with each of its pieces pasted over them
+abbrev pub Gives : PlanState → (bytes : List ℕ) → Type 0
+Gives plan bytes = GivesOver plan.pieces plan.bytes bytes

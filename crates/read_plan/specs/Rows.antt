@@ -1,0 +1,87 @@
+-- For this crate's own clauses: what the rows of a look are read as, one after the other.
+use Rattle.std.specs.Prelude.{◌≡◌, ℕ, ◌+◌, ◌-◌, ◌*◌, ◌≤◌, ◌^◌, Option, Some, None, IsSome, List, [], ◌∷◌, ◌++◌, length}
+use Rattle.std.specs.List.{filter_map}
+use Rattle.lsvd_bytes.specs.Places.{with_bytes}
+use Rattle.lsvd_objstore.specs.Store.{ReceiptState}
+use Rattle.extent_map.specs.declared.extent.Extent.{Extent}
+use Rattle.cache_log.specs.declared.row.Row.{Row}
+use Rattle.cache_log.specs.Log.{LogState, AreData, IsReadFrom}
+use Rattle.volume_maps.specs.declared.place.LogPlace.TheVariants.{Data, Zeros}
+use Rattle.volume_maps.specs.declared.place.VolumePlace.{VolumePlace}
+use Rattle.volume_maps.specs.declared.place.VolumePlace.TheVariants.{Log, Object}
+use Rattle.object_uploads.specs.State.{QueueState}
+use Rattle.object_uploads.specs.Queue.{receipt_of}
+use Rattle.read_plan.specs.Plan.{PieceState}
+
+-- a row lies inside a range
+pub record IsInRange (lba sectors : ℕ) (row : Extent VolumePlace) : Type 0 where
+  pub from : lba ≤ row.lba
+  pub to : row.lba + row.sectors ≤ lba + sectors
+
+-- ---- by the log
+
+-- where a place is one of data in the log, so many bytes from there on are data of one of its records
+abbrev pub AreDataAt : List Row → VolumePlace → (count : ℕ) → Type 0
+AreDataAt rows (Log (Data seq sector)) count = AreData rows sector count
+AreDataAt rows (Log (Zeros seq)) count = Unit {0}
+AreDataAt rows (Object place) count = Unit {0}
+
+-- a row of a range from `lba` on can be read from a log, into bytes of the range
+pub record IsReadable (lba sectors : ℕ) (log : LogState) (row : Extent VolumePlace) : Type 0 where
+  pub inside : IsInRange lba sectors row
+  pub are_data : AreDataAt log.rows row.place (512 * row.sectors)
+
+-- the log's data from a place on were read into so many bytes at this one; nothing was where that is none of data in the log
+abbrev pub IsReadInto : LogState → (at count : ℕ) → VolumePlace → (old new : List ℕ) → Type 0
+IsReadInto log at count (Log (Data seq sector)) old new =
+    (part : List ℕ) × (length part ≡ count) × IsReadFrom log sector part × (new ≡ with_bytes at part old)
+IsReadInto log at count (Log (Zeros seq)) old new = new ≡ old
+IsReadInto log at count (Object place) old new = new ≡ old
+
+-- those of a row were, in a read from `lba` on
+abbrev pub IsRowRead : LogState → (lba : ℕ) → Extent VolumePlace → (old new : List ℕ) → Type 0
+IsRowRead log lba row old new = IsReadInto log (512 * (row.lba - lba)) (512 * row.sectors) row.place old new
+
+-- those of rows were, one after the other
+abbrev pub AreRowsRead : LogState → (lba : ℕ) → List (Extent VolumePlace) → (old new : List ℕ) → Type 0
+AreRowsRead log lba [] old new = new ≡ old
+AreRowsRead log lba (row ∷ rows) old new = (middle : List ℕ) × IsRowRead log lba row old middle × AreRowsRead log lba rows middle new
+
+-- ---- by objects
+
+-- where a place is in an object, what the store gave for that is there
+abbrev pub HasReceiptAt : QueueState → VolumePlace → Type 0
+HasReceiptAt queue (Log place) = Unit {0}
+HasReceiptAt queue (Object place) = IsSome (receipt_of queue place.number)
+
+-- a row of a read from `lba` on can be fetched: it ends below 2^31, and where an object has it, what the store gave for that is there
+pub record IsFetchable (lba : ℕ) (queue : QueueState) (row : Extent VolumePlace) : Type 0 where
+  pub from : lba ≤ row.lba
+  pub to : row.lba + row.sectors ≤ 2 ^ 31
+  pub receipt : HasReceiptAt queue row.place
+
+-- the piece of an object, where it has a receipt
+abbrev pub piece_by : Option ReceiptState → (at count from : ℕ) → List PieceState
+piece_by None at count from = []
+piece_by (Some receipt) at count from = record { at = at; count = count; receipt = receipt; from = from } ∷ []
+
+-- the piece from a place on, where an object has it
+abbrev pub piece_from : QueueState → (at count : ℕ) → VolumePlace → List PieceState
+piece_from queue at count (Log place) = []
+piece_from queue at count (Object place) = piece_by (receipt_of queue place.number) at count (512 * place.sector)
+
+-- the piece of a row, in a read from `lba` on, and the pieces of rows
+abbrev pub row_piece : QueueState → (lba : ℕ) → Extent VolumePlace → List PieceState
+row_piece queue lba row = piece_from queue (512 * (row.lba - lba)) (512 * row.sectors) row.place
+
+abbrev pub row_pieces : QueueState → (lba : ℕ) → List (Extent VolumePlace) → List PieceState
+row_pieces queue lba [] = []
+row_pieces queue lba (row ∷ rows) = row_piece queue lba row ++ row_pieces queue lba rows
+
+-- the numbers of the objects that have rows, in the order of these
+abbrev pub named_object : VolumePlace → Option ℕ
+named_object (Log place) = None
+named_object (Object place) = Some place.number
+
+abbrev pub named_objects : List (Extent VolumePlace) → List ℕ
+named_objects rows = filter_map (λ row. named_object row.place) rows

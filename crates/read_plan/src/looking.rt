@@ -1,0 +1,60 @@
+ghost use Rattle.std.specs.Prelude.{◌≡◌, ◌+◌, ◌*◌, IfOk, OnOk, OnErr, IsErrOf, is_ok, length};
+ghost use Rattle.extent_map.specs.Extents.{AllFit};
+ghost use Rattle.volume_maps.specs.Places.{volume_number};
+ghost use Rattle.read_plan.specs.declared.error.LookError.TheVariants as errors;
+ghost use Rattle.read_plan.specs.Places.{LogHasPlaces, ObjectsHavePlaces};
+ghost use Rattle.read_plan.specs.Pins.{ArePinned, HasSamePins};
+ghost use Rattle.read_plan.specs.Look.{MayLook, IsReadPlan, ReadsRange};
+
+use crate::error::LookError;
+use crate::objects::{numbers_of, pieces_of};
+use crate::pins::Pins;
+use crate::plan::Plan;
+use crate::rows::read_rows;
+use cache_log::CacheLog;
+use lsvd_base::SECTOR_BYTES;
+use lsvd_device::Disk;
+use lsvd_objstore::Receipt;
+use obj_log::ObjLog;
+use std::alloc::Global;
+
+/// Plans a read of `sectors` sectors from `lba` on: 1 to 65,536 of them, below 2^31 (a condition). What the log has of them is read
+/// at once, by one read of the device for each row of data in it; where objects have the others is noted with the receipts, and these
+/// objects are pinned once more. The log has the data of the places that its map gives, and the volume's own objects those of the
+/// places that theirs does (conditions).
+///
+/// `Fault` comes where a read failed, which was the last that was made, and `OutOfMemory` where memory ran out: all memory is taken
+/// before the first read. After an error the same objects are pinned as before.
+pub fn look<D: Disk, R: Receipt>(
+    alloc: Global,
+    objects: &ObjLog<R>,
+    log: &mut CacheLog<D>,
+    pins: &mut Pins,
+    lba: u64,
+    sectors: u64,
+) -> Result<Plan<R>, LookError>
+    requires range { MayLook lba sectors }
+    requires log { LogHasPlaces lba sectors objects.now.uploads.queue.maps log.old }
+    requires objects { ObjectsHavePlaces lba sectors objects.now.uploads.queue }
+    ensures plan { IfOk result (IsReadPlan lba sectors objects.now log.old) }
+    ensures pinned { IfOk result (λ plan. ArePinned plan.objects pins.old pins.new) }
+    ensures same_pins { OnErr result (HasSamePins pins.old pins.new) }
+    ensures reads { (IsErrOf result errors.OutOfMemory → ⊥) → ReadsRange lba sectors objects.now.uploads.queue.maps (is_ok result) log.old log.new }
+    ensures memory { IsErrOf result errors.OutOfMemory → log.new ≡ log.old }
+{
+    let rows = objects.look(alloc, lba, sectors)?;
+    let pieces = pieces_of(alloc, objects, &rows, lba)?;
+    let numbers = numbers_of(alloc, &rows)?;
+    let bytes = vec![in alloc; 0; (SECTOR_BYTES * sectors) as usize]?;
+    pins.pin(&numbers)?;
+    let Ok(bytes) = read_rows(log, &rows, lba, bytes) else {
+        pins.unpin(&numbers);
+        return Err(LookError::Fault);
+    };
+    Ok(Plan {
+        front: objects.batch().next_seq(),
+        bytes,
+        pieces,
+        objects: numbers,
+    })
+}

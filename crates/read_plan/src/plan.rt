@@ -1,0 +1,72 @@
+ghost use Rattle.std.specs.Prelude.{◌≡◌, length, OnOk, is_err};
+ghost use Rattle.std.specs.List.Sorted.{IsStrictlyIncreasing};
+ghost use Rattle.lsvd_fault.specs.Faults.{Counts};
+ghost use Rattle.lsvd_objstore.specs.Store.{OnlyCounts};
+ghost use Rattle.read_plan.specs.Plan.{Gives};
+
+use crate::piece::Piece;
+use lsvd_fault::Failed;
+use lsvd_objstore::{Receipt, Store};
+use std::marker::Model;
+
+/// The plan of a read: the bytes that the log has, and where objects have the others.
+#[derive(Drop)]
+pub struct Plan<R: Receipt> {
+    pub(crate) front: u64,
+    pub(crate) bytes: Vec<u8>,
+    pub(crate) pieces: Vec<Piece<R>>,
+    pub(crate) objects: Vec<u64>,
+}
+
+impl<R: Receipt> Model for Plan<R> {
+    ghost use Rattle.std.specs.Prelude.{length};
+    ghost use Rattle.std.specs.List.{AllByRecursion};
+    ghost use Rattle.std.specs.List.Sorted.{IsStrictlyIncreasing};
+    ghost use Rattle.read_plan.specs.Plan.{PieceFits, PlanState};
+
+    ghost Value = { PlanState };
+
+    ghost view = { λ p. record { front = p.front; bytes = p.bytes.items; pieces = p.pieces.items; objects = p.objects.items } };
+
+    ghost invariant = { λ p. AllByRecursion (PieceFits (length p.bytes.items)) p.pieces.items × IsStrictlyIncreasing p.objects.items };
+}
+
+impl<R: Receipt> Plan<R> {
+    /// How many entries the history had at the look.
+    pub fn front(&self) -> u64
+        ensures { result ≡ self.now.front }
+    {
+        self.front
+    }
+
+    /// How many bytes the read has.
+    pub fn len(&self) -> usize
+        ensures { result ≡ length self.now.bytes }
+    {
+        self.bytes.len()
+    }
+
+    /// The numbers of the objects that it takes sectors from, in ascending order, each once.
+    pub fn objects(&self) -> &[u64]
+        ensures objects { result.now ≡ self.now.objects }
+        ensures ascending { IsStrictlyIncreasing self.now.objects }
+    {
+        self.objects.as_slice()
+    }
+
+    /// Fetches the bytes of the read into the whole of a buffer of just as many (a condition), by one get for each part that an object
+    /// has. The first of them that fails ends it with `Failed`; the store counted that, and any bytes stand in the buffer.
+    pub fn fetch<S: Store<Receipt = R>>(&self, store: &mut S, buf: &mut [u8]) -> Result<(), Failed>
+        requires { length buf.old ≡ length self.now.bytes }
+        ensures bytes { OnOk result (Gives self.now buf.new) }
+        ensures unchanged { OnlyCounts (S.state store.old) (S.state store.new) }
+        ensures count { Counts (is_err result) (S.state store.old).faults (S.state store.new).faults }
+    {
+        buf.copy_from_slice(self.bytes.as_slice());
+        for piece in &self.pieces {
+            let part = &mut buf[piece.at..piece.at + piece.count];
+            store.get(&piece.receipt, piece.from, part)?;
+        }
+        Ok(())
+    }
+}

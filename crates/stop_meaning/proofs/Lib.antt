@@ -1,0 +1,3 @@
+pub mod EntryLemmas
+pub mod StopLemmas
+pub mod CommittedLemmas
