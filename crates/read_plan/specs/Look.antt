@@ -1,5 +1,5 @@
 -- Contract: what a look plans, and what it reads of the log.
-use Rattle.std.specs.Prelude.{◌≡◌, ℕ, ◌+◌, ◌*◌, ◌^◌, ◌<◌, ◌≤◌, ◌↔◌, Bool, Some, List, length}
+use Rattle.std.specs.Prelude.{◌≡◌, ℕ, ◌+◌, ◌*◌, ◌^◌, ◌<◌, ◌≤◌, ◌↔◌, Bool, false, Some, List, length}
 use Rattle.std.specs.List.{Contains, sum_by}
 use Rattle.std.specs.List.Sorted.{IsStrictlyIncreasing}
 use Rattle.lsvd_device.specs.Device.{MakesCalls}
@@ -64,12 +64,13 @@ reads_from (Object place) = 0
 abbrev pub reads_of : List (Extent VolumePlace) → ℕ
 reads_of rows = sum_by (λ row. reads_from row.place) rows
 
--- as many reads of the log were made as rows take, or one of them failed, and nothing else was done
+-- as many reads of the log were made as rows take, or one of them failed, where they take some, and nothing else was done
 pub record ReadsRows (rows : List (Extent VolumePlace)) (are_made : Bool) (old new : LogState) : Type 0 where
   pub same : HasSameEntries old new
   pub commits : IsAsBefore old.commits new.commits
   pub moments : new.commits.disk.moments ≡ old.commits.disk.moments
   pub calls : MakesCalls (reads_cost (reads_of rows)) are_made old.commits.disk new.commits.disk
+  pub some : are_made ≡ false → 0 < reads_of rows
 
 -- the same of the rows of a range
 pub record ReadsRange (lba sectors : ℕ) (maps : MapsState) (are_made : Bool) (old new : LogState) : Type 0 where

@@ -32,6 +32,10 @@ pub record PieceFits (size : ℕ) (piece : PieceState) : Type 0 where
 abbrev pub PiecesFit : PlanState → Type 0
 PiecesFit plan = AllByRecursion (PieceFits (length plan.bytes)) plan.pieces
 
+-- a receipt that tells the bytes of its object tells them all
+abbrev pub TellsWhole : ReceiptState → Type 0
+TellsWhole receipt = IfSome receipt.told (λ told. receipt.size ≡ length told)
+
 -- ---- the bytes that it gives
 
 -- bytes with a piece pasted over them, where the first are the bytes of its object

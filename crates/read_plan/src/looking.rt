@@ -1,7 +1,9 @@
 ghost use Rattle.std.specs.Prelude.{◌≡◌, ◌+◌, ◌*◌, IfOk, OnOk, OnErr, IsErrOf, is_ok, length};
+ghost use Rattle.std.specs.List.{All};
 ghost use Rattle.extent_map.specs.Extents.{AllFit};
 ghost use Rattle.volume_maps.specs.Places.{volume_number};
 ghost use Rattle.read_plan.specs.declared.error.LookError.TheVariants as errors;
+ghost use Rattle.read_plan.specs.Plan.{TellsWhole};
 ghost use Rattle.read_plan.specs.Places.{LogHasPlaces, ObjectsHavePlaces};
 ghost use Rattle.read_plan.specs.Pins.{ArePinned, HasSamePins};
 ghost use Rattle.read_plan.specs.Look.{MayLook, IsReadPlan, ReadsRange};
@@ -37,6 +39,7 @@ pub fn look<D: Disk, R: Receipt>(
     requires log { LogHasPlaces lba sectors objects.now.uploads.queue.maps log.old }
     requires objects { ObjectsHavePlaces lba sectors objects.now.uploads.queue }
     ensures plan { IfOk result (IsReadPlan lba sectors objects.now log.old) }
+    ensures whole { IfOk result (λ plan. All (λ piece. TellsWhole piece.receipt) plan.pieces) }
     ensures pinned { IfOk result (λ plan. ArePinned plan.objects pins.old pins.new) }
     ensures same_pins { OnErr result (HasSamePins pins.old pins.new) }
     ensures reads { (IsErrOf result errors.OutOfMemory → ⊥) → ReadsRange lba sectors objects.now.uploads.queue.maps (is_ok result) log.old log.new }

@@ -1,6 +1,7 @@
-ghost use Rattle.std.specs.Prelude.{◌≡◌, ◌+◌, ◌-◌, ◌*◌, ◌<◌, ◌≤◌, ◌^◌, ◌↔◌, ℕ, IfOk, option_to_list, option_map};
+ghost use Rattle.std.specs.Prelude.{◌≡◌, ◌+◌, ◌-◌, ◌*◌, ◌<◌, ◌≤◌, ◌^◌, ◌↔◌, ℕ, IfOk, IfSome, option_to_list, option_map};
 ghost use Rattle.std.specs.List.{All, Contains};
 ghost use Rattle.std.specs.List.Sorted.{IsStrictlyIncreasing};
+ghost use Rattle.read_plan.specs.Plan.{TellsWhole};
 ghost use Rattle.read_plan.specs.Rows.{IsFetchable, row_piece, row_pieces, named_object, named_objects};
 
 use crate::piece::Piece;
@@ -19,7 +20,8 @@ pub(crate) fn pieces_of<R: Receipt>(
     lba: u64,
 ) -> Result<Vec<Piece<R>>, AllocError>
     requires { All (IsFetchable lba objects.now.uploads.queue) rows.now }
-    ensures { IfOk result (λ pieces. pieces.items ≡ row_pieces objects.now.uploads.queue lba rows.now) }
+    ensures pieces { IfOk result (λ pieces. pieces.items ≡ row_pieces objects.now.uploads.queue lba rows.now) }
+    ensures whole { IfOk result (λ pieces. All (λ piece. TellsWhole piece.receipt) pieces.items) }
 {
     let mut pieces = Vec::new(alloc);
     for row in rows {
@@ -38,7 +40,8 @@ fn piece_of<R: Receipt>(
     lba: u64,
 ) -> Result<Option<Piece<R>>, AllocError>
     requires { IsFetchable lba objects.now.uploads.queue row.now }
-    ensures { IfOk result (λ piece. option_to_list piece ≡ row_piece objects.now.uploads.queue lba row.now) }
+    ensures piece { IfOk result (λ piece. option_to_list piece ≡ row_piece objects.now.uploads.queue lba row.now) }
+    ensures whole { IfOk result (λ piece. IfSome piece (λ piece. TellsWhole piece.receipt)) }
 {
     let VolumePlace::Object(place) = row.place else {
         return Ok(None);

@@ -59,7 +59,7 @@ pub invariant_of-result : goal.invariant_of-result
 invariant_of-result g c =
     let before = goal.at.invariant_of-result g c in (
       lie_inside c.args.lba c.args.sectors c.args.log.now c.args.objects.now.uploads.queue c.in_ok-rows.rows.items c.in-Ok.bytes.items c.in_ok-pieces.pieces.items
-          (rows_can g before.After-deref) (read g c (zeros g before.After-deref-4)) (rw c.deref.ensures.value at c.in_ok-pieces.ensures),
+          (rows_can g before.After-deref) (read g c (zeros g before.After-deref-4)) (rw c.deref.ensures.value at c.in_ok-pieces.ensures.pieces),
       c.in_ok-numbers.ensures.ascending,
     )
 
@@ -68,7 +68,7 @@ returns-clause-plan g c =
     let before = goal.at.returns-clause-plan g c in
     is_plan c.args.lba c.args.sectors c.args.objects.now c.args.log.now c.in_ok-rows.rows.items
     (record { front = c.next_seq.result; bytes = c.in-Ok.bytes.items; pieces = c.in_ok-pieces.pieces.items; objects = c.in_ok-numbers.numbers.items })
-    (rows_can g before.After-deref) (rw c.batch.ensures at c.next_seq.ensures) (read g before.After-next_seq (zeros g before.After-deref-4)) (rw c.deref.ensures.value at c.in_ok-pieces.ensures)
+    (rows_can g before.After-deref) (rw c.batch.ensures at c.next_seq.ensures) (read g before.After-next_seq (zeros g before.After-deref-4)) (rw c.deref.ensures.value at c.in_ok-pieces.ensures.pieces)
     c.in_ok-numbers.ensures.ascending (rw c.deref-2.ensures.value at c.in_ok-numbers.ensures.same)
 
 pub returns-clause-pinned : goal.returns-clause-pinned
