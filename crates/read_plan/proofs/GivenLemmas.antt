@@ -79,6 +79,14 @@ all_missed size i (piece ∷ pieces) under bytes inside told whole misses gives 
     (next pieces piece under bytes told.0 gives)
     ∙ missed size i told.0.bytes under piece is whole misses.0
 
+-- what a plan gives is as long as its read
+pub gives_size : (size : ℕ) (pieces : List PieceState) (under bytes : List ℕ) → AllByRecursion (PieceFits size) pieces
+    → AllByRecursion (λ piece. TellsAll piece.receipt) pieces → length under ≡ size → GivesOver pieces under bytes → length bytes ≡ size
+gives_size size [] under bytes inside told whole gives = ap length gives ∙ whole
+gives_size size (piece ∷ pieces) under bytes inside told whole gives =
+    let after = pasted_size size told.0.bytes under piece (is_piece size piece told.0 inside.0) whole in
+    gives_size size pieces (pasted piece told.0.bytes under) bytes inside.1 told.1 after (next pieces piece under bytes told.0 gives)
+
 same_receipt : (a b : ReceiptState) → ◌≡◌ {A = Option ReceiptState} (Some a) (Some b) → a ≡ b
 same_receipt a b is = cc
 

@@ -5,5 +5,5 @@ mod LogLemmas
 mod PieceLemmas
 mod NumberLemmas
 mod PlanLemmas
-mod GivenLemmas
+pub mod GivenLemmas
 mod TestLemmas

@@ -29,10 +29,10 @@ record AreOfVolume (log : LogState) (plain : PlainState) (all : List Entry) : Ty
   in_range : AllInRange plain.geometry all
 
 -- a commit of a volume whose tail is among the records of a log, and not past the frontier's end
-record MayBeFound (uuid : List ℕ) (log : LogState) (plain : PlainState) (body : CommitBody) : Type 0 where
-  is_of : body.uuid ≡ uuid
-  from : log.commits.body.tail.seq ≤ body.tail.seq
-  to : body.tail.seq ≤ frontier_end plain
+pub record MayBeFound (uuid : List ℕ) (log : LogState) (plain : PlainState) (body : CommitBody) : Type 0 where
+  pub is_of : body.uuid ≡ uuid
+  pub from : log.commits.body.tail.seq ≤ body.tail.seq
+  pub to : body.tail.seq ≤ frontier_end plain
 
 -- ---- what is told, or not
 
@@ -115,7 +115,7 @@ module _ (uuid : List ℕ) (data_at : ℕ → ℕ) (log : LogState) (plain : Pla
       let whole = shows.valid.log.counted in
       omega (arith, counted, long, count, last, whole)
 
-  last_found : (number : ℕ) (body : CommitBody) → IsLast log.commits number body
+  pub last_found : (number : ℕ) (body : CommitBody) → IsLast log.commits number body
       → MayBeFound uuid log plain body × IsCommittedHead log body.head.seq
   last_found number body (inl is) = (subst (MayBeFound uuid log plain) (sym is.same_body) last_may, inl (ap (λ b. b.head.seq) is.same_body))
   last_found number body (inr is) = (subst (MayBeFound uuid log plain) (sym is.same_body) finished_may, inr (ap (λ b. b.head.seq) is.same_body))
@@ -169,7 +169,7 @@ module _ (uuid : List ℕ) (data_at : ℕ → ℕ) (log : LogState) (plain : Pla
         let commit = found is.0 is.1 is.2 in
         (is.1.head.seq, commit.1, keeps_on_device all left is.0 is.1 are commit.0 is.3 is.4)
 
-    keeps_since : (new : DiskState) → LeavesEntriesSince log P new → StopKeepsSince uuid log plain IsHead new
+    pub keeps_since : (new : DiskState) → LeavesEntriesSince log P new → StopKeepsSince uuid log plain IsHead new
     keeps_since new leaves =
         let old : List Medium = log.commits.disk.moments in
         let Leaves : List Entry → Medium → Type 0 = λ list. LeavesEntries log.room.log (all_rows log) list P in

@@ -1,13 +1,8 @@
-use Rattle.std.proofs.Common.{◌≡◌, ℕ, ◌*◌, ◌/◌, ◌+◌, ◌-◌, List, length, refl, sym, ◌∙◌, ap, subst, arith}
+use Rattle.std.proofs.Common.{◌≡◌, ◌*◌, ◌/◌, length, ◌∙◌, ap, arith}
 use Rattle.std.specs.Prelude.{replicate}
 use Rattle.std.proofs.lemmas.List.{length-replicate}
-use Rattle.extent_map.specs.declared.extent.Extent.{Extent}
-use Rattle.volume_maps.specs.declared.place.VolumePlace.{VolumePlace}
 use Rattle.object_uploads.specs.State.{QueueState}
-use Rattle.cache_log.specs.Log.{LogState}
-use Rattle.read_plan.specs.Pins.{times}
 use Rattle.read_plan.specs.Rows.{AreRowsRead}
-use Rattle.read_plan.specs.Look.{AreRowsIn}
 use Rattle.read_plan.proofs.PlanLemmas.{CanRead, can_read, are_readable, are_fetchable, lie_inside, is_plan}
 use Rattle.read_plan.proofs.looking.look.Given as given
 use Rattle.read_plan.proofs.looking.look.Goals.{After-deref, After-deref-4, After-next_seq}

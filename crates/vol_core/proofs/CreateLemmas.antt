@@ -1,0 +1,91 @@
+use Rattle.std.proofs.Common.{rules, ◌≡◌, ℕ, List, [], ◌∷◌, refl, sym, ap, subst, ◌∙◌}
+use Rattle.std.specs.Prelude.{IfSome, drop, IsTrue}
+use Rattle.std.proofs.Math.Seq.{drop-nil}
+use Rattle.lsvd_base.specs.declared.geometry.Geometry.{Geometry}
+use Rattle.lsvd_base.specs.Limits.{is_within_limits}
+use Rattle.lsvd_device.specs.Calls.{Fuse}
+use Rattle.lsvd_device.specs.Device.{DiskState}
+use Rattle.lsvd_device.specs.Medium.{Medium}
+use Rattle.log_room.specs.Room.{Room}
+use Rattle.commit_slot.specs.Slots.{log_of}
+use Rattle.batcher.specs.State.{BatchState}
+use Rattle.cache_log.specs.Log.{LogState, entries_in}
+use Rattle.cache_log.specs.Committed.{IsFormattedLog}
+use Rattle.obj_log.specs.State.{ObjLogState}
+use Rattle.plain_disk.specs.State.{PlainState, created_volume}
+use Rattle.plain_disk.specs.Valid.{IsPlainVolume}
+use Rattle.plain_disk.proofs.EventLemmas.{created_is}
+use Rattle.log_meaning.specs.Shows.{ShowsLog}
+use Rattle.log_meaning.specs.Fuses.{fuse_in}
+use Rattle.log_meaning.specs.Logged.{HasLoggedEntries}
+use Rattle.log_meaning.proofs.Shown.{formatted_shows_empty}
+use Rattle.plain_disk.specs.Log.{empty_from}
+use Rattle.objects_meaning.proofs.ShowLemmas.{new_shows_created, shown_with_other_cache}
+use Rattle.stop_meaning.specs.Stops.{HasCommitted}
+use Rattle.stop_meaning.proofs.CommittedLemmas.{formatted_has_committed}
+use Rattle.vol_core.specs.Volume.{volume_of}
+use Rattle.vol_core.specs.Shows.{Shows}
+use Rattle.vol_core.specs.Step.{passing}
+
+-- a plain volume is one whatever calls its device passes
+pub passing_is_plain : (left : Fuse) (plain : PlainState) → IsPlainVolume plain → IsPlainVolume (passing left plain)
+passing_is_plain left plain is = record {
+  limits = is.limits;
+  sectors = is.sectors;
+  owned = is.owned;
+  in_range = is.in_range;
+  stream = is.stream;
+  window = is.window;
+  last = is.last;
+  opened = is.opened;
+  numbered = is.numbered;
+  checkpoint = is.checkpoint;
+  log = is.log;
+  size = is.size;
+}
+
+-- no entries of no rows
+no_entries : (n : ℕ) (moments : List Medium) → IfSome (entries_in [] moments) (λ list. drop n list ≡ [])
+no_entries n [] = tt
+no_entries n (now ∷ past) = drop-nil n
+
+-- a log without rows has the entries of a volume that was just created, which are none
+created_logged : (data_at : ℕ → ℕ) (geometry : Geometry) (left : Fuse) (log : LogState) → log.first ≡ 0 → log.rows ≡ []
+    → log.entries ≡ entries_in [] log.commits.disk.moments → HasLoggedEntries data_at log (passing left (created_volume geometry))
+created_logged data_at geometry left log first rows entries = record {
+  first = search rules;
+  rows = search rules;
+  entries = search rules;
+  placed = search rules;
+}
+
+-- a volume of a new list and a log that was just formatted shows one that was just created
+pub created_shows : (objects : ObjLogState) (log : LogState) (uuid : List ℕ) (epoch : ℕ) (geometry : Geometry) (old : DiskState)
+    → IsTrue (is_within_limits geometry) → geometry.log ≡ log_of old.size → IsFormattedLog uuid epoch 0 old log
+    → objects.batch ≡ record { geometry = geometry; first = 0; entries = []; reserved = 0 }
+    → objects.uploads.window ≡ record { last = 1; objects = [] } → objects.uploads.queue.frontier ≡ 1 → objects.uploads.queue.end ≡ 0
+    → objects.uploads.queue.sealed ≡ [] → objects.uploads.queue.maps.settled.rows ≡ [] → objects.uploads.queue.maps.log.rows ≡ []
+    → Shows (volume_of objects log [] 1) (passing (fuse_in log.commits.disk.budget) (created_volume geometry))
+created_shows objects log uuid epoch geometry old limits sectors formatted batch window frontier end sealed settled logged =
+    let left = fuse_in log.commits.disk.budget in
+    let size : log.room.log ≡ geometry.log = ap (λ (r : Room). r.log) formatted.room ∙ sym sectors in
+    let data_at : ℕ → ℕ = λ seq. 0 in
+    let is : objects.batch ≡ record { geometry = geometry; first = 0; entries = []; reserved = objects.batch.reserved } =
+    batch ∙ ap (λ n. record { geometry = geometry; first = 0; entries = []; reserved = n }) (sym (ap (λ (b : BatchState). b.reserved) batch)) in
+    record {
+      valid = passing_is_plain left (created_volume geometry) (created_is geometry limits);
+      data_at = data_at;
+      objects = shown_with_other_cache data_at objects (created_volume geometry) _ [] (new_shows_created data_at objects geometry limits is window frontier end sealed settled logged);
+      log = subst (λ n. ShowsLog log (empty_from n 0)) size (formatted_shows_empty uuid epoch 0 old log (search rules) (search rules) formatted);
+      logged = created_logged data_at geometry left log formatted.first formatted.rows formatted.entries;
+      checkpoint = refl;
+      pins = λ number. refl;
+      fuse = refl;
+    }
+
+-- its commits are its own
+pub created_own : (objects : ObjLogState) (log : LogState) (bytes : List ℕ) (old : DiskState) → bytes ≡ objects.uploads.uuid
+    → IsFormattedLog bytes 0 0 old log → HasCommitted objects.uploads.uuid objects.batch.geometry log
+created_own objects log bytes old same is =
+    subst (λ uuid. HasCommitted uuid objects.batch.geometry log) same
+    (formatted_has_committed bytes 0 0 objects.batch.geometry old log is)

@@ -1,0 +1,151 @@
+-- A step that asks the device for nothing, and the invariant after a step.
+use Rattle.std.proofs.Common.{◌≡◌, ℕ, zero, suc, ◌+◌, ◌-◌, ◌≤◌, ◌⊎◌, inl, inr, Option, Some, None, List, [], ◌∷◌, drop, sym, ◌∙◌, ap, subst, arith}
+use Rattle.std.specs.Prelude.{IfSome}
+use Rattle.std.proofs.lemmas.List.{drop-drop}
+use Rattle.lsvd_base.specs.declared.entry.Entry.{Entry}
+use Rattle.lsvd_device.specs.Calls.{Fuse}
+use Rattle.lsvd_objstore.specs.Store.{ReceiptState}
+use Rattle.cache_log.specs.declared.row.Row.{Row}
+use Rattle.cache_log.specs.Log.{LogState}
+use Rattle.obj_log.specs.State.{ObjLogState}
+use Rattle.plain_disk.specs.declared.event.PlainEvent.{PlainEvent}
+use Rattle.plain_disk.specs.Cache.{PlainCache}
+use Rattle.plain_disk.specs.State.{PlainState, frontier_of, frontier_end, logged_entries}
+use Rattle.plain_disk.specs.Step.{plain_reply, plain_after}
+use Rattle.plain_disk.specs.Valid.{IsPlainVolume}
+use Rattle.plain_disk.proofs.EndLemmas.{ends_from}
+use Rattle.log_meaning.specs.Shows.{ShowsLog}
+use Rattle.log_meaning.specs.Logged.{AreRowsOf, listed_from, HasLoggedEntries}
+use Rattle.objects_meaning.specs.Shows.{ShowsObjects}
+use Rattle.read_plan.specs.Pins.{times}
+use Rattle.vol_core.specs.declared.event.Event.{Event}
+use Rattle.vol_core.specs.declared.reply.Reply.{Reply}
+use Rattle.vol_core.specs.Volume.{VolumeState, SteppedVolume}
+use Rattle.vol_core.specs.Shows.{Shows, IsSmall, IsVolume}
+use Rattle.vol_core.specs.Events.{Asks, Tells}
+use Rattle.vol_core.specs.Step.{passing, IsStep, IsNoStep, StepsAsPlain}
+
+-- ---- other calls
+
+-- a plain volume stays one whatever calls its device passes
+pub passing_keeps : (left : Fuse) (plain : PlainState) → IsPlainVolume plain → IsPlainVolume (passing left plain)
+passing_keeps left plain valid = record {
+  limits = valid.limits;
+  sectors = valid.sectors;
+  owned = valid.owned;
+  in_range = valid.in_range;
+  stream = valid.stream;
+  window = valid.window;
+  last = valid.last;
+  opened = valid.opened;
+  numbered = valid.numbered;
+  checkpoint = valid.checkpoint;
+  log = valid.log;
+  size = valid.size;
+}
+
+-- ---- a step without calls of the device
+
+-- It takes the fuse that the plain volume has, which is the one that the device tells.
+pub quiet_step : {R : Type 0} (state : R → ReceiptState) (event : Event R) (reply : Reply R) (plain : PlainState) (old new : VolumeState)
+    → (asked : PlainEvent) → Shows old plain → Asks state old event asked → Tells state old reply (plain_reply plain asked)
+    → Shows new (plain_after asked plain)
+    → IsStep state event reply plain old new
+quiet_step state event reply plain old new asked shows asks tells now = record {
+  left = plain.cache.left;
+  asked = asked;
+  asks = asks;
+  tells = tells;
+  shows = subst (λ left. Shows new (passing left (plain_after asked plain))) now.fuse now;
+  told = λ room. (shows.fuse, now.fuse);
+}
+
+-- ---- the invariant after a step
+
+-- a step leaves a volume that shows some plain volume
+pub shown_after : {R : Type 0} (state : R → ReceiptState) (event : Event R) (reply : Reply R) (plain : PlainState) (old new : VolumeState)
+    → IsStep state event reply plain old new ⊎ IsNoStep event reply plain new → (now : PlainState) × Shows new now
+shown_after state event reply plain old new (inl step) = (_, step.shows)
+shown_after state event reply plain old new (inr none) = (plain, none.shows)
+
+pub steps_keep_volume : {R : Type 0} (state : R → ReceiptState) (event : Event R) (reply : Reply R) (old new : VolumeState) (steps : ℕ)
+    → IsVolume (record { volume = old; steps = steps }) → StepsAsPlain state event reply old new → IsSmall new steps
+    → IsVolume (record { volume = new; steps = steps })
+steps_keep_volume state event reply old new steps is as_plain small =
+    let after = shown_after state event reply is.plain old new (as_plain is.plain is.shows) in
+    record { plain = after.0; shows = after.1; steps = is.steps; small = small }
+
+-- the step is that of the volume as it is seen before
+pub step_seen : {R : Type 0} (state : R → ReceiptState) (event : Event R) (reply : Reply R) (new : VolumeState) (inside seen : SteppedVolume)
+    → inside ≡ seen → StepsAsPlain state event reply inside.volume new → StepsAsPlain state event reply seen.volume new
+step_seen state event reply new inside seen same steps = subst (λ (s : SteppedVolume). StepsAsPlain state event reply s.volume new) same steps
+
+-- ---- only the objects change
+
+-- what becomes of the plain volume where only its objects change: the frontier does not go back
+pub record IsOfOtherObjects (plain now : PlainState) : Type 0 where
+  pub cache : now.cache ≡ plain.cache
+  pub pins : now.pins ≡ plain.pins
+  pub checkpoint : now.checkpoint ≡ plain.checkpoint
+  pub end : now.end ≡ plain.end
+  pub entries : now.entries ≡ plain.entries
+  pub frontier : frontier_end plain ≤ frontier_end now
+
+-- the rows and the entries without the first ones
+rows_dropped : (n : ℕ) (rows : List Row) (list : List Entry) → AreRowsOf rows list → AreRowsOf (drop n rows) (drop n list)
+rows_dropped zero rows list are = are
+rows_dropped (suc n) [] [] are = tt
+rows_dropped (suc n) [] (entry ∷ list) are = absurd are
+rows_dropped (suc n) (row ∷ rows) [] are = absurd are
+rows_dropped (suc n) (row ∷ rows) (entry ∷ list) are = rows_dropped n rows list are.1
+
+module _ (data_at : ℕ → ℕ) (log : LogState) (plain now : PlainState) (valid : IsPlainVolume plain) (other : IsOfOtherObjects plain now)
+    (logged : HasLoggedEntries data_at log plain) where
+  abbrev more : ℕ
+  more = frontier_end now - frontier_end plain
+
+  listed : {A : Type 0} (items : List A) → drop more (listed_from (frontier_end plain) log items) ≡ listed_from (frontier_end now) log items
+  listed items =
+      let skipped : frontier_end plain - log.first + more ≡ frontier_end now - log.first = omega (arith, logged.first, other.frontier) in
+      drop-drop more (frontier_end plain - log.first) items ∙ ap (λ n. drop n items) skipped
+
+  entries_left : drop more (logged_entries plain) ≡ logged_entries now
+  entries_left =
+      let from = ends_from plain (frontier_of plain) valid in
+      let skipped : frontier_end plain - plain.end + more ≡ frontier_end now - now.end = omega (arith, from, other.frontier, other.end) in
+      drop-drop more (frontier_end plain - plain.end) plain.entries
+      ∙ (ap (λ n. drop n plain.entries) skipped ∙ ap (drop (frontier_end now - now.end)) (sym other.entries))
+
+  told_left : (told : Option (List Entry)) → IfSome told (λ list. listed_from (frontier_end plain) log list ≡ logged_entries plain)
+      → IfSome told (λ list. listed_from (frontier_end now) log list ≡ logged_entries now)
+  told_left None are = tt
+  told_left (Some list) are = sym (listed list) ∙ (ap (drop more) are ∙ entries_left)
+
+  later_logged : HasLoggedEntries data_at log now
+  later_logged =
+      let rows = rows_dropped more (listed_from (frontier_end plain) log log.rows) (logged_entries plain) logged.rows in
+      record {
+        first = omega (arith, logged.first, other.frontier);
+        rows =
+            subst (AreRowsOf (listed_from (frontier_end now) log log.rows)) entries_left
+            (subst (λ list. AreRowsOf list (drop more (logged_entries plain))) (listed log.rows) rows);
+        entries = told_left log.entries logged.entries;
+        placed = logged.placed;
+      }
+
+-- the volume with other objects
+abbrev pub with_objects : ObjLogState → VolumeState → VolumeState
+with_objects objects volume = record volume { objects = objects }
+
+pub objects_shown : (old : VolumeState) (objects : ObjLogState) (plain now : PlainState) (shows : Shows old plain) → IsOfOtherObjects plain now
+    → IsPlainVolume now → ShowsObjects shows.data_at objects now → Shows (with_objects objects old) now
+objects_shown old objects plain now shows other valid shown = record {
+  valid = valid;
+  data_at = shows.data_at;
+  objects = shown;
+  log = subst (λ (cache : PlainCache). ShowsLog old.log cache.log) (sym other.cache) shows.log;
+  logged = later_logged shows.data_at old.log plain now shows.valid other shows.logged;
+  checkpoint = shows.checkpoint ∙ sym other.checkpoint;
+  pins = λ number. shows.pins number ∙ ap (times number) (sym other.pins);
+  fuse = ap (λ (cache : PlainCache). cache.left) other.cache ∙ shows.fuse;
+}

@@ -1,0 +1,245 @@
+-- What a stop keeps at each moment of a step.
+use Rattle.std.proofs.Common.{◌≡◌, ℕ, Bool, List, [], refl, sym, ◌∙◌, ap, subst}
+use Rattle.std.specs.Prelude.{Option, Some, None, OnSome, Result, Ok, Err}
+use Rattle.std.proofs.Math.Path.{subst₂}
+use Rattle.lsvd_objstore.specs.Store.{ReceiptState}
+use Rattle.lsvd_base.specs.declared.entry.Entry.{Entry}
+use Rattle.lsvd_base.specs.declared.geometry.Geometry.{Geometry}
+use Rattle.commit_slot.specs.Commits.{IsAsBefore}
+use Rattle.cache_log.specs.declared.error.AppendError.{AppendError}
+use Rattle.cache_log.specs.declared.error.AppendError.TheVariants.{NoRoom, DeviceFault}
+use Rattle.cache_log.specs.Log.{LogState, HasSameEntries}
+use Rattle.cache_log.specs.Committed.{IsOnDisk}
+use Rattle.object_uploads.specs.State.{JobState}
+use Rattle.volume_maps.specs.Maps.{MapsState}
+use Rattle.read_plan.specs.Look.{ReadsRange}
+use Rattle.object_uploads.specs.Order.{IsUploads}
+use Rattle.objects_meaning.proofs.ShowLemmas.{shown_have_counts}
+use Rattle.obj_log.specs.State.{ObjLogState}
+use Rattle.obj_log.specs.Changes.{IsSame}
+use Rattle.vol_core.specs.declared.reply.Refusal.{Refusal}
+use Rattle.vol_core.specs.declared.reply.Refusal.TheVariants as refusals
+use Rattle.plain_disk.specs.State.{PlainState}
+use Rattle.stop_meaning.specs.Stops.{HasCommitted, IsCommittingHead, StopKeepsSince}
+use Rattle.stop_meaning.specs.Laws.{ShowsStops}
+use Rattle.stop_meaning.proofs.StopLemmas.{now_keeps}
+use Rattle.stop_meaning.proofs.CommittedLemmas.{same_has_committed}
+use Rattle.vol_core.specs.declared.reply.Reply.{Reply}
+use Rattle.vol_core.specs.declared.reply.Reply.TheVariants as told
+use Rattle.vol_core.specs.Volume.{VolumeState, SteppedVolume}
+use Rattle.vol_core.specs.Stops.{HasOwnCommits, KeepsNow, StepKeeps}
+use Rattle.vol_core.specs.Shows.{Shows}
+use Rattle.vol_core.specs.Calls.{Seals, Takes, Finishes, Returns, CommitsFrom, ComesToLog, IsRefusedEntry, Enters}
+use Rattle.vol_core.proofs.StepLemmas.{with_objects}
+use Rattle.vol_core.proofs.FlushLemmas.{with_log}
+use Rattle.vol_core.proofs.CommitStops.{commit_owns, commit_keeps_stops, enter_owns, enter_keeps_stops}
+use Rattle.vol_core.proofs.EnterSteps.{with_both, taken_for, reserved_shows}
+use Rattle.vol_core.proofs.LoggedLemmas.{logged_alike}
+
+-- what holds anyway holds where a value is told
+on_some : {A : Type 0} (R : Type 0) (told : Option A) → R → OnSome told R
+on_some R None is = tt
+on_some R (Some x) is = is
+
+-- the step is that of the volume as it is seen before
+pub keeps_seen : (new : VolumeState) (inside seen : SteppedVolume) → inside ≡ seen → StepKeeps inside.volume new → StepKeeps seen.volume new
+keeps_seen new inside seen same keeps = subst (λ (s : SteppedVolume). StepKeeps s.volume new) same keeps
+
+-- ---- a volume that shows a plain one
+
+-- what its log has of the plain volume
+pub shows_stops : (volume : VolumeState) (plain : PlainState) → IsOnDisk volume.log → HasOwnCommits volume → (shows : Shows volume plain)
+    → ShowsStops volume.objects.uploads.uuid shows.data_at volume.log plain
+shows_stops volume plain on_disk own shows = record {
+  valid = shows.valid;
+  log_is = shows.log;
+  logged = shows.logged;
+  committed =
+      subst (λ geometry. HasCommitted volume.objects.uploads.uuid geometry volume.log) shows.objects.geometry own;
+  on_disk = on_disk;
+}
+
+pub stands_now : (volume : VolumeState) → IsOnDisk volume.log → HasOwnCommits volume → KeepsNow volume
+stands_now volume on_disk own plain shows =
+    now_keeps volume.objects.uploads.uuid shows.data_at volume.log plain (shows_stops volume plain on_disk own shows)
+
+-- ---- nothing is written
+
+-- a log whose device holds what it held
+pub record IsStill (old new : LogState) : Type 0 where
+  pub same : HasSameEntries old new
+  pub commits : IsAsBefore old.commits new.commits
+  pub moments : new.commits.disk.moments ≡ old.commits.disk.moments
+
+pub still : (log : LogState) → IsStill log log
+still log = record {
+  same = record { entries = refl; rows = refl; all = refl; held = refl; room = refl; start = refl; first = refl };
+  commits = record { same_number = refl; same_body = refl; same_unfinished = refl };
+  moments = refl;
+}
+
+-- the list has the uuid and the geometry that it had
+pub record IsOfSameVolume (old new : ObjLogState) : Type 0 where
+  pub uuid : new.uploads.uuid ≡ old.uploads.uuid
+  pub geometry : new.batch.geometry ≡ old.batch.geometry
+
+pub own_after : (old new : VolumeState) → IsOfSameVolume old.objects new.objects
+    → HasCommitted old.objects.uploads.uuid old.objects.batch.geometry new.log → HasOwnCommits new
+own_after old new same own = subst₂ (λ uuid geometry. HasCommitted uuid geometry new.log) (sym same.uuid) (sym same.geometry) own
+
+-- no moment comes after it
+none_since : (uuid : List ℕ) (old new : LogState) (plain : PlainState) → new.commits.disk.moments ≡ old.commits.disk.moments
+    → StopKeepsSince uuid old plain (IsCommittingHead old plain) new.commits.disk
+none_since uuid old new plain moments = on_some _ old.all (record { since = []; moments = moments; each = tt })
+
+pub still_keeps : (old new : VolumeState) → IsOfSameVolume old.objects new.objects → IsStill old.log new.log → StepKeeps old new
+still_keeps old new same is own = record {
+  own =
+      own_after old new same
+      (same_has_committed old.objects.uploads.uuid old.objects.batch.geometry old.log new.log own is.same is.commits);
+  since = λ plain shows. none_since old.objects.uploads.uuid old.log new.log plain is.moments;
+}
+
+-- the log of a look was read, or nothing was done
+pub read_is_still : (lba sectors : ℕ) (maps : MapsState) (are_made : Bool) (old new : LogState) → ReadsRange lba sectors maps are_made old new
+    → IsStill old new
+read_is_still lba sectors maps are_made old new is = record { same = is.reads.same; commits = is.reads.commits; moments = is.reads.moments }
+
+pub look_keeps : (old : VolumeState) (log : LogState) (pins : List ℕ) → IsStill old.log log
+    → StepKeeps old (record old { log = log; pins = pins })
+look_keeps old log pins is = still_keeps old (record old { log = log; pins = pins }) (record { uuid = refl; geometry = refl }) is
+
+-- ---- only the objects change
+
+module _ (old : VolumeState) (objects : ObjLogState) where
+  objects_keep : IsOfSameVolume old.objects objects → StepKeeps old (with_objects objects old)
+  objects_keep same = still_keeps old (with_objects objects old) same (still old.log)
+
+  by_list : (list : ObjLogState) → objects ≡ list → IsOfSameVolume old.objects list → StepKeeps old (with_objects objects old)
+  by_list list is same = objects_keep (subst (IsOfSameVolume old.objects) (sym is) same)
+
+  pub seal_keeps : {R : Type 0} (reply : Reply R) → Seals reply old.objects objects → StepKeeps old (with_objects objects old)
+  seal_keeps (told.Sealed number) seals = objects_keep (record { uuid = seals.0.uploads.uuid; geometry = seals.0.geometry })
+  seal_keeps told.Nothing seals = objects_keep (record { uuid = seals.0.uploads.uuid; geometry = seals.0.geometry })
+  seal_keeps told.Busy seals = objects_keep (record { uuid = seals.0.uploads.uuid; geometry = seals.0.geometry })
+  seal_keeps told.OutOfMemory seals = objects_keep (record { uuid = seals.uploads.uuid; geometry = seals.geometry })
+  seal_keeps reply seals = absurd seals
+
+  pub taking_keeps : {R : Type 0} (reply : Reply R) → Takes reply old.objects objects → StepKeeps old (with_objects objects old)
+  taking_keeps (told.Taken job) taken = by_list _ taken.2 (record { uuid = refl; geometry = refl })
+  taking_keeps told.Nothing taken = by_list old.objects taken.1 (record { uuid = refl; geometry = refl })
+  taking_keeps reply taken = absurd taken
+
+  pub returning_keeps : {R : Type 0} (job : JobState) (reply : Reply R) → Returns job reply old.objects objects
+      → StepKeeps old (with_objects objects old)
+  returning_keeps job told.Returned returned = by_list _ returned.1 (record { uuid = refl; geometry = refl })
+  returning_keeps job (told.NotReturned back) returned = by_list old.objects returned.2 (record { uuid = refl; geometry = refl })
+  returning_keeps job reply returned = absurd returned
+
+  pub finishing_keeps : {R : Type 0} (state : R → ReceiptState) (job : JobState) (receipt : R) (reply : Reply R)
+      → Finishes state job receipt reply old.objects objects → StepKeeps old (with_objects objects old)
+  finishing_keeps state job receipt (told.Done frontier) done =
+      objects_keep (record { uuid = done.1.uuid; geometry = ap (λ b. b.geometry) done.2 })
+  finishing_keeps state job receipt (told.NotDone back given) done = by_list old.objects done.3 (record { uuid = refl; geometry = refl })
+  finishing_keeps state job receipt reply done = absurd done
+
+-- ---- a flush
+
+pub flushing_keeps : (old : VolumeState) (log : LogState) (is_made : Bool) (end : ℕ) → IsUploads old.objects.uploads.queue old.objects.uploads.window
+    → IsOnDisk old.log → end ≡ old.objects.uploads.queue.end → CommitsFrom end is_made old.log log → StepKeeps old (with_log log old)
+flushing_keeps old log is_made end uploads on_disk end_is commits own = record {
+  own = commit_owns old.objects.uploads.uuid old.objects.batch.geometry end is_made old.log log own commits;
+  since = λ plain shows.
+      let counts = shown_have_counts shows.data_at old.objects plain uploads shows.valid shows.objects in
+      commit_keeps_stops old.objects.uploads.uuid shows.data_at old.log plain (shows_stops old plain on_disk own shows) end is_made log
+      (end_is ∙ counts.end) commits;
+}
+
+-- ---- an entry
+
+-- memory for a record changes nothing of it
+reserved_owns : (uuid : List ℕ) (geometry : Geometry) (log : LogState) (reserved : ℕ) → HasCommitted uuid geometry log
+    → HasCommitted uuid geometry (taken_for log reserved)
+reserved_owns uuid geometry log reserved own = record { last = own.last; unfinished = own.unfinished; in_range = own.in_range }
+
+reserved_stops : (uuid : List ℕ) (data_at : ℕ → ℕ) (log : LogState) (plain : PlainState) (reserved : ℕ) → ShowsStops uuid data_at log plain
+    → ShowsStops uuid data_at (taken_for log reserved) plain
+reserved_stops uuid data_at log plain reserved is =
+    let disk = is.on_disk in
+    record {
+      valid = is.valid;
+      log_is = reserved_shows log reserved plain.cache.log is.log_is;
+      logged = logged_alike data_at log (taken_for log reserved) plain refl refl refl is.logged;
+      committed = reserved_owns uuid plain.geometry log reserved is.committed;
+      on_disk = record {
+        commits = disk.commits;
+        sectors = disk.sectors;
+        used = disk.used;
+        numbered = disk.numbered;
+        held = disk.held;
+        start = disk.start;
+        all = disk.all;
+        entries = disk.entries;
+        stands = disk.stands;
+        holds = disk.holds;
+      };
+    }
+
+reserved_is_still : (log : LogState) (reserved : ℕ) → IsStill log (taken_for log reserved)
+reserved_is_still log reserved = record {
+  same = record { entries = refl; rows = refl; all = refl; held = refl; room = refl; start = refl; first = refl };
+  commits = record { same_number = refl; same_body = refl; same_unfinished = refl };
+  moments = refl;
+}
+
+room_is_of_same : (old new : ObjLogState) → IsSame old new → IsOfSameVolume old new
+room_is_of_same old new same = record { uuid = same.uploads.uuid; geometry = same.geometry }
+
+unchanged_keeps : (old : VolumeState) (objects : ObjLogState) (log : LogState) → objects ≡ old.objects → log ≡ old.log
+    → StepKeeps old (with_both objects log old)
+unchanged_keeps old objects log same_objects same_log =
+    still_keeps old (with_both objects log old)
+    (subst (IsOfSameVolume old.objects) (sym same_objects) (record { uuid = refl; geometry = refl }))
+    (subst (IsStill old.log) (sym same_log) (still old.log))
+
+module _ (entry : Entry) (old : VolumeState) (uploads : IsUploads old.objects.uploads.queue old.objects.uploads.window)
+    (on_disk : IsOnDisk old.log) where
+  -- it came to the log
+  came_keeps : (result : Result ℕ AppendError) (ready objects : ObjLogState) (log : LogState) → IsOfSameVolume old.objects objects
+      → ComesToLog entry result old.objects ready old.log log → StepKeeps old (with_both objects log old)
+  came_keeps result ready objects log same comes own =
+      let uuid : List ℕ = old.objects.uploads.uuid in
+      let geometry : Geometry = old.objects.batch.geometry in
+      let end : ℕ = old.objects.uploads.queue.end in
+      let before : LogState = taken_for old.log comes.reserved in
+      record {
+        own =
+            own_after old (with_both objects log old) same
+            (enter_owns uuid geometry entry end result before log comes.in_range (reserved_owns uuid geometry old.log comes.reserved own) comes.log);
+        since = λ plain shows.
+            let counts = shown_have_counts shows.data_at old.objects plain uploads shows.valid shows.objects in
+            enter_keeps_stops uuid shows.data_at before plain
+            (reserved_stops uuid shows.data_at old.log plain comes.reserved (shows_stops old plain on_disk own shows)) entry end result log
+            counts.end comes.log;
+      }
+
+  refused_keeps : (why : Refusal) (objects : ObjLogState) (log : LogState) → IsRefusedEntry entry why old.objects objects old.log log
+      → StepKeeps old (with_both objects log old)
+  refused_keeps refusals.Range objects log is = unchanged_keeps old objects log is.1 is.2
+  refused_keeps (refusals.Full full) objects log is = unchanged_keeps old objects log is.2 is.3
+  refused_keeps (refusals.NoRoom needed free) objects log is =
+      came_keeps (Err (NoRoom needed free)) objects objects log (room_is_of_same old.objects objects is.same) is
+  refused_keeps refusals.Fault objects log is =
+      came_keeps (Err DeviceFault) objects objects log (room_is_of_same old.objects objects is.same) is
+  refused_keeps refusals.OutOfMemory objects log is =
+      still_keeps old (with_both objects log old) (room_is_of_same old.objects objects is.0)
+      (subst (IsStill old.log) (sym is.1) (reserved_is_still old.log log.reserved))
+
+  pub entering_keeps_stops : {R : Type 0} (reply : Reply R) (objects : ObjLogState) (log : LogState)
+      → Enters entry reply old.objects objects old.log log → StepKeeps old (with_both objects log old)
+  entering_keeps_stops (told.Entered count) objects log enters =
+      let same = enters.comes.same in
+      came_keeps (Ok enters.at) enters.ready objects log
+      (record { uuid = enters.added.uuid ∙ same.uploads.uuid; geometry = enters.added.geometry ∙ same.geometry }) enters.comes
+  entering_keeps_stops (told.NotEntered back why) objects log enters = refused_keeps why objects log enters.1
+  entering_keeps_stops reply objects log enters = absurd enters

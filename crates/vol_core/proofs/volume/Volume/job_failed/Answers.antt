@@ -1,0 +1,39 @@
+use Rattle.std.proofs.Common.{subst, sym}
+use Rattle.vol_core.specs.declared.event.Event.TheVariants as events
+use Rattle.vol_core.specs.Volume.{VolumeState, volume_of}
+use Rattle.vol_core.specs.Calls.{HasRoomForStep}
+use Rattle.vol_core.proofs.StepLemmas.{with_objects, steps_keep_volume, step_seen}
+use Rattle.vol_core.proofs.ObjectSteps.{returned_steps, returned_last, small_after}
+use Rattle.vol_core.proofs.StopSteps.{keeps_seen, returning_keeps}
+use Rattle.vol_core.proofs.volume.Volume.job_failed.Goals as goal
+
+pub invariant_of-self : goal.invariant_of-self
+invariant_of-self g c =
+    let state = g.R.Receipt.state in
+    let inside = c.self.inside in
+    let volume : VolumeState = volume_of inside.objects inside.log inside.pins inside.checkpoint in
+    let reply = c.job_failed.result in
+    let objects = c.job_failed.new.objects in
+    let job = c.args.job in
+    let ready = subst HasRoomForStep (sym c.self.view_is) c.requires in
+    steps_keep_volume state (events.JobFailed job) reply volume (with_objects objects volume) inside.steps c.self.invariant
+    (returned_steps state volume objects job reply c.job_failed.ensures)
+    (small_after volume objects inside.steps ready (returned_last volume.objects objects job reply c.job_failed.ensures))
+
+pub returns-clause-step : goal.returns-clause-step
+returns-clause-step g c =
+    let state = g.R.Receipt.state in
+    let inside = c.self.inside in
+    let volume : VolumeState = volume_of inside.objects inside.log inside.pins inside.checkpoint in
+    let reply = c.job_failed.result in
+    let objects = c.job_failed.new.objects in
+    let job = c.args.job in
+    step_seen state (events.JobFailed job) reply (with_objects objects volume) _ _ c.self.view_is
+    (returned_steps state volume objects job reply c.job_failed.ensures)
+
+pub returns-clause-stops : goal.returns-clause-stops
+returns-clause-stops g c =
+    let inside = c.self.inside in
+    let volume : VolumeState = volume_of inside.objects inside.log inside.pins inside.checkpoint in
+    let objects = c.job_failed.new.objects in
+    keeps_seen (with_objects objects volume) _ _ c.self.view_is (returning_keeps volume objects c.args.job c.job_failed.result c.job_failed.ensures)

@@ -1,0 +1,133 @@
+use Rattle.std.proofs.Common.{false, true, sym, ap, subst, Err}
+use Rattle.cache_log.specs.Log.{LogState}
+use Rattle.vol_core.specs.declared.event.Event.TheVariants as events
+use Rattle.vol_core.specs.declared.reply.Reply.TheVariants as replies
+use Rattle.vol_core.specs.Volume.{VolumeState, SteppedVolume, volume_of}
+use Rattle.vol_core.specs.Shows.{IsSmall}
+use Rattle.vol_core.specs.Step.{StepsAsPlain}
+use Rattle.vol_core.specs.Calls.{HasRoomForStep}
+use Rattle.vol_core.proofs.StepLemmas.{steps_keep_volume}
+use Rattle.vol_core.proofs.LookLemmas.{may_of_own, log_has_read, objects_have_read}
+use Rattle.vol_core.proofs.ReadSteps.{with_reads, planned_steps, fault_steps, memory_steps, range_steps, reads_small, memory_small}
+use Rattle.vol_core.proofs.StopSteps.{keeps_seen, still, read_is_still, look_keeps, IsStill}
+use Rattle.vol_core.proofs.volume.Volume.look.Given as given
+use Rattle.vol_core.proofs.volume.Volume.look.Goals.{Joined-look, in-Ok, in-Err-Fault, in-Err-OutOfMemory}
+use Rattle.vol_core.proofs.volume.Volume.look.Goals as goal
+
+pub returns-then-not-may_transfer-clause-step : goal.returns-then-not-may_transfer-clause-step
+returns-then-not-may_transfer-clause-step g c =
+    let inside = c.self.inside in
+    let volume : VolumeState = volume_of inside.objects inside.log inside.pins inside.checkpoint in
+    let lba = c.args.lba in
+    let sectors = c.args.sectors in
+    subst (λ (s : SteppedVolume). StepsAsPlain g.R.Receipt.state (events.Look lba sectors) replies.Range s.volume s.volume) c.self.view_is
+    (range_steps g.R.Receipt.state volume lba sectors
+    (may_of_own volume inside.steps c.args.self.now c.geometry.result lba sectors c.may_transfer.result false c.self.view_is c.geometry.ensures
+    c.may_transfer.ensures c.if-not-may_transfer.true))
+
+pub look-requires-clause-log : goal.look-requires-clause-log
+look-requires-clause-log g c =
+    let inside = c.self.inside in
+    let volume : VolumeState = volume_of inside.objects inside.log inside.pins inside.checkpoint in
+    let lba = c.args.lba in
+    let sectors = c.args.sectors in
+    log_has_read volume c.self.invariant.plain c.self.invariant.shows c.ordered.ensures lba sectors
+    (may_of_own volume inside.steps c.args.self.now c.geometry.result lba sectors c.may_transfer.result true c.self.view_is c.geometry.ensures
+    c.may_transfer.ensures c.if-not-may_transfer.false)
+
+pub look-requires-clause-objects : goal.look-requires-clause-objects
+look-requires-clause-objects g c =
+    let inside = c.self.inside in
+    let volume : VolumeState = volume_of inside.objects inside.log inside.pins inside.checkpoint in
+    let lba = c.args.lba in
+    let sectors = c.args.sectors in
+    objects_have_read volume c.self.invariant.plain c.self.invariant.shows c.ordered.ensures lba sectors
+    (may_of_own volume inside.steps c.args.self.now c.geometry.result lba sectors c.may_transfer.result true c.self.view_is c.geometry.ensures
+    c.may_transfer.ensures c.if-not-may_transfer.false)
+
+steps : (g : given.Over) (c : Joined-look g)
+    → StepsAsPlain g.R.Receipt.state (events.Look c.args.lba c.args.sectors) c.match-look.result
+    (volume_of c.self.inside.objects c.self.inside.log c.self.inside.pins c.self.inside.checkpoint)
+    (volume_of c.self.inside.objects c.look.new.log c.look.new.pins c.self.inside.checkpoint)
+steps g c =
+    let inside = c.self.inside in
+    let volume : VolumeState = volume_of inside.objects inside.log inside.pins inside.checkpoint in
+    let lba = c.args.lba in
+    let sectors = c.args.sectors in
+    let log = c.look.new.log in
+    let pins = c.look.new.pins in
+    let state = g.R.Receipt.state in
+    let may = may_of_own volume inside.steps c.args.self.now c.geometry.result lba sectors c.may_transfer.result true c.self.view_is c.geometry.ensures
+    c.may_transfer.ensures c.if-not-may_transfer.false in
+    elim c.match-look.branch [
+      | in-Ok w ↦
+          let says = w.in-Ok.ensures in
+          subst (λ reply. StepsAsPlain state (events.Look lba sectors) reply volume (with_reads log pins volume)) (sym w.result-is)
+          (planned_steps state volume lba sectors w.in-Ok.plan log pins c.ordered.ensures may says.plan says.whole says.pinned (says.reads (λ e. cc)))
+      | in-Err-Fault w ↦
+          let says = w.in-Err-Fault.ensures in
+          let fault = w.in-Err-Fault.field-0-is in
+          subst (λ reply. StepsAsPlain state (events.Look lba sectors) reply volume (with_reads log pins volume)) (sym w.result-is)
+          (fault_steps state volume lba sectors log pins c.ordered.ensures may says.same_pins (says.reads (λ e. cc)))
+      | in-Err-OutOfMemory w ↦
+          let says = w.in-Err-OutOfMemory.ensures in
+          subst (λ reply. StepsAsPlain state (events.Look lba sectors) reply volume (with_reads log pins volume)) (sym w.result-is)
+          (memory_steps state volume lba sectors log pins (says.memory (ap Err w.in-Err-OutOfMemory.field-0-is)) says.same_pins)
+    ]
+
+small : (g : given.Over) (c : Joined-look g)
+    → IsSmall (volume_of c.self.inside.objects c.look.new.log c.look.new.pins c.self.inside.checkpoint) c.self.inside.steps
+small g c =
+    let inside = c.self.inside in
+    let volume : VolumeState = volume_of inside.objects inside.log inside.pins inside.checkpoint in
+    let lba = c.args.lba in
+    let sectors = c.args.sectors in
+    let log = c.look.new.log in
+    let pins = c.look.new.pins in
+    let ready = subst HasRoomForStep (sym c.self.view_is) c.requires in
+    elim c.match-look.branch [
+      | in-Ok w ↦ reads_small volume log pins inside.steps lba sectors true ready (w.in-Ok.ensures.reads (λ e. cc))
+      | in-Err-Fault w ↦
+          let fault = w.in-Err-Fault.field-0-is in
+          reads_small volume log pins inside.steps lba sectors false ready (w.in-Err-Fault.ensures.reads (λ e. cc))
+      | in-Err-OutOfMemory w ↦
+          memory_small volume log pins inside.steps ready (w.in-Err-OutOfMemory.ensures.memory (ap Err w.in-Err-OutOfMemory.field-0-is))
+    ]
+
+pub invariant_of-self : goal.invariant_of-self
+invariant_of-self g c =
+    let inside = c.self.inside in
+    let volume : VolumeState = volume_of inside.objects inside.log inside.pins inside.checkpoint in
+    steps_keep_volume g.R.Receipt.state (events.Look c.args.lba c.args.sectors) c.match-look.result volume (with_reads c.look.new.log c.look.new.pins volume)
+    inside.steps c.self.invariant (steps g c) (small g c)
+
+pub returns-clause-step : goal.returns-clause-step
+returns-clause-step g c =
+    let inside = c.self.inside in
+    let volume : VolumeState = volume_of inside.objects inside.log inside.pins inside.checkpoint in
+    subst
+    (λ (s : SteppedVolume). StepsAsPlain g.R.Receipt.state (events.Look c.args.lba c.args.sectors) c.match-look.result s.volume
+    (with_reads c.look.new.log c.look.new.pins volume))
+    c.self.view_is (steps g c)
+
+-- the log's device holds what it held
+is_still : (g : given.Over) (c : Joined-look g) → IsStill c.self.inside.log c.look.new.log
+is_still g c =
+    let log : LogState = c.self.inside.log in
+    let maps = c.self.inside.objects.uploads.queue.maps in
+    let now : LogState = c.look.new.log in
+    elim c.match-look.branch [
+      | in-Ok w ↦ read_is_still c.args.lba c.args.sectors maps true log now (w.in-Ok.ensures.reads (λ e. cc))
+      | in-Err-Fault w ↦
+          let fault = w.in-Err-Fault.field-0-is in
+          read_is_still c.args.lba c.args.sectors maps false log now (w.in-Err-Fault.ensures.reads (λ e. cc))
+      | in-Err-OutOfMemory w ↦
+          subst (IsStill log) (sym (w.in-Err-OutOfMemory.ensures.memory (ap Err w.in-Err-OutOfMemory.field-0-is))) (still log)
+    ]
+
+pub returns-clause-stops : goal.returns-clause-stops
+returns-clause-stops g c =
+    let inside = c.self.inside in
+    let volume : VolumeState = volume_of inside.objects inside.log inside.pins inside.checkpoint in
+    let log : LogState = c.look.new.log in
+    keeps_seen (record volume { log = log; pins = c.look.new.pins }) _ _ c.self.view_is (look_keeps volume log c.look.new.pins (is_still g c))

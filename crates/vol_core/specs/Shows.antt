@@ -1,0 +1,43 @@
+-- Contract: when a volume shows a plain volume.
+use Rattle.std.specs.Prelude.{◌≡◌, ℕ, ◌+◌, ◌*◌, ◌^◌, ◌≤◌}
+use Rattle.cache_log.specs.Log.{next_seq}
+use Rattle.plain_disk.specs.State.{PlainState}
+use Rattle.plain_disk.specs.Valid.{IsPlainVolume}
+use Rattle.log_meaning.specs.Shows.{ShowsLog}
+use Rattle.log_meaning.specs.Fuses.{fuse_in}
+use Rattle.log_meaning.specs.Logged.{HasLoggedEntries}
+use Rattle.objects_meaning.specs.Shows.{ShowsObjects}
+use Rattle.read_plan.specs.Pins.{times}
+use Rattle.vol_core.specs.Volume.{VolumeState, SteppedVolume}
+
+-- A volume shows a plain volume: the list of its entries and objects shows those, the log on its cache shows the plain log, the same
+-- objects are pinned, and the device passes the calls that the plain one does, where it tells them. So numbers and counts are the
+-- plain volume's always, and bytes where the device and the receipts tell them.
+pub record Shows (volume : VolumeState) (plain : PlainState) : Type 0 where
+  pub valid : IsPlainVolume plain
+  pub data_at : ℕ → ℕ
+  pub objects : ShowsObjects data_at volume.objects plain
+  pub log : ShowsLog volume.log plain.cache.log
+  pub logged : HasLoggedEntries data_at volume.log plain
+  pub checkpoint : volume.checkpoint ≡ plain.checkpoint
+  pub pins : (number : ℕ) → times number volume.pins ≡ times number plain.pins
+  pub fuse : plain.cache.left ≡ fuse_in volume.log.commits.disk.budget
+
+-- ---- numbers
+
+-- what the numbers of a volume are at a mount at most, and how many steps it makes at most after it
+abbrev pub max_number : ℕ
+max_number = 2 ^ 60
+
+-- the numbers of a volume that has made so many steps: one adds an entry and an object at most, and two commits
+pub record IsSmall (volume : VolumeState) (steps : ℕ) : Type 0 where
+  pub entries : next_seq volume.log ≤ max_number + steps
+  pub objects : volume.objects.uploads.window.last ≤ max_number + steps
+  pub commits : volume.log.commits.number ≤ max_number + 2 * steps
+
+-- what holds of each volume
+pub record IsVolume (stepped : SteppedVolume) : Type 0 where
+  pub plain : PlainState
+  pub shows : Shows stepped.volume plain
+  pub steps : stepped.steps ≤ max_number
+  pub small : IsSmall stepped.volume stepped.steps

@@ -1,0 +1,118 @@
+-- Contract: what a step of a volume is: one step of the plain volume that it shows.
+use Rattle.std.specs.Prelude.{◌≡◌, ℕ, ◌+◌, ◌⊎◌, Bool, true, false, length}
+use Rattle.lsvd_base.specs.declared.entry.Entry.TheVariants as entries
+use Rattle.lsvd_fault.specs.Faults.{Counts}
+use Rattle.lsvd_device.specs.Calls.{Fuse, Cost, write_cost, together}
+use Rattle.lsvd_device.specs.Memory.{HasRoom}
+use Rattle.lsvd_objstore.specs.Store.{ReceiptState}
+use Rattle.commit_slot.specs.Commits.{first_half_cost, second_half_cost, no_cost}
+use Rattle.object_uploads.specs.Image.{IsReceiptFor}
+use Rattle.plain_disk.specs.declared.event.PlainEvent.{PlainEvent}
+use Rattle.plain_disk.specs.State.{PlainState}
+use Rattle.plain_disk.specs.Step.{plain_reply, plain_after}
+use Rattle.log_meaning.specs.Fuses.{fuse_in}
+use Rattle.vol_core.specs.declared.event.Event.{Event}
+use Rattle.vol_core.specs.declared.event.Event.TheVariants.{Write, Zero, Flush, Look, Release, Seal, JobDone, JobFailed}
+use Rattle.vol_core.specs.declared.reply.Refusal.TheVariants as refusals
+use Rattle.vol_core.specs.declared.reply.Reply.{Reply}
+use Rattle.vol_core.specs.declared.reply.Reply.TheVariants as told
+use Rattle.vol_core.specs.Volume.{VolumeState}
+use Rattle.vol_core.specs.Shows.{Shows}
+use Rattle.vol_core.specs.Events.{Asks, Tells}
+
+-- ---- conditions
+
+-- a receipt that comes with a put that is done stands for just the bytes of the job
+abbrev pub HasItsReceipt : {R : Type 0} → (R → ReceiptState) → Event R → Type 0
+HasItsReceipt state (JobDone job receipt) = IsReceiptFor job.bytes (state receipt)
+HasItsReceipt state event = Unit {0}
+
+-- ---- what the device is asked for
+
+-- a commit at most: the second half that was left, and both halves
+abbrev pub most_of_commit : Cost
+most_of_commit = together second_half_cost (together first_half_cost second_half_cost)
+
+-- the record of an entry with this many bytes of data, and a pad's header before it
+abbrev pub most_of_record : (bytes : ℕ) → Cost
+most_of_record bytes = together (write_cost 512) (write_cost (512 + bytes))
+
+-- the writes and syncs that an event may ask for at most
+abbrev pub most_of_step : {R : Type 0} → Event R → Cost
+most_of_step (Write lba body) = together most_of_commit (most_of_record (length body))
+most_of_step (Zero lba sectors) = together most_of_commit (most_of_record 0)
+most_of_step Flush = most_of_commit
+most_of_step event = no_cost
+
+-- ---- want of memory
+
+-- the events that may take memory
+abbrev pub may_lack_memory : {R : Type 0} → Event R → Bool
+may_lack_memory (Write lba body) = true
+may_lack_memory (Zero lba sectors) = true
+may_lack_memory (Look lba sectors) = true
+may_lack_memory Seal = true
+may_lack_memory event = false
+
+abbrev pub lacks_memory : {R : Type 0} → Reply R → Bool
+lacks_memory (told.NotEntered entry refusals.OutOfMemory) = true
+lacks_memory told.OutOfMemory = true
+lacks_memory reply = false
+
+-- ---- faults
+
+-- a reply tells that a call of the device failed
+abbrev pub tells_fault : {R : Type 0} → Reply R → Bool
+tells_fault (told.NotEntered entry refusals.Fault) = true
+tells_fault told.Fault = true
+tells_fault reply = false
+
+-- so it does exactly where one failed, which the device counted
+abbrev pub CountsFault : {R : Type 0} → Reply R → (old new : VolumeState) → Type 0
+CountsFault reply old new = Counts (tells_fault reply) old.log.commits.disk.faults new.log.commits.disk.faults
+
+-- ---- what is handed back
+
+-- a reply hands back the entry, the plan, the job or the receipt of an event that was not carried out
+abbrev pub HandsBack : {R : Type 0} → Event R → Reply R → Type 0
+HandsBack (Write lba body) (told.NotEntered entry why) = entry ≡ entries.Write lba body
+HandsBack (Zero lba sectors) (told.NotEntered entry why) = entry ≡ entries.Zero lba sectors
+HandsBack (Release plan) (told.NotReleased back) = back ≡ plan
+HandsBack (JobDone job receipt) (told.NotDone back given) = (back ≡ job) × (given ≡ receipt)
+HandsBack (JobFailed job) (told.NotReturned back) = back ≡ job
+HandsBack event reply = Unit {0}
+
+-- ---- a step
+
+-- the plain volume whose device passes these calls before it fails
+abbrev pub passing : Fuse → PlainState → PlainState
+passing left plain = record plain { cache = record plain.cache { left = left } }
+
+-- A step is one of the plain volume that the volume shows, whose device passes some calls: those that the volume's device tells that
+-- it passes, where it has room for the step's; and else as many as it did, as if a fuse had failed the others. The reply tells the
+-- plain volume's, and the volume shows what that becomes.
+pub record IsStep {R : Type 0} (state : R → ReceiptState) (event : Event R) (reply : Reply R) (plain : PlainState) (old new : VolumeState) : Type 0 where
+  pub left : Fuse
+  pub asked : PlainEvent
+  pub asks : Asks state old event asked
+  pub tells : Tells state old reply (plain_reply (passing left plain) asked)
+  pub shows : Shows new (passing (fuse_in new.log.commits.disk.budget) (plain_after asked (passing left plain)))
+  pub told : HasRoom (most_of_step event).changes (most_of_step event).bytes old.log.commits.disk.budget
+      → (left ≡ fuse_in old.log.commits.disk.budget)
+      × ((plain_after asked (passing left plain)).cache.left ≡ fuse_in new.log.commits.disk.budget)
+
+-- nothing was done, since memory ran out
+pub record IsNoStep {R : Type 0} (event : Event R) (reply : Reply R) (plain : PlainState) (new : VolumeState) : Type 0 where
+  pub may : may_lack_memory event ≡ true
+  pub lacks : lacks_memory reply ≡ true
+  pub shows : Shows new plain
+
+-- no step changes the geometry, nor the uuid
+pub record HasSameSizes (old new : VolumeState) : Type 0 where
+  pub geometry : new.objects.batch.geometry ≡ old.objects.batch.geometry
+  pub uuid : new.objects.uploads.uuid ≡ old.objects.uploads.uuid
+
+-- what the reply to an event and the volume after it are, by each plain volume that the volume showed
+abbrev pub StepsAsPlain : {R : Type 0} → (R → ReceiptState) → Event R → Reply R → (old new : VolumeState) → Type 0
+StepsAsPlain state event reply old new =
+    (plain : PlainState) → Shows old plain → IsStep state event reply plain old new ⊎ IsNoStep event reply plain new

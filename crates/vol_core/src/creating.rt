@@ -1,0 +1,42 @@
+ghost use Rattle.std.specs.Prelude.{◌≡◌, ◌+◌, ◌<◌, ◌≤◌, ◌^◌, IfOk, IfErr, IsTrue};
+ghost use Rattle.lsvd_base.specs.Limits.{is_within_limits};
+ghost use Rattle.lsvd_device.specs.Device.{IsDisk};
+ghost use Rattle.log_room.specs.Room.{max_log};
+ghost use Rattle.cache_log.specs.Rows.{byte_of};
+ghost use Rattle.commit_slot.specs.Slots.{log_of};
+ghost use Rattle.vol_core.specs.Creating.{IsCreated};
+
+use crate::volume::Volume;
+use cache_log::CacheLog;
+use lsvd_base::Geometry;
+use lsvd_device::Disk;
+use lsvd_fault::Failed;
+use lsvd_objstore::Receipt;
+use obj_log::ObjLog;
+use std::alloc::Global;
+use uuid::Uuid;
+
+// The number of the first object, a checkpoint without rows.
+const FIRST_OBJECT: u64 = 1;
+
+/// Creates a volume on its cache device, which is formatted. The volume has no entries, and its one object is the one with the number 1,
+/// a checkpoint of no sectors, which the caller has put into the store.
+///
+/// The geometry is within the limits, and its log has just the sectors of the device past byte 4,096 (conditions). `Failed` comes
+/// with the device where a call of it failed; it is to be formatted again.
+pub fn create<D: Disk, R: Receipt>(
+    alloc: Global,
+    disk: D,
+    uuid: Uuid,
+    geometry: Geometry,
+) -> Result<Volume<D, R>, (D, Failed)>
+    requires limits { IsTrue (is_within_limits geometry) }
+    requires log { geometry.log ≡ log_of (D.state disk).size }
+    requires is_disk { IsDisk (D.state disk) }
+    ensures ok { IfOk result (IsCreated uuid geometry) }
+    ensures is_disk { IfErr result (λ error. IsDisk (D.state error.0)) }
+{
+    let log = CacheLog::format(alloc, disk, uuid.into_bytes(), 0, 0)?;
+    let objects = ObjLog::new(alloc, uuid, geometry, FIRST_OBJECT, 0);
+    Ok(Volume::new(alloc, objects, log, FIRST_OBJECT))
+}

@@ -1,0 +1,29 @@
+use lsvd_base::Body;
+use lsvd_objstore::Receipt;
+use object_uploads::Job;
+use read_plan::Plan;
+
+/// What is asked of a volume.
+#[derive(Drop)]
+pub enum Event<R: Receipt> {
+    /// Writes the data at the sectors from `lba` on: 1 to `max_write` sectors.
+    Write { lba: u64, body: Body },
+    /// Puts zeros at `sectors` sectors from `lba` on, at least one.
+    Zero { lba: u64, sectors: u64 },
+    /// Makes each entry so far durable.
+    Flush,
+    /// Plans a read of `sectors` sectors from `lba` on: 1 to `max_write`.
+    Look { lba: u64, sectors: u64 },
+    /// Gives the plan of a read back, so that its objects are pinned once less.
+    Release(Plan<R>),
+    /// Seals the next data object.
+    Seal,
+    /// Begins the put of the lowest ready object.
+    TakeJob,
+    /// The put of a job is done, and the store gave this receipt. It stands for just the bytes of the job (a condition of `step`).
+    JobDone { job: Job, receipt: R },
+    /// The put of a job failed.
+    JobFailed(Job),
+    /// Asks for the counts.
+    Status,
+}

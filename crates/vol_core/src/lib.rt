@@ -1,0 +1,21 @@
+//! A volume: its entries and objects, and the log on its cache, as one machine of steps.
+//!
+//! Its contract: each step is one step of the plain volume that the volume shows, and the volume then shows what that becomes.
+//! It stands on `obj_log` for entries and objects, on `cache_log` for the log, on `read_plan` for reads, and on `objects_meaning`,
+//! `log_meaning` and `plain_disk` for what these mean.
+#![tactic(auto)]
+
+mod committing;
+mod creating;
+mod entering;
+mod event;
+mod putting;
+mod reply;
+#[cfg(test)]
+mod tests;
+mod volume;
+
+pub use creating::create;
+pub use event::Event;
+pub use reply::{Refusal, Reply};
+pub use volume::Volume;

@@ -1,0 +1,51 @@
+ghost use Rattle.std.specs.Prelude.{◌+◌, ◌-◌, ◌^◌, ◌<◌};
+ghost use Rattle.vol_core.specs.Calls.{Seals, Takes, Finishes, Returns};
+
+use crate::reply::Reply;
+use lsvd_objstore::Receipt;
+use obj_log::{ObjLog, SealError};
+use object_uploads::Job;
+use std::alloc::Global;
+
+/// Seals the next data object. The numbers go on below 2^64 - 1 (a condition).
+pub(crate) fn seal<R: Receipt>(alloc: Global, objects: &mut ObjLog<R>) -> Reply<R>
+    requires { objects.old.uploads.window.last + 1 < 2 ^ 64 - 1 }
+    ensures { Seals result objects.old objects.new }
+{
+    match objects.seal_data(alloc) {
+        Ok(number) => Reply::Sealed(number),
+        Err(SealError::Nothing) => Reply::Nothing,
+        Err(SealError::Busy) => Reply::Busy,
+        Err(SealError::OutOfMemory) => Reply::OutOfMemory,
+    }
+}
+
+/// Begins the put of the lowest ready object.
+pub(crate) fn take_job<R: Receipt>(objects: &mut ObjLog<R>) -> Reply<R>
+    ensures { Takes result objects.old objects.new }
+{
+    match objects.take_job() {
+        Some(job) => Reply::Taken(job),
+        None => Reply::Nothing,
+    }
+}
+
+/// A put is done.
+pub(crate) fn job_done<R: Receipt>(objects: &mut ObjLog<R>, job: Job, receipt: R) -> Reply<R>
+    ensures { Finishes R.state job receipt result objects.old objects.new }
+{
+    match objects.job_done(&job, receipt) {
+        Ok(frontier) => Reply::Done(frontier),
+        Err(receipt) => Reply::NotDone { job, receipt },
+    }
+}
+
+/// A put failed.
+pub(crate) fn job_failed<R: Receipt>(objects: &mut ObjLog<R>, job: Job) -> Reply<R>
+    ensures { Returns job result objects.old objects.new }
+{
+    match objects.job_failed(job) {
+        Ok(()) => Reply::Returned,
+        Err(job) => Reply::NotReturned(job),
+    }
+}

@@ -1,0 +1,291 @@
+ghost use Rattle.std.specs.Prelude.{◌≡◌, ◌+◌, ◌<◌, [], false};
+ghost use Rattle.std.specs.Fn.{FnOnceReturnsAtMut};
+ghost use Rattle.commit_slot.specs.Lending.{ChangesBudgetAlone};
+ghost use Rattle.plain_disk.specs.State.{PlainState};
+ghost use Rattle.log_meaning.specs.Fuses.{fuse_in};
+ghost use Rattle.vol_core.specs.Volume.{volume_of, with_budget_of};
+ghost use Rattle.vol_core.specs.declared.event.Event.TheVariants as events;
+ghost use Rattle.vol_core.specs.Shows.{Shows, IsSmall, max_number};
+ghost use Rattle.vol_core.specs.Step.{passing, HasItsReceipt, StepsAsPlain, HandsBack, HasSameSizes, tells_fault, CountsFault};
+ghost use Rattle.vol_core.specs.Stops.{HasOwnCommits, KeepsNow, StepKeeps};
+ghost use Rattle.vol_core.specs.Calls.{HasRoomForStep, event_of};
+
+use crate::committing::commit;
+use crate::entering::enter;
+use crate::event::Event;
+use crate::putting::{job_done, job_failed, seal, take_job};
+use crate::reply::Reply;
+use cache_log::CacheLog;
+use lsvd_base::{Entry, Geometry};
+use lsvd_device::Disk;
+use lsvd_fault::Failed;
+use lsvd_objstore::Receipt;
+use obj_log::ObjLog;
+use object_uploads::Job;
+use read_plan::{LookError, Pins, Plan, look};
+use std::alloc::Global;
+use std::marker::Model;
+use uuid::Uuid;
+
+/// A volume: its entries and objects, and the log on its cache device `D`. A store gives receipts `R` for its objects.
+#[derive(Drop)]
+pub struct Volume<D: Disk, R: Receipt> {
+    alloc: Global,
+    objects: ObjLog<R>,
+    log: CacheLog<D>,
+    pins: Pins,
+    // The number of the newest checkpoint.
+    checkpoint: u64,
+    steps: u64,
+}
+
+impl<D: Disk, R: Receipt> Model for Volume<D, R> {
+    ghost use Rattle.vol_core.specs.Volume.{SteppedVolume, volume_of};
+    ghost use Rattle.vol_core.specs.Shows.{IsVolume};
+
+    ghost Value = { SteppedVolume };
+
+    ghost view = { λ v. record { volume = volume_of v.objects v.log v.pins v.checkpoint; steps = v.steps } };
+
+    ghost invariant = { λ v. IsVolume (record { volume = volume_of v.objects v.log v.pins v.checkpoint; steps = v.steps }) };
+}
+
+impl<D: Disk, R: Receipt> Volume<D, R> {
+    /// The volume of these entries and objects and this log, which together show a plain volume, and whose numbers are below 2^60
+    /// (conditions). Its newest checkpoint has this number. No plan of a read is out, and it has made no step.
+    pub fn new(alloc: Global, objects: ObjLog<R>, log: CacheLog<D>, checkpoint: u64) -> Volume<D, R>
+        requires shows { (plain : PlainState) × Shows (volume_of objects log [] checkpoint) plain }
+        requires small { IsSmall (volume_of objects log [] checkpoint) 0 }
+        ensures { result ≡ record { volume = volume_of objects log [] checkpoint; steps = 0 } }
+    {
+        Volume {
+            alloc,
+            objects,
+            log,
+            pins: Pins::new(alloc),
+            checkpoint,
+            steps: 0,
+        }
+    }
+
+    /// One step: what the event asks for. Fewer than 2^60 were made, and a receipt that comes with a put that is done stands for just
+    /// the bytes of the job (conditions).
+    ///
+    /// The reply is that of the plain volume which this one shows, and this one then shows what that becomes. A device that fails a
+    /// call without being told to stop does as one whose fuse ends there. After want of memory the volume shows what it showed. A step
+    /// makes at most the device calls of one commit and one record, or one read for each run of sectors that a write past the
+    /// frontier's end wrote last; `Fault` is told exactly where one of them failed, which the device counted once.
+    pub fn step(&mut self, event: Event<R>) -> Reply<R>
+        requires steps { self.old.steps < max_number }
+        requires receipt { HasItsReceipt R.state event }
+        ensures step { StepsAsPlain R.state event result self.old.volume self.new.volume }
+        ensures back { HandsBack event result }
+        ensures steps { self.new.steps ≡ self.old.steps + 1 }
+        ensures sizes { HasSameSizes self.old.volume self.new.volume }
+        ensures stops { StepKeeps self.old.volume self.new.volume }
+        ensures faults { CountsFault result self.old.volume self.new.volume }
+    {
+        self.steps += 1;
+        match event {
+            Event::Write { lba, body } => self.enter(Entry::Write { lba, body }),
+            Event::Zero { lba, sectors } => self.enter(Entry::Zero { lba, sectors }),
+            Event::Flush => self.flush(),
+            Event::Look { lba, sectors } => self.look(lba, sectors),
+            Event::Release(plan) => self.release(plan),
+            Event::Seal => self.seal(),
+            Event::TakeJob => self.take_job(),
+            Event::JobDone { job, receipt } => self.job_done(job, receipt),
+            Event::JobFailed(job) => self.job_failed(job),
+            Event::Status => self.status(),
+        }
+    }
+
+    /// How many steps it made since it was mounted.
+    pub fn steps(&self) -> u64
+        ensures { result ≡ self.now.steps }
+    {
+        self.steps
+    }
+
+    /// Its geometry, which no step changes.
+    pub fn geometry(&self) -> Geometry
+        ensures { result ≡ self.now.volume.objects.batch.geometry }
+    {
+        self.objects.batch().geometry()
+    }
+
+    /// The uuid of the volume, which no step changes.
+    pub fn uuid(&self) -> Uuid
+        ensures { result ≡ self.now.volume.objects.uploads.uuid }
+    {
+        self.objects.uuid()
+    }
+
+    /// What is so of every volume whose commits are its own, as a fact for the proofs of callers: whatever a stop leaves of the device
+    /// now keeps the entries up to the head of the last commit, or of the unfinished one. Nothing is done.
+    pub fn stands(&self)
+        ensures { HasOwnCommits self.now.volume → KeepsNow self.now.volume }
+    {
+        self.log.on_disk();
+    }
+
+    /// Lends the device to a closure, which may be called, and changes no more of it than the calls that it still passes and its room
+    /// (conditions). What the closure answers is answered. The volume shows what it showed, but for these calls.
+    pub fn with_disk<T, F: FnOnce(&mut D) -> T>(&mut self, change: F) -> T
+        requires callable { F.IsAlwaysCallable change }
+        requires keeps { (disk left : D) (answer : T)
+            → FnOnceReturnsAtMut F.FnOnce change disk answer left
+            → ChangesBudgetAlone (D.state disk) (D.state left) }
+        ensures rest { self.new ≡ record self.old { volume = with_budget_of self.new.volume.log.commits.disk self.old.volume } }
+        ensures shows { (plain : PlainState) → Shows self.old.volume plain
+            → Shows self.new.volume (passing (fuse_in self.new.volume.log.commits.disk.budget) plain) }
+        ensures answer { (disk left : D)
+            × (D.state disk ≡ self.old.volume.log.commits.disk)
+            × (D.state left ≡ self.new.volume.log.commits.disk)
+            × FnOnceReturnsAtMut F.FnOnce change disk result left }
+    {
+        self.log.with_disk(change)
+    }
+
+    // Enters an entry.
+    fn enter(&mut self, entry: Entry) -> Reply<R>
+        requires { HasRoomForStep self.old }
+        ensures step { StepsAsPlain R.state (event_of entry) result self.old.volume self.new.volume }
+        ensures back { HandsBack (event_of entry) result }
+        ensures steps { self.new.steps ≡ self.old.steps }
+        ensures sizes { HasSameSizes self.old.volume self.new.volume }
+        ensures stops { StepKeeps self.old.volume self.new.volume }
+        ensures faults { CountsFault result self.old.volume self.new.volume }
+    {
+        self.objects.ordered();
+        self.log.on_disk();
+        enter(&mut self.objects, &mut self.log, entry)
+    }
+
+    // Commits all entries so far, with the log's tail at the frontier's end.
+    fn flush(&mut self) -> Reply<R>
+        requires { HasRoomForStep self.old }
+        ensures step { StepsAsPlain R.state events.Flush result self.old.volume self.new.volume }
+        ensures back { HandsBack events.Flush result }
+        ensures steps { self.new.steps ≡ self.old.steps }
+        ensures sizes { HasSameSizes self.old.volume self.new.volume }
+        ensures stops { StepKeeps self.old.volume self.new.volume }
+        ensures faults { CountsFault result self.old.volume self.new.volume }
+    {
+        self.objects.ordered();
+        self.log.on_disk();
+        match commit(&mut self.log, self.objects.end()) {
+            Ok(()) => Reply::Flushed(self.objects.batch().next_seq()),
+            Err(Failed) => Reply::Fault,
+        }
+    }
+
+    // Plans a read.
+    fn look(&mut self, lba: u64, sectors: u64) -> Reply<R>
+        requires { HasRoomForStep self.old }
+        ensures step { StepsAsPlain R.state (events.Look lba sectors) result self.old.volume self.new.volume }
+        ensures back { HandsBack (events.Look lba sectors) result }
+        ensures steps { self.new.steps ≡ self.old.steps }
+        ensures sizes { HasSameSizes self.old.volume self.new.volume }
+        ensures stops { StepKeeps self.old.volume self.new.volume }
+        ensures faults { CountsFault result self.old.volume self.new.volume }
+    {
+        self.objects.ordered();
+        if !self.geometry().may_transfer(lba, sectors) {
+            return Reply::Range;
+        }
+        let (objects, log, pins) = (&self.objects, &mut self.log, &mut self.pins);
+        match look(self.alloc, objects, log, pins, lba, sectors) {
+            Ok(plan) => Reply::Planned(plan),
+            Err(LookError::Fault) => Reply::Fault,
+            Err(LookError::OutOfMemory) => Reply::OutOfMemory,
+        }
+    }
+
+    // Gives the plan of a read back.
+    fn release(&mut self, plan: Plan<R>) -> Reply<R>
+        requires { HasRoomForStep self.old }
+        ensures step { StepsAsPlain R.state (events.Release plan) result self.old.volume self.new.volume }
+        ensures back { HandsBack (events.Release plan) result }
+        ensures steps { self.new.steps ≡ self.old.steps }
+        ensures sizes { HasSameSizes self.old.volume self.new.volume }
+        ensures stops { StepKeeps self.old.volume self.new.volume }
+        ensures faults { CountsFault result self.old.volume self.new.volume }
+    {
+        if !self.pins.has_all(plan.objects()) {
+            return Reply::NotReleased(plan);
+        }
+        self.pins.unpin(plan.objects());
+        Reply::Released
+    }
+
+    // Seals the next data object.
+    fn seal(&mut self) -> Reply<R>
+        requires { HasRoomForStep self.old }
+        ensures step { StepsAsPlain R.state events.Seal result self.old.volume self.new.volume }
+        ensures back { HandsBack events.Seal result }
+        ensures steps { self.new.steps ≡ self.old.steps }
+        ensures sizes { HasSameSizes self.old.volume self.new.volume }
+        ensures stops { StepKeeps self.old.volume self.new.volume }
+        ensures faults { CountsFault result self.old.volume self.new.volume }
+    {
+        self.objects.ordered();
+        seal(self.alloc, &mut self.objects)
+    }
+
+    // Begins the put of the lowest ready object.
+    fn take_job(&mut self) -> Reply<R>
+        requires { HasRoomForStep self.old }
+        ensures step { StepsAsPlain R.state events.TakeJob result self.old.volume self.new.volume }
+        ensures back { HandsBack events.TakeJob result }
+        ensures steps { self.new.steps ≡ self.old.steps }
+        ensures sizes { HasSameSizes self.old.volume self.new.volume }
+        ensures stops { StepKeeps self.old.volume self.new.volume }
+        ensures faults { CountsFault result self.old.volume self.new.volume }
+    {
+        take_job(&mut self.objects)
+    }
+
+    // Counts a put as acknowledged.
+    fn job_done(&mut self, job: Job, receipt: R) -> Reply<R>
+        requires ready { HasRoomForStep self.old }
+        requires receipt { HasItsReceipt R.state (events.JobDone job receipt) }
+        ensures step { StepsAsPlain R.state (events.JobDone job receipt) result self.old.volume self.new.volume }
+        ensures back { HandsBack (events.JobDone job receipt) result }
+        ensures steps { self.new.steps ≡ self.old.steps }
+        ensures sizes { HasSameSizes self.old.volume self.new.volume }
+        ensures stops { StepKeeps self.old.volume self.new.volume }
+        ensures faults { CountsFault result self.old.volume self.new.volume }
+    {
+        self.objects.ordered();
+        job_done(&mut self.objects, job, receipt)
+    }
+
+    // Makes the object of a put that failed ready again.
+    fn job_failed(&mut self, job: Job) -> Reply<R>
+        requires { HasRoomForStep self.old }
+        ensures step { StepsAsPlain R.state (events.JobFailed job) result self.old.volume self.new.volume }
+        ensures back { HandsBack (events.JobFailed job) result }
+        ensures steps { self.new.steps ≡ self.old.steps }
+        ensures sizes { HasSameSizes self.old.volume self.new.volume }
+        ensures stops { StepKeeps self.old.volume self.new.volume }
+        ensures faults { CountsFault result self.old.volume self.new.volume }
+    {
+        job_failed(&mut self.objects, job)
+    }
+
+    // Tells the counts.
+    fn status(&self) -> Reply<R>
+        ensures step { StepsAsPlain R.state events.Status result self.now.volume self.now.volume }
+        ensures back { HandsBack events.Status result }
+        ensures faults { tells_fault result ≡ false }
+    {
+        self.objects.ordered();
+        Reply::Told {
+            writes: self.objects.batch().next_seq(),
+            sealed: self.objects.last(),
+            frontier: self.objects.frontier(),
+            checkpoint: self.checkpoint,
+        }
+    }
+}
