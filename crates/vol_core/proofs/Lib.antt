@@ -13,6 +13,7 @@ mod PinCounts
 mod ObjectsRead
 mod PlanGives
 mod LookLemmas
-mod ReadSteps
+mod ReleaseSteps
+mod LookSteps
 mod CommitStops
 mod StopSteps

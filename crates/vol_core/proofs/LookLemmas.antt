@@ -99,8 +99,9 @@ pub may_of_own : (volume : VolumeState) (steps : ℕ) (now : SteppedVolume) (geo
 may_of_own volume steps now geometry lba sectors asked may is own asks answer =
     ap (λ g. may_transfer g lba sectors) (ap (λ (s : SteppedVolume). s.volume.objects.batch.geometry) is ∙ sym own) ∙ (sym asks ∙ answer)
 
-module _ (volume : VolumeState) (plain : PlainState) (shows : Shows volume plain) (ordered : IsUploads volume.objects.uploads.queue volume.objects.uploads.window)
-    (lba sectors : ℕ) (may : may_transfer volume.objects.batch.geometry lba sectors ≡ true) where
+module _ (volume : VolumeState) (plain : PlainState) (shows : Shows volume plain)
+    (ordered : IsUploads volume.objects.uploads.queue volume.objects.uploads.window) (lba sectors : ℕ)
+    (may : may_transfer volume.objects.batch.geometry lba sectors ≡ true) where
   pub read_shown : ShowsReads shows.data_at volume.objects volume.log plain
   read_shown = record { ordered = ordered; valid = shows.valid; objects_are = shows.objects; log_is = shows.log; logged = shows.logged }
 
@@ -124,8 +125,8 @@ pub record HasFuseForReads (count : ℕ) (are_made : Bool) (old new : Option Bud
   pub lets : passes fuse count ≡ are_made
   pub told : HasRoom 0 0 old → (fuse ≡ fuse_in old) × (fuse_after fuse count ≡ fuse_in new)
 
-pub reads_have_fuse : (count : ℕ) (are_made : Bool) (old new : Option Budget) → Takes (reads_cost count) are_made old new → (are_made ≡ false → 0 < count)
-    → HasFuseForReads count are_made old new
+pub reads_have_fuse : (count : ℕ) (are_made : Bool) (old new : Option Budget) → Takes (reads_cost count) are_made old new
+    → (are_made ≡ false → 0 < count) → HasFuseForReads count are_made old new
 reads_have_fuse count true None new takes some = record { fuse = None; lets = refl; told = λ room. absurd room }
 reads_have_fuse count false None new takes some = record { fuse = Some 0; lets = lt-leb count 0 (some refl); told = λ room. absurd room }
 reads_have_fuse count are_made (Some budget) new takes some =

@@ -49,8 +49,18 @@ same_ascending (x ∷ xs) (y ∷ ys) a b same =
     elim (cases_order x y) [
       | inl is ↦ is
       | inr apart ↦ elim apart [
-        | inl below ↦ (let h = same x in let c = counted x x xs in let one = one_of x x refl in let none = none_below x y ys b below in absurd (omega (arith, h, c, one, none)))
-        | inr above ↦ (let h = same y in let c = counted y y ys in let one = one_of y y refl in let none = none_below y x xs a above in absurd (omega (arith, h, c, one, none)))
+        | inl below ↦
+            let h = same x in
+            let c = counted x x xs in
+            let one = one_of x x refl in
+            let none = none_below x y ys b below in
+            absurd (omega (arith, h, c, one, none))
+        | inr above ↦
+            let h = same y in
+            let c = counted y y ys in
+            let one = one_of y y refl in
+            let none = none_below y x xs a above in
+            absurd (omega (arith, h, c, one, none))
       ]
     ] in
     let rest =
@@ -95,7 +105,8 @@ kept_passes test number (first ∷ rest) some =
           kept_passes test number rest (omega (arith, some, left))
     ]
 
-kept_where_passes : (test : ℕ → Bool) (number : ℕ) (numbers : List ℕ) → 0 < times number numbers → test number ≡ true → 0 < times number (filter test numbers)
+kept_where_passes : (test : ℕ → Bool) (number : ℕ) (numbers : List ℕ) → 0 < times number numbers → test number ≡ true
+    → 0 < times number (filter test numbers)
 kept_where_passes test number [] some passes = absurd (omega arith)
 kept_where_passes test number (first ∷ rest) some passes =
     let before = counted number first rest in
@@ -157,8 +168,8 @@ where_any test from n any =
 -- ---- receipts
 
 -- there is one only for a number up to the frontier
-receipt_number : (queue : QueueState) (number : ℕ) (receipt : ReceiptState) → length queue.receipts ≤ queue.frontier → receipt_of queue number ≡ Some receipt
-    → (1 ≤ number) × (number ≤ queue.frontier)
+receipt_number : (queue : QueueState) (number : ℕ) (receipt : ReceiptState) → length queue.receipts ≤ queue.frontier
+    → receipt_of queue number ≡ Some receipt → (1 ≤ number) × (number ≤ queue.frontier)
 receipt_number queue number receipt fit given =
     let before = queue.frontier - length queue.receipts in
     let there = slice_get queue.receipts (number - before - 1) in

@@ -55,7 +55,8 @@ any_is number (pin ∷ pins) =
     elim (cases_eq pin number) [
       | inl same ↦
           let one = one_of number pin same in
-          ap (λ b. b || list_any (λ p. p == number) pins) (eq-eqb pin number same) ∙ sym (lt-ltb 0 (times number (pin ∷ pins)) (omega (arith, before, one)))
+          ap (λ b. b || list_any (λ p. p == number) pins) (eq-eqb pin number same)
+          ∙ sym (lt-ltb 0 (times number (pin ∷ pins)) (omega (arith, before, one)))
       | inr apart ↦
           let none = none_of number pin apart in
           let same : times number pins ≡ times number (pin ∷ pins) = omega (arith, before, none) in

@@ -47,8 +47,8 @@ pub record GiveBytes (pieces : List PieceState) (under : List ℕ) : Type 0 wher
 abbrev GiveOrTellNone : List PieceState → (under : List ℕ) → Type 0
 GiveOrTellNone pieces under = GiveBytes pieces under ⊎ ((bytes : List ℕ) → GivesOver pieces under bytes)
 
-one_more : (piece : PieceState) (pieces : List PieceState) (under : List ℕ) (told : Option (List ℕ)) → TellsWhole piece.receipt → piece.receipt.told ≡ told
-    → ((bytes : List ℕ) → GiveOrTellNone pieces (pasted piece bytes under)) → GiveOrTellNone (piece ∷ pieces) under
+one_more : (piece : PieceState) (pieces : List PieceState) (under : List ℕ) (told : Option (List ℕ)) → TellsWhole piece.receipt
+    → piece.receipt.told ≡ told → ((bytes : List ℕ) → GiveOrTellNone pieces (pasted piece bytes under)) → GiveOrTellNone (piece ∷ pieces) under
 one_more piece pieces under None whole is more =
     inr (λ bytes. subst (λ t. IfSome t (λ all. GivesOver pieces (pasted piece all under) bytes)) (sym is) tt)
 one_more piece pieces under (Some told) whole is more =
@@ -62,7 +62,8 @@ one_more piece pieces under (Some told) whole is more =
       | inr any ↦ inr (λ bytes. subst (λ t. IfSome t (λ all. GivesOver pieces (pasted piece all under) bytes)) (sym is) (any bytes))
     ]
 
-pub give_or_tell_none : (pieces : List PieceState) (under : List ℕ) → AllByRecursion (λ piece. TellsWhole piece.receipt) pieces → GiveOrTellNone pieces under
+pub give_or_tell_none : (pieces : List PieceState) (under : List ℕ) → AllByRecursion (λ piece. TellsWhole piece.receipt) pieces
+    → GiveOrTellNone pieces under
 give_or_tell_none [] under whole = inl (record { told = tt; bytes = under; gives = refl })
 give_or_tell_none (piece ∷ pieces) under whole =
     one_more piece pieces under piece.receipt.told whole.0 refl (λ bytes. give_or_tell_none pieces (pasted piece bytes under) whole.1)
@@ -82,9 +83,9 @@ fetched_told queue place i (piece ∷ pieces) (inl this) told = record { receipt
 fetched_told queue place i (piece ∷ pieces) (inr later) told = fetched_told queue place i pieces later.1 told.1
 
 -- a sector that a plan gives is the one that is held at its place
-pub same_sector : (log : LogState) (queue : QueueState) (place : Option VolumePlace) (i : ℕ) (plan : PlanState) (list : List Entry) (given sector : List ℕ)
-    → log.entries ≡ Some list → AllByRecursion (λ piece. TellsAll piece.receipt) plan.pieces → HoldsPlace log queue place i plan
-    → IsSectorAt log queue place given → IsHeldAt log queue place sector → given ≡ sector
+pub same_sector : (log : LogState) (queue : QueueState) (place : Option VolumePlace) (i : ℕ) (plan : PlanState) (list : List Entry)
+    (given sector : List ℕ) → log.entries ≡ Some list → AllByRecursion (λ piece. TellsAll piece.receipt) plan.pieces
+    → HoldsPlace log queue place i plan → IsSectorAt log queue place given → IsHeldAt log queue place sector → given ≡ sector
 same_sector log queue None i plan list given sector listed told holds at held = at ∙ sym held
 same_sector log queue (Some (Log (Zeros seq))) i plan list given sector listed told holds at held = at ∙ sym held
 same_sector log queue (Some (Log (Data seq place))) i plan list given sector listed told holds at held =
@@ -121,7 +122,8 @@ joined_sectors (sector ∷ sectors) bytes size each =
     ap (λ s. s ++ concat sectors) (sym first) ∙ ap (λ more. take 512 bytes ++ more) rest ∙ take-append-drop 512 bytes
 
 -- one of some sectors of an image
-item_of_front : {A : Type 0} (n i : ℕ) (items : List A) (item : A) → slice_get (take n items) i ≡ Some item → (i < n) × (slice_get items i ≡ Some item)
+item_of_front : {A : Type 0} (n i : ℕ) (items : List A) (item : A) → slice_get (take n items) i ≡ Some item
+    → (i < n) × (slice_get items i ≡ Some item)
 item_of_front zero i items item is = absurd cc
 item_of_front (suc n) i [] item is = absurd cc
 item_of_front (suc n) zero (first ∷ items) item is = (omega arith, is)

@@ -8,7 +8,7 @@ use Rattle.vol_core.specs.Step.{StepsAsPlain}
 use Rattle.vol_core.specs.Calls.{HasRoomForStep}
 use Rattle.vol_core.proofs.StepLemmas.{steps_keep_volume}
 use Rattle.vol_core.proofs.LookLemmas.{may_of_own, log_has_read, objects_have_read}
-use Rattle.vol_core.proofs.ReadSteps.{with_reads, planned_steps, fault_steps, memory_steps, range_steps, reads_small, memory_small}
+use Rattle.vol_core.proofs.LookSteps.{with_reads, planned_steps, fault_steps, memory_steps, range_steps, reads_small, memory_small}
 use Rattle.vol_core.proofs.StopSteps.{keeps_seen, still, read_is_still, look_keeps, IsStill}
 use Rattle.vol_core.proofs.volume.Volume.look.Given as given
 use Rattle.vol_core.proofs.volume.Volume.look.Goals.{Joined-look, in-Ok, in-Err-Fault, in-Err-OutOfMemory}
@@ -57,13 +57,15 @@ steps g c =
     let log = c.look.new.log in
     let pins = c.look.new.pins in
     let state = g.R.Receipt.state in
-    let may = may_of_own volume inside.steps c.args.self.now c.geometry.result lba sectors c.may_transfer.result true c.self.view_is c.geometry.ensures
+    let may =
+    may_of_own volume inside.steps c.args.self.now c.geometry.result lba sectors c.may_transfer.result true c.self.view_is c.geometry.ensures
     c.may_transfer.ensures c.if-not-may_transfer.false in
     elim c.match-look.branch [
       | in-Ok w ↦
           let says = w.in-Ok.ensures in
           subst (λ reply. StepsAsPlain state (events.Look lba sectors) reply volume (with_reads log pins volume)) (sym w.result-is)
-          (planned_steps state volume lba sectors w.in-Ok.plan log pins c.ordered.ensures may says.plan says.whole says.pinned (says.reads (λ e. cc)))
+          (planned_steps state volume lba sectors w.in-Ok.plan log pins c.ordered.ensures may says.plan says.whole says.pinned
+          (says.reads (λ e. cc)))
       | in-Err-Fault w ↦
           let says = w.in-Err-Fault.ensures in
           let fault = w.in-Err-Fault.field-0-is in
@@ -98,8 +100,8 @@ pub invariant_of-self : goal.invariant_of-self
 invariant_of-self g c =
     let inside = c.self.inside in
     let volume : VolumeState = volume_of inside.objects inside.log inside.pins inside.checkpoint in
-    steps_keep_volume g.R.Receipt.state (events.Look c.args.lba c.args.sectors) c.match-look.result volume (with_reads c.look.new.log c.look.new.pins volume)
-    inside.steps c.self.invariant (steps g c) (small g c)
+    steps_keep_volume g.R.Receipt.state (events.Look c.args.lba c.args.sectors) c.match-look.result volume
+    (with_reads c.look.new.log c.look.new.pins volume) inside.steps c.self.invariant (steps g c) (small g c)
 
 pub returns-clause-step : goal.returns-clause-step
 returns-clause-step g c =

@@ -6,7 +6,7 @@ use Rattle.vol_core.specs.Step.{StepsAsPlain}
 use Rattle.vol_core.specs.Calls.{HasRoomForStep}
 use Rattle.vol_core.specs.Stops.{StepKeeps}
 use Rattle.vol_core.proofs.StepLemmas.{steps_keep_volume}
-use Rattle.vol_core.proofs.ReadSteps.{with_pins, released_steps, not_released_steps, pins_small}
+use Rattle.vol_core.proofs.ReleaseSteps.{with_pins, released_steps, not_released_steps, pins_small}
 use Rattle.vol_core.proofs.StopSteps.{keeps_seen, still, still_keeps}
 use Rattle.vol_core.proofs.volume.Volume.release.Goals as goal
 
@@ -16,7 +16,8 @@ returns-then-not-has_all-clause-step g c =
     let volume : VolumeState = volume_of inside.objects inside.log inside.pins inside.checkpoint in
     let plan = c.args.plan in
     subst (λ (s : SteppedVolume). StepsAsPlain g.R.Receipt.state (events.Release plan) (replies.NotReleased plan) s.volume s.volume) c.self.view_is
-    (not_released_steps g.R.Receipt.state plan volume c.objects.result.now c.has_all.result c.objects.ensures.objects c.has_all.ensures c.if-not-has_all.true)
+    (not_released_steps g.R.Receipt.state plan volume c.objects.result.now c.has_all.result c.objects.ensures.objects c.has_all.ensures
+    c.if-not-has_all.true)
 
 pub invariant_of-self : goal.invariant_of-self
 invariant_of-self g c =
@@ -36,7 +37,8 @@ returns-clause-step g c =
     let volume : VolumeState = volume_of inside.objects inside.log inside.pins inside.checkpoint in
     let plan = c.args.plan in
     let pins = c.unpin.new.self in
-    subst (λ (s : SteppedVolume). StepsAsPlain g.R.Receipt.state (events.Release plan) replies.Released s.volume (with_pins pins volume)) c.self.view_is
+    subst (λ (s : SteppedVolume). StepsAsPlain g.R.Receipt.state (events.Release plan) replies.Released s.volume (with_pins pins volume))
+    c.self.view_is
     (released_steps g.R.Receipt.state plan volume pins c.objects.result.now c.objects-2.result.now c.has_all.result c.objects.ensures.ascending
     c.objects.ensures.objects c.objects-2.ensures.objects c.has_all.ensures c.if-not-has_all.false c.unpin.ensures)
 

@@ -1,0 +1,231 @@
+-- A read is planned as the plain volume does whose device has some fuse.
+use Rattle.std.proofs.Common.{◌≡◌, ℕ, inl, inr, Bool, true, false, if◌then◌else◌, List, ◌++◌, length, refl, sym, ◌∙◌, ap, subst, arith}
+use Rattle.std.specs.List.{All}
+use Rattle.std.proofs.lemmas.List.Sums.{sum_by-append}
+use Rattle.lsvd_base.specs.Limits.{may_transfer}
+use Rattle.lsvd_device.specs.Calls.{Fuse, passes, fuse_after}
+use Rattle.lsvd_objstore.specs.Store.{ReceiptState}
+use Rattle.commit_slot.specs.Commits.{IsAsBefore}
+use Rattle.cache_log.specs.Log.{LogState, HasSameEntries}
+use Rattle.object_uploads.specs.Order.{IsUploads}
+use Rattle.plain_disk.specs.declared.event.PlainEvent.TheVariants as events
+use Rattle.plain_disk.specs.declared.event.PlainReply.{PlainReply}
+use Rattle.plain_disk.specs.declared.event.PlainReply.TheVariants as replies
+use Rattle.plain_disk.specs.Machine.{sectors_at}
+use Rattle.plain_disk.specs.Cache.{PlainCache}
+use Rattle.plain_disk.specs.State.{PlainState, history_length, image_now}
+use Rattle.plain_disk.specs.Reads.{objects_read, look_calls, look_reply, after_look}
+use Rattle.plain_disk.specs.Valid.{IsPlainVolume}
+use Rattle.log_meaning.specs.Fuses.{fuse_in}
+use Rattle.log_meaning.proofs.Shown.{same_shows_same}
+use Rattle.objects_meaning.proofs.ShowLemmas.{shown_have_counts, shown_with_other_cache}
+use Rattle.read_plan.specs.Plan.{PlanState, TellsWhole}
+use Rattle.read_plan.specs.Pins.{times, ArePinned, HasSamePins}
+use Rattle.read_plan.specs.Look.{IsReadPlan, reads_of, ReadsRange}
+use Rattle.read_plan.proofs.PinLemmas.{is_it}
+use Rattle.vol_core.specs.declared.event.Event.TheVariants.{Look}
+use Rattle.vol_core.specs.declared.reply.Reply.{Reply}
+use Rattle.vol_core.specs.declared.reply.Reply.TheVariants as told
+use Rattle.vol_core.specs.Volume.{VolumeState}
+use Rattle.vol_core.specs.Shows.{Shows, IsSmall}
+use Rattle.vol_core.specs.Events.{Tells}
+use Rattle.vol_core.specs.Step.{passing, IsStep, StepsAsPlain}
+use Rattle.vol_core.specs.Calls.{HasRoomForStep}
+use Rattle.vol_core.proofs.StepLemmas.{quiet_step}
+use Rattle.vol_core.proofs.LoggedLemmas.{logged_alike}
+use Rattle.vol_core.proofs.ObjectsRead.{objects_are_read}
+use Rattle.vol_core.proofs.PlanGives.{plan_gives_read}
+use Rattle.vol_core.proofs.LookLemmas.{read_shown, may_read, read_ends, reads_are_calls, reads_have_fuse}
+use Rattle.vol_core.proofs.ReleaseSteps.{logged_with, pins_small}
+
+-- ---- what a look leaves
+
+-- the volume after reads of its log
+abbrev pub with_reads : LogState → (pins : List ℕ) → VolumeState → VolumeState
+with_reads log pins volume = record volume { log = log; pins = pins }
+
+-- the plain volume with other pins, whose device passes other calls
+abbrev plain_with : Fuse → (pins : List ℕ) → PlainState → PlainState
+plain_with left pins plain = record plain { cache = record plain.cache { left = left }; pins = pins }
+
+still_plain : (left : Fuse) (pins : List ℕ) (plain : PlainState) → IsPlainVolume plain → IsPlainVolume (plain_with left pins plain)
+still_plain left pins plain is = record {
+  limits = is.limits;
+  sectors = is.sectors;
+  owned = is.owned;
+  in_range = is.in_range;
+  stream = is.stream;
+  window = is.window;
+  last = is.last;
+  opened = is.opened;
+  numbered = is.numbered;
+  checkpoint = is.checkpoint;
+  log = is.log;
+  size = is.size;
+}
+
+looked_shown : (old : VolumeState) (log : LogState) (pins now_pins : List ℕ) (plain : PlainState) → Shows old plain → HasSameEntries old.log log
+    → IsAsBefore old.log.commits log.commits → ((number : ℕ) → times number pins ≡ times number now_pins)
+    → Shows (with_reads log pins old) (plain_with (fuse_in log.commits.disk.budget) now_pins plain)
+looked_shown old log pins now_pins plain shows same commits pinned =
+    let cache : PlainCache = record plain.cache { left = fuse_in log.commits.disk.budget } in
+    record {
+      valid = still_plain (fuse_in log.commits.disk.budget) now_pins plain shows.valid;
+      data_at = shows.data_at;
+      objects = shown_with_other_cache shows.data_at old.objects plain cache now_pins shows.objects;
+      log = same_shows_same old.log log plain.cache.log shows.log same commits;
+      logged =
+          logged_with shows.data_at log plain cache now_pins
+          (logged_alike shows.data_at old.log log plain same.first same.rows same.entries shows.logged);
+      checkpoint = shows.checkpoint;
+      pins = pinned;
+      fuse = refl;
+    }
+
+-- the same after memory ran out, where nothing was done
+unlooked_shown : (old : VolumeState) (log : LogState) (pins : List ℕ) (plain : PlainState) → Shows old plain → log ≡ old.log
+    → HasSamePins old.pins pins → Shows (with_reads log pins old) plain
+unlooked_shown old log pins plain shows same pinned =
+    subst (λ l. Shows (with_reads l pins old) plain) (sym same)
+    (record {
+      valid = shows.valid;
+      data_at = shows.data_at;
+      objects = shows.objects;
+      log = shows.log;
+      logged = shows.logged;
+      checkpoint = shows.checkpoint;
+      pins = λ number. pinned number ∙ shows.pins number;
+      fuse = shows.fuse;
+    })
+
+-- ---- the plain volume's look
+
+-- its answer and its pins after it, where the device passes its calls, or not
+abbrev read_reply : (are_made : Bool) (lba sectors : ℕ) → PlainState → PlainReply
+read_reply are_made lba sectors plain =
+    if are_made then replies.Planned (history_length plain) (sectors_at lba sectors (image_now plain)) (objects_read plain lba sectors)
+    else replies.Fault
+
+abbrev read_pins : (are_made : Bool) (lba sectors : ℕ) → PlainState → List ℕ
+read_pins are_made lba sectors plain = if are_made then plain.pins ++ objects_read plain lba sectors else plain.pins
+
+module _ (left : Fuse) (plain : PlainState) (lba sectors : ℕ) (may are_made : Bool) (may_is : may_transfer plain.geometry lba sectors ≡ may)
+    (lets : passes left (look_calls plain lba sectors) ≡ are_made) where
+  after_look_is : after_look lba sectors (passing left plain)
+      ≡ (if may then plain_with (fuse_after left (look_calls plain lba sectors)) (read_pins are_made lba sectors plain) plain else passing left plain)
+  after_look_is =
+      let calls = look_calls plain lba sectors in
+      let now : Bool → PlainState = λ made. plain_with (fuse_after left calls) (read_pins made lba sectors plain) plain in
+      ap (λ b. if b then now (passes left calls) else passing left plain) may_is
+      ∙ ap (λ made. if may then now made else passing left plain) lets
+
+  look_reply_is : look_reply (passing left plain) lba sectors ≡ (if may then read_reply are_made lba sectors plain else replies.Range)
+  look_reply_is =
+      ap (λ b. if b then read_reply (passes left (look_calls plain lba sectors)) lba sectors plain else replies.Range) may_is
+      ∙ ap (λ made. if may then read_reply made lba sectors plain else replies.Range) lets
+
+-- ---- a look
+
+module _ {R : Type 0} (state : R → ReceiptState) (old : VolumeState) (lba sectors : ℕ)
+    (ordered : IsUploads old.objects.uploads.queue old.objects.uploads.window) (may : may_transfer old.objects.batch.geometry lba sectors ≡ true)
+    (plain : PlainState) (shows : Shows old plain) where
+  -- reads that were made, or failed, are those of the plain volume with some fuse
+  read_step : (reply : Reply R) (log : LogState) (pins : List ℕ) (are_made : Bool)
+      → ReadsRange lba sectors old.objects.uploads.queue.maps are_made old.log log → Tells state old reply (read_reply are_made lba sectors plain)
+      → ((number : ℕ) → times number pins ≡ times number (read_pins are_made lba sectors plain))
+      → IsStep state (Look lba sectors) reply plain old (with_reads log pins old)
+  read_step reply log pins are_made reads tells pinned =
+      let shown = read_shown old plain shows ordered lba sectors may in
+      let inside = read_ends old plain shows ordered lba sectors may in
+      let may_plain = may_read old plain shows ordered lba sectors may in
+      let rows = reads.reads in
+      let left = fuse_in log.commits.disk.budget in
+      let same = reads_are_calls shows.data_at old.objects old.log plain shown lba sectors inside are_made log reads in
+      let has = reads_have_fuse (reads_of reads.rows) are_made old.log.commits.disk.budget log.commits.disk.budget rows.calls.budget rows.some in
+      let lets = ap (passes has.fuse) (sym same) ∙ has.lets in
+      let after = after_look_is has.fuse plain lba sectors true are_made may_plain lets in
+      record {
+        left = has.fuse;
+        asked = events.Look lba sectors;
+        asks = refl;
+        tells = subst (Tells state old reply) (sym (look_reply_is has.fuse plain lba sectors true are_made may_plain lets)) tells;
+        shows =
+            subst (λ p. Shows (with_reads log pins old) (passing left p)) (sym after)
+            (looked_shown old log pins (read_pins are_made lba sectors plain) plain shows rows.same rows.commits pinned);
+        told = λ room. (
+          (has.told room).0,
+          ap (λ (p : PlainState). p.cache.left) after ∙ (ap (fuse_after has.fuse) (sym same) ∙ (has.told room).1),
+        );
+      }
+
+  planned_step : (plan : PlanState) (log : LogState) (pins : List ℕ) → IsReadPlan lba sectors old.objects old.log plan
+      → All (λ piece. TellsWhole piece.receipt) plan.pieces → ArePinned plan.objects old.pins pins
+      → ReadsRange lba sectors old.objects.uploads.queue.maps true old.log log
+      → IsStep state (Look lba sectors) (told.Planned plan) plain old (with_reads log pins old)
+  planned_step plan log pins is whole pinned reads =
+      let shown = read_shown old plain shows ordered lba sectors may in
+      let inside = read_ends old plain shows ordered lba sectors may in
+      let bytes = sectors_at lba sectors (image_now plain) in
+      let numbers = objects_read plain lba sectors in
+      let objects = objects_are_read shows.data_at old.objects old.log plain shown lba sectors inside plan.objects is.objects in
+      let front = is.front ∙ (shown_have_counts shows.data_at old.objects plain ordered shows.valid shows.objects).next in
+      let gives = plan_gives_read shows.data_at old.objects old.log plain shown lba sectors inside plan is whole in
+      read_step (told.Planned plan) log pins true reads
+      (bytes, ap (λ n. replies.Planned n bytes numbers) (sym front) ∙ ap (replies.Planned plan.front bytes) (sym objects), gives)
+      (λ number.
+      let both = pinned number in
+      let before = shows.pins number in
+      let added = sum_by-append (is_it number) plain.pins numbers in
+      let own = ap (times number) objects in
+      omega (arith, both, before, added, own))
+
+pub planned_steps : {R : Type 0} (state : R → ReceiptState) (old : VolumeState) (lba sectors : ℕ) (plan : PlanState) (log : LogState) (pins : List ℕ)
+    → IsUploads old.objects.uploads.queue old.objects.uploads.window → may_transfer old.objects.batch.geometry lba sectors ≡ true
+    → IsReadPlan lba sectors old.objects old.log plan → All (λ piece. TellsWhole piece.receipt) plan.pieces → ArePinned plan.objects old.pins pins
+    → ReadsRange lba sectors old.objects.uploads.queue.maps true old.log log
+    → StepsAsPlain state (Look lba sectors) (told.Planned plan) old (with_reads log pins old)
+planned_steps state old lba sectors plan log pins ordered may is whole pinned reads plain shows =
+    inl (planned_step state old lba sectors ordered may plain shows plan log pins is whole pinned reads)
+
+-- a read failed
+pub fault_steps : {R : Type 0} (state : R → ReceiptState) (old : VolumeState) (lba sectors : ℕ) (log : LogState) (pins : List ℕ)
+    → IsUploads old.objects.uploads.queue old.objects.uploads.window → may_transfer old.objects.batch.geometry lba sectors ≡ true
+    → HasSamePins old.pins pins → ReadsRange lba sectors old.objects.uploads.queue.maps false old.log log
+    → StepsAsPlain state (Look lba sectors) told.Fault old (with_reads log pins old)
+fault_steps state old lba sectors log pins ordered may pinned reads plain shows =
+    inl
+    (read_step state old lba sectors ordered may plain shows told.Fault log pins false reads refl (λ number. pinned number ∙ shows.pins number))
+
+-- memory ran out
+pub memory_steps : {R : Type 0} (state : R → ReceiptState) (old : VolumeState) (lba sectors : ℕ) (log : LogState) (pins : List ℕ)
+    → log ≡ old.log → HasSamePins old.pins pins → StepsAsPlain state (Look lba sectors) told.OutOfMemory old (with_reads log pins old)
+memory_steps state old lba sectors log pins same pinned plain shows =
+    inr (record { may = refl; lacks = refl; shows = unlooked_shown old log pins plain shows same pinned })
+
+-- the volume does not take a read of these sectors
+pub range_steps : {R : Type 0} (state : R → ReceiptState) (old : VolumeState) (lba sectors : ℕ)
+    → may_transfer old.objects.batch.geometry lba sectors ≡ false → StepsAsPlain state (Look lba sectors) told.Range old old
+range_steps state old lba sectors may_not plain shows =
+    let left = plain.cache.left in
+    let not = ap (λ g. may_transfer g lba sectors) (sym shows.objects.geometry) ∙ may_not in
+    let made = passes left (look_calls plain lba sectors) in
+    inl
+    (quiet_step state (Look lba sectors) told.Range plain old old (events.Look lba sectors) shows refl
+    (look_reply_is left plain lba sectors false made not refl)
+    (subst (Shows old) (sym (after_look_is left plain lba sectors false made not refl)) shows))
+
+-- ---- the numbers after a look
+
+pub reads_small : (old : VolumeState) (log : LogState) (pins : List ℕ) (steps lba sectors : ℕ) (are_made : Bool)
+    → HasRoomForStep (record { volume = old; steps = steps }) → ReadsRange lba sectors old.objects.uploads.queue.maps are_made old.log log
+    → IsSmall (with_reads log pins old) steps
+reads_small old log pins steps lba sectors are_made ready reads =
+    let small = pins_small old pins steps ready in
+    let first = reads.reads.same.first in
+    let rows = ap length reads.reads.same.rows in
+    let number = reads.reads.commits.same_number in
+    record { entries = omega (arith, small.entries, first, rows); objects = small.objects; commits = omega (arith, small.commits, number) }
+
+pub memory_small : (old : VolumeState) (log : LogState) (pins : List ℕ) (steps : ℕ) → HasRoomForStep (record { volume = old; steps = steps })
+    → log ≡ old.log → IsSmall (with_reads log pins old) steps
+memory_small old log pins steps ready same = subst (λ l. IsSmall (with_reads l pins old) steps) (sym same) (pins_small old pins steps ready)
