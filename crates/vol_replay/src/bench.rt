@@ -19,11 +19,11 @@ ghost use Rattle.vol_replay.specs.Bench.{IsUntouched, LeavesPlain};
 use crate::crash::{mount_again, stopped_disk};
 use cache_log::CacheLog;
 use commit_slot::LOG_START;
+use log_volume::Volume;
 use lsvd_base::{Body, Geometry, SECTOR_BYTES};
 use lsvd_device::{Disk, Fate, FuseDisk, MemDisk, StoppedDisk};
 use std::alloc::{AllocError, Global};
 use std::marker::Model;
-use log_volume::Volume;
 use volume_events::Reply;
 
 // The uuid of the volume of a script.
