@@ -7,8 +7,8 @@ use volume_maps::{LogPlace, ObjectPlace};
 // No sector here comes near its type's end.
 const MOST: u64 = 1 << 40;
 
-// Nor the number of a place, which in an object is below this by as many as an object can have.
-const MOST_NUMBER: u64 = 1 << 63;
+// Nor does the number of a place and of one sector more, which in an object is below this by as many as an object can have.
+const MOST_NUMBER: u64 = (1 << 63) - 2;
 
 /// Maps as those of a volume.
 #[derive(Drop)]
