@@ -1,0 +1,202 @@
+-- The newest checkpoint of a store.
+use Rattle.std.proofs.Common.{◌≡◌, ℕ, ◌+◌, ◌*◌, ◌^◌, ◌<◌, inl, inr, Option, Some, None, List, length, drop, refl, sym, ◌∙◌, ap, subst, arith, rules}
+use Rattle.std.specs.Prelude.{IfSome, slice_index_or}
+use Rattle.std.specs.Option.{IsSome}
+use Rattle.std.specs.List.{Contains}
+use Rattle.std.specs.Ordering.{nat_cmp, ordering_then, ordering_reverse}
+use Rattle.std.specs.Cmp.Lexicographic.{slice_cmp}
+use Rattle.std.specs.declared.cmp.Ordering.{Ordering}
+use Rattle.std.specs.declared.cmp.Ordering.TheVariants.{Less, Equal, Greater}
+use Rattle.std.proofs.lemmas.Bool.{cases_lt}
+use Rattle.std.proofs.lemmas.Bool.Decides.{nat_tests}
+use Rattle.std.proofs.lemmas.Cmp.{nat_list_cmp_total}
+use Rattle.std.proofs.lemmas.List.{get_or_default}
+use Rattle.std.proofs.lemmas.Map.Keys.{Less-from_sorted}
+use Rattle.lsvd_base.specs.declared.geometry.Geometry.{Geometry}
+use Rattle.lsvd_names.specs.Spelling.{IsUuid}
+use Rattle.lsvd_names.specs.declared.name.Kind.TheVariants.{Object}
+use Rattle.lsvd_names.specs.declared.name.ObjName.{ObjName}
+use Rattle.lsvd_objstore.specs.Objects.{Objects, name_cmp, found, Lists}
+use Rattle.lsvd_objstore.specs.Store.{ReceiptState, Finds}
+use Rattle.object_format.specs.declared.expected.Expected.{Expected}
+use Rattle.object_format.specs.declared.header.Header.{Header}
+use Rattle.object_format.specs.declared.kind.Kind.TheVariants as kinds
+use Rattle.object_format.specs.declared.reason.BadObject as reason_type
+use Rattle.object_format.specs.declared.rows.Rows.TheVariants.{Checkpoint}
+use Rattle.object_format.specs.Layout.{front_sectors}
+use Rattle.object_format.specs.Object.{IsObject}
+use Rattle.object_format.specs.Tests.{IsRefusedAs}
+use Rattle.object_format.proofs.ObjectLemmas.{same_header}
+use Rattle.object_stream.specs.Replay.{name_of}
+use Rattle.object_stream.specs.Stream.{Owners}
+use Rattle.stopped_volume.specs.Objects.{expected_alone, IsCheckpointOf}
+use Rattle.object_recovery.specs.declared.error.RecoverError.{RecoverError}
+use Rattle.object_recovery.specs.declared.error.RecoverError.TheVariants as errors
+use Rattle.object_recovery.specs.Read.{AreFirstOf, IsHeaderOf, IsWhyNotRead}
+use Rattle.object_recovery.specs.Checkpoints.{expected_of, IsEndOfCheckpoint, IsNoCheckpoint, IsCheckpointNamed, HasNoneFrom, IsNewestWithEnd}
+use Rattle.object_recovery.proofs.ReadLemmas.{header_of_all, refused_is_none}
+use Rattle.object_recovery.proofs.FindLemmas.{of_told, numbered}
+
+-- an object whose header is that of another kind is no checkpoint
+pub other_kind : (receipt : ReceiptState) (expected : Expected) (bytes : List ℕ) (header : Header) → IsHeaderOf receipt expected bytes header
+    → (header.kind ≡ kinds.Checkpoint → ⊥) → IfSome receipt.told (λ told. IsEndOfCheckpoint told receipt.size expected None)
+other_kind receipt expected bytes header is other = told_so receipt.told is.first
+  where
+    told_so : (told : Option (List ℕ)) → AreFirstOf told bytes → IfSome told (λ all. IsEndOfCheckpoint all receipt.size expected None)
+    told_so None first = tt
+    told_so (Some all) first = λ another object.
+        let same = same_header all receipt.size expected header another (header_of_all all bytes first receipt.size expected header is.header_is) object.head in
+        other (ap (λ (h : Header). h.kind) same ∙ sym object.rows_are.kind)
+
+-- what is refused is none
+pub bad_checkpoint : (receipt : ReceiptState) (expected : Expected) (error : RecoverError) (number : ℕ) (reason : reason_type.BadObject)
+    → error ≡ errors.BadObject number reason → IsWhyNotRead receipt expected error
+    → IfSome receipt.told (λ told. IsEndOfCheckpoint told receipt.size expected None)
+bad_checkpoint receipt expected error number reason is why = told_so receipt.told (subst (IsWhyNotRead receipt expected) is why).1
+  where
+    told_so : (told : Option (List ℕ)) → IfSome told (λ all. IsRefusedAs all receipt.size expected reason)
+        → IfSome told (λ all. IsEndOfCheckpoint all receipt.size expected None)
+    told_so None refused = tt
+    told_so (Some all) refused = λ header object. refused_is_none all receipt.size expected reason refused header Checkpoint object
+
+-- ---- by the bytes of an object
+
+-- what the bytes of an object say is so of the store that has it
+end_in_store : (geometry : Geometry) (objects : Objects) (name : ObjName) (bytes : List ℕ) (end : Option ℕ) → name.kind ≡ Object
+    → found objects (name_of name.uuid name.number) ≡ Some bytes
+    → IsEndOfCheckpoint bytes (length bytes) (expected_alone (expected_of name.uuid geometry) name.number) end → IsCheckpointNamed geometry objects name end
+end_in_store geometry objects name bytes None kind there is = λ same_kind end owned checkpoint.
+    let expected = expected_alone (expected_of name.uuid geometry) name.number in
+    let same : checkpoint.bytes ≡ bytes = let present = checkpoint.present in cc in
+    is checkpoint.header (subst (λ b. IsObject b (length b) expected checkpoint.header Checkpoint) same checkpoint.parts.is_object)
+end_in_store geometry objects name bytes (Some end) kind there is = (
+  kind,
+  record {
+    bytes = bytes;
+    present = there;
+    header = is.0;
+    payload = drop (512 * front_sectors is.0) bytes;
+    parts = record { is_object = is.1; payload_is = refl };
+    ends = is.2;
+    none = λ k. refl;
+  },
+)
+
+pub checkpoint_found : (told : Option Objects) (name : ObjName) (geometry : Geometry) (receipt : ReceiptState) (end : Option ℕ)
+    → name.kind ≡ Object → Finds name told (Some receipt) → IsSome receipt.told
+    → IfSome receipt.told (λ bytes. IsEndOfCheckpoint bytes receipt.size (expected_alone (expected_of name.uuid geometry) name.number) end)
+    → IfSome told (λ objects. IsCheckpointNamed geometry objects name end)
+checkpoint_found None name geometry receipt end kind finds some is = tt
+checkpoint_found (Some objects) name geometry receipt end kind finds some is =
+    let expected = expected_alone (expected_of name.uuid geometry) name.number in
+    end_in_store geometry objects name finds.0 end kind (ap (found objects) (sym (numbered name kind)) ∙ finds.1)
+    (of_told (λ bytes size. IsEndOfCheckpoint bytes size expected end) name finds.0 receipt finds.2 some is)
+
+-- where no object is, there is no checkpoint
+pub checkpoint_absent : (told : Option Objects) (name : ObjName) (geometry : Geometry) → Finds name told None
+    → IfSome told (λ objects. IsCheckpointNamed geometry objects name None)
+checkpoint_absent None name geometry finds = tt
+checkpoint_absent (Some objects) name geometry finds = λ kind end owned checkpoint.
+    let absent : found objects (name_of name.uuid name.number) ≡ None = ap (found objects) (sym (numbered name kind)) ∙ finds in
+    let present = checkpoint.present in
+    cc
+
+-- ---- among names
+
+number_order : (a b : ℕ) → nat_cmp a b ≡ Less → a < b
+number_order a b less = grind (arith, nat_tests)
+
+self_reversed : (r : Ordering) → r ≡ ordering_reverse r → r ≡ Equal
+self_reversed Less h = cc
+self_reversed Equal h = refl
+self_reversed Greater h = cc
+
+same_uuid : (uuid : List ℕ) → slice_cmp nat_cmp uuid uuid ≡ Equal
+same_uuid uuid = self_reversed (slice_cmp nat_cmp uuid uuid) (nat_list_cmp_total.antisymm uuid uuid)
+
+-- numbered names of a volume are in the order of their numbers
+name_order : (uuid : List ℕ) (a b : ℕ) → name_cmp (name_of uuid a) (name_of uuid b) ≡ Less → a < b
+name_order uuid a b less = number_order a b (sym (ap (λ order. ordering_then order (nat_cmp a b)) (same_uuid uuid)) ∙ less)
+
+module _ (uuid : List ℕ) (geometry : Geometry) (objects : Objects) (names : List ObjName) (is_uuid : IsUuid uuid) (listed : Lists uuid objects names) where
+  abbrev volume : Expected
+  volume = expected_of uuid geometry
+
+  -- a checkpoint of the store is among the names of its objects
+  is_listed : (number end : ℕ) (owned : Owners) → IsCheckpointOf volume objects number end owned → Contains names (name_of uuid number)
+  is_listed number end owned checkpoint =
+      let head = checkpoint.parts.is_object.head in
+      let fits : number < 2 ^ 64 = omega (arith, head.number, head.widths.number) in
+      let there : IsSome (found objects (name_of uuid number)) = subst (λ o. IsSome o) (sym checkpoint.present) (search rules) in
+      listed.complete (name_of uuid number) (record { uuid = is_uuid; number = tt; fits = fits }) refl there
+
+  -- and, where those from an index on have none, before that
+  before_index : (index : ℕ) → HasNoneFrom geometry objects names index → (number end : ℕ) (owned : Owners) → IsCheckpointOf volume objects number end owned
+      → (k : ℕ) × (k < index) × (k < length names) × (slice_index_or names k (name_of uuid number) ≡ name_of uuid number)
+  before_index index none number end owned checkpoint =
+      let at = is_listed number end owned checkpoint in
+      elim (cases_lt at.0 index) [
+        | inl low ↦ (at.0, low, at.1, at.2)
+        | inr from ↦ absurd (none at.0 (name_of uuid number) from at.1 at.2 refl end owned checkpoint)
+      ]
+
+  -- so the checkpoint before them is the newest
+  newest_at : (index : ℕ) (name : ObjName) (end : ℕ) → index < length names → slice_index_or names index name ≡ name → name.kind ≡ Object → name.uuid ≡ uuid
+      → HasNoneFrom geometry objects names (index + 1) → IsCheckpointOf volume objects name.number end (λ k. None)
+      → IsNewestWithEnd volume objects name.number end
+  newest_at index name end inside at kind of_volume none is = record {
+    is = is;
+    newest = λ other other_end owned checkpoint.
+        let place = before_index (index + 1) none other other_end owned checkpoint in
+        let here : name ≡ name_of uuid name.number = numbered name kind ∙ ap (λ u. name_of u name.number) of_volume in
+        elim (cases_lt place.0 index) [
+          | inl low ↦
+              let less = Less-from_sorted name_cmp names place.0 index name listed.ascending low inside in
+              let first : slice_index_or names place.0 name ≡ name_of uuid other =
+              get_or_default names place.0 name (name_of uuid other) place.2 ∙ place.3 in
+              let order : name_cmp (name_of uuid other) (name_of uuid name.number) ≡ Less =
+              ap (λ a. name_cmp a (name_of uuid name.number)) (sym first)
+              ∙ ap (name_cmp (slice_index_or names place.0 name)) (sym (at ∙ here)) ∙ less in
+              omega (arith, name_order uuid other name.number order)
+          | inr from ↦
+              let same : place.0 ≡ index = omega (arith, place.1, from) in
+              let one : name_of uuid other ≡ name =
+              sym place.3 ∙ ap (λ k. slice_index_or names k (name_of uuid other)) same ∙ get_or_default names index (name_of uuid other) name inside ∙ at in
+              omega (arith, ap (λ (n : ObjName). n.number) one)
+        ];
+  }
+
+-- ---- where the store tells its objects
+
+pub found_newest : (told : Option Objects) (geometry : Geometry) (names : List ObjName) (index : ℕ) (name : ObjName) (end : ℕ)
+    → index < length names → slice_index_or names index name ≡ name
+    → IfSome told (λ objects. HasNoneFrom geometry objects names (index + 1))
+    → IfSome told (λ objects. IsCheckpointNamed geometry objects name (Some end))
+    → IfSome told (λ objects. (uuid : List ℕ) → IsUuid uuid → Lists uuid objects names → IsNewestWithEnd (expected_of uuid geometry) objects name.number end)
+found_newest None geometry names index name end inside at none is = tt
+found_newest (Some objects) geometry names index name end inside at none is = λ uuid is_uuid listed.
+    let of_volume = (listed.present name (index, inside, at)).1 in
+    newest_at uuid geometry objects names is_uuid listed index name end inside at is.0 of_volume none
+    (subst (λ u. IsCheckpointOf (expected_of u geometry) objects name.number end (λ k. None)) of_volume is.1)
+
+pub none_more : (told : Option Objects) (geometry : Geometry) (names : List ObjName) (index : ℕ) (name : ObjName)
+    → index < length names → slice_index_or names index name ≡ name
+    → IfSome told (λ objects. HasNoneFrom geometry objects names (index + 1))
+    → IfSome told (λ objects. IsCheckpointNamed geometry objects name None)
+    → IfSome told (λ objects. HasNoneFrom geometry objects names index)
+none_more None geometry names index name inside at none is = tt
+none_more (Some objects) geometry names index name inside at none is = λ k other from within there.
+    elim (cases_lt index k) [
+      | inl past ↦ none k other (omega arith) within there
+      | inr to ↦
+          let same : k ≡ index = omega arith in
+          let one : name ≡ other = sym at ∙ get_or_default names index name other inside ∙ ap (λ i. slice_index_or names i other) (sym same) ∙ there in
+          subst (λ n. IsCheckpointNamed geometry objects n None) one is
+    ]
+
+pub found_none : (told : Option Objects) (geometry : Geometry) (names : List ObjName)
+    → IfSome told (λ objects. HasNoneFrom geometry objects names 0)
+    → IfSome told (λ objects. (uuid : List ℕ) (number : ℕ) → IsUuid uuid → Lists uuid objects names → IsNoCheckpoint (expected_of uuid geometry) objects number)
+found_none None geometry names none = tt
+found_none (Some objects) geometry names none = λ uuid number is_uuid listed end owned checkpoint.
+    absurd (omega (arith, (before_index uuid geometry objects names is_uuid listed 0 none number end owned checkpoint).1))

@@ -1,0 +1,52 @@
+-- What a search of the store finds.
+use Rattle.std.proofs.Common.{◌≡◌, ℕ, Option, Some, None, Ok, Err, List, length, sym, ◌∙◌, ap, subst}
+use Rattle.std.specs.Prelude.{Result, IfSome, IfErr, IsErrAnd, IsErrOf, OnErr}
+use Rattle.std.specs.Option.{IsSome}
+use Rattle.lsvd_names.specs.declared.name.Kind.{Kind}
+use Rattle.lsvd_names.specs.declared.name.Kind.TheVariants.{Object}
+use Rattle.lsvd_names.specs.declared.name.ObjName.{ObjName}
+use Rattle.lsvd_objstore.specs.Objects.{Objects}
+use Rattle.lsvd_objstore.specs.Store.{StoreState, ReceiptState, IsReceiptOf, OnlyCounts}
+use Rattle.object_stream.specs.Replay.{name_of}
+
+-- what is told is the object's bytes
+told_bytes : (told : Option (List ℕ)) (bytes : List ℕ) → IsSome told → IfSome told (λ t. t ≡ bytes) → told ≡ Some bytes
+told_bytes None bytes some is = cc
+told_bytes (Some t) bytes some is = ap Some is
+
+-- so what holds of the bytes that a receipt tells, and of how many it says they are, holds of those of its object
+pub of_told : (P : List ℕ → ℕ → Type 0) (name : ObjName) (bytes : List ℕ) (receipt : ReceiptState) → IsReceiptOf name bytes receipt → IsSome receipt.told
+    → IfSome receipt.told (λ told. P told receipt.size) → P bytes (length bytes)
+of_told P name bytes receipt is some holds =
+    let told = told_bytes receipt.told bytes some is.told in
+    subst (P bytes) is.size (subst (λ t. IfSome t (λ b. P b receipt.size)) told holds)
+
+-- the name of a numbered object
+pub numbered : (name : ObjName) → name.kind ≡ Object → name ≡ name_of name.uuid name.number
+numbered name kind = ap (λ (k : Kind). let other : ObjName = record { uuid = name.uuid; kind = k; number = name.number } in other) kind
+
+-- a store with the same count of faults is the same
+pub same_store : (old new : StoreState) → OnlyCounts old new → new.faults ≡ old.faults → new ≡ old
+same_store old new only same = only ∙ ap (λ (n : ℕ). let state : StoreState = record old { faults = n } in state) same
+
+-- what an error is, what follows from it is
+pub error_so : {T E : Type 0} (P Q : E → Type 0) (outcome : Result T E) → ((error : E) → P error → Q error) → IfErr outcome P → IfErr outcome Q
+error_so P Q (Ok value) so is = tt
+error_so P Q (Err error) so is = so error is
+
+pub on_error : {T E : Type 0} (P : Type 0) (outcome : Result T E) → P → OnErr outcome P
+on_error P (Ok value) is = tt
+on_error P (Err error) is = is
+
+-- what follows from what is so of told objects is so of them
+pub told_so : (P Q : Objects → Type 0) (told : Option Objects) → IfSome told P → IfSome told (λ objects. P objects → Q objects) → IfSome told Q
+told_so P Q None is so = tt
+told_so P Q (Some objects) is so = so is
+
+-- what an error comes to, where one is passed on
+pub passed_on : {T E : Type 0} (P : E → Type 0) (outcome : Result T E) (error : E) → IsErrAnd outcome (λ e. e ≡ error) → P error → IfErr outcome P
+passed_on P (Ok value) error is so = tt
+passed_on P (Err e) error is so = subst P (sym is) so
+
+pub error_of : {T E : Type 0} (error other : E) → error ≡ other → IsErrOf {T = T} (Err error) other
+error_of error other same = ap Err same

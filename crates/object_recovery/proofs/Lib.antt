@@ -1,0 +1,10 @@
+pub mod ReadLemmas
+pub mod FindLemmas
+pub mod CheckpointLemmas
+pub mod RemovalLemmas
+pub mod AdoptionLemmas
+pub mod StreamLemmas
+pub mod ListLemmas
+pub mod RecoverLemmas
+pub mod RefusalLemmas
+pub mod AgainLemmas

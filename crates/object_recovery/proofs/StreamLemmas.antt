@@ -1,0 +1,293 @@
+-- The list that is recovered is that of the stream whose objects the store has.
+use Rattle.std.proofs.Common.{◌≡◌, ℕ, zero, suc, ◌+◌, ◌-◌, ◌*◌, ◌^◌, ◌<◌, ◌≤◌, inl, inr, Option, Some, None, List, [], ◌∷◌, ◌++◌, length, take, drop, get_or, refl, sym, ◌∙◌, ap, subst, arith, length-drop}
+use Rattle.std.specs.Prelude.{true, is_some}
+use Rattle.std.specs.List.{All}
+use Rattle.std.specs.Global.{Vec}
+use Rattle.std.proofs.Math.Seq.{take-add}
+use Rattle.std.proofs.lemmas.Bool.{cases_lt}
+use Rattle.std.proofs.lemmas.List.{drop-drop, take_more, take-append-drop, get_or-take, length-take, length-replicate}
+use Rattle.std.proofs.lemmas.List.Elements.{All-take, All-drop}
+use Rattle.lsvd_base.specs.declared.entry.Entry.{Entry}
+use Rattle.lsvd_base.specs.Image.{blank, zero_sector, after}
+use Rattle.lsvd_base.specs.Laws.{EndsBy}
+use Rattle.lsvd_base.proofs.SectorLemmas.{applies_in_parts}
+use Rattle.lsvd_objstore.specs.Objects.{Objects, found}
+use Rattle.lsvd_objstore.specs.Store.{ReceiptState}
+use Rattle.object_format.specs.declared.data_row.DataRow.{DataRow}
+use Rattle.object_format.specs.declared.expected.Expected.{Expected}
+use Rattle.object_format.specs.declared.header.Header.{Header}
+use Rattle.object_format.specs.declared.rows.Rows.{Rows}
+use Rattle.object_format.specs.declared.rows.Rows.TheVariants as rows_of
+use Rattle.object_format.specs.Layout.{front_sectors}
+use Rattle.object_format.specs.Laws.{AreSameRows}
+use Rattle.object_stream.specs.declared.object.Content.{Content}
+use Rattle.object_stream.specs.declared.object.Content.TheVariants as content
+use Rattle.object_stream.specs.declared.object.StreamObject.{StreamObject}
+use Rattle.object_stream.specs.Changes.{change_at, change_in}
+use Rattle.object_stream.specs.Replay.{name_of, HasParts, expected_at}
+use Rattle.object_stream.specs.Stored.{HasContent, IsStored, AreStored}
+use Rattle.object_stream.specs.Stream.{Stream, end_after, end_at, GoesTo, EndsFollow}
+use Rattle.object_stream.proofs.OneLemmas.{AreSameParts, same_parts}
+use Rattle.object_stream.proofs.StreamLemmas.{end_in_parts, goes_on, end_no_earlier, follow_first}
+use Rattle.object_stream.proofs.ValueLemmas.{length-after}
+use Rattle.object_uploads.specs.Queue.{just_sealed}
+use Rattle.object_uploads.specs.Stream.{IsSealedOf}
+use Rattle.object_uploads.specs.Laws.{with_adopted}
+use Rattle.object_uploads.proofs.GrowLemmas.{all_objects}
+use Rattle.obj_log.specs.State.{ObjLogState}
+use Rattle.obj_log.specs.Changes.{expected_of_volume, next_of, HasAdoptedObject}
+use Rattle.obj_log.specs.Stream.{IsOfStream}
+use Rattle.obj_log.proofs.ImageLemmas.{adopting_keeps_stream, adopting_makes_image}
+use Rattle.object_uploads.specs.Order.{IsUploads}
+use Rattle.object_uploads.specs.Image.{HasImage, HasOwnReceipts}
+use Rattle.object_recovery.specs.Recovery.{up_to_object, HasDataUpTo, HasStreamTo, IsStoredAs}
+
+-- ---- the objects of a stream one by one
+
+-- one of some objects that are stored
+stored_at : (objects : Objects) (uuid_at : ℕ → Option (List ℕ)) (volume : Expected) (number end : ℕ) (entries : List Entry) (list : List StreamObject) (count i : ℕ) (d : StreamObject)
+    → i < count → i < length list → EndsFollow end list → AreStored objects uuid_at volume number end entries (take count list)
+    → IsStored objects uuid_at (expected_at volume (number + i + 1) (end_after end (take i list))) (get_or list i d)
+    (take ((get_or list i d).end - end_after end (take i list)) (drop (end_after end (take i list) - end) entries))
+stored_at objects uuid_at volume number end entries list zero i d below inside follow stored = absurd (omega (arith, below))
+stored_at objects uuid_at volume number end entries [] (suc count) i d below inside follow stored = absurd (omega (arith, inside))
+stored_at objects uuid_at volume number end entries (object ∷ more) (suc count) zero d below inside follow stored =
+    let at : number + 1 ≡ number + 0 + 1 = omega arith in
+    let none : 0 ≡ end - end = omega arith in
+    subst (λ n. IsStored objects uuid_at (expected_at volume n end) object (take (object.end - end) (drop (end - end) entries))) at
+    (subst (λ k. IsStored objects uuid_at (expected_at volume (number + 1) end) object (take (object.end - end) (drop k entries))) none stored.0)
+stored_at objects uuid_at volume number end entries (object ∷ more) (suc count) (suc i) d below inside follow stored =
+    let last = end_after object.end (take i more) in
+    let first : end ≤ object.end = goes_on object.content end object.end follow.0 in
+    let then : object.end ≤ last = end_no_earlier object.end (take i more) (follow_first object.end i more follow.1) in
+    let skip : object.end - end + (last - object.end) ≡ last - end = omega arith in
+    let at : number + 1 + i + 1 ≡ number + suc i + 1 = omega arith in
+    let rest = stored_at objects uuid_at volume (number + 1) object.end (drop (object.end - end) entries) more count i d (omega (arith, below)) (omega (arith, inside)) follow.1 stored.1 in
+    let part = drop-drop (last - object.end) (object.end - end) entries ∙ ap (λ k. drop k entries) skip in
+    subst (λ n. IsStored objects uuid_at (expected_at volume n last) (get_or more i d) (take ((get_or more i d).end - last) (drop (last - end) entries))) at
+    (subst (λ es. IsStored objects uuid_at (expected_at volume (number + 1 + i + 1) last) (get_or more i d) (take ((get_or more i d).end - last) es)) part rest)
+
+-- it goes on where the one before it ends
+goes_at : (end : ℕ) (list : List StreamObject) (i : ℕ) (d : StreamObject) → i < length list → EndsFollow end list
+    → GoesTo (get_or list i d).content (end_after end (take i list)) (get_or list i d).end
+goes_at end [] i d inside follow = absurd (omega (arith, inside))
+goes_at end (object ∷ more) zero d inside follow = follow.0
+goes_at end (object ∷ more) (suc i) d inside follow = goes_at object.end more i d (omega (arith, inside)) follow.1
+
+end_next : (end : ℕ) (list : List StreamObject) (i : ℕ) (d : StreamObject) → i < length list → end_after end (take (i + 1) list) ≡ (get_or list i d).end
+end_next end list i d inside = ap (end_after end) (take_more list i d inside) ∙ end_in_parts end (take i list) (get_or list i d ∷ [])
+
+follow_rest : (end n : ℕ) (list : List StreamObject) → EndsFollow end list → EndsFollow (end_after end (take n list)) (drop n list)
+follow_rest end zero list follow = follow
+follow_rest end (suc n) [] follow = tt
+follow_rest end (suc n) (object ∷ more) follow = follow_rest object.end n more follow.1
+
+-- the first of some objects end no later than all
+end_within : (end n : ℕ) (list : List StreamObject) → EndsFollow end list → end_after end (take n list) ≤ end_after end list
+end_within end n list follow =
+    let parts = ap (end_after end) (sym (take-append-drop n list)) ∙ end_in_parts end (take n list) (drop n list) in
+    omega (arith, parts, end_no_earlier (end_after end (take n list)) (drop n list) (follow_rest end n list follow))
+
+-- ---- an object of data
+
+-- rows that are the same as those of a data object do what its entries do
+same_changes : (objects : Objects) (uuid_at : ℕ → Option (List ℕ)) (kind : Content) (entries : List Entry) (list : Vec DataRow) (others : Rows) (payload other : List ℕ)
+    → kind ≡ content.Data → AreSameRows (rows_of.Data list) others → payload ≡ other → HasContent objects uuid_at kind entries others other
+    → (k : ℕ) → change_in list.items payload k ≡ change_at entries k
+same_changes objects uuid_at kind entries list (rows_of.Data rows) payload other is_data same pay has k =
+    let is : HasContent objects uuid_at content.Data entries (rows_of.Data rows) other = subst (λ c. HasContent objects uuid_at c entries (rows_of.Data rows) other) is_data has in
+    ap (λ items. change_in items payload k) same ∙ ap (λ p. change_in rows.items p k) pay ∙ is k
+same_changes objects uuid_at kind entries list (rows_of.Copy rows) payload other is_data same pay has k = absurd same
+same_changes objects uuid_at kind entries list rows_of.Checkpoint payload other is_data same pay has k = absurd same
+
+-- ---- one step
+
+module _ (volume : Expected) (uuid_at : ℕ → Option (List ℕ)) (objects : Objects) (stream : Stream) (number : ℕ) (wide : volume.sectors < 2 ^ 64)
+    (has : HasDataUpTo volume uuid_at objects stream number) where
+  abbrev all : List StreamObject
+  all = stream.objects
+
+  enough : number ≤ stream.number + length stream.objects
+  enough = has.stored.last
+
+  -- the first missing number is that past the last object
+  pub missing_at : (at : ℕ) (bytes : List ℕ) → at ≤ number → found objects (name_of volume.uuid (at + 1)) ≡ Some bytes → at < number
+  missing_at at bytes to there =
+      elim (cases_lt at number) [
+        | inl low ↦ low
+        | inr from ↦
+            let same : at ≡ number = omega arith in
+            let absent = has.stored.missing.absent in
+            let present : found objects (name_of volume.uuid (number + 1)) ≡ Some bytes = subst (λ n. found objects (name_of volume.uuid (n + 1)) ≡ Some bytes) same there in
+            absurd (let e = ap is_some present in cc)
+      ]
+
+  pub reached : (at : ℕ) → stream.number ≤ at → at ≤ number → found objects (name_of volume.uuid (at + 1)) ≡ None → at ≡ number
+  reached at from to absent =
+      elim (cases_lt at number) [
+        | inl low ↦
+            let landed = has.stored.missing.least (at + 1) (omega (arith, has.stored.base)) (omega arith) in
+            absurd (let e = ap is_some absent in let f : is_some (found objects (name_of volume.uuid (at + 1))) ≡ true = landed in cc)
+        | inr past ↦ omega arith
+      ]
+
+  module _ (at : ℕ) (from : stream.number ≤ at) (below : at < number) where
+    abbrev i : ℕ
+    i = at - stream.number
+
+    abbrev d : StreamObject
+    d = record { content = content.Data; end = 0 }
+
+    abbrev object : StreamObject
+    object = get_or all i d
+
+    abbrev end_before : ℕ
+    end_before = end_at stream at
+
+    abbrev part : List Entry
+    part = take (object.end - end_before) (drop (end_before - stream.end) stream.entries)
+
+    inside : i < length all
+    inside = omega (arith, enough)
+
+    pub is_stored : IsStored objects uuid_at (expected_at volume (at + 1) end_before) object part
+    is_stored =
+        let next : stream.number + i + 1 ≡ at + 1 = omega arith in
+        let count : i < number - stream.number = omega arith in
+        subst (λ n. IsStored objects uuid_at (expected_at volume n end_before) object part) next
+        (stored_at objects uuid_at volume stream.number stream.end stream.entries all (number - stream.number) i d count inside has.valid.ends has.stored.stored)
+
+    pub is_data : object.content ≡ content.Data
+    is_data =
+        let count : i < number - stream.number = omega arith in
+        let taken : i < length (take (number - stream.number) all) = omega (arith, length-take (number - stream.number) all, inside) in
+        ap (λ (o : StreamObject). o.content) (sym (get_or-take (number - stream.number) all i d count)) ∙ has.hold_data i d taken
+
+    grows : end_before < object.end
+    grows = subst (λ kind. GoesTo kind end_before object.end) is_data (goes_at stream.end all i d inside has.valid.ends)
+
+    order : stream.end ≤ end_before
+    order = end_no_earlier stream.end (take i all) (follow_first stream.end i all has.valid.ends)
+
+    next_end : end_at stream (at + 1) ≡ object.end
+    next_end =
+        let more : at + 1 - stream.number ≡ i + 1 = omega arith in
+        ap (λ n. end_after stream.end (take n all)) more ∙ end_next stream.end all i d inside
+
+    last_end : object.end ≤ stream.end + length stream.entries
+    last_end =
+        let total = ap (end_after stream.end) (all_objects stream) in
+        omega (arith, end_next stream.end all i d inside, end_within stream.end (i + 1) all has.valid.ends, total, has.valid.within)
+
+    part_size : length part ≡ object.end - end_before
+    part_size =
+        omega (arith, length-take (object.end - end_before) (drop (end_before - stream.end) stream.entries), length-drop (end_before - stream.end) stream.entries, order, grows, last_end)
+
+    -- the entries of the objects up to the next one
+    entries_more : (up_to_object at stream).entries ++ part ≡ (up_to_object (at + 1) stream).entries
+    entries_more =
+        let sum : end_before - stream.end + (object.end - end_before) ≡ end_at stream (at + 1) - stream.end = omega (arith, order, grows, next_end) in
+        sym (take-add (end_before - stream.end) (object.end - end_before) stream.entries) ∙ ap (λ n. take n stream.entries) sum
+
+    objects_more : (end : ℕ) → object.end ≡ end → (up_to_object at stream).objects ++ record { content = content.Data; end = end } ∷ [] ≡ (up_to_object (at + 1) stream).objects
+    objects_more end ends =
+        let more : i + 1 ≡ at + 1 - stream.number = omega arith in
+        let kind = ap (λ (c : Content). let o : StreamObject = record { content = c; end = object.end } in o) is_data in
+        let whole = ap (λ (e : ℕ). let o : StreamObject = record { content = content.Data; end = e } in o) ends in
+        ap (λ (o : StreamObject). take i all ++ o ∷ []) (sym whole ∙ sym kind) ∙ sym (take_more all i d inside) ∙ ap (λ n. take n all) more
+
+    grown : (end : ℕ) → object.end ≡ end → with_adopted part end (up_to_object at stream) ≡ up_to_object (at + 1) stream
+    grown end ends =
+        ap (λ (es : List Entry). let s : Stream = record stream { entries = es; objects = (up_to_object at stream).objects ++ record { content = content.Data; end = end } ∷ [] } in s) entries_more
+        ∙ ap (λ (os : List StreamObject). let s : Stream = record stream { entries = (up_to_object (at + 1) stream).entries; objects = os } in s) (objects_more end ends)
+
+    -- ---- the object that the store has
+
+    module _ (rows : List DataRow) (end : ℕ) (receipt : ReceiptState) (stored : IsStoredAs objects (expected_at volume (at + 1) end_before) rows end receipt) where
+      abbrev payload : List ℕ
+      payload = drop (512 * front_sectors stored.header) stored.bytes
+
+      parts : HasParts (expected_at volume (at + 1) end_before) stored.bytes stored.header (rows_of.Data stored.list) payload
+      parts = record { is_object = stored.is_object; payload_is = refl }
+
+      one : AreSameParts (rows_of.Data stored.list) is_stored.rows_of payload is_stored.payload stored.header is_stored.header
+      one =
+          let expected = expected_at volume (at + 1) end_before in
+          let same : stored.bytes ≡ is_stored.bytes = let e = stored.present in let f = is_stored.present in cc in
+          same_parts expected expected stored.bytes is_stored.bytes stored.header is_stored.header (rows_of.Data stored.list) is_stored.rows_of payload is_stored.payload
+          wide wide same parts is_stored.parts
+
+      object_end : object.end ≡ end
+      object_end = sym is_stored.ends ∙ ap (λ (h : Header). h.end_seq) (sym one.headers) ∙ stored.end_is
+
+      sealed_of : IsSealedOf (expected_at volume (at + 1) end_before) part (record { content = content.Data; end = end }) (just_sealed stored.bytes rows end)
+      sealed_of = record {
+        content = refl;
+        end = refl;
+        header = stored.header;
+        rows_of = rows_of.Data stored.list;
+        payload = payload;
+        parts = parts;
+        rows_are = stored.items;
+        ends = stored.end_is;
+        changes = λ k.
+            ap (λ items. change_in items payload k) (sym stored.items)
+            ∙ same_changes objects uuid_at object.content part stored.list is_stored.rows_of payload is_stored.payload is_data one.same_rows one.payloads is_stored.content k;
+      }
+
+    -- ---- the list with it
+
+    module _ (old new : ObjLogState) (rows : List DataRow) (end : ℕ) (receipt : ReceiptState) (same_volume : expected_of_volume old ≡ volume)
+        (last : old.uploads.window.last ≡ at) (sealed_none : old.uploads.queue.sealed ≡ []) (batch_none : old.batch.entries ≡ [])
+        (uploads : IsUploads old.uploads.queue old.uploads.window) (adopted : HasAdoptedObject rows end receipt old new)
+        (list : HasStreamTo volume.sectors stream at old) (there : IsStoredAs objects (next_of old) rows end receipt) where
+      first : old.batch.first ≡ end_before
+      first = (list.of_stream (λ n. 0)).first ∙ ap (end_after stream.end) (all_objects (up_to_object at stream))
+
+      next_is : next_of old ≡ expected_at volume (at + 1) end_before
+      next_is =
+          ap (λ (v : Expected). expected_at v (old.uploads.window.last + 1) old.batch.first) same_volume
+          ∙ ap (λ n. expected_at volume (n + 1) old.batch.first) last ∙ ap (expected_at volume (at + 1)) first
+
+      stored : IsStoredAs objects (expected_at volume (at + 1) end_before) rows end receipt
+      stored = subst (λ e. IsStoredAs objects e rows end receipt) next_is there
+
+      sealed : IsSealedOf (next_of old) part (record { content = content.Data; end = end }) (just_sealed stored.bytes rows end)
+      sealed =
+          subst (λ e. IsSealedOf e part (record { content = content.Data; end = end }) (just_sealed stored.bytes rows end)) (sym next_is)
+          (sealed_of rows end receipt stored)
+
+      ends : object.end ≡ end
+      ends = object_end rows end receipt stored
+
+      length_image : length (after (blank volume.sectors) (up_to_object at stream).entries) ≡ volume.sectors
+      length_image =
+          let size = length-replicate volume.sectors zero_sector in
+          length-after (blank volume.sectors) (up_to_object at stream).entries
+          (subst (λ n. All (EndsBy n) (up_to_object at stream).entries) (sym size) (All-take (EndsBy volume.sectors) (end_before - stream.end) stream.entries has.inside))
+          ∙ size
+
+      part_inside : All (EndsBy (length (after (blank volume.sectors) (up_to_object at stream).entries))) part
+      part_inside =
+          subst (λ n. All (EndsBy n) part) (sym length_image)
+          (All-take (EndsBy volume.sectors) (object.end - end_before) (drop (end_before - stream.end) stream.entries) (All-drop (EndsBy volume.sectors) (end_before - stream.end) stream.entries has.inside))
+
+      image : HasImage (after (blank volume.sectors) (up_to_object (at + 1) stream).entries) new.uploads.queue × HasOwnReceipts new.uploads.queue
+      image =
+          let before = after (blank volume.sectors) (up_to_object at stream).entries in
+          let object_is : StreamObject = record { content = content.Data; end = end } in
+          let now = adopting_makes_image (λ n. 0) (up_to_object at stream) old new part object_is stored.bytes rows end receipt before uploads (list.of_stream (λ n. 0)) sealed_none sealed adopted
+          stored.receipt_is part_inside list.image in
+          let joined : after before part ≡ after (blank volume.sectors) (up_to_object (at + 1) stream).entries =
+          sym (applies_in_parts (blank volume.sectors) (up_to_object at stream).entries part) ∙ ap (after (blank volume.sectors)) entries_more in
+          (subst (λ x. HasImage x new.uploads.queue) joined now.0, now.1)
+
+      of_stream : (data_at : ℕ → ℕ) → IsOfStream data_at (up_to_object (at + 1) stream) new
+      of_stream data_at =
+          let goes : end ≡ old.batch.first + length part = omega (arith, first, part_size, ends, grows) in
+          let some : 0 < length part = omega (arith, part_size, grows) in
+          subst (λ s. IsOfStream data_at s new) (grown end ends)
+          (adopting_keeps_stream data_at (up_to_object at stream) old new part stored.bytes rows end receipt uploads (list.of_stream data_at) sealed_none batch_none goes some sealed adopted)
+
+      pub one_more : HasStreamTo volume.sectors stream (at + 1) new
+      one_more = record { of_stream = of_stream; image = image.0; receipts = image.1 }

@@ -1,0 +1,38 @@
+-- Contract: which outcomes of a recovery are faults of the store, and when receipts tell what they stand for.
+use Rattle.std.specs.Prelude.{Bool, true, false, Result, Ok, Err, IsSome}
+use Rattle.lsvd_objstore.specs.declared.error.StoreError.{StoreError}
+use Rattle.lsvd_objstore.specs.declared.error.StoreError.TheVariants as store
+use Rattle.lsvd_objstore.specs.Store.{ReceiptState}
+use Rattle.object_recovery.specs.declared.error.RecoverError.{RecoverError}
+use Rattle.object_recovery.specs.declared.error.RecoverError.TheVariants as errors
+
+-- what an error of a call of the store is to a recovery
+abbrev pub of_store : StoreError → RecoverError
+of_store store.Failed = errors.StoreFault
+of_store store.OutOfMemory = errors.OutOfMemory
+
+-- a call of the store failed
+abbrev pub is_store_fault : RecoverError → Bool
+is_store_fault errors.NoCheckpoint = false
+is_store_fault (errors.BadObject number reason) = false
+is_store_fault (errors.NotData number) = false
+is_store_fault (errors.Worn number) = false
+is_store_fault errors.StoreFault = true
+is_store_fault errors.OutOfMemory = false
+
+abbrev pub ends_by_fault : {T : Type 0} → Result T RecoverError → Bool
+ends_by_fault (Ok value) = false
+ends_by_fault (Err error) = is_store_fault error
+
+-- the error is that a call of the store failed, or that memory ran out
+abbrev pub IsNoAnswer : RecoverError → Type 0
+IsNoAnswer errors.NoCheckpoint = ⊥
+IsNoAnswer (errors.BadObject number reason) = ⊥
+IsNoAnswer (errors.NotData number) = ⊥
+IsNoAnswer (errors.Worn number) = ⊥
+IsNoAnswer errors.StoreFault = Unit {0}
+IsNoAnswer errors.OutOfMemory = Unit {0}
+
+-- receipts tell the bytes that they stand for
+abbrev pub TellsBytes : {R : Type 0} → (R → ReceiptState) → Type 0
+TellsBytes {R} state = (receipt : R) → IsSome (state receipt).told

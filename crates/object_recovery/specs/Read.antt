@@ -1,0 +1,40 @@
+-- Contract: what is read of an object: its header and its rows, or the first reason for which it is none.
+use Rattle.std.specs.Prelude.{◌≡◌, ℕ, ◌≤◌, Option, Some, None, IfSome, List, length, take}
+use Rattle.object_format.specs.declared.expected.Expected.{Expected}
+use Rattle.object_format.specs.declared.header.Header.{Header}
+use Rattle.object_format.specs.declared.rows.Rows.{Rows}
+use Rattle.object_format.specs.Header.{IsHeader}
+use Rattle.object_format.specs.Object.{IsObject}
+use Rattle.object_format.specs.Tests.{IsRefusedAs}
+use Rattle.lsvd_objstore.specs.Store.{ReceiptState}
+use Rattle.object_recovery.specs.declared.error.RecoverError.{RecoverError}
+use Rattle.object_recovery.specs.declared.error.RecoverError.TheVariants as errors
+
+-- bytes are the first so many of an object, where its bytes are told
+abbrev pub AreFirstOf : Option (List ℕ) → (bytes : List ℕ) → Type 0
+AreFirstOf None bytes = Unit {0}
+AreFirstOf (Some told) bytes = bytes ≡ take (length bytes) told
+
+-- the first bytes of an object, no more than a header has, begin with this header under the expected number
+pub record IsHeaderOf (receipt : ReceiptState) (expected : Expected) (bytes : List ℕ) (header : Header) : Type 0 where
+  pub few : length bytes ≤ 64
+  pub first : AreFirstOf receipt.told bytes
+  pub header_is : IsHeader bytes receipt.size expected header
+
+-- Some bytes, with as many as the object has, are an object of the grammar under the expected number, with this header and these rows;
+-- where the object's are told, they are.
+pub record IsReadAs (receipt : ReceiptState) (expected : Expected) (header : Header) (rows : Rows) : Type 0 where
+  pub bytes : List ℕ
+  pub is_object : IsObject bytes receipt.size expected header rows
+  pub told : IfSome receipt.told (λ told. IsObject told receipt.size expected header rows)
+
+-- an error of a read of an object: where it is that of a bad object, it has the first reason for which the object is none of the grammar
+-- under the expected number
+abbrev pub IsWhyNotRead : ReceiptState → Expected → RecoverError → Type 0
+IsWhyNotRead receipt expected errors.NoCheckpoint = ⊥
+IsWhyNotRead receipt expected (errors.BadObject number reason) =
+    (number ≡ expected.number) × IfSome receipt.told (λ told. IsRefusedAs told receipt.size expected reason)
+IsWhyNotRead receipt expected (errors.NotData number) = ⊥
+IsWhyNotRead receipt expected (errors.Worn number) = ⊥
+IsWhyNotRead receipt expected errors.StoreFault = Unit {0}
+IsWhyNotRead receipt expected errors.OutOfMemory = Unit {0}

@@ -1,0 +1,240 @@
+-- Contract: what a recovery of the objects of a volume makes of a store.
+use Rattle.std.specs.Prelude.{◌≡◌, ℕ, ◌+◌, ◌-◌, ◌^◌, ◌<◌, ◌≤◌, ◌⊎◌, None, Option, Some, IfSome, IsTrue, List, [], length, take}
+use Rattle.std.specs.List.{All}
+use Rattle.std.specs.Global.{Vec}
+use Rattle.lsvd_base.specs.declared.geometry.Geometry.{Geometry}
+use Rattle.lsvd_base.specs.Image.{blank, after}
+use Rattle.lsvd_base.specs.Laws.{EndsBy}
+use Rattle.lsvd_objstore.specs.Objects.{Objects, found}
+use Rattle.lsvd_objstore.specs.Store.{ReceiptState}
+use Rattle.object_format.specs.declared.data_row.DataRow.{DataRow}
+use Rattle.object_format.specs.declared.expected.Expected.{Expected}
+use Rattle.object_format.specs.declared.header.Header.{Header}
+use Rattle.object_format.specs.declared.kind.Kind.TheVariants as kinds
+use Rattle.object_format.specs.declared.rows.Rows.{Rows}
+use Rattle.object_format.specs.declared.rows.Rows.TheVariants as rows_of
+use Rattle.object_format.specs.Object.{IsObject}
+use Rattle.object_format.specs.Tests.{IsRefusedAs}
+use Rattle.object_stream.specs.declared.object.Content.TheVariants.{Data}
+use Rattle.object_stream.specs.declared.object.StreamObject.{StreamObject}
+use Rattle.object_stream.specs.Stream.{Stream, objects_to, end_at, IsStream}
+use Rattle.object_stream.specs.Replay.{name_of, expected_at}
+use Rattle.stopped_volume.specs.Objects.{landed_in, AreCheckpoints}
+use Rattle.stopped_volume.specs.Laws.{HasStreamUpTo}
+use Rattle.volume_maps.specs.Maps.{logged_at}
+use Rattle.object_uploads.specs.Image.{HasImage, IsReceiptFor, HasOwnReceipts}
+use Rattle.object_uploads.specs.Order.{IsUploads}
+use Rattle.obj_log.specs.State.{ObjLogState}
+use Rattle.obj_log.specs.Changes.{expected_of_volume, next_of, HasAdoptedObject}
+use Rattle.obj_log.specs.Stream.{IsOfStream}
+use Rattle.object_recovery.specs.declared.error.RecoverError.{RecoverError}
+use Rattle.object_recovery.specs.declared.error.RecoverError.TheVariants as errors
+use Rattle.object_stream.specs.Landed.{Numbers, IsFirstMissing}
+use Rattle.lsvd_names.specs.Spelling.{IsName}
+use Rattle.lsvd_names.specs.declared.name.ObjName.{ObjName}
+use Rattle.object_recovery.specs.Read.{IsReadAs, IsWhyNotRead}
+use Rattle.object_recovery.specs.Checkpoints.{IsNoCheckpoint}
+use Rattle.object_recovery.specs.Removal.{Removes, IsPast}
+
+-- ---- streams
+
+-- a stream up to its object of a number: the objects up to there, and the entries that are in these
+abbrev pub up_to_object : ℕ → Stream → Stream
+up_to_object number stream = record stream {
+  entries = take (end_at stream number - stream.end) stream.entries;
+  objects = objects_to stream number;
+}
+
+-- A store has a stream of a volume without clones from its newest checkpoint on, up to the object of a number: that before the first
+-- missing one. Each object past the checkpoint up to there holds entries, and the entries lie inside the volume.
+pub record HasDataUpTo (volume : Expected) (uuid_at : ℕ → Option (List ℕ)) (objects : Objects) (stream : Stream) (number : ℕ) : Type 0 where
+  pub valid : IsStream stream
+  pub stored : HasStreamUpTo volume uuid_at objects stream (blank volume.sectors) number
+  pub hold_data : All (λ (object : StreamObject). object.content ≡ Data) (objects_to stream number)
+  pub inside : All (EndsBy volume.sectors) stream.entries
+
+-- ---- lists
+
+-- The list of a volume all of whose objects, up to this number and this end, are acknowledged. No entry is in the batch, nor in the
+-- map of the log.
+pub record IsListUpTo (uuid : List ℕ) (geometry : Geometry) (number end : ℕ) (log : ObjLogState) : Type 0 where
+  pub uuid_is : log.uploads.uuid ≡ uuid
+  pub geometry_is : log.batch.geometry ≡ geometry
+  pub first : log.batch.first ≡ end
+  pub entries : log.batch.entries ≡ []
+  pub window : log.uploads.window ≡ record { last = number; objects = [] }
+  pub frontier : log.uploads.queue.frontier ≡ number
+  pub end_is : log.uploads.queue.end ≡ end
+  pub sealed : log.uploads.queue.sealed ≡ []
+  pub logged : (k : ℕ) → logged_at log.uploads.queue.maps k ≡ None
+
+-- The list is that of a stream up to the object of a number, wherever the data of entries are told, and its objects have the image that
+-- the entries in these make of a new volume.
+pub record HasStreamTo (sectors : ℕ) (stream : Stream) (number : ℕ) (log : ObjLogState) : Type 0 where
+  pub of_stream : (data_at : ℕ → ℕ) → IsOfStream data_at (up_to_object number stream) log
+  pub image : HasImage (after (blank sectors) (up_to_object number stream).entries) log.uploads.queue
+  pub receipts : HasOwnReceipts log.uploads.queue
+
+-- ---- the next object
+
+-- an object was read as one that holds entries, with these rows and this end, and neither its number nor its end is too great
+pub record IsReadAsData (receipt : ReceiptState) (expected : Expected) (rows : List DataRow) (end : ℕ) : Type 0 where
+  pub header : Header
+  pub list : Vec DataRow
+  pub items : list.items ≡ rows
+  pub read : IsReadAs receipt expected header (rows_of.Data list)
+  pub end_is : header.end_seq ≡ end
+  pub low_end : end < 2 ^ 60
+  pub low_number : expected.number < 2 ^ 60
+
+-- why an object is not adopted
+abbrev pub IsWhyNotAdopted : ReceiptState → Expected → RecoverError → Type 0
+IsWhyNotAdopted receipt expected errors.NoCheckpoint = ⊥
+IsWhyNotAdopted receipt expected (errors.BadObject number reason) = IsWhyNotRead receipt expected (errors.BadObject number reason)
+IsWhyNotAdopted receipt expected (errors.NotData number) =
+    (number ≡ expected.number) × (header : Header) × (rows : Rows) × IsReadAs receipt expected header rows × (header.kind ≡ kinds.Data → ⊥)
+IsWhyNotAdopted receipt expected (errors.Worn number) =
+    (number ≡ expected.number)
+    × ((2 ^ 60 ≤ number) ⊎ ((header : Header) × (rows : Rows) × IsReadAs receipt expected header rows × (2 ^ 60 ≤ header.end_seq)))
+IsWhyNotAdopted receipt expected errors.StoreFault = Unit {0}
+IsWhyNotAdopted receipt expected errors.OutOfMemory = Unit {0}
+
+-- the store has the expected object, which holds entries, with these rows and this end, and the receipt is for it
+pub record IsStoredAs (objects : Objects) (expected : Expected) (rows : List DataRow) (end : ℕ) (receipt : ReceiptState) : Type 0 where
+  pub bytes : List ℕ
+  pub present : found objects (name_of expected.uuid expected.number) ≡ Some bytes
+  pub header : Header
+  pub list : Vec DataRow
+  pub items : list.items ≡ rows
+  pub is_object : IsObject bytes (length bytes) expected header (rows_of.Data list)
+  pub end_is : header.end_seq ≡ end
+  pub receipt_is : IsReceiptFor bytes receipt
+
+-- why the recovery stops at the expected object, which the store has
+abbrev pub IsWhyStopped : Objects → Expected → RecoverError → Type 0
+IsWhyStopped objects expected errors.NoCheckpoint = ⊥
+IsWhyStopped objects expected (errors.BadObject number reason) =
+    (number ≡ expected.number) × (bytes : List ℕ) × (found objects (name_of expected.uuid expected.number) ≡ Some bytes)
+    × IsRefusedAs bytes (length bytes) expected reason
+IsWhyStopped objects expected (errors.NotData number) =
+    (number ≡ expected.number) × (bytes : List ℕ) × (found objects (name_of expected.uuid expected.number) ≡ Some bytes)
+    × (header : Header) × (rows : Rows) × IsObject bytes (length bytes) expected header rows × (header.kind ≡ kinds.Data → ⊥)
+IsWhyStopped objects expected (errors.Worn number) =
+    (number ≡ expected.number) × (bytes : List ℕ) × (found objects (name_of expected.uuid expected.number) ≡ Some bytes)
+    × ((2 ^ 60 ≤ number) ⊎ ((header : Header) × (rows : Rows) × IsObject bytes (length bytes) expected header rows × (2 ^ 60 ≤ header.end_seq)))
+IsWhyStopped objects expected errors.StoreFault = Unit {0}
+IsWhyStopped objects expected errors.OutOfMemory = Unit {0}
+
+-- the object of the next number was adopted; where receipts tell, it is the one that the store has
+pub record AdoptsNext (Tells : Type 0) (objects : Option Objects) (old new : ObjLogState) : Type 0 where
+  pub rows : List DataRow
+  pub end : ℕ
+  pub receipt : ReceiptState
+  pub order : IsUploads old.uploads.queue old.uploads.window
+  pub adopted : HasAdoptedObject rows end receipt old new
+  pub low_end : end < 2 ^ 60
+  pub low_number : old.uploads.window.last + 1 < 2 ^ 60
+  pub landed : IfSome objects (λ objects. IsTrue (landed_in objects old.uploads.uuid (old.uploads.window.last + 1)))
+  pub stored : Tells → IfSome objects (λ objects. IsStoredAs objects (next_of old) rows end receipt)
+
+-- there is none of the next number
+pub record HasNoNext (objects : Option Objects) (old new : ObjLogState) : Type 0 where
+  pub same : new ≡ old
+  pub missing : IfSome objects (λ objects. found objects (name_of old.uploads.uuid (old.uploads.window.last + 1)) ≡ None)
+
+-- ---- all objects up to the first missing number
+
+-- Where a list is that of a stream which the store has, up to the object of its frontier, the other one is so too, and its frontier is no
+-- earlier, and none past the last object.
+abbrev pub KeepsStreams : (volume : Expected) → Objects → (old new : ObjLogState) → Type 0
+KeepsStreams volume objects old new =
+    (uuid_at : ℕ → Option (List ℕ)) (stream : Stream) (number : ℕ) → HasDataUpTo volume uuid_at objects stream number
+    → stream.number ≤ old.uploads.window.last → old.uploads.window.last ≤ number → HasStreamTo volume.sectors stream old.uploads.window.last old
+    → (old.uploads.window.last ≤ new.uploads.window.last) × (new.uploads.window.last ≤ number)
+    × HasStreamTo volume.sectors stream new.uploads.window.last new
+
+-- the objects of these numbers have landed: past one, up to another
+abbrev pub HaveLanded : Objects → (uuid : List ℕ) → (past to : ℕ) → Type 0
+HaveLanded objects uuid past to = (number : ℕ) → past < number → number ≤ to → IsTrue (landed_in objects uuid number)
+
+-- the recovery stops at the object past some that were adopted
+pub record StopsPast (volume : Expected) (objects : Objects) (old : ObjLogState) (error : RecoverError) : Type 0 where
+  pub before : ObjLogState
+  pub keeps : KeepsStreams volume objects old before
+  pub same_volume : expected_of_volume before ≡ volume
+  pub list : IsListUpTo before.uploads.uuid before.batch.geometry before.uploads.window.last before.uploads.queue.end before
+  pub why : IsWhyStopped objects (next_of before) error
+
+-- ---- the whole
+
+-- the object of this number is that before the first missing one, whatever the checkpoints of the store are
+abbrev pub IsLastLanded : (volume : Expected) → Objects → (number : ℕ) → Type 0
+IsLastLanded volume objects number =
+    (checkpoint : Numbers) → AreCheckpoints volume objects checkpoint → IsFirstMissing checkpoint (landed_in objects volume.uuid) (number + 1)
+
+-- whichever stream the store has, the list is that of it up to the object before the first missing number
+pub record HasRecovered (sectors : ℕ) (stream : Stream) (number : ℕ) (log : ObjLogState) : Type 0 where
+  pub number_is : log.uploads.window.last ≡ number
+  pub end_is : log.uploads.queue.end ≡ end_at stream number
+  pub streams : HasStreamTo sectors stream number log
+
+abbrev pub RecoversStreams : (volume : Expected) → Objects → ObjLogState → Type 0
+RecoversStreams volume objects log =
+    (uuid_at : ℕ → Option (List ℕ)) (stream : Stream) (number : ℕ) → HasDataUpTo volume uuid_at objects stream number
+    → HasRecovered volume.sectors stream number log
+
+-- the list is that of each stream that the store has, and its last object is that before the first missing number
+pub record IsRecoveredOf (volume : Expected) (objects : Objects) (log : ObjLogState) : Type 0 where
+  pub streams : RecoversStreams volume objects log
+  pub last : IsLastLanded volume objects log.uploads.window.last
+
+-- an object of a volume past a number
+abbrev pub IsPastOf : (uuid : List ℕ) → (number : ℕ) → ObjName → Type 0
+IsPastOf uuid number name = (name.uuid ≡ uuid) × IsPast number name
+
+-- the objects of a volume past a number were removed, and no other object changed
+pub record RemovesAllPast (uuid : List ℕ) (number : ℕ) (old new : Objects) : Type 0 where
+  pub removes : Removes (IsPastOf uuid number) old new
+  pub gone : (name : ObjName) → IsName name → IsPastOf uuid number name → found new name ≡ None
+
+-- what a recovery that ends by an error leaves: all as it was, or without some of the objects past the first missing number
+abbrev pub MayRemovePast : (Tells : Type 0) → (volume : Expected) → (old new : Objects) → Type 0
+MayRemovePast Tells volume old new =
+    (new ≡ old) ⊎ ((number : ℕ) × (Tells → IsLastLanded volume old number) × Removes (IsPastOf volume.uuid number) old new)
+
+-- the store has an object of this number, and the number, or the end of the object, is 2^60 or more
+pub record IsWorn (volume : Expected) (objects : Objects) (number : ℕ) : Type 0 where
+  pub bytes : List ℕ
+  pub present : found objects (name_of volume.uuid number) ≡ Some bytes
+  pub high :
+      (2 ^ 60 ≤ number)
+      ⊎ ((expected : Expected) × (header : Header) × (rows : Rows) × IsObject bytes (length bytes) expected header rows × (2 ^ 60 ≤ header.end_seq))
+
+-- why the objects of a store are refused
+abbrev pub IsWhyRefused : (volume : Expected) → Objects → RecoverError → Type 0
+IsWhyRefused volume objects errors.NoCheckpoint = (number : ℕ) → IsNoCheckpoint volume objects number
+IsWhyRefused volume objects (errors.BadObject number reason) =
+    (end : ℕ) × IsWhyStopped objects (expected_at volume number end) (errors.BadObject number reason)
+IsWhyRefused volume objects (errors.NotData number) = (end : ℕ) × IsWhyStopped objects (expected_at volume number end) (errors.NotData number)
+IsWhyRefused volume objects (errors.Worn number) = IsWorn volume objects number
+IsWhyRefused volume objects errors.StoreFault = Unit {0}
+IsWhyRefused volume objects errors.OutOfMemory = Unit {0}
+
+-- the error refuses what the store has
+abbrev pub IsRefusal : RecoverError → Type 0
+IsRefusal errors.NoCheckpoint = Unit {0}
+IsRefusal (errors.BadObject number reason) = Unit {0}
+IsRefusal (errors.NotData number) = Unit {0}
+IsRefusal (errors.Worn number) = ⊥
+IsRefusal errors.StoreFault = ⊥
+IsRefusal errors.OutOfMemory = ⊥
+
+-- no stream that the store has is refused
+abbrev pub RefusesNoStream : (volume : Expected) → Objects → RecoverError → Type 0
+RefusesNoStream volume objects error =
+    (uuid_at : ℕ → Option (List ℕ)) (stream : Stream) (number : ℕ) → HasDataUpTo volume uuid_at objects stream number → IsRefusal error → ⊥
+
+-- an error with its reason, which refuses no stream that the store has
+pub record IsRefused (volume : Expected) (objects : Objects) (error : RecoverError) : Type 0 where
+  pub why : IsWhyRefused volume objects error
+  pub no_stream : RefusesNoStream volume objects error

@@ -1,0 +1,61 @@
+ghost use Rattle.std.specs.Prelude.{◌≡◌};
+ghost use Rattle.object_recovery.specs.declared.error.RecoverError.TheVariants as errors;
+ghost use Rattle.object_recovery.specs.Faults.{of_store};
+
+use lsvd_fault::Failed;
+use lsvd_objstore::StoreError;
+use object_format::BadObject;
+use std::alloc::AllocError;
+use thiserror::Error;
+
+/// Why the objects of a volume were not recovered.
+#[derive(Clone, Copy, Debug, PartialEq, Eq, Error)]
+pub enum RecoverError {
+    /// No object of the volume is a checkpoint.
+    #[error("the store has no checkpoint of the volume")]
+    NoCheckpoint,
+    /// The object of this number, which is past the newest checkpoint and before the first missing number, is not of the
+    /// grammar, or does not go on where the object before it ends. Those before it are and do.
+    #[error("bad object {number}: {reason}")]
+    BadObject { number: u64, reason: BadObject },
+    /// The object of this number, which is past the newest checkpoint and before the first missing number, is of the grammar
+    /// and holds no entries: it is a copy, which is not recovered yet.
+    #[error("object {number} holds no entries")]
+    NotData { number: u64 },
+    /// The object of this number has a number or an end of 2^60 or more: the volume is worn out.
+    #[error("object {number}: the volume is worn out")]
+    Worn { number: u64 },
+    /// A call of the store failed, and was counted by it.
+    #[error("the store failed")]
+    StoreFault,
+    /// Memory ran out.
+    #[error("out of memory")]
+    OutOfMemory,
+}
+
+impl From<StoreError> for RecoverError {
+    ghost from_gives = { λ error e. e ≡ of_store error };
+
+    fn from(error: StoreError) -> RecoverError {
+        match error {
+            StoreError::Failed => RecoverError::StoreFault,
+            StoreError::OutOfMemory => RecoverError::OutOfMemory,
+        }
+    }
+}
+
+impl From<Failed> for RecoverError {
+    ghost from_gives = { λ _ e. e ≡ errors.StoreFault };
+
+    fn from(_: Failed) -> RecoverError {
+        RecoverError::StoreFault
+    }
+}
+
+impl From<AllocError> for RecoverError {
+    ghost from_gives = { λ _ e. e ≡ errors.OutOfMemory };
+
+    fn from(_: AllocError) -> RecoverError {
+        RecoverError::OutOfMemory
+    }
+}
