@@ -30,7 +30,8 @@ front_short rows most = omega arith
 few_rows : (bytes : List ℕ) (size : ℕ) (expected : Expected) (header : Header) (rows : Vec DataRow) → IsObject bytes size expected header (Data rows)
     → length rows.items ≤ 65536
 few_rows bytes size expected header rows is =
-    let limits = subst (λ k. IsTrue (nat_le header.rows (most_rows expected.sectors k) && nat_le header.payload 131071)) (sym is.rows_are.kind) is.head.limits in
+    let limits = subst (λ k. IsTrue (nat_le header.rows (most_rows expected.sectors k) && nat_le header.payload 131071))
+    (sym is.rows_are.kind) is.head.limits in
     let count : length rows.items ≡ header.rows = is.rows_are.count in
     grind (arith, nat_tests)
 
@@ -41,12 +42,15 @@ object_fits bytes size expected header rows low is =
     let few = few_rows bytes size expected header rows is in
     record {
       count = few;
-      fit = rows_fit (front_of rows.items) expected.sectors header.payload 0 None rows.items low most (front_short (length rows.items) few) is.rows_are.spelling;
+      fit =
+          rows_fit (front_of rows.items) expected.sectors header.payload 0 None rows.items low most
+          (front_short (length rows.items) few) is.rows_are.spelling;
     }
 
 pub data_fits : (receipt : ReceiptState) (expected : Expected) (rows : List DataRow) (end : ℕ) → expected.sectors < 2 ^ 63
     → IsReadAsData receipt expected rows end → FitObject rows
-data_fits receipt expected rows end low is = subst FitObject is.items (object_fits is.read.bytes receipt.size expected is.header is.list low is.read.is_object)
+data_fits receipt expected rows end low is =
+    subst FitObject is.items (object_fits is.read.bytes receipt.size expected is.header is.list low is.read.is_object)
 
 -- ---- where the store tells its objects
 
@@ -61,7 +65,8 @@ stored_as (Some objects) expected receipt rows end finds some is = record {
   list = is.list;
   items = is.items;
   is_object =
-      of_told (λ bytes size. IsObject bytes size expected is.header (Data is.list)) (name_of expected.uuid expected.number) finds.0 receipt finds.2 some is.read.told;
+      of_told (λ bytes size. IsObject bytes size expected is.header (Data is.list))
+      (name_of expected.uuid expected.number) finds.0 receipt finds.2 some is.read.told;
   end_is = is.end_is;
   receipt_is = record { size = finds.2.size; told = finds.2.told };
 }
@@ -93,7 +98,13 @@ why_stopped (Some objects) expected receipt (errors.Worn number) finds some why 
   elim why.1 [
     | inl high ↦ inl high
     | inr end ↦
-        inr (end.0, end.1, of_told (λ bytes size. IsObject bytes size expected end.0 end.1) (name_of expected.uuid expected.number) finds.0 receipt finds.2 some end.2.told, end.3)
+        inr (
+          end.0,
+          end.1,
+          of_told (λ bytes size. IsObject bytes size expected end.0 end.1)
+              (name_of expected.uuid expected.number) finds.0 receipt finds.2 some end.2.told,
+          end.3,
+        )
   ],
 )
 why_stopped (Some objects) expected receipt errors.StoreFault finds some why = tt

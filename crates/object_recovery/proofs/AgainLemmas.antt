@@ -20,16 +20,19 @@ use Rattle.object_recovery.specs.Recovery.{HasDataUpTo, IsPastOf}
 use Rattle.object_recovery.specs.Laws.{RemovalKeepsStream}
 
 -- what a data object has does not depend on the other objects
-content_kept : (old new : Objects) (uuid_at : ℕ → Option (List ℕ)) (kind : Content) (entries : List Entry) (rows : Rows) (payload : List ℕ) → kind ≡ content.Data
+content_kept : (old new : Objects) (uuid_at : ℕ → Option (List ℕ)) (kind : Content) (entries : List Entry) (rows : Rows) (payload : List ℕ)
+    → kind ≡ content.Data
     → HasContent old uuid_at kind entries rows payload → HasContent new uuid_at kind entries rows payload
 content_kept old new uuid_at kind entries (rows_of.Data list) payload is has =
-    subst (λ c. HasContent new uuid_at c entries (rows_of.Data list) payload) (sym is) (subst (λ c. HasContent old uuid_at c entries (rows_of.Data list) payload) is has)
+    subst (λ c. HasContent new uuid_at c entries (rows_of.Data list) payload) (sym is)
+    (subst (λ c. HasContent old uuid_at c entries (rows_of.Data list) payload) is has)
 content_kept old new uuid_at kind entries (rows_of.Copy list) payload is has =
     absurd (subst (λ c. HasContent old uuid_at c entries (rows_of.Copy list) payload) is has)
 content_kept old new uuid_at kind entries rows_of.Checkpoint payload is has =
     absurd (subst (λ c. HasContent old uuid_at c entries rows_of.Checkpoint payload) is has)
 
-module _ (volume : Expected) (uuid_at : ℕ → Option (List ℕ)) (old new : Objects) (number : ℕ) (removes : Removes (IsPastOf volume.uuid number) old new) where
+module _ (volume : Expected) (uuid_at : ℕ → Option (List ℕ)) (old new : Objects) (number : ℕ)
+    (removes : Removes (IsPastOf volume.uuid number) old new) where
   -- up to the number each object is as before
   kept_at : (at : ℕ) → at ≤ number → found new (name_of volume.uuid at) ≡ found old (name_of volume.uuid at)
   kept_at at to = removes.others (name_of volume.uuid at) (λ past. absurd (omega (arith, past.1.1, to)))
@@ -120,7 +123,8 @@ module _ (volume : Expected) (uuid_at : ℕ → Option (List ℕ)) (old new : Ob
           based = checkpoint_kept stream.number stream.end stream.opening (omega (arith, low, stored.base)) stored.based;
           value = λ k sector at.
               let none = stored.based.none k in
-              subst (λ o. StandsForSector new uuid_at o k sector) (sym none) (subst (λ o. StandsForSector old uuid_at o k sector) none (stored.value k sector at));
+              subst (λ o. StandsForSector new uuid_at o k sector) (sym none)
+              (subst (λ o. StandsForSector old uuid_at o k sector) none (stored.value k sector at));
           last = stored.last;
           stored = stored_kept stream.number stream.end stream.entries (objects_to stream number) size has.hold_data stored.stored;
         };

@@ -45,7 +45,8 @@ other_kind receipt expected bytes header is other = told_so receipt.told is.firs
     told_so : (told : Option (List ℕ)) → AreFirstOf told bytes → IfSome told (λ all. IsEndOfCheckpoint all receipt.size expected None)
     told_so None first = tt
     told_so (Some all) first = λ another object.
-        let same = same_header all receipt.size expected header another (header_of_all all bytes first receipt.size expected header is.header_is) object.head in
+        let same = same_header all receipt.size expected header another
+        (header_of_all all bytes first receipt.size expected header is.header_is) object.head in
         other (ap (λ (h : Header). h.kind) same ∙ sym object.rows_are.kind)
 
 -- what is refused is none
@@ -64,7 +65,8 @@ bad_checkpoint receipt expected error number reason is why = told_so receipt.tol
 -- what the bytes of an object say is so of the store that has it
 end_in_store : (geometry : Geometry) (objects : Objects) (name : ObjName) (bytes : List ℕ) (end : Option ℕ) → name.kind ≡ Object
     → found objects (name_of name.uuid name.number) ≡ Some bytes
-    → IsEndOfCheckpoint bytes (length bytes) (expected_alone (expected_of name.uuid geometry) name.number) end → IsCheckpointNamed geometry objects name end
+    → IsEndOfCheckpoint bytes (length bytes) (expected_alone (expected_of name.uuid geometry) name.number) end
+    → IsCheckpointNamed geometry objects name end
 end_in_store geometry objects name bytes None kind there is = λ same_kind end owned checkpoint.
     let expected = expected_alone (expected_of name.uuid geometry) name.number in
     let same : checkpoint.bytes ≡ bytes = let present = checkpoint.present in cc in
@@ -118,7 +120,8 @@ same_uuid uuid = self_reversed (slice_cmp nat_cmp uuid uuid) (nat_list_cmp_total
 name_order : (uuid : List ℕ) (a b : ℕ) → name_cmp (name_of uuid a) (name_of uuid b) ≡ Less → a < b
 name_order uuid a b less = number_order a b (sym (ap (λ order. ordering_then order (nat_cmp a b)) (same_uuid uuid)) ∙ less)
 
-module _ (uuid : List ℕ) (geometry : Geometry) (objects : Objects) (names : List ObjName) (is_uuid : IsUuid uuid) (listed : Lists uuid objects names) where
+module _ (uuid : List ℕ) (geometry : Geometry) (objects : Objects) (names : List ObjName) (is_uuid : IsUuid uuid)
+    (listed : Lists uuid objects names) where
   abbrev volume : Expected
   volume = expected_of uuid geometry
 
@@ -131,7 +134,8 @@ module _ (uuid : List ℕ) (geometry : Geometry) (objects : Objects) (names : Li
       listed.complete (name_of uuid number) (record { uuid = is_uuid; number = tt; fits = fits }) refl there
 
   -- and, where those from an index on have none, before that
-  before_index : (index : ℕ) → HasNoneFrom geometry objects names index → (number end : ℕ) (owned : Owners) → IsCheckpointOf volume objects number end owned
+  before_index : (index : ℕ) → HasNoneFrom geometry objects names index → (number end : ℕ) (owned : Owners)
+      → IsCheckpointOf volume objects number end owned
       → (k : ℕ) × (k < index) × (k < length names) × (slice_index_or names k (name_of uuid number) ≡ name_of uuid number)
   before_index index none number end owned checkpoint =
       let at = is_listed number end owned checkpoint in
@@ -141,7 +145,8 @@ module _ (uuid : List ℕ) (geometry : Geometry) (objects : Objects) (names : Li
       ]
 
   -- so the checkpoint before them is the newest
-  newest_at : (index : ℕ) (name : ObjName) (end : ℕ) → index < length names → slice_index_or names index name ≡ name → name.kind ≡ Object → name.uuid ≡ uuid
+  newest_at : (index : ℕ) (name : ObjName) (end : ℕ) → index < length names → slice_index_or names index name ≡ name → name.kind ≡ Object
+      → name.uuid ≡ uuid
       → HasNoneFrom geometry objects names (index + 1) → IsCheckpointOf volume objects name.number end (λ k. None)
       → IsNewestWithEnd volume objects name.number end
   newest_at index name end inside at kind of_volume none is = record {
@@ -161,7 +166,8 @@ module _ (uuid : List ℕ) (geometry : Geometry) (objects : Objects) (names : Li
           | inr from ↦
               let same : place.0 ≡ index = omega (arith, place.1, from) in
               let one : name_of uuid other ≡ name =
-              sym place.3 ∙ ap (λ k. slice_index_or names k (name_of uuid other)) same ∙ get_or_default names index (name_of uuid other) name inside ∙ at in
+              sym place.3 ∙ ap (λ k. slice_index_or names k (name_of uuid other)) same ∙ get_or_default names index (name_of uuid other) name inside
+              ∙ at in
               omega (arith, ap (λ (n : ObjName). n.number) one)
         ];
   }
@@ -190,7 +196,8 @@ none_more (Some objects) geometry names index name inside at none is = λ k othe
       | inl past ↦ none k other (omega arith) within there
       | inr to ↦
           let same : k ≡ index = omega arith in
-          let one : name ≡ other = sym at ∙ get_or_default names index name other inside ∙ ap (λ i. slice_index_or names i other) (sym same) ∙ there in
+          let one : name ≡ other =
+          sym at ∙ get_or_default names index name other inside ∙ ap (λ i. slice_index_or names i other) (sym same) ∙ there in
           subst (λ n. IsCheckpointNamed geometry objects n None) one is
     ]
 

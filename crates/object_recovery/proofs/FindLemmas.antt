@@ -15,7 +15,8 @@ told_bytes None bytes some is = cc
 told_bytes (Some t) bytes some is = ap Some is
 
 -- so what holds of the bytes that a receipt tells, and of how many it says they are, holds of those of its object
-pub of_told : (P : List ℕ → ℕ → Type 0) (name : ObjName) (bytes : List ℕ) (receipt : ReceiptState) → IsReceiptOf name bytes receipt → IsSome receipt.told
+pub of_told : (P : List ℕ → ℕ → Type 0) (name : ObjName) (bytes : List ℕ) (receipt : ReceiptState) → IsReceiptOf name bytes receipt
+    → IsSome receipt.told
     → IfSome receipt.told (λ told. P told receipt.size) → P bytes (length bytes)
 of_told P name bytes receipt is some holds =
     let told = told_bytes receipt.told bytes some is.told in

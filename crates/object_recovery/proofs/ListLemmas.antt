@@ -20,7 +20,8 @@ use Rattle.object_recovery.proofs.StreamLemmas.{missing_at, one_more}
 -- ---- the list
 
 -- rows leave a sector that is not in the log out of it
-none_by_test : (test : Bool) (end : ℕ) (rows : List DataRow) (k : ℕ) → logged_by end rows None k ≡ None → logged_by end rows (cond test None None) k ≡ None
+none_by_test : (test : Bool) (end : ℕ) (rows : List DataRow) (k : ℕ) → logged_by end rows None k ≡ None
+    → logged_by end rows (cond test None None) k ≡ None
 none_by_test true end rows k rest = rest
 none_by_test false end rows k rest = rest
 
@@ -62,14 +63,16 @@ list_more uuid geometry number before end rows receipt old new is adopted =
 keeps_same : (volume : Expected) (objects : Objects) (log : ObjLogState) → KeepsStreams volume objects log log
 keeps_same volume objects log uuid_at stream number has from to list = (omega arith, to, list)
 
-keeps_more : (volume : Expected) (objects : Objects) (a b c : ObjLogState) → KeepsStreams volume objects a b → KeepsStreams volume objects b c → KeepsStreams volume objects a c
+keeps_more : (volume : Expected) (objects : Objects) (a b c : ObjLogState) → KeepsStreams volume objects a b → KeepsStreams volume objects b c
+    → KeepsStreams volume objects a c
 keeps_more volume objects a b c first second uuid_at stream number has from to list =
     let mid = first uuid_at stream number has from to list in
     let last = second uuid_at stream number has (omega (arith, from, mid.0)) mid.1 mid.2 in
     (omega (arith, mid.0, last.0), last.1, last.2)
 
 -- an object that is adopted, which the store has
-adopted_keeps : (volume : Expected) (objects : Objects) (Tells : Type 0) (uuid : List ℕ) (geometry : Geometry) (before : ℕ) (old new : ObjLogState) → volume.sectors < 2 ^ 64
+adopted_keeps : (volume : Expected) (objects : Objects) (Tells : Type 0) (uuid : List ℕ) (geometry : Geometry) (before : ℕ) (old new : ObjLogState)
+    → volume.sectors < 2 ^ 64
     → expected_of_volume old ≡ volume → IsListUpTo uuid geometry old.uploads.window.last before old → Tells → AdoptsNext Tells (Some objects) old new
     → KeepsStreams volume objects old new
 adopted_keeps volume objects Tells uuid geometry before old new wide same_volume is tells adopts uuid_at stream number has from to list =
@@ -84,7 +87,8 @@ adopted_keeps volume objects Tells uuid geometry before old new wide same_volume
     (omega (arith, last), omega (arith, last, below), subst (λ n. HasStreamTo volume.sectors stream n new) (sym last) more)
 
 -- so it is where the store tells its objects
-pub told_more : (told : Option Objects) (volume : Expected) (Tells : Type 0) (uuid : List ℕ) (geometry : Geometry) (before : ℕ) (begun old new : ObjLogState) → volume.sectors < 2 ^ 64
+pub told_more : (told : Option Objects) (volume : Expected) (Tells : Type 0) (uuid : List ℕ) (geometry : Geometry) (before : ℕ)
+    (begun old new : ObjLogState) → volume.sectors < 2 ^ 64
     → expected_of_volume old ≡ volume → IsListUpTo uuid geometry old.uploads.window.last before old → Tells → AdoptsNext Tells told old new
     → IfSome told (λ objects. KeepsStreams volume objects begun old) → IfSome told (λ objects. KeepsStreams volume objects begun new)
 told_more None volume Tells uuid geometry before begun old new wide same_volume is tells adopts keeps = tt
@@ -101,7 +105,8 @@ pub landed_none : (told : Option Objects) (uuid : List ℕ) (at : ℕ) → IfSom
 landed_none None uuid at = tt
 landed_none (Some objects) uuid at = λ number past to. absurd (omega (arith, past, to))
 
-pub landed_more : (told : Option Objects) (uuid : List ℕ) (past at next : ℕ) → next ≡ at + 1 → IfSome told (λ objects. IsTrue (landed_in objects uuid (at + 1)))
+pub landed_more : (told : Option Objects) (uuid : List ℕ) (past at next : ℕ) → next ≡ at + 1
+    → IfSome told (λ objects. IsTrue (landed_in objects uuid (at + 1)))
     → IfSome told (λ objects. HaveLanded objects uuid past at) → IfSome told (λ objects. HaveLanded objects uuid past next)
 landed_more None uuid past at next is there before = tt
 landed_more (Some objects) uuid past at next is there before = λ number from to.

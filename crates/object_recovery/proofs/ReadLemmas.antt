@@ -99,7 +99,8 @@ module _ (all bytes : List ℕ) (first : AreFirstOf (Some all) bytes) (size : �
 -- ---- refusals
 
 -- the tests of a header ask for the first bytes alone
-same_test : (bytes others : List ℕ) (size : ℕ) (expected : Expected) (reason : reason_type.BadObject) → code_of reason < 8 → take 64 bytes ≡ take 64 others
+same_test : (bytes others : List ℕ) (size : ℕ) (expected : Expected) (reason : reason_type.BadObject) → code_of reason < 8
+    → take 64 bytes ≡ take 64 others
     → PassesObjectTest bytes size expected reason → PassesObjectTest others size expected reason
 same_test bytes others size expected reasons.Length low same is = subst (λ head. IsTrue (is_length (header_in head) size)) same is
 same_test bytes others size expected reasons.Magic low same is = sym (ap (take 8) same) ∙ is
@@ -143,7 +144,8 @@ refused_head bytes others size expected reason same none refused = record {
       elim (cases_lt (code_of reason) 8) [
         | inl low ↦ refused.failed (same_test others bytes size expected reason low (sym same) passes)
         | inr from ↦
-            let is : PassesObjectTest others size expected reasons.Rows = subst (PassesObjectTest others size expected) (is_last reason from) passes in
+            let is : PassesObjectTest others size expected reasons.Rows =
+            subst (PassesObjectTest others size expected) (is_last reason from) passes in
             none is.0 (moved_header others bytes size expected is.0 (sym same) is.2.head)
       ];
 }
@@ -176,7 +178,8 @@ header_long bytes size expected header is =
     omega (arith, ap length is.head, length-header_bytes header is.widths.uuid, length-take 64 bytes)
 
 -- bytes that go on have the header
-pub longer_header : (bytes others : List ℕ) (size : ℕ) (expected : Expected) (header : Header) → length bytes ≤ 64 → take (length bytes) others ≡ bytes
+pub longer_header : (bytes others : List ℕ) (size : ℕ) (expected : Expected) (header : Header) → length bytes ≤ 64
+    → take (length bytes) others ≡ bytes
     → IsHeader bytes size expected header → IsHeader others size expected header
 longer_header bytes others size expected header few kept is =
     let exact : length bytes ≡ 64 = omega (arith, header_long bytes size expected header is) in
@@ -209,7 +212,8 @@ header_of_all all bytes first size expected header is =
     moved_header bytes all size expected header (head_of_all all bytes first (header_long bytes size expected header is)) is
 
 -- a checkpoint has no rows
-checkpoint_has_no_rows : (volume : ℕ) (header : Header) (rows : Rows) → header.kind ≡ kinds.Checkpoint → AreRowsOf volume header rows → header.rows ≡ 0
+checkpoint_has_no_rows : (volume : ℕ) (header : Header) (rows : Rows) → header.kind ≡ kinds.Checkpoint → AreRowsOf volume header rows
+    → header.rows ≡ 0
 checkpoint_has_no_rows volume header (rows_of.Data rows) kind are = let other = are.kind in cc
 checkpoint_has_no_rows volume header (rows_of.Copy rows) kind are = let other = are.kind in cc
 checkpoint_has_no_rows volume header rows_of.Checkpoint kind are = sym are.count
@@ -227,7 +231,8 @@ why_no_checkpoint receipt expected bytes header is kind some = (refl, of_told re
         (λ rows object. some (checkpoint_has_no_rows expected.sectors header rows kind object.rows_are))
 
 -- what is refused for its rows in the front is so as a whole
-pub why_no_rows : (receipt : ReceiptState) (expected : Expected) (bytes : List ℕ) (header : Header) (reason : reason_type.BadObject) → AreFirstOf receipt.told bytes
+pub why_no_rows : (receipt : ReceiptState) (expected : Expected) (bytes : List ℕ) (header : Header) (reason : reason_type.BadObject)
+    → AreFirstOf receipt.told bytes
     → IsHeader bytes receipt.size expected header → 512 * front_sectors header ≤ length bytes
     → IsReasonOf bytes receipt.size expected (Bad reason) → IsWhyNotRead receipt expected (BadObject expected.number reason)
 why_no_rows receipt expected bytes header reason first is long refused = (refl, of_told receipt.told first)

@@ -68,14 +68,16 @@ module _ (stream : Stream) (none : (k : ℕ) → stream.opening k ≡ None) wher
   no_entries : (up_to_object begin stream).entries ≡ []
   no_entries = let zero_ : end_at stream begin - stream.end ≡ 0 = omega (arith, begin_end) in ap (λ n. take n stream.entries) zero_
 
-  empty_is : (let s : Stream = record { number = begin; end = stream.end; opening = λ k. None; entries = []; objects = [] } in s) ≡ up_to_object begin stream
+  empty_is :
+      (let s : Stream = record { number = begin; end = stream.end; opening = λ k. None; entries = []; objects = [] } in s) ≡ up_to_object begin stream
   empty_is =
       let no_owners : (λ k. None) ≡ stream.opening = λ j k. sym (none k) j in
       ap (λ (o : Owners). let s : Stream = record { number = begin; end = stream.end; opening = o; entries = []; objects = [] } in s) no_owners
       ∙ ap (λ (es : List Entry). let s : Stream = record { number = begin; end = stream.end; opening = stream.opening; entries = es; objects = [] } in s) (sym no_entries)
       ∙ ap (λ (os : List StreamObject). let s : Stream = record { number = begin; end = stream.end; opening = stream.opening; entries = (up_to_object begin stream).entries; objects = os } in s) (sym no_objects)
 
-  pub begins : (uuid : List ℕ) (geometry : Geometry) (sectors : ℕ) (log : ObjLogState) → IsNewList uuid geometry begin stream.end log → HasStreamTo sectors stream begin log
+  pub begins : (uuid : List ℕ) (geometry : Geometry) (sectors : ℕ) (log : ObjLogState) → IsNewList uuid geometry begin stream.end log
+      → HasStreamTo sectors stream begin log
   begins uuid geometry sectors log new =
       let is = new.list in
       let has = new_list_has_blank log sectors is.sealed new.settled in
@@ -97,7 +99,8 @@ one_end volume objects number end other owned others wide a b =
     let one = same_parts _ _ a.bytes b.bytes a.header b.header _ _ a.payload b.payload wide wide same_bytes a.parts b.parts in
     sym a.ends ∙ ap (λ (h : Header). h.end_seq) one.headers ∙ b.ends
 
-module _ (volume : Expected) (objects : Objects) (base base_end : ℕ) (wide : volume.sectors < 2 ^ 64) (newest : IsNewestWithEnd volume objects base base_end) where
+module _ (volume : Expected) (objects : Objects) (base base_end : ℕ) (wide : volume.sectors < 2 ^ 64)
+    (newest : IsNewestWithEnd volume objects base base_end) where
   base_landed : IsTrue (landed_in objects volume.uuid base)
   base_landed = ap is_some newest.is.present
 
@@ -117,14 +120,16 @@ module _ (volume : Expected) (objects : Objects) (base base_end : ℕ) (wide : v
         one_end volume objects stream.number base_end stream.end (λ k. None) stream.opening wide here has.stored.based
 
     -- a list that was just made at it has the stream up to there
-    at_base : (uuid : List ℕ) (geometry : Geometry) (log : ObjLogState) → IsNewList uuid geometry base base_end log → HasStreamTo volume.sectors stream log.uploads.window.last log
+    at_base : (uuid : List ℕ) (geometry : Geometry) (log : ObjLogState) → IsNewList uuid geometry base base_end log
+        → HasStreamTo volume.sectors stream log.uploads.window.last log
     at_base uuid geometry log new =
         let moved : IsNewList uuid geometry stream.number stream.end log =
         subst (λ n. IsNewList uuid geometry n stream.end log) base_is (subst (λ e. IsNewList uuid geometry base e log) end_is new) in
         let last : stream.number ≡ log.uploads.window.last = sym (ap (λ (w : WindowState). w.last) moved.list.window) in
         subst (λ n. HasStreamTo volume.sectors stream n log) last (begins stream has.stored.based.none uuid geometry volume.sectors log moved)
 
-    pub stream_to : (uuid : List ℕ) (geometry : Geometry) (begun log : ObjLogState) → IsNewList uuid geometry base base_end begun → KeepsStreams volume objects begun log
+    pub stream_to : (uuid : List ℕ) (geometry : Geometry) (begun log : ObjLogState) → IsNewList uuid geometry base base_end begun
+        → KeepsStreams volume objects begun log
         → (stream.number ≤ log.uploads.window.last) × (log.uploads.window.last ≤ number) × HasStreamTo volume.sectors stream log.uploads.window.last log
     stream_to uuid geometry begun log new keeps =
         let first : begun.uploads.window.last ≡ base = ap (λ (w : WindowState). w.last) new.list.window in
@@ -133,7 +138,8 @@ module _ (volume : Expected) (objects : Objects) (base base_end : ℕ) (wide : v
         (omega (arith, now.0, first, base_is), now.1, now.2)
 
     -- where no object is past the last, it is recovered
-    recovered : (uuid : List ℕ) (geometry : Geometry) (begun log : ObjLogState) → IsNewList uuid geometry base base_end begun → KeepsStreams volume objects begun log
+    recovered : (uuid : List ℕ) (geometry : Geometry) (begun log : ObjLogState) → IsNewList uuid geometry base base_end begun
+        → KeepsStreams volume objects begun log
         → IsListUpTo uuid geometry log.uploads.window.last log.uploads.queue.end log
         → found objects (name_of volume.uuid (log.uploads.window.last + 1)) ≡ None → HasRecovered volume.sectors stream number log
     recovered uuid geometry begun log new keeps list absent =
@@ -147,7 +153,8 @@ module _ (volume : Expected) (objects : Objects) (base base_end : ℕ) (wide : v
         }
 
   -- and it is the last before the first missing number
-  last_landed : (last : ℕ) → base ≤ last → HaveLanded objects volume.uuid base last → found objects (name_of volume.uuid (last + 1)) ≡ None → IsLastLanded volume objects last
+  last_landed : (last : ℕ) → base ≤ last → HaveLanded objects volume.uuid base last → found objects (name_of volume.uuid (last + 1)) ≡ None
+      → IsLastLanded volume objects last
   last_landed last from landed absent checkpoint are = record {
     base = base;
     newest = record {
@@ -160,7 +167,8 @@ module _ (volume : Expected) (objects : Objects) (base base_end : ℕ) (wide : v
     least = λ number past below. landed number past (omega (arith, below));
   }
 
-  pub is_recovered : (uuid : List ℕ) (geometry : Geometry) (begun log : ObjLogState) → IsNewList uuid geometry base base_end begun → KeepsStreams volume objects begun log
+  pub is_recovered : (uuid : List ℕ) (geometry : Geometry) (begun log : ObjLogState) → IsNewList uuid geometry base base_end begun
+      → KeepsStreams volume objects begun log
       → IsListUpTo uuid geometry log.uploads.window.last log.uploads.queue.end log → begun.uploads.window.last ≤ log.uploads.window.last
       → HaveLanded objects volume.uuid begun.uploads.window.last log.uploads.window.last
       → found objects (name_of volume.uuid (log.uploads.window.last + 1)) ≡ None → IsRecoveredOf volume objects log
@@ -168,7 +176,9 @@ module _ (volume : Expected) (objects : Objects) (base base_end : ℕ) (wide : v
       let first : begun.uploads.window.last ≡ base = ap (λ (w : WindowState). w.last) new.list.window in
       record {
         streams = λ uuid_at stream number has. recovered uuid_at stream number has uuid geometry begun log new keeps list absent;
-        last = last_landed log.uploads.window.last (omega (arith, first, from)) (subst (λ n. HaveLanded objects volume.uuid n log.uploads.window.last) first landed) absent;
+        last =
+            last_landed log.uploads.window.last (omega (arith, first, from))
+            (subst (λ n. HaveLanded objects volume.uuid n log.uploads.window.last) first landed) absent;
       }
 
 pub told_last : (told : Option Objects) (volume : Expected) (log : ObjLogState) → IfSome told (λ objects. IsRecoveredOf volume objects log)

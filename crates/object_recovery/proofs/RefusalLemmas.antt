@@ -57,7 +57,8 @@ no_answer_refused volume objects error none = record {
 }
 
 -- a store without a checkpoint has no stream
-none_refused : (volume : Expected) (objects : Objects) → ((number : ℕ) → IsNoCheckpoint volume objects number) → IsRefused volume objects errors.NoCheckpoint
+none_refused : (volume : Expected) (objects : Objects) → ((number : ℕ) → IsNoCheckpoint volume objects number)
+    → IsRefused volume objects errors.NoCheckpoint
 none_refused volume objects none = record {
   why = none;
   no_stream = λ uuid_at stream number has is. none stream.number stream.end stream.opening has.stored.based;
@@ -66,7 +67,8 @@ none_refused volume objects none = record {
 -- ---- at the next object
 
 -- rows of a data object are those of its kind
-data_kind : (objects : Objects) (uuid_at : ℕ → Option (List ℕ)) (kind : Content) (entries : List Entry) (rows : Rows) (payload : List ℕ) (volume : ℕ) (header : Header)
+data_kind : (objects : Objects) (uuid_at : ℕ → Option (List ℕ)) (kind : Content) (entries : List Entry) (rows : Rows) (payload : List ℕ)
+    (volume : ℕ) (header : Header)
     → kind ≡ content.Data → HasContent objects uuid_at kind entries rows payload → AreRowsOf volume header rows → header.kind ≡ kinds.Data
 data_kind objects uuid_at kind entries (rows_of.Data rows) payload volume header is has are = sym are.kind
 data_kind objects uuid_at kind entries (rows_of.Copy rows) payload volume header is has are =
@@ -74,13 +76,15 @@ data_kind objects uuid_at kind entries (rows_of.Copy rows) payload volume header
 data_kind objects uuid_at kind entries rows_of.Checkpoint payload volume header is has are =
     absurd (subst (λ c. HasContent objects uuid_at c entries rows_of.Checkpoint payload) is has)
 
-module _ (volume : Expected) (objects : Objects) (base base_end : ℕ) (wide : volume.sectors < 2 ^ 64) (newest : IsNewestWithEnd volume objects base base_end)
+module _ (volume : Expected) (objects : Objects) (base base_end : ℕ) (wide : volume.sectors < 2 ^ 64)
+    (newest : IsNewestWithEnd volume objects base base_end)
     (uuid : List ℕ) (geometry : Geometry) (begun : ObjLogState) (new : IsNewList uuid geometry base base_end begun) where
   -- what is expected past a list
   next_expected : (log : ObjLogState) (number : ℕ) → expected_of_volume log ≡ volume → number ≡ log.uploads.window.last + 1
       → next_of log ≡ expected_at volume number log.batch.first
   next_expected log number same_volume at =
-      ap (λ (v : Expected). expected_at v (log.uploads.window.last + 1) log.batch.first) same_volume ∙ ap (λ n. expected_at volume n log.batch.first) (sym at)
+      ap (λ (v : Expected). expected_at v (log.uploads.window.last + 1) log.batch.first) same_volume ∙ ap (λ n. expected_at volume n log.batch.first)
+      (sym at)
 
   why_refused : (error : RecoverError) → StopsPast volume objects begun error → IsWhyRefused volume objects error
   why_refused errors.NoCheckpoint stops = absurd stops.why
@@ -141,10 +145,13 @@ module _ (volume : Expected) (objects : Objects) (base base_end : ℕ) (wide : v
       kind_is header rows is =
           let stored = is_stored volume uuid_at objects stream number wide has at to.0 below in
           let here : IsObject bytes (length bytes) expected header rows = subst (λ e. IsObject bytes (length bytes) e header rows) next_is is in
-          let parts : HasParts expected bytes header rows (drop (512 * front_sectors header) bytes) = record { is_object = here; payload_is = refl } in
-          let one = same_parts expected expected bytes stored.bytes header stored.header rows stored.rows_of (drop (512 * front_sectors header) bytes) stored.payload wide wide
+          let parts : HasParts expected bytes header rows (drop (512 * front_sectors header) bytes) =
+          record { is_object = here; payload_is = refl } in
+          let one = same_parts expected expected bytes stored.bytes header stored.header rows stored.rows_of
+          (drop (512 * front_sectors header) bytes) stored.payload wide wide
           (sym same_bytes) parts stored.parts in
-          let is_kind = data_kind objects uuid_at _ _ stored.rows_of stored.payload volume.sectors stored.header (is_data volume uuid_at objects stream number wide has at to.0 below)
+          let is_kind = data_kind objects uuid_at _ _ stored.rows_of stored.payload volume.sectors stored.header
+          (is_data volume uuid_at objects stream number wide has at to.0 below)
           stored.content stored.parts.is_object.rows_are in
           ap (λ (h : Header). h.kind) one.headers ∙ is_kind
 
@@ -169,7 +176,8 @@ module _ (volume : Expected) (objects : Objects) (base base_end : ℕ) (wide : v
 
 -- ---- where the store tells its objects
 
-pub told_no_answer : (told : Option Objects) (volume : Expected) (error : RecoverError) → IsNoAnswer error → IfSome told (λ objects. IsRefused volume objects error)
+pub told_no_answer : (told : Option Objects) (volume : Expected) (error : RecoverError) → IsNoAnswer error
+    → IfSome told (λ objects. IsRefused volume objects error)
 told_no_answer None volume error none = tt
 told_no_answer (Some objects) volume error none = no_answer_refused volume objects error none
 
@@ -181,12 +189,14 @@ newest_refused None uuid geometry names error is_uuid answer none = tt
 newest_refused (Some objects) uuid geometry names error is_uuid answer none = λ listed.
     let volume = expected_of uuid geometry in
     elim answer [
-      | inl no_checkpoint ↦ subst (IsRefused volume objects) (sym no_checkpoint) (none_refused volume objects (λ number. none no_checkpoint uuid number is_uuid listed))
+      | inl no_checkpoint ↦ subst (IsRefused volume objects) (sym no_checkpoint)
+          (none_refused volume objects (λ number. none no_checkpoint uuid number is_uuid listed))
       | inr no_answer ↦ no_answer_refused volume objects error no_answer
     ]
 
 -- a checkpoint that is worn is so refused
-pub worn_base : (told : Option Objects) (uuid : List ℕ) (geometry : Geometry) (names : List ObjName) (number end : ℕ) → IsUuid uuid → (2 ^ 60 ≤ number) ⊎ (2 ^ 60 ≤ end)
+pub worn_base : (told : Option Objects) (uuid : List ℕ) (geometry : Geometry) (names : List ObjName) (number end : ℕ) → IsUuid uuid
+    → (2 ^ 60 ≤ number) ⊎ (2 ^ 60 ≤ end)
     → IfSome told (λ objects. (other : List ℕ) → IsUuid other → Lists other objects names → IsNewestWithEnd (expected_of other geometry) objects number end)
     → IfSome told (λ objects. Lists uuid objects names → IsRefused (expected_of uuid geometry) objects (errors.Worn number))
 worn_base None uuid geometry names number end is_uuid worn newest = tt
@@ -200,18 +210,27 @@ worn_base (Some objects) uuid geometry names number end is_uuid worn newest = λ
             elim worn [
               | inl high ↦ inl high
               | inr late ↦
-                  inr (expected_alone (expected_of uuid geometry) number, checkpoint.header, rows_of.Checkpoint, checkpoint.parts.is_object, omega (arith, late, checkpoint.ends))
+                  inr (
+                    expected_alone (expected_of uuid geometry) number,
+                    checkpoint.header,
+                    rows_of.Checkpoint,
+                    checkpoint.parts.is_object,
+                    omega
+                        (arith, late, checkpoint.ends),
+                  )
             ];
       };
       no_stream = λ uuid_at stream last has is. is;
     }
 
 -- what is expected of the volume of a list
-volume_is : (uuid : List ℕ) (geometry : Geometry) (number end : ℕ) (log : ObjLogState) → IsNewList uuid geometry number end log → expected_of_volume log ≡ expected_of uuid geometry
+volume_is : (uuid : List ℕ) (geometry : Geometry) (number end : ℕ) (log : ObjLogState) → IsNewList uuid geometry number end log
+    → expected_of_volume log ≡ expected_of uuid geometry
 volume_is uuid geometry number end log new =
     ap (λ (u : List ℕ). expected_of u log.batch.geometry) new.list.uuid_is ∙ ap (expected_of uuid) new.list.geometry_is
 
-pub told_refused : (told : Option Objects) (uuid : List ℕ) (geometry : Geometry) (names : List ObjName) (number end : ℕ) (begun : ObjLogState) (error : RecoverError) → IsUuid uuid
+pub told_refused : (told : Option Objects) (uuid : List ℕ) (geometry : Geometry) (names : List ObjName) (number end : ℕ) (begun : ObjLogState)
+    (error : RecoverError) → IsUuid uuid
     → geometry.sectors < 2 ^ 64 → IsNewList uuid geometry number end begun
     → IfSome told (λ objects. (other : List ℕ) → IsUuid other → Lists other objects names → IsNewestWithEnd (expected_of other geometry) objects number end)
     → IfSome told (λ objects. StopsPast (expected_of_volume begun) objects begun error)
@@ -221,7 +240,8 @@ told_refused (Some objects) uuid geometry names number end begun error is_uuid w
     stops_refused (expected_of uuid geometry) objects number end wide (newest uuid is_uuid listed) uuid geometry begun new error
     (subst (λ v. StopsPast v objects begun error) (volume_is uuid geometry number end begun new) stops)
 
-pub told_recovered : (told : Option Objects) (uuid : List ℕ) (geometry : Geometry) (names : List ObjName) (number end : ℕ) (begun log : ObjLogState) → IsUuid uuid
+pub told_recovered : (told : Option Objects) (uuid : List ℕ) (geometry : Geometry) (names : List ObjName) (number end : ℕ) (begun log : ObjLogState)
+    → IsUuid uuid
     → geometry.sectors < 2 ^ 64 → IsNewList uuid geometry number end begun
     → IsListUpTo uuid geometry log.uploads.window.last log.uploads.queue.end log → begun.uploads.window.last ≤ log.uploads.window.last
     → IfSome told (λ objects. (other : List ℕ) → IsUuid other → Lists other objects names → IsNewestWithEnd (expected_of other geometry) objects number end)

@@ -14,7 +14,8 @@ use Rattle.object_recovery.specs.Removal.{Removes, IsPast, IsListedPast, Removes
 
 -- ---- what a store becomes
 
-pub becomes_so : (C D : Objects → Objects → Type 0) (old new : Option Objects) → ((a b : Objects) → C a b → D a b) → Becomes C old new → Becomes D old new
+pub becomes_so : (C D : Objects → Objects → Type 0) (old new : Option Objects) → ((a b : Objects) → C a b → D a b) → Becomes C old new
+    → Becomes D old new
 becomes_so C D None new so is = is
 becomes_so C D (Some a) new so is = (is.0, is.1, so a is.0 is.2)
 
@@ -26,7 +27,8 @@ becomes_both C D E (Some a) mid new both first second =
     (then.0, then.1, both a first.0 then.0 first.2 then.2)
 
 -- two things that are so of what a store becomes are so of one
-pub becomes_with : (C D : Objects → Objects → Type 0) (old new : Option Objects) → Becomes C old new → Becomes D old new → Becomes (λ a b. C a b × D a b) old new
+pub becomes_with : (C D : Objects → Objects → Type 0) (old new : Option Objects) → Becomes C old new → Becomes D old new
+    → Becomes (λ a b. C a b × D a b) old new
 becomes_with C D None new first second = first
 becomes_with C D (Some a) new first second =
     let same : second.0 ≡ first.0 = let e = first.1 in let f = second.1 in cc in
@@ -57,7 +59,8 @@ stays_gone Which a b name is gone = elim (is.removed name) [ inl same ↦ same �
 -- ---- the names one after the other
 
 -- one more
-pub first_more : (names : List ObjName) (number index : ℕ) (name : ObjName) (a b c : Objects) → index < length names → slice_index_or names index name ≡ name
+pub first_more : (names : List ObjName) (number index : ℕ) (name : ObjName) (a b c : Objects) → index < length names
+    → slice_index_or names index name ≡ name
     → IsPast number name → RemovesFirst names number index a b → Removes (λ other. other ≡ name) b c → IsRemoved name b c
     → RemovesFirst names number (index + 1) a c
 first_more names number index name a b c inside at past first removes removed =
@@ -78,7 +81,8 @@ first_more names number index name a b c inside at past first removes removed =
     }
 
 -- one that is not past the number is passed over
-pub first_skip : (names : List ObjName) (number index : ℕ) (name : ObjName) (a b : Objects) → index < length names → slice_index_or names index name ≡ name
+pub first_skip : (names : List ObjName) (number index : ℕ) (name : ObjName) (a b : Objects) → index < length names
+    → slice_index_or names index name ≡ name
     → (IsPast number name → ⊥) → RemovesFirst names number index a b → RemovesFirst names number (index + 1) a b
 first_skip names number index name a b inside at not first = record {
   removes = first.removes;
@@ -94,7 +98,8 @@ first_skip names number index name a b inside at not first = record {
 }
 
 -- one that may have been removed, or not
-pub some_more : (names : List ObjName) (number index : ℕ) (name : ObjName) (a b c : Objects) → index < length names → slice_index_or names index name ≡ name
+pub some_more : (names : List ObjName) (number index : ℕ) (name : ObjName) (a b c : Objects) → index < length names
+    → slice_index_or names index name ≡ name
     → IsPast number name → RemovesFirst names number index a b → Removes (λ other. other ≡ name) b c → Removes (IsListedPast names number) a c
 some_more names number index name a b c inside at past first removes =
     let such : (other : ObjName) → other ≡ name → IsListedPast names number other =
@@ -103,7 +108,8 @@ some_more names number index name a b c inside at past first removes =
 
 -- ---- the objects of a volume
 
-of_volume : (uuid : List ℕ) (names : List ObjName) (number : ℕ) → AreNamesOf uuid names → (name : ObjName) → IsListedPast names number name → IsPastOf uuid number name
+of_volume : (uuid : List ℕ) (names : List ObjName) (number : ℕ) → AreNamesOf uuid names → (name : ObjName) → IsListedPast names number name
+    → IsPastOf uuid number name
 of_volume uuid names number are name listed = ((are.each name listed.0).1, listed.1)
 
 -- what an end by an error leaves
@@ -118,7 +124,8 @@ may_remove Tells volume names number (Some a) new are last is = (
 )
 
 -- where all are removed that are listed, none is past the number
-none_past : (uuid : List ℕ) (names : List ObjName) (number : ℕ) (a b : Objects) → AreNamesOf uuid names → Lists uuid a names → RemovesFirst names number (length names) a b
+none_past : (uuid : List ℕ) (names : List ObjName) (number : ℕ) (a b : Objects) → AreNamesOf uuid names → Lists uuid a names
+    → RemovesFirst names number (length names) a b
     → RemovesAllPast uuid number a b
 none_past uuid names number a b are listed first = record {
   removes = removes_such (IsListedPast names number) (IsPastOf uuid number) a b (of_volume uuid names number are) first.removes;
@@ -131,7 +138,8 @@ none_past uuid names number a b are listed first = record {
         let at = listed.complete name is past.0 (subst (λ o. IsSome o) (sym was) (search rules)) in
         first.gone at.0 name at.1 at.1 at.2 past.1
 
-pub all_removed : (uuid : List ℕ) (names : List ObjName) (number : ℕ) (old new : Option Objects) → AreNamesOf uuid names → IfSome old (λ objects. Lists uuid objects names)
+pub all_removed : (uuid : List ℕ) (names : List ObjName) (number : ℕ) (old new : Option Objects) → AreNamesOf uuid names
+    → IfSome old (λ objects. Lists uuid objects names)
     → Becomes (RemovesFirst names number (length names)) old new → Becomes (RemovesAllPast uuid number) old new
 all_removed uuid names number None new are listed is = is
 all_removed uuid names number (Some a) new are listed is = (is.0, is.1, none_past uuid names number a is.0 are listed is.2)

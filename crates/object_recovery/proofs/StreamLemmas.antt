@@ -45,7 +45,8 @@ use Rattle.object_recovery.specs.Recovery.{up_to_object, HasDataUpTo, HasStreamT
 -- ---- the objects of a stream one by one
 
 -- one of some objects that are stored
-stored_at : (objects : Objects) (uuid_at : ℕ → Option (List ℕ)) (volume : Expected) (number end : ℕ) (entries : List Entry) (list : List StreamObject) (count i : ℕ) (d : StreamObject)
+stored_at : (objects : Objects) (uuid_at : ℕ → Option (List ℕ)) (volume : Expected) (number end : ℕ) (entries : List Entry)
+    (list : List StreamObject) (count i : ℕ) (d : StreamObject)
     → i < count → i < length list → EndsFollow end list → AreStored objects uuid_at volume number end entries (take count list)
     → IsStored objects uuid_at (expected_at volume (number + i + 1) (end_after end (take i list))) (get_or list i d)
     (take ((get_or list i d).end - end_after end (take i list)) (drop (end_after end (take i list) - end) entries))
@@ -62,10 +63,13 @@ stored_at objects uuid_at volume number end entries (object ∷ more) (suc count
     let then : object.end ≤ last = end_no_earlier object.end (take i more) (follow_first object.end i more follow.1) in
     let skip : object.end - end + (last - object.end) ≡ last - end = omega arith in
     let at : number + 1 + i + 1 ≡ number + suc i + 1 = omega arith in
-    let rest = stored_at objects uuid_at volume (number + 1) object.end (drop (object.end - end) entries) more count i d (omega (arith, below)) (omega (arith, inside)) follow.1 stored.1 in
+    let rest = stored_at objects uuid_at volume (number + 1) object.end (drop (object.end - end) entries) more count i d (omega (arith, below))
+    (omega (arith, inside)) follow.1 stored.1 in
     let part = drop-drop (last - object.end) (object.end - end) entries ∙ ap (λ k. drop k entries) skip in
-    subst (λ n. IsStored objects uuid_at (expected_at volume n last) (get_or more i d) (take ((get_or more i d).end - last) (drop (last - end) entries))) at
-    (subst (λ es. IsStored objects uuid_at (expected_at volume (number + 1 + i + 1) last) (get_or more i d) (take ((get_or more i d).end - last) es)) part rest)
+    subst (λ n. IsStored objects uuid_at (expected_at volume n last) (get_or more i d)
+    (take ((get_or more i d).end - last) (drop (last - end) entries))) at
+    (subst (λ es. IsStored objects uuid_at (expected_at volume (number + 1 + i + 1) last) (get_or more i d) (take
+    ((get_or more i d).end - last) es)) part rest)
 
 -- it goes on where the one before it ends
 goes_at : (end : ℕ) (list : List StreamObject) (i : ℕ) (d : StreamObject) → i < length list → EndsFollow end list
@@ -74,7 +78,8 @@ goes_at end [] i d inside follow = absurd (omega (arith, inside))
 goes_at end (object ∷ more) zero d inside follow = follow.0
 goes_at end (object ∷ more) (suc i) d inside follow = goes_at object.end more i d (omega (arith, inside)) follow.1
 
-end_next : (end : ℕ) (list : List StreamObject) (i : ℕ) (d : StreamObject) → i < length list → end_after end (take (i + 1) list) ≡ (get_or list i d).end
+end_next : (end : ℕ) (list : List StreamObject) (i : ℕ) (d : StreamObject) → i < length list
+    → end_after end (take (i + 1) list) ≡ (get_or list i d).end
 end_next end list i d inside = ap (end_after end) (take_more list i d inside) ∙ end_in_parts end (take i list) (get_or list i d ∷ [])
 
 follow_rest : (end n : ℕ) (list : List StreamObject) → EndsFollow end list → EndsFollow (end_after end (take n list)) (drop n list)
@@ -91,11 +96,13 @@ end_within end n list follow =
 -- ---- an object of data
 
 -- rows that are the same as those of a data object do what its entries do
-same_changes : (objects : Objects) (uuid_at : ℕ → Option (List ℕ)) (kind : Content) (entries : List Entry) (list : Vec DataRow) (others : Rows) (payload other : List ℕ)
+same_changes : (objects : Objects) (uuid_at : ℕ → Option (List ℕ)) (kind : Content) (entries : List Entry) (list : Vec DataRow) (others : Rows)
+    (payload other : List ℕ)
     → kind ≡ content.Data → AreSameRows (rows_of.Data list) others → payload ≡ other → HasContent objects uuid_at kind entries others other
     → (k : ℕ) → change_in list.items payload k ≡ change_at entries k
 same_changes objects uuid_at kind entries list (rows_of.Data rows) payload other is_data same pay has k =
-    let is : HasContent objects uuid_at content.Data entries (rows_of.Data rows) other = subst (λ c. HasContent objects uuid_at c entries (rows_of.Data rows) other) is_data has in
+    let is : HasContent objects uuid_at content.Data entries (rows_of.Data rows) other =
+    subst (λ c. HasContent objects uuid_at c entries (rows_of.Data rows) other) is_data has in
     ap (λ items. change_in items payload k) same ∙ ap (λ p. change_in rows.items p k) pay ∙ is k
 same_changes objects uuid_at kind entries list (rows_of.Copy rows) payload other is_data same pay has k = absurd same
 same_changes objects uuid_at kind entries list rows_of.Checkpoint payload other is_data same pay has k = absurd same
@@ -118,7 +125,8 @@ module _ (volume : Expected) (uuid_at : ℕ → Option (List ℕ)) (objects : Ob
         | inr from ↦
             let same : at ≡ number = omega arith in
             let absent = has.stored.missing.absent in
-            let present : found objects (name_of volume.uuid (number + 1)) ≡ Some bytes = subst (λ n. found objects (name_of volume.uuid (n + 1)) ≡ Some bytes) same there in
+            let present : found objects (name_of volume.uuid (number + 1)) ≡ Some bytes =
+            subst (λ n. found objects (name_of volume.uuid (n + 1)) ≡ Some bytes) same there in
             absurd (let e = ap is_some present in cc)
       ]
 
@@ -155,7 +163,8 @@ module _ (volume : Expected) (uuid_at : ℕ → Option (List ℕ)) (objects : Ob
         let next : stream.number + i + 1 ≡ at + 1 = omega arith in
         let count : i < number - stream.number = omega arith in
         subst (λ n. IsStored objects uuid_at (expected_at volume n end_before) object part) next
-        (stored_at objects uuid_at volume stream.number stream.end stream.entries all (number - stream.number) i d count inside has.valid.ends has.stored.stored)
+        (stored_at objects uuid_at volume stream.number stream.end stream.entries all
+        (number - stream.number) i d count inside has.valid.ends has.stored.stored)
 
     pub is_data : object.content ≡ content.Data
     is_data =
@@ -181,7 +190,15 @@ module _ (volume : Expected) (uuid_at : ℕ → Option (List ℕ)) (objects : Ob
 
     part_size : length part ≡ object.end - end_before
     part_size =
-        omega (arith, length-take (object.end - end_before) (drop (end_before - stream.end) stream.entries), length-drop (end_before - stream.end) stream.entries, order, grows, last_end)
+        omega (
+          arith,
+          length-take (object.end - end_before) (drop (end_before - stream.end) stream.entries),
+          length-drop
+              (end_before - stream.end) stream.entries,
+          order,
+          grows,
+          last_end,
+        )
 
     -- the entries of the objects up to the next one
     entries_more : (up_to_object at stream).entries ++ part ≡ (up_to_object (at + 1) stream).entries
@@ -189,7 +206,8 @@ module _ (volume : Expected) (uuid_at : ℕ → Option (List ℕ)) (objects : Ob
         let sum : end_before - stream.end + (object.end - end_before) ≡ end_at stream (at + 1) - stream.end = omega (arith, order, grows, next_end) in
         sym (take-add (end_before - stream.end) (object.end - end_before) stream.entries) ∙ ap (λ n. take n stream.entries) sum
 
-    objects_more : (end : ℕ) → object.end ≡ end → (up_to_object at stream).objects ++ record { content = content.Data; end = end } ∷ [] ≡ (up_to_object (at + 1) stream).objects
+    objects_more : (end : ℕ) → object.end ≡ end
+        → (up_to_object at stream).objects ++ record { content = content.Data; end = end } ∷ [] ≡ (up_to_object (at + 1) stream).objects
     objects_more end ends =
         let more : i + 1 ≡ at + 1 - stream.number = omega arith in
         let kind = ap (λ (c : Content). let o : StreamObject = record { content = c; end = object.end } in o) is_data in
@@ -199,11 +217,13 @@ module _ (volume : Expected) (uuid_at : ℕ → Option (List ℕ)) (objects : Ob
     grown : (end : ℕ) → object.end ≡ end → with_adopted part end (up_to_object at stream) ≡ up_to_object (at + 1) stream
     grown end ends =
         ap (λ (es : List Entry). let s : Stream = record stream { entries = es; objects = (up_to_object at stream).objects ++ record { content = content.Data; end = end } ∷ [] } in s) entries_more
-        ∙ ap (λ (os : List StreamObject). let s : Stream = record stream { entries = (up_to_object (at + 1) stream).entries; objects = os } in s) (objects_more end ends)
+        ∙ ap (λ (os : List StreamObject). let s : Stream = record stream { entries = (up_to_object (at + 1) stream).entries; objects = os } in s)
+        (objects_more end ends)
 
     -- ---- the object that the store has
 
-    module _ (rows : List DataRow) (end : ℕ) (receipt : ReceiptState) (stored : IsStoredAs objects (expected_at volume (at + 1) end_before) rows end receipt) where
+    module _ (rows : List DataRow) (end : ℕ) (receipt : ReceiptState)
+        (stored : IsStoredAs objects (expected_at volume (at + 1) end_before) rows end receipt) where
       abbrev payload : List ℕ
       payload = drop (512 * front_sectors stored.header) stored.bytes
 
@@ -214,7 +234,8 @@ module _ (volume : Expected) (uuid_at : ℕ → Option (List ℕ)) (objects : Ob
       one =
           let expected = expected_at volume (at + 1) end_before in
           let same : stored.bytes ≡ is_stored.bytes = let e = stored.present in let f = is_stored.present in cc in
-          same_parts expected expected stored.bytes is_stored.bytes stored.header is_stored.header (rows_of.Data stored.list) is_stored.rows_of payload is_stored.payload
+          same_parts expected expected stored.bytes is_stored.bytes stored.header is_stored.header
+          (rows_of.Data stored.list) is_stored.rows_of payload is_stored.payload
           wide wide same parts is_stored.parts
 
       object_end : object.end ≡ end
@@ -264,19 +285,22 @@ module _ (volume : Expected) (uuid_at : ℕ → Option (List ℕ)) (objects : Ob
       length_image =
           let size = length-replicate volume.sectors zero_sector in
           length-after (blank volume.sectors) (up_to_object at stream).entries
-          (subst (λ n. All (EndsBy n) (up_to_object at stream).entries) (sym size) (All-take (EndsBy volume.sectors) (end_before - stream.end) stream.entries has.inside))
+          (subst (λ n. All (EndsBy n) (up_to_object at stream).entries) (sym size)
+          (All-take (EndsBy volume.sectors) (end_before - stream.end) stream.entries has.inside))
           ∙ size
 
       part_inside : All (EndsBy (length (after (blank volume.sectors) (up_to_object at stream).entries))) part
       part_inside =
           subst (λ n. All (EndsBy n) part) (sym length_image)
-          (All-take (EndsBy volume.sectors) (object.end - end_before) (drop (end_before - stream.end) stream.entries) (All-drop (EndsBy volume.sectors) (end_before - stream.end) stream.entries has.inside))
+          (All-take (EndsBy volume.sectors) (object.end - end_before) (drop (end_before - stream.end) stream.entries)
+          (All-drop (EndsBy volume.sectors) (end_before - stream.end) stream.entries has.inside))
 
       image : HasImage (after (blank volume.sectors) (up_to_object (at + 1) stream).entries) new.uploads.queue × HasOwnReceipts new.uploads.queue
       image =
           let before = after (blank volume.sectors) (up_to_object at stream).entries in
           let object_is : StreamObject = record { content = content.Data; end = end } in
-          let now = adopting_makes_image (λ n. 0) (up_to_object at stream) old new part object_is stored.bytes rows end receipt before uploads (list.of_stream (λ n. 0)) sealed_none sealed adopted
+          let now = adopting_makes_image (λ n. 0) (up_to_object at stream) old new part object_is stored.bytes rows end receipt before uploads
+          (list.of_stream (λ n. 0)) sealed_none sealed adopted
           stored.receipt_is part_inside list.image in
           let joined : after before part ≡ after (blank volume.sectors) (up_to_object (at + 1) stream).entries =
           sym (applies_in_parts (blank volume.sectors) (up_to_object at stream).entries part) ∙ ap (after (blank volume.sectors)) entries_more in
@@ -287,7 +311,8 @@ module _ (volume : Expected) (uuid_at : ℕ → Option (List ℕ)) (objects : Ob
           let goes : end ≡ old.batch.first + length part = omega (arith, first, part_size, ends, grows) in
           let some : 0 < length part = omega (arith, part_size, grows) in
           subst (λ s. IsOfStream data_at s new) (grown end ends)
-          (adopting_keeps_stream data_at (up_to_object at stream) old new part stored.bytes rows end receipt uploads (list.of_stream data_at) sealed_none batch_none goes some sealed adopted)
+          (adopting_keeps_stream data_at (up_to_object at stream) old new part stored.bytes rows end receipt uploads
+          (list.of_stream data_at) sealed_none batch_none goes some sealed adopted)
 
       pub one_more : HasStreamTo volume.sectors stream (at + 1) new
       one_more = record { of_stream = of_stream; image = image.0; receipts = image.1 }

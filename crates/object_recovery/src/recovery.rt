@@ -4,7 +4,7 @@ ghost use Rattle.lsvd_objstore.specs.Objects.{AreNamesOf, Lists};
 ghost use Rattle.lsvd_objstore.specs.Store.{StoreState, ReceiptState, OnlyCounts, Becomes};
 ghost use Rattle.lsvd_fault.specs.Faults.{Counts};
 ghost use Rattle.obj_log.specs.State.{ObjLogState};
-ghost use Rattle.object_recovery.specs.Faults.{ends_by_fault, TellsBytes};
+ghost use Rattle.object_recovery.specs.Faults.{ends_by_fault, IsNoAnswer, TellsBytes};
 ghost use Rattle.object_recovery.specs.Checkpoints.{expected_of};
 ghost use Rattle.object_recovery.specs.Recovery.{IsListUpTo, IsRecoveredOf, RemovesAllPast, MayRemovePast, IsRefused};
 
@@ -49,6 +49,7 @@ pub fn recover<S: Store>(
         Becomes (RemovesAllPast uuid log.uploads.window.last) (S.state store.old).objects (S.state store.new).objects) }
     ensures some { OnErr result (Becomes (MayRemovePast (TellsBytes S.Receipt.state) (expected_of uuid geometry))
         (S.state store.old).objects (S.state store.new).objects) }
+    ensures kept { IfErr result (λ error. (IsNoAnswer error → ⊥) → (S.state store.new).objects ≡ (S.state store.old).objects) }
     ensures refused { TellsBytes S.Receipt.state → IfErr result (λ error. IfSome (S.state store.old).objects (λ objects.
         IsRefused (expected_of uuid geometry) objects error)) }
     ensures faults { Counts (ends_by_fault result) (S.state store.old).faults (S.state store.new).faults }

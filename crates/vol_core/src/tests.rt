@@ -63,25 +63,6 @@ fn write_often(alloc: Global, volume: &mut TestVolume, times: u64) -> Result<(),
     Ok(())
 }
 
-// Reads sectors.
-fn read(
-    alloc: Global,
-    volume: &mut TestVolume,
-    store: &mut MemStore,
-    lba: u64,
-    sectors: u64,
-) -> Result<Vec<u8>, Fail> {
-    let Reply::Planned(plan) = step(volume, Event::Look { lba, sectors })? else {
-        return Err("no plan")?;
-    };
-    let mut buf = vec![in alloc; 9; plan.len()]?;
-    plan.fetch(store, buf.as_mut_slice())?;
-    match step(volume, Event::Release(plan))? {
-        Reply::Released => Ok(buf),
-        _ => Err("not released")?,
-    }
-}
-
 // The name of the object of a number.
 fn name_of(number: u64) -> ObjName
     ensures { IsName result }
@@ -117,28 +98,6 @@ fn seal_and_upload(
     upload(alloc, volume, store)
 }
 
-// Whether each sector of a read is filled with its byte.
-fn are_filled(buf: &[u8], bytes: &[u8]) -> bool {
-    buf.iter()
-        .enumerate()
-        .all(|(at, byte)| bytes.get(at / 512) == Some(byte))
-}
-
-#[test]
-fn sectors_are_read_from_the_log_and_from_objects(rt: HostRuntime) -> Result<(), Fail> {
-    let mut store = MemStore::new(rt.alloc());
-    let mut volume = created(rt.alloc())?;
-    write(rt.alloc(), &mut volume, 0, 2, 0x41)?;
-    write(rt.alloc(), &mut volume, 1, 1, 0x42)?;
-    let buf = read(rt.alloc(), &mut volume, &mut store, 0, 3)?;
-    assert!(rt; are_filled(buf.as_slice(), &[0x41, 0x42, 0]));
-    assert_eq!(rt; seal_and_upload(rt.alloc(), &mut volume, &mut store)?, 2);
-    write(rt.alloc(), &mut volume, 0, 1, 0x43)?;
-    let buf = read(rt.alloc(), &mut volume, &mut store, 0, 3)?;
-    assert!(rt; are_filled(buf.as_slice(), &[0x43, 0x42, 0]));
-    Ok(())
-}
-
 #[test]
 fn a_write_commits_for_room_once_it_releases_records(rt: HostRuntime) -> Result<(), Fail> {
     let mut store = MemStore::new(rt.alloc());
@@ -157,49 +116,5 @@ fn a_write_commits_for_room_once_it_releases_records(rt: HostRuntime) -> Result<
     assert_eq!(rt; seal_and_upload(rt.alloc(), &mut volume, &mut store)?, 2);
     let entered = write(rt.alloc(), &mut volume, 0, 8, 1)?;
     assert!(rt; matches!(&entered, Reply::Entered(8)));
-    Ok(())
-}
-
-#[test]
-fn requests_that_move_no_sector_are_answered(rt: HostRuntime) -> Result<(), Fail> {
-    let mut volume = created(rt.alloc())?;
-    assert!(rt; matches!(&step(&mut volume, Event::Seal)?, Reply::Nothing));
-    assert!(rt; matches!(&step(&mut volume, Event::TakeJob)?, Reply::Nothing));
-    assert!(rt;
-        matches!(
-            &step(
-                &mut volume,
-                Event::Zero {
-                    lba: 3,
-                    sectors: 60
-                }
-            )?,
-            Reply::Entered(1)
-        )
-    );
-    assert!(rt; matches!(&step(&mut volume, Event::Flush)?, Reply::Flushed(1)));
-    assert!(rt;
-        matches!(
-            &step(
-                &mut volume,
-                Event::Look {
-                    lba: 60,
-                    sectors: 8
-                }
-            )?,
-            Reply::Range
-        )
-    );
-    assert!(rt;
-        matches!(
-            &step(&mut volume, Event::Status)?,
-            Reply::Told {
-                writes: 1,
-                sealed: 1,
-                frontier: 1,
-                checkpoint: 1
-            }
-        )
-    );
     Ok(())
 }

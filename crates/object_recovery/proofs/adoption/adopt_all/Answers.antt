@@ -26,17 +26,20 @@ loop-preserved g c =
     let next : new.uploads.window.last ≡ old.uploads.window.last + 1 = ap (λ (w : WindowState). w.last) adopts.adopted.uploads.window in
     let wide : (expected_of_volume begun).sectors < 2 ^ 64 = grind (arith, nat_tests, c.requires.limits) in
     record {
-      list = list_more begun.uploads.uuid begun.batch.geometry old.uploads.window.last old.uploads.queue.end adopts.end adopts.rows adopts.receipt old new is adopts.adopted;
+      list =
+          list_more begun.uploads.uuid begun.batch.geometry old.uploads.window.last old.uploads.queue.end adopts.end adopts.rows adopts.receipt old new is adopts.adopted;
       number = omega (arith, next, adopts.low_number);
       from = omega (arith, next, c.loop.invariant.from);
       same = after ∙ c.loop.invariant.same;
       landed =
           landed_more (g.S.Store.state c.args.store.now).objects begun.uploads.uuid begun.uploads.window.last old.uploads.window.last new.uploads.window.last next
-          (subst (λ (s : StoreState). IfSome s.objects (λ objects. IsTrue (landed_in objects begun.uploads.uuid (old.uploads.window.last + 1)))) c.loop.invariant.same
+          (subst (λ (s : StoreState). IfSome s.objects (λ objects. IsTrue
+          (landed_in objects begun.uploads.uuid (old.uploads.window.last + 1)))) c.loop.invariant.same
           (subst (λ u. IfSome state.objects (λ objects. IsTrue (landed_in objects u (old.uploads.window.last + 1)))) is.uuid_is adopts.landed))
           c.loop.invariant.landed;
       streams = λ tells.
-          told_more (g.S.Store.state c.args.store.now).objects (expected_of_volume begun) Tells begun.uploads.uuid begun.batch.geometry old.uploads.queue.end begun old new wide
+          told_more (g.S.Store.state c.args.store.now).objects
+          (expected_of_volume begun) Tells begun.uploads.uuid begun.batch.geometry old.uploads.queue.end begun old new wide
           (sym (same_volume begun old is.uuid_is is.geometry_is)) is tells
           (subst (λ (s : StoreState). AdoptsNext Tells s.objects old new) c.loop.invariant.same adopts) (c.loop.invariant.streams tells);
     }
@@ -44,7 +47,8 @@ loop-preserved g c =
 pub returns-clause-streams : goal.returns-clause-streams
 returns-clause-streams g c = λ tells.
     let none = c.in_ok-adopt_next.ensures.missing c.if-branch.false in
-    subst (λ new. IfSome (g.S.Store.state c.args.store.now).objects (λ objects. KeepsStreams (expected_of_volume c.args.log.now) objects c.args.log.now new)) (sym none.same)
+    subst (λ new. IfSome (g.S.Store.state c.args.store.now).objects
+    (λ objects. KeepsStreams (expected_of_volume c.args.log.now) objects c.args.log.now new)) (sym none.same)
     (c.loop.invariant.streams tells)
 
 pub loop-init : goal.loop-init
@@ -61,4 +65,5 @@ pub returns-clause-landed : goal.returns-clause-landed
 returns-clause-landed g c =
     let none = c.in_ok-adopt_next.ensures.missing c.if-branch.false in
     subst (λ (new : ObjLogState). IfSome (g.S.Store.state c.args.store.now).objects (λ objects.
-    HaveLanded objects c.args.log.now.uploads.uuid c.args.log.now.uploads.window.last new.uploads.window.last)) (sym none.same) c.loop.invariant.landed
+    HaveLanded objects c.args.log.now.uploads.uuid c.args.log.now.uploads.window.last new.uploads.window.last))
+    (sym none.same) c.loop.invariant.landed

@@ -12,7 +12,8 @@ invariant-loop g l = record {
   from : l.initial.log.uploads.window.last ≤ l.log.uploads.window.last;
   same : g.S.Store.state l.store ≡ g.S.Store.state l.initial.store;
   landed : IfSome (g.S.Store.state l.initial.store).objects (λ objects. HaveLanded objects l.initial.log.uploads.uuid l.initial.log.uploads.window.last l.log.uploads.window.last);
-  streams : TellsBytes g.S.Receipt.Receipt.state → IfSome (g.S.Store.state l.initial.store).objects (λ objects. KeepsStreams (expected_of_volume l.initial.log) objects l.initial.log l.log);
+  streams : TellsBytes g.S.Receipt.Receipt.state
+      → IfSome (g.S.Store.state l.initial.store).objects (λ objects. KeepsStreams (expected_of_volume l.initial.log) objects l.initial.log l.log);
 }
 
 abbrev pub decreases-loop : goal.decreases-loop

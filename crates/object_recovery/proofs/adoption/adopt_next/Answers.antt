@@ -34,7 +34,8 @@ returns-clause-adopted g c = λ yes.
       end = end;
       receipt = receipt;
       order = c.ordered.ensures;
-      adopted = subst (λ list. HasAdoptedObject list end receipt c.args.log.now c.adopt.new.self) c.as_slice.ensures.value c.in_ok-adopt.ensures.adopted;
+      adopted =
+          subst (λ list. HasAdoptedObject list end receipt c.args.log.now c.adopt.new.self) c.as_slice.ensures.value c.in_ok-adopt.ensures.adopted;
       low_end = is.low_end;
       low_number = is.low_number;
       landed =

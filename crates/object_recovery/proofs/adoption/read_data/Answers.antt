@@ -7,7 +7,8 @@ returns-in-Data-clause-ok g c = record {
   header = c.in_ok-header.header;
   list = c.in-Data.rows;
   items = refl;
-  read = subst (IsReadAs (g.S.Receipt.Receipt.state c.args.receipt.now) c.args.expected.now c.in_ok-header.header) c.in-Data.is c.in_ok-rows.ensures.ok;
+  read =
+      subst (IsReadAs (g.S.Receipt.Receipt.state c.args.receipt.now) c.args.expected.now c.in_ok-header.header) c.in-Data.is c.in_ok-rows.ensures.ok;
   end_is = refl;
   low_end = omega arith;
   low_number = omega arith;

@@ -18,7 +18,8 @@ returns-in-Some-clause-newest g c = λ tells.
     let name = c.index-names-left.result in
     let told = (g.S.Store.state c.loop-left.store).objects in
     let state = ap (λ (s : StoreState). s.objects) c.loop-left.invariant.same in
-    found_newest (g.S.Store.state c.args.store.now).objects geometry c.args.names.now index name c.in-Some.end (omega arith) (sym c.index-names-left.is)
+    found_newest (g.S.Store.state c.args.store.now).objects geometry c.args.names.now index name c.in-Some.end (omega arith)
+    (sym c.index-names-left.is)
     (subst (λ o. IfSome o (λ objects. HasNoneFrom geometry objects c.args.names.now (index + 1))) state
     (subst (λ n. IfSome told (λ objects. HasNoneFrom geometry objects c.args.names.now n)) more (c.loop-left.invariant.none tells)))
     (subst (λ o. IfSome o (λ objects. IsCheckpointNamed geometry objects name (Some c.in-Some.end))) state
@@ -48,4 +49,5 @@ returns-clause-none g c = λ tells is.
     let last : c.loop-left.left ≡ 0 = omega arith in
     found_none (g.S.Store.state c.args.store.now).objects geometry c.args.names.now
     (subst (λ (s : StoreState). IfSome s.objects (λ objects. HasNoneFrom geometry objects c.args.names.now 0)) c.loop-left.invariant.same
-    (subst (λ n. IfSome (g.S.Store.state c.loop-left.store).objects (λ objects. HasNoneFrom geometry objects c.args.names.now n)) last (c.loop-left.invariant.none tells)))
+    (subst (λ n. IfSome (g.S.Store.state c.loop-left.store).objects (λ objects. HasNoneFrom geometry objects c.args.names.now n)) last
+    (c.loop-left.invariant.none tells)))

@@ -37,7 +37,8 @@ returns-in-Err-Bad-clause-bad g c =
     let bytes = c.as_slice.result.now in
     let header = c.args.header.now in
     let reason = rw c.in-Err-Bad.field-0-is at c.in-Err-Bad.ensures in
-    let long : 512 * front_sectors header ≤ length bytes = omega (arith, c.as_slice.ensures.len, c.in_ok-read_up_to.ensures.count, c.front_sectors.ensures) in
+    let long : 512 * front_sectors header ≤ length bytes =
+    omega (arith, c.as_slice.ensures.len, c.in_ok-read_up_to.ensures.count, c.front_sectors.ensures) in
     let before = c.args.bytes.now.items in
     let same : take (length before) bytes ≡ before = ap (take (length before)) c.as_slice.ensures.value ∙ c.in_ok-read_up_to.ensures.kept in
     subst (IsWhyNotRead receipt c.args.expected.now) {x = BadObject c.args.expected.now.number c.in-Err-Bad.reason} (sym c.bad_object-in-Err-Bad.ensures)

@@ -1,9 +1,9 @@
-use Rattle.std.proofs.Common.{length, subst, sym, ◌∙◌}
+use Rattle.std.proofs.Common.{◌≡◌, length, subst, sym, ◌∙◌}
 use Rattle.std.specs.Prelude.{IfSome}
 use Rattle.lsvd_objstore.specs.Objects.{AreNamesOf, Lists}
 use Rattle.lsvd_objstore.specs.Store.{StoreState, Becomes}
 use Rattle.object_recovery.specs.declared.error.RecoverError.{RecoverError}
-use Rattle.object_recovery.specs.Faults.{TellsBytes}
+use Rattle.object_recovery.specs.Faults.{IsNoAnswer, TellsBytes}
 use Rattle.object_recovery.specs.Checkpoints.{expected_of}
 use Rattle.object_recovery.specs.Removal.{Removes, IsListedPast, RemovesFirst}
 use Rattle.object_recovery.specs.Recovery.{IsLastLanded, IsRecoveredOf, RemovesAllPast, MayRemovePast, IsRefused}
@@ -29,7 +29,8 @@ returns-in_err-remove_past-clause-some g c =
     let at = c.last.ensures in
     let listed = same_store begun (g.S.Store.state c.list.new.self) c.in_ok-names.ensures.unchanged c.in_ok-names.ensures.count in
     let same = same_store (g.S.Store.state c.list.new.self) (g.S.Store.state c.recover_list.new.store) c.in_ok-log.ensures.unchanged c.in_ok-log.ensures.faults ∙ listed in
-    let removes = subst (λ (s : StoreState). Becomes (Removes (IsListedPast names number)) s.objects (g.S.Store.state c.remove_past.new.store).objects) same c.remove_past.ensures.some in
+    let removes = subst (λ (s : StoreState). Becomes (Removes (IsListedPast names number)) s.objects
+    (g.S.Store.state c.remove_past.new.store).objects) same c.remove_past.ensures.some in
     on_error (Becomes (MayRemovePast Tells volume) begun.objects (g.S.Store.state c.remove_past.new.store).objects) c.from_residual-in_err-remove_past.result
     (may_remove Tells volume names number begun.objects (g.S.Store.state c.remove_past.new.store).objects are
     (λ tells.
@@ -72,5 +73,13 @@ returns-clause-removed g c =
     let last = (g.S.Store.state c.remove_past.new.store).objects in
     let listed = same_store begun (g.S.Store.state c.list.new.self) c.in_ok-names.ensures.unchanged c.in_ok-names.ensures.count in
     let same = same_store (g.S.Store.state c.list.new.self) (g.S.Store.state c.recover_list.new.store) c.in_ok-log.ensures.unchanged c.in_ok-log.ensures.faults ∙ listed in
-    let removes = subst (λ (s : StoreState). Becomes (RemovesFirst names number (length names)) s.objects last) same c.in_ok-remove_past.ensures.all in
-    subst (λ n. Becomes (RemovesAllPast c.args.uuid n) begun.objects last) c.last.ensures (all_removed c.args.uuid names number begun.objects last are lists removes)
+    let removes =
+    subst (λ (s : StoreState). Becomes (RemovesFirst names number (length names)) s.objects last) same c.in_ok-remove_past.ensures.all in
+    subst (λ n. Becomes (RemovesAllPast c.args.uuid n) begun.objects last) c.last.ensures
+    (all_removed c.args.uuid names number begun.objects last are lists removes)
+
+pub returns-in_err-remove_past-clause-kept : goal.returns-in_err-remove_past-clause-kept
+returns-in_err-remove_past-clause-kept g c =
+    let Kept : RecoverError → Type 0 = λ e. (IsNoAnswer e → ⊥) → (g.S.Store.state c.remove_past.new.store).objects ≡ (g.S.Store.state c.args.store.now).objects in
+    passed_on Kept c.from_residual-in_err-remove_past.result c.in_err-remove_past.field-0.0 c.from_residual-in_err-remove_past.ensures.1
+    (λ other. absurd (other c.in_err-remove_past.ensures.answer))

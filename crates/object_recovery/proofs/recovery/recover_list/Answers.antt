@@ -26,8 +26,10 @@ returns-in_err-base-clause-refused g c = λ tells.
     let told = (g.S.Store.state c.args.store.now).objects in
     let error = c.in_err-base.field-0.0 in
     let is_uuid : IsUuid c.args.uuid = subst IsUuid (c.as_slice.ensures ∙ c.into_bytes.ensures) c.is_uuid.ensures in
-    let Refused : RecoverError → Type 0 = λ e. IfSome told (λ objects. Lists c.args.uuid objects c.args.names.now → IsRefused (expected_of c.args.uuid c.args.geometry) objects e) in
-    let refused = newest_refused told c.args.uuid c.args.geometry c.args.names.now error is_uuid c.in_err-base.ensures.answer (λ same. c.in_err-base.ensures.none tells (error_of error errors.NoCheckpoint same)) in
+    let Refused : RecoverError → Type 0 =
+    λ e. IfSome told (λ objects. Lists c.args.uuid objects c.args.names.now → IsRefused (expected_of c.args.uuid c.args.geometry) objects e) in
+    let refused = newest_refused told c.args.uuid c.args.geometry c.args.names.now error is_uuid c.in_err-base.ensures.answer
+    (λ same. c.in_err-base.ensures.none tells (error_of error errors.NoCheckpoint same)) in
     passed_on Refused c.from_residual.result error c.from_residual.ensures.1 refused
 
 pub returns-then-number-ge-WORN-clause-refused : goal.returns-then-number-ge-WORN-clause-refused
@@ -39,7 +41,8 @@ returns-then-number-ge-WORN-clause-refused g c = λ tells.
       | then-number-ge-WORN-via-then-number-ge-WORN w ↦ inl w.if-number-ge-WORN.true
       | then-number-ge-WORN-via-else-number-ge-WORN+then-base-ge-WORN w ↦ inr w.if-base-ge-WORN.true
     ] in
-    worn_base (g.S.Store.state c.args.store.now).objects c.args.uuid c.args.geometry c.args.names.now base.number base.end is_uuid worn (c.in_ok-base.ensures.newest tells)
+    worn_base (g.S.Store.state c.args.store.now).objects c.args.uuid c.args.geometry c.args.names.now base.number base.end is_uuid worn
+    (c.in_ok-base.ensures.newest tells)
 
 pub adopt_all-requires-clause-list : goal.adopt_all-requires-clause-list
 adopt_all-requires-clause-list g c =
@@ -58,9 +61,12 @@ returns-in_err-adopt_all-clause-refused g c = λ tells.
     let new = new_list c.args.uuid c.args.geometry base.number base.end c.new-log.result made.batch made.uuid made.window made.frontier made.end made.sealed made.settled made.log in
     let wide : c.args.geometry.sectors < 2 ^ 64 = grind (arith, nat_tests, c.requires.limits) in
     let same = same_store (g.S.Store.state c.args.store.now) (g.S.Store.state c.newest_checkpoint.new.store) c.in_ok-base.ensures.unchanged c.in_ok-base.ensures.faults in
-    let Refused : RecoverError → Type 0 = λ e. IfSome told (λ objects. Lists c.args.uuid objects c.args.names.now → IsRefused (expected_of c.args.uuid c.args.geometry) objects e) in
-    let stops = subst (λ (s : StoreState). IfSome s.objects (λ objects. StopsPast (expected_of_volume c.new-log.result) objects c.new-log.result error)) same (c.in_err-adopt_all.ensures.why tells) in
-    let refused = told_refused told c.args.uuid c.args.geometry c.args.names.now base.number base.end c.new-log.result error is_uuid wide new (c.in_ok-base.ensures.newest tells) stops in
+    let Refused : RecoverError → Type 0 =
+    λ e. IfSome told (λ objects. Lists c.args.uuid objects c.args.names.now → IsRefused (expected_of c.args.uuid c.args.geometry) objects e) in
+    let stops = subst (λ (s : StoreState). IfSome s.objects (λ objects. StopsPast
+    (expected_of_volume c.new-log.result) objects c.new-log.result error)) same (c.in_err-adopt_all.ensures.why tells) in
+    let refused = told_refused told c.args.uuid c.args.geometry c.args.names.now base.number base.end c.new-log.result error is_uuid wide new
+    (c.in_ok-base.ensures.newest tells) stops in
     passed_on Refused c.from_residual-in_err-adopt_all.result error c.from_residual-in_err-adopt_all.ensures.1 refused
 
 pub returns-clause-recovered : goal.returns-clause-recovered
@@ -80,7 +86,9 @@ returns-clause-recovered g c = λ tells.
     let list =
     subst (λ u. IsListUpTo u c.args.geometry last end log) new.list.uuid_is
     (subst (λ (sizes : Geometry). IsListUpTo begun.uploads.uuid sizes last end log) new.list.geometry_is done.list) in
-    told_recovered told c.args.uuid c.args.geometry c.args.names.now base.number base.end begun log is_uuid wide new list done.from (c.in_ok-base.ensures.newest tells)
+    told_recovered told c.args.uuid c.args.geometry c.args.names.now base.number base.end begun log is_uuid wide new list done.from
+    (c.in_ok-base.ensures.newest tells)
     (subst (λ (s : StoreState). IfSome s.objects (λ objects. KeepsStreams (expected_of_volume begun) objects begun log)) same (done.streams tells))
     (subst (λ (s : StoreState). IfSome s.objects (λ objects. HaveLanded objects begun.uploads.uuid begun.uploads.window.last log.uploads.window.last)) same done.landed)
-    (subst (λ (s : StoreState). IfSome s.objects (λ objects. found objects (name_of begun.uploads.uuid (log.uploads.window.last + 1)) ≡ None)) same done.missing)
+    (subst (λ (s : StoreState). IfSome s.objects (λ objects. found objects
+    (name_of begun.uploads.uuid (log.uploads.window.last + 1)) ≡ None)) same done.missing)

@@ -16,7 +16,8 @@ returns-in_err-remove-clause-some g c =
     let name = c.name-item.result in
     becomes_both (RemovesFirst names number c.loop-name.name-index) (Removes (λ other. other ≡ name)) (Removes (IsListedPast names number))
     (g.S.Store.state c.args.store.now).objects (g.S.Store.state c.loop-name.store).objects (g.S.Store.state c.remove.new.store).objects
-    (λ x y z. some_more names number c.loop-name.name-index name x y z c.loop-name-test.true (sym c.name-item.is) (c.is_past.ensures.0 c.if-is_past.true))
+    (λ x y z. some_more names number c.loop-name.name-index name x y z c.loop-name-test.true (sym c.name-item.is)
+    (c.is_past.ensures.0 c.if-is_past.true))
     c.loop-name.invariant.first c.remove.ensures.some
 
 pub loop-name-preserved : goal.loop-name-preserved
@@ -34,8 +35,10 @@ loop-name-preserved g c =
           rw w.store-is (record {
             faults = w.in_ok-remove.ensures.faults ∙ c.loop-name.invariant.faults;
             first =
-                becomes_both (RemovesFirst names number index) (λ y z. Removes (λ other. other ≡ name) y z × IsRemoved name y z) (RemovesFirst names number (index + 1)) old mid last
-                (λ x y z first step. first_more names number index name x y z c.loop-name-test.true (sym c.name-item.is) (c.is_past.ensures.0 w.if-is_past.true) first step.0 step.1)
+                becomes_both (RemovesFirst names number index) (λ y z. Removes (λ other. other ≡ name) y z × IsRemoved name y z)
+                (RemovesFirst names number (index + 1)) old mid last
+                (λ x y z first step. first_more names number index name x y z c.loop-name-test.true (sym c.name-item.is)
+                (c.is_past.ensures.0 w.if-is_past.true) first step.0 step.1)
                 c.loop-name.invariant.first both;
           })
       | else-is_past w ↦
@@ -43,7 +46,8 @@ loop-name-preserved g c =
             faults = c.loop-name.invariant.faults;
             first =
                 becomes_so (RemovesFirst names number index) (RemovesFirst names number (index + 1)) old mid
-                (λ x y first. first_skip names number index name x y c.loop-name-test.true (sym c.name-item.is) (λ past. both_ways _ w.if-is_past.false (c.is_past.ensures.1 past)) first)
+                (λ x y first. first_skip names number index name x y c.loop-name-test.true (sym c.name-item.is)
+                (λ past. both_ways _ w.if-is_past.false (c.is_past.ensures.1 past)) first)
                 c.loop-name.invariant.first;
           })
     ]
