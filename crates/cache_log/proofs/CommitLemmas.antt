@@ -22,7 +22,7 @@ use Rattle.commit_slot.proofs.Passing.{passes_as}
 use Rattle.cache_log.specs.declared.row.Row.{Row}
 use Rattle.cache_log.specs.Rows.{entry_of, StandsFrom, AreNumbered, Follow, end_of_rows, HaveRecords, since, entries_since, between, entries_between}
 use Rattle.cache_log.specs.Log.{entries_in, LogState}
-use Rattle.cache_log.specs.Committed.{HasRecords, LeavesEntries, LeavesEntriesSince, sectors_from, IsOnDisk, HasSameList, IsReleased, IsCommittedLog, body_of}
+use Rattle.cache_log.specs.Committed.{HasRecords, LeavesEntries, LeavesEntriesSince, sectors_from, EndsAtHead, IsOnDisk, HasSameList, IsReleased, IsCommittedLog, body_of}
 use Rattle.cache_log.specs.Invariant.{Reach, RecordsLast, IsLog, IsLogHeld, EachCommitted, IsCommitOfRows, IsCommitOfLog, AreCommitsOfLog, Holds}
 use Rattle.cache_log.proofs.CommittedLemmas.{view_of, now_entries, now_committed, each_as, each_both, each_same, each_last, finished_has, has_records, leaves_entries, HeldAt, AreCommits, are_commits}
 use Rattle.cache_log.proofs.LogAreaLemmas.{same_log_area, same_entries}
@@ -149,6 +149,9 @@ is_on_disk place mark held rows commits reserved log =
       numbered = is.numbered;
       held = λ same. none_held held rows commits.body.tail.seq mark.seq (omega (arith, same)) is.below log.from is.numbered;
       start = start_is place mark held rows commits log;
+      ends =
+          each_as (λ body. (n : ℕ) × (n ≤ place.log) × IsCommitOfRows place (held ++ rows) n body)
+          (EndsAtHead (view_of place mark held rows commits reserved)) commits (λ body one. one.2.end) are.each;
       all = refl;
       entries = refl;
       stands =

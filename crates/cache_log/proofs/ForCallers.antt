@@ -14,14 +14,15 @@ use Rattle.commit_slot.specs.Commits.{CommitsState, IsAsBefore, IsLast, ReadsSet
 use Rattle.commit_slot.proofs.Passing.{passes_as}
 use Rattle.commit_slot.specs.LogArea.{log_area}
 use Rattle.cache_log.specs.declared.row.Row.{Row}
-use Rattle.cache_log.specs.Rows.{entry_of, AreNumbered, HaveRecords, since, entries_since, entries_between}
+use Rattle.cache_log.specs.Rows.{seq_of, position_of, entry_of, AreNumbered, HaveRecords, since, entries_since, entries_between}
 use Rattle.cache_log.specs.Reads.{reads_cost}
-use Rattle.cache_log.specs.Log.{LogState, all_rows, entries_in, HasSameEntries, up_to}
+use Rattle.cache_log.specs.Log.{LogState, all_rows, entries_in, row_of, AreRowsOf, HasSameEntries, up_to}
 use Rattle.cache_log.specs.Opening.{sectors_between}
 use Rattle.cache_log.specs.Committed.{HasRecords, LeavesEntries, LeavesEntriesSince, LeavesEntriesNow, HoldsCommittedNow, IsOnDisk, HasSameList, IsReleased, sectors_from}
 use Rattle.cache_log.specs.Laws.{HaveOneList, AreReadAgain, AreAtMostTwoEach}
 use Rattle.cache_log.proofs.LogAreaLemmas as area
 use Rattle.cache_log.proofs.ReadCounts as counts
+use Rattle.cache_log.proofs.ReadLemmas as reads
 use Rattle.cache_log.proofs.RowLemmas as rows_of
 use Rattle.cache_log.proofs.Slices.{entries_first, entries_numbered}
 
@@ -36,6 +37,10 @@ are_read_again = rows_of.are_read_again
 -- at most two headers are read for each row
 pub at_most_two_each : AreAtMostTwoEach
 at_most_two_each = counts.headers_most
+
+-- of rows of entries, one more is of one entry more
+pub rows_more : (rows : List Row) (list : List Entry) (row : Row) (entry : Entry) → AreRowsOf rows list → row ≡ row_of (seq_of row) (position_of row) entry → AreRowsOf (rows ++ row ∷ []) (list ++ entry ∷ [])
+rows_more = reads.rows_more
 
 -- where the same bytes stand in the log area, the same records do, with the same entries
 pub same_log_area : (rows : List Row) (log from seq : ℕ) (left old : List ℕ) → log_area left ≡ log_area old → HaveRecords log from seq rows old

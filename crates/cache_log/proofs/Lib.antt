@@ -2,7 +2,7 @@ mod Places
 mod Slices
 mod Reaches
 mod Records
-mod RowLemmas
+pub mod RowLemmas
 mod LogAreaLemmas
 mod Stops
 mod CommittedLemmas

@@ -15,7 +15,7 @@ use Rattle.commit_slot.specs.Commits.{CommitsState}
 use Rattle.cache_log.specs.declared.row.Row.{Row}
 use Rattle.cache_log.specs.declared.row.Row.TheVariants.{Write, Zero}
 use Rattle.cache_log.specs.Rows.{byte_of, seq_of, position_of, record_size, entry_of, AreDataOfRow, sectors_taken, next, Follow}
-use Rattle.cache_log.specs.Log.{LogState, row_of, entries_in, AreData, AgreesWith, IsReadFrom}
+use Rattle.cache_log.specs.Log.{LogState, row_of, AreRowsOf, entries_in, AreData, AgreesWith, IsReadFrom}
 use Rattle.cache_log.specs.Writing.{RowLiesInside, RowsLieInside}
 use Rattle.cache_log.specs.Invariant.{IsLog}
 use Rattle.cache_log.proofs.Places.{step_of}
@@ -75,6 +75,17 @@ is_read_on_ok (Err e) log before buf sector at place same is read = tt
 
 -- ---- entries one by one
 
+-- past those that are skipped, the rows up to one and this one
+taken_more : (rows : List Row) (skipped index : ℕ) (row : Row) → skipped ≤ index → index < length rows → row ≡ get_or rows index row
+    → take ((index + 1) - skipped) (drop skipped rows) ≡ take (index - skipped) (drop skipped rows) ++ row ∷ []
+taken_more rows skipped index row from inside is =
+    let k : ℕ = index - skipped in
+    let place : skipped + k ≡ index = omega (arith, from) in
+    let here : get_or (drop skipped rows) k row ≡ row = get_or-drop skipped rows k row ∙ ap (λ n. get_or rows n row) place ∙ sym is in
+    let less : k < length (drop skipped rows) = (let e = length-drop skipped rows in omega (arith, e, from, inside)) in
+    let next : (index + 1) - skipped ≡ k + 1 = omega (arith, from) in
+    ap (λ n. take n (drop skipped rows)) next ∙ take_more (drop skipped rows) k row less ∙ ap (λ r. take k (drop skipped rows) ++ r ∷ []) here
+
 -- the entries of the rows from one on and before another
 abbrev pub SoFar : List Row → (skipped index : ℕ) → List Entry → List Medium → Type 0
 SoFar rows skipped index list moments = HoldsNow (λ now. list ≡ map (entry_of now.bytes) (take (index - skipped) (drop skipped rows))) moments
@@ -91,12 +102,7 @@ pub one_so_far : (rows : List Row) (skipped index : ℕ) (list : List Entry) (ro
 one_so_far rows skipped index list row entry [] from inside is so_far read = tt
 one_so_far rows skipped index list row entry (now ∷ past) from inside is so_far read =
     let k : ℕ = index - skipped in
-    let place : skipped + k ≡ index = omega (arith, from) in
-    let here : get_or (drop skipped rows) k row ≡ row = get_or-drop skipped rows k row ∙ ap (λ n. get_or rows n row) place ∙ sym is in
-    let less : k < length (drop skipped rows) = (let e = length-drop skipped rows in omega (arith, e, from, inside)) in
-    let next : (index + 1) - skipped ≡ k + 1 = omega (arith, from) in
-    let more : take ((index + 1) - skipped) (drop skipped rows) ≡ take k (drop skipped rows) ++ row ∷ [] =
-    ap (λ n. take n (drop skipped rows)) next ∙ take_more (drop skipped rows) k row less ∙ ap (λ r. take k (drop skipped rows) ++ r ∷ []) here in
+    let more = taken_more rows skipped index row from inside is in
     ap (λ xs. xs ++ entry ∷ []) so_far ∙ ap (λ e. map (entry_of now.bytes) (take k (drop skipped rows)) ++ e ∷ []) read
     ∙ sym (ap (map (entry_of now.bytes)) more ∙ map-append (entry_of now.bytes) (take k (drop skipped rows)) (row ∷ []))
 
@@ -106,6 +112,35 @@ all_so_far rows skipped index list [] end so_far = tt
 all_so_far rows skipped index list (now ∷ past) end so_far =
     let enough : length (drop skipped rows) ≤ index - skipped = (let e = length-drop skipped rows in omega (arith, e, end)) in
     so_far ∙ ap (map (entry_of now.bytes)) (take_all (index - skipped) (drop skipped rows) enough)
+
+-- ---- of which rows entries are
+
+pub rows_more : (rows : List Row) (list : List Entry) (row : Row) (entry : Entry) → AreRowsOf rows list → row ≡ row_of (seq_of row) (position_of row) entry → AreRowsOf (rows ++ row ∷ []) (list ++ entry ∷ [])
+rows_more [] [] row entry are is = (is, tt)
+rows_more [] (other ∷ list) row entry are is = absurd are
+rows_more (first ∷ rows) [] row entry are is = absurd are
+rows_more (first ∷ rows) (other ∷ list) row entry are is = (are.0, rows_more rows list row entry are.1 is)
+
+-- the entries are of the rows from one on and before another
+abbrev pub AreOfSoFar : List Row → (skipped index : ℕ) → List Entry → Type 0
+AreOfSoFar rows skipped index list = AreRowsOf (take (index - skipped) (drop skipped rows)) list
+
+pub none_of_so_far : (rows : List Row) (skipped : ℕ) (list : List Entry) → list ≡ [] → AreOfSoFar rows skipped skipped list
+none_of_so_far rows skipped list none =
+    let zero : 0 ≡ skipped - skipped = omega arith in
+    subst₂ (λ n l. AreRowsOf (take n (drop skipped rows)) l) zero (sym none) tt
+
+pub one_of_so_far : (rows : List Row) (skipped index : ℕ) (list : List Entry) (row : Row) (entry : Entry) → skipped ≤ index → index < length rows
+    → row ≡ get_or rows index row → AreOfSoFar rows skipped index list → row ≡ row_of (seq_of row) (position_of row) entry
+    → AreOfSoFar rows skipped (index + 1) (list ++ entry ∷ [])
+one_of_so_far rows skipped index list row entry from inside is so_far own =
+    subst (λ r. AreRowsOf r (list ++ entry ∷ [])) (sym (taken_more rows skipped index row from inside is))
+    (rows_more (take (index - skipped) (drop skipped rows)) list row entry so_far own)
+
+pub all_of_so_far : (rows : List Row) (skipped index : ℕ) (list : List Entry) → length rows ≤ index → AreOfSoFar rows skipped index list → AreRowsOf (drop skipped rows) list
+all_of_so_far rows skipped index list end so_far =
+    let enough : length (drop skipped rows) ≤ index - skipped = (let e = length-drop skipped rows in omega (arith, e, end)) in
+    subst (λ r. AreRowsOf r list) (take_all (index - skipped) (drop skipped rows) enough) so_far
 
 -- a row that is one of many that lie inside the disk
 pub row_lies : (rows : List Row) (index : ℕ) (row : Row) (disk : DiskState) → index < length rows → row ≡ get_or rows index row → RowsLieInside rows disk → RowLiesInside row disk

@@ -1,11 +1,10 @@
 -- A log before and after `trim_to`.
-use Rattle.std.proofs.Common.{◌≡◌, ℕ, ◌+◌, ◌-◌, ◌<◌, ◌≤◌, ◌^◌, List, [], ◌∷◌, ◌++◌, zero, suc, length, take, drop, map, refl, sym, ◌∙◌, ap, subst, arith, append_assoc, if◌then◌else◌}
+use Rattle.std.proofs.Common.{◌≡◌, ℕ, ◌+◌, ◌-◌, ◌<◌, ◌≤◌, ◌^◌, List, [], ◌∷◌, ◌++◌, zero, suc, length, take, drop, map, refl, sym, ◌∙◌, ap, subst, arith, append_assoc}
 use Rattle.std.specs.Prelude.{Some, min}
 use Rattle.std.specs.Option.{option_map}
 use Rattle.std.specs.List.{AllByRecursion}
 use Rattle.std.proofs.Math.Path.{subst₂}
 use Rattle.std.proofs.Math.Seq.{take-add}
-use Rattle.std.proofs.lemmas.Bool.{lt-ltb}
 use Rattle.std.proofs.lemmas.List.{take-append-drop, drop-drop, drop-map, take_min, drop_min, length-drop}
 use Rattle.lsvd_device.specs.Medium.{Medium}
 use Rattle.lsvd_device.specs.Device.{HoldsNow}
@@ -110,10 +109,9 @@ dropped_entries : (rows : List Row) (k : ℕ) (moments : List Medium) → entrie
 dropped_entries rows k [] = refl
 dropped_entries rows k (now ∷ past) = ap Some (sym (drop-map (entry_of now.bytes) k rows))
 
-pub trimmed : (place : Room) (mark : Mark) (seq : ℕ) (held rows : List Row) (commits : CommitsState) (reserved : ℕ) → mark.seq < seq
-    → IsTrimmed seq (view_of place mark held rows commits reserved)
+trimmed : (place : Room) (mark : Mark) (seq : ℕ) (held rows : List Row) (commits : CommitsState) (reserved : ℕ) → IsTrimmed seq (view_of place mark held rows commits reserved)
     (view_of place (mark_after place mark (seq - mark.seq) rows) (held ++ take (seq - mark.seq) rows) (drop (seq - mark.seq) rows) commits reserved)
-trimmed place mark seq held rows commits reserved less =
+trimmed place mark seq held rows commits reserved =
     let k : ℕ = seq - mark.seq in
     let whole : (held ++ take k rows) ++ drop k rows ≡ held ++ rows = append_assoc held (take k rows) (drop k rows) ∙ ap (λ l. held ++ l) (take-append-drop k rows) in
     record {
@@ -122,39 +120,39 @@ trimmed place mark seq held rows commits reserved less =
       entries = dropped_entries rows k commits.disk.moments;
       all = ap (λ r. entries_in r commits.disk.moments) whole;
       first = refl;
-      start = sym (ap (λ b. if b then start_of place.head (drop k rows) else mark.position) (lt-ltb mark.seq seq less));
+      start = refl;
       room = refl;
       commits = refl;
       reserved = refl;
     }
 
--- so it is of the rows of which more are held then
-pub trimmed_log : (place : Room) (mark : Mark) (seq position d n : ℕ) (items : List Row) (commits : CommitsState) → IsLog place mark (take d items) (drop d items) commits → mark.seq < seq → seq < 2 ^ 64
-    → n ≡ min (seq - mark.seq) (length (drop d items)) → position ≡ start_of place.head (drop (d + n) items)
-    → IsLog place (record { position = position; seq = seq }) (take (d + n) items) (drop (d + n) items) commits
-trimmed_log place mark seq position d n items commits log less small is at =
+-- the mark, made of its parts
+marked : (place : Room) (mark : Mark) (seq position first d n : ℕ) (items : List Row) → first ≡ mark.seq + (seq - mark.seq) → n ≡ min (seq - mark.seq) (length (drop d items))
+    → position ≡ start_of place.head (drop (d + n) items) → record { position = position; seq = first } ≡ mark_after place mark (seq - mark.seq) (drop d items)
+marked place mark seq position first d n items begins is at =
     let k : ℕ = seq - mark.seq in
-    let rows : List Row = drop d items in
-    let sum : mark.seq + k ≡ seq = omega (arith, less) in
-    let left : drop (d + n) items ≡ drop k rows = counted d n k items is in
-    let done = trim_log place mark k (take d items) rows commits log (omega (arith, sum, small)) in
-    let P : Mark → List Row → List Row → Type 0 = λ m h r. IsLog place m h r commits in
-    let marked : record { position = position; seq = seq } ≡ mark_after place mark k rows =
-    ap (λ p. record { position = p; seq = seq }) (at ∙ ap (start_of place.head) left) ∙ ap (λ s. record { position = start_of place.head (drop k rows); seq = s }) (sym sum) in
-    subst (λ m. P m (take (d + n) items) (drop (d + n) items)) (sym marked) (subst₂ (λ h r. P (mark_after place mark k rows) h r) (sym (counted_first d n k items is)) (sym left) done)
+    ap (λ p. record { position = p; seq = first }) (at ∙ ap (start_of place.head) (counted d n k items is)) ∙ ap (λ s. record { position = start_of place.head (drop k (drop d items)); seq = s }) begins
 
-pub is_trimmed : (place : Room) (mark : Mark) (seq position d n : ℕ) (items : List Row) (commits : CommitsState) (before after : ℕ) (log : LogState) → view_of place mark (take d items) (drop d items) commits before ≡ log
-    → mark.seq < seq → n ≡ min (seq - mark.seq) (length (drop d items)) → position ≡ start_of place.head (drop (d + n) items) → after ≡ before
-    → IsTrimmed seq log (view_of place (record { position = position; seq = seq }) (take (d + n) items) (drop (d + n) items) commits after)
-is_trimmed place mark seq position d n items commits before after log seen less is at same =
+-- so it is of the rows of which more are held then
+pub trimmed_log : (place : Room) (mark : Mark) (seq position first d n : ℕ) (items : List Row) (commits : CommitsState) → IsLog place mark (take d items) (drop d items) commits → first < 2 ^ 64
+    → first ≡ mark.seq + (seq - mark.seq) → n ≡ min (seq - mark.seq) (length (drop d items)) → position ≡ start_of place.head (drop (d + n) items)
+    → IsLog place (record { position = position; seq = first }) (take (d + n) items) (drop (d + n) items) commits
+trimmed_log place mark seq position first d n items commits log small begins is at =
     let k : ℕ = seq - mark.seq in
     let rows : List Row = drop d items in
-    let sum : mark.seq + k ≡ seq = omega (arith, less) in
-    let left : drop (d + n) items ≡ drop k rows = counted d n k items is in
-    let done = trimmed place mark seq (take d items) rows commits before less in
+    let done = trim_log place mark k (take d items) rows commits log (omega (arith, begins, small)) in
+    let P : Mark → List Row → List Row → Type 0 = λ m h r. IsLog place m h r commits in
+    subst (λ m. P m (take (d + n) items) (drop (d + n) items)) (sym (marked place mark seq position first d n items begins is at))
+    (subst₂ (λ h r. P (mark_after place mark k rows) h r) (sym (counted_first d n k items is)) (sym (counted d n k items is)) done)
+
+pub is_trimmed : (place : Room) (mark : Mark) (seq position first d n : ℕ) (items : List Row) (commits : CommitsState) (before after : ℕ) (log : LogState) → view_of place mark (take d items) (drop d items) commits before ≡ log
+    → first ≡ mark.seq + (seq - mark.seq) → n ≡ min (seq - mark.seq) (length (drop d items)) → position ≡ start_of place.head (drop (d + n) items) → after ≡ before
+    → IsTrimmed seq log (view_of place (record { position = position; seq = first }) (take (d + n) items) (drop (d + n) items) commits after)
+is_trimmed place mark seq position first d n items commits before after log seen begins is at same =
+    let k : ℕ = seq - mark.seq in
+    let rows : List Row = drop d items in
+    let done = trimmed place mark seq (take d items) rows commits before in
     let Q : LogState → Mark → List Row → List Row → ℕ → Type 0 = λ l m h r u. IsTrimmed seq l (view_of place m h r commits u) in
-    let marked : record { position = position; seq = seq } ≡ mark_after place mark k rows =
-    ap (λ p. record { position = p; seq = seq }) (at ∙ ap (start_of place.head) left) ∙ ap (λ s. record { position = start_of place.head (drop k rows); seq = s }) (sym sum) in
-    subst₂ (λ l u. Q l (record { position = position; seq = seq }) (take (d + n) items) (drop (d + n) items) u) seen (sym same)
-    (subst (λ m. Q (view_of place mark (take d items) rows commits before) m (take (d + n) items) (drop (d + n) items) before) (sym marked)
-    (subst₂ (λ h r. Q (view_of place mark (take d items) rows commits before) (mark_after place mark k rows) h r before) (sym (counted_first d n k items is)) (sym left) done))
+    subst₂ (λ l u. Q l (record { position = position; seq = first }) (take (d + n) items) (drop (d + n) items) u) seen (sym same)
+    (subst (λ m. Q (view_of place mark (take d items) rows commits before) m (take (d + n) items) (drop (d + n) items) before) (sym (marked place mark seq position first d n items begins is at))
+    (subst₂ (λ h r. Q (view_of place mark (take d items) rows commits before) (mark_after place mark k rows) h r before) (sym (counted_first d n k items is)) (sym (counted d n k items is)) done))

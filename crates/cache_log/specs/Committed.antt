@@ -13,7 +13,7 @@ use Rattle.commit_slot.specs.Committing.{IsCommitted}
 use Rattle.commit_slot.specs.OnDisk.{AreOnDisk}
 use Rattle.log_room.specs.Room.{room_of, empty_log, distance}
 use Rattle.cache_log.specs.declared.row.Row.{Row}
-use Rattle.cache_log.specs.Rows.{entry_of, AreNumbered, since, entries_since, entries_between}
+use Rattle.cache_log.specs.Rows.{entry_of, end_of_rows, AreNumbered, since, entries_since, between, entries_between}
 use Rattle.cache_log.specs.Log.{LogState, all_rows, next_seq, entries_in}
 use Rattle.cache_log.specs.Opening.{AreRecords}
 
@@ -60,6 +60,10 @@ abbrev pub sectors_from : (log from head : ℕ) → List Row → ℕ
 sectors_from log from head [] = 0
 sectors_from log from head (row ∷ rows) = distance log from head
 
+-- the records of a commit, among those of a log, end where its head stands
+abbrev pub EndsAtHead : LogState → CommitBody → Type 0
+EndsAtHead log body = end_of_rows log.room.log body.tail.position (between body (all_rows log)) ≡ body.head.position
+
 -- The log fills the device past the slots, and a stop now leaves the entries of the last commit or of the unfinished one.
 -- The sectors in use are those from the tail of the last commit made to the head.
 pub record IsOnDisk (log : LogState) : Type 0 where
@@ -71,6 +75,8 @@ pub record IsOnDisk (log : LogState) : Type 0 where
   -- that of the next one
   pub held : log.first ≡ log.commits.body.tail.seq → log.held ≡ []
   pub start : log.commits.body.tail ≡ record { position = 0; seq = log.first } → log.start ≡ 0
+  -- the records of the last commit, and of an unfinished one, end where its head stands
+  pub ends : EndsAtHead log log.commits.body × IfSome log.commits.unfinished (EndsAtHead log)
   pub all : log.all ≡ entries_in (all_rows log) log.commits.disk.moments
   pub entries : log.entries ≡ entries_in log.rows log.commits.disk.moments
   pub stands : LeavesEntriesNow log (IsLast log.commits)

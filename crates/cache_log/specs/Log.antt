@@ -1,5 +1,5 @@
 -- Contract: a log on a device as a list of entries, and what appending to it and reading it promises.
-use Rattle.std.specs.Prelude.{◌≡◌, ℕ, ◌+◌, ◌-◌, ◌*◌, ◌/◌, ◌<◌, ◌≤◌, ◌⊎◌, ◌==◌, if◌then◌else◌, Option, Some, None, IfSome, nat_lt, Bool, List, [], ◌∷◌, ◌++◌, length, map, take, drop, true, false}
+use Rattle.std.specs.Prelude.{◌≡◌, ℕ, ◌+◌, ◌-◌, ◌*◌, ◌/◌, ◌<◌, ◌≤◌, ◌⊎◌, ◌==◌, if◌then◌else◌, Option, Some, None, IfSome, Bool, List, [], ◌∷◌, ◌++◌, length, map, take, drop, true, false}
 use Rattle.std.specs.Option.{option_map}
 use Rattle.lsvd_base.specs.declared.entry.Entry.{Entry}
 use Rattle.lsvd_base.specs.declared.entry.Entry.TheVariants as entries
@@ -17,7 +17,7 @@ use Rattle.cache_log.specs.declared.error.AppendError.{AppendError}
 use Rattle.cache_log.specs.declared.error.AppendError.TheVariants.{NoRoom, DeviceFault}
 use Rattle.cache_log.specs.declared.row.Row.{Row}
 use Rattle.cache_log.specs.declared.row.Row.TheVariants as row_kinds
-use Rattle.cache_log.specs.Rows.{byte_of, entry_of, position_of, AreDataOfRow}
+use Rattle.cache_log.specs.Rows.{byte_of, entry_of, seq_of, position_of, AreDataOfRow}
 use Rattle.cache_log.specs.Reads.{AreReadOnly}
 
 -- A log on a device: a list of entries. The records from the tail of the last commit on stay in their sectors, also those
@@ -60,6 +60,13 @@ abbrev pub row_of : (seq at : ℕ) → Entry → Row
 row_of seq at (entries.Write lba body) = row_kinds.Write seq at lba (length body / sector_bytes)
 row_of seq at (entries.Zero lba sectors) = row_kinds.Zero seq at lba sectors
 
+-- these rows are those of records of these entries
+abbrev pub AreRowsOf : List Row → List Entry → Type 0
+AreRowsOf [] [] = Unit {0}
+AreRowsOf [] (entry ∷ list) = ⊥
+AreRowsOf (row ∷ rows) [] = ⊥
+AreRowsOf (row ∷ rows) (entry ∷ list) = (row ≡ row_of (seq_of row) (position_of row) entry) × AreRowsOf rows list
+
 -- some entries, and one more
 abbrev pub with_appended : Option (List Entry) → Entry → Option (List Entry)
 with_appended None entry = None
@@ -87,14 +94,15 @@ start_of head [] = head
 start_of head (row ∷ rows) = position_of row
 
 -- The entries with seqs below one are dropped, and the next entry has at least this seq. Their records are held, and no
--- sector is free that was not.
+-- sector is free that was not. The tail of the next commit stands at the first record that is left, also where none was
+-- dropped, and at the head where none is left.
 pub record IsTrimmed (seq : ℕ) (old new : LogState) : Type 0 where
   pub held : new.held ≡ old.held ++ take (seq - old.first) old.rows
   pub rows : new.rows ≡ drop (seq - old.first) old.rows
   pub entries : new.entries ≡ option_map (drop (seq - old.first)) old.entries
   pub all : new.all ≡ old.all
   pub first : new.first ≡ old.first + (seq - old.first)
-  pub start : new.start ≡ (if nat_lt old.first seq then start_of old.room.head new.rows else old.start)
+  pub start : new.start ≡ start_of old.room.head new.rows
   pub room : new.room ≡ old.room
   pub commits : new.commits ≡ old.commits
   pub reserved : new.reserved ≡ old.reserved

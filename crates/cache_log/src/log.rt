@@ -19,6 +19,7 @@ ghost use Rattle.cache_log.specs.Rows.{log_start, byte_of, seq_of, position_of, 
 ghost use Rattle.cache_log.specs.Reads.{AreReadOnly, opens_without_fault, reads_without_fault};
 ghost use Rattle.cache_log.specs.Log.{next_seq, row_of, IsAppended, FailsToAppend, HasSameEntries};
 ghost use Rattle.cache_log.specs.Log.{IsTrimmed, start_with, AreData, IsReadFrom, ReadsOnce, IsReadOnly};
+ghost use Rattle.cache_log.specs.Log.{AreRowsOf};
 ghost use Rattle.cache_log.specs.Opening.{entry_count, IsOpenedLog, IsBadLog};
 ghost use Rattle.cache_log.specs.Committed.{first_body, body_of, IsOnDisk, IsFormattedLog};
 ghost use Rattle.cache_log.specs.Committed.{KeepsCommits, HasSameList, IsReleased, IsCommittedLog};
@@ -264,19 +265,21 @@ impl<D: Disk> CacheLog<D> {
     }
 
     /// Drops the entries with seqs below this one from the list. Where it is above that of the next entry, the list is
-    /// empty then, and the next entry has this seq; where it is not above that of the first entry, nothing is done.
+    /// empty then, and the next entry has this seq; where it is not above that of the first entry, none is dropped. In
+    /// each case the tail of the next commit is set to the first record that is left, past a pad before it, and to the
+    /// head where none is.
     ///
     /// The sectors of their records are free once a commit is made after this. Until then a stop may leave these entries.
     pub fn trim_to(&mut self, seq: u64)
         ensures { IsTrimmed seq self.old self.new }
     {
-        if seq <= self.tail.seq {
-            return;
-        }
         let dropped = self.dropped + self.count_below(seq);
         let position = start_of(&self.rows, dropped, self.room.head());
         self.dropped = dropped;
-        self.tail = Mark { position, seq };
+        self.tail = Mark {
+            position,
+            seq: seq.max(self.tail.seq),
+        };
     }
 
     /// Takes the memory that `append` needs for this entry. The one error is that memory ran out;
@@ -345,6 +348,8 @@ impl<D: Disk> CacheLog<D> {
     pub fn entries_from(&mut self, alloc: Global, seq: u64) -> Result<Vec<Entry>, ReadError>
         ensures entries { IfOk result (λ list.
             IfSome self.old.entries (λ all. list.items ≡ drop (seq - self.old.first) all)) }
+        ensures rows { IfOk result (λ list.
+            AreRowsOf (drop (seq - self.old.first) self.old.rows) list.items) }
         ensures ok { OnOk result
             (IsReadOnly (length self.old.rows - (seq - self.old.first)) true self.old self.new) }
         ensures err { IfErr result (λ e.

@@ -55,8 +55,8 @@ impl Row {
         }
     }
 
-    // The sector of the log at which the record stands.
-    pub(crate) fn position(&self) -> u64
+    /// The sector of the log at which the record stands; the data of a write begin one sector further on.
+    pub fn position(&self) -> u64
         ensures { result ≡ position_of self.now }
     {
         match self {

@@ -3,7 +3,8 @@ ghost use Rattle.std.specs.Prelude.{drop, length, true};
 ghost use Rattle.lsvd_device.specs.Device.{HoldsNow};
 ghost use Rattle.log_room.specs.Room.{max_log};
 ghost use Rattle.commit_slot.specs.OnDisk.{AreOnDisk};
-ghost use Rattle.cache_log.specs.Rows.{byte_of, entry_of};
+ghost use Rattle.cache_log.specs.Rows.{byte_of, seq_of, position_of, entry_of};
+ghost use Rattle.cache_log.specs.Log.{row_of, AreRowsOf};
 ghost use Rattle.cache_log.specs.Reads.{AreReadOnly, reads_without_fault};
 ghost use Rattle.cache_log.specs.Writing.{IsPadded, FailsToPad, IsWrittenAt, IsNotWrittenAt};
 ghost use Rattle.cache_log.specs.Writing.{RowLiesInside, RowsLieInside};
@@ -74,6 +75,7 @@ pub(crate) fn read_entries<D: Disk>(
     ensures entries { IfOk result (λ list. HoldsNow
         (λ now. list.items ≡ map (entry_of now.bytes) (drop skipped rows.now.items))
         commits.old.disk.moments) }
+    ensures rows { IfOk result (λ list. AreRowsOf (drop skipped rows.now.items) list.items) }
     ensures read { OnOk result
         (AreReadOnly (length rows.now.items - skipped) true commits.old commits.new) }
     ensures err { IfErr result (λ e.
@@ -97,6 +99,7 @@ fn read_entry<D: Disk>(
     requires on_disk { AreOnDisk commits.old }
     ensures entry { IfOk result (λ entry.
         HoldsNow (λ now. entry ≡ entry_of now.bytes row) commits.old.disk.moments) }
+    ensures row { IfOk result (λ entry. row ≡ row_of (seq_of row) (position_of row) entry) }
     ensures read { OnOk result (AreReadOnly 1 true commits.old commits.new) }
     ensures err { IfErr result (λ e.
         AreReadOnly 1 (reads_without_fault e) commits.old commits.new) }

@@ -1,5 +1,5 @@
 -- The commits of a device that was stopped, over the calls that load them.
-use Rattle.std.proofs.Common.{◌≡◌, ℕ, ◌≤◌, Bool, true, List, [], ◌∷◌, refl, sym, subst, arith}
+use Rattle.std.proofs.Common.{◌≡◌, ℕ, ◌+◌, ◌%◌, ◌≤◌, Bool, true, List, [], ◌∷◌, refl, sym, ◌∙◌, subst, inr, arith}
 use Rattle.std.specs.List.{AllByRecursion}
 use Rattle.std.specs.Prelude.{Option}
 use Rattle.lsvd_device.specs.Medium.{Medium, after_sync}
@@ -7,15 +7,17 @@ use Rattle.lsvd_device.specs.Calls.{Cost, sync_cost}
 use Rattle.lsvd_device.specs.Device.{HoldsSince, DiskState, IsDisk, HasSize, HoldsNow, MakesCalls, moments_after}
 use Rattle.lsvd_device.specs.Memory.{IsSynced}
 use Rattle.commit_body.specs.declared.body.CommitBody.{CommitBody}
-use Rattle.commit_slot.specs.Slots.{log_of, Reads}
+use Rattle.commit_slot.specs.Slots.{log_of, gate_at, Reads}
+use Rattle.commit_slot.specs.Commits.{ReadsSettled}
 use Rattle.commit_slot.specs.LogArea.{log_area, LeavesLogArea, HasSameLogArea, KeepsLogAreaSince, MakesLogAreaDurable, HasDurableLogArea}
 use Rattle.commit_slot.specs.Reading.{ReadsAs, reading_cost}
-use Rattle.commit_slot.specs.Loading.{MakesAtMost, load_cost, AreRead, LeavesRead, LeavesReadSince, IsCrashSafeLoad}
-use Rattle.commit_slot.specs.Mending.{IsNewest, KeepsNewest, mend_cost}
+use Rattle.commit_slot.specs.Loading.{MakesAtMost, load_cost, AreRead, LeavesRead, LeavesReadSince, IsCrashSafeLoad, LeavesSettled}
+use Rattle.commit_slot.specs.Mending.{IsNewest, KeepsNewest, NextIsClosed, ThirdIsOlder, LeavesMended, mend_cost}
 use Rattle.commit_slot.proofs.Passing.{passes_as, passes_on, after_step}
 use Rattle.commit_slot.proofs.LogAreaLemmas.{IsDurableAs, durable_to, durable_then, sync_durable, passes_both, sync_stays, sync_is_durable, stays_then, durable_stays}
 use Rattle.commit_slot.proofs.HalfLemmas.{passes_of}
 use Rattle.commit_slot.proofs.NewestKept.{PassesNewest, newest_leaves, read_is_newest, newest_synced, synced_is_same, holds_with}
+use Rattle.commit_slot.proofs.Readings.{one_byte}
 use Rattle.commit_slot.proofs.MendLemmas.{holds_after, holds_unit, most_then, most_of}
 
 -- ---- the sync, and what is read then
@@ -123,6 +125,29 @@ loads_mended number body old middle new least is_disk is_disk' size size' moment
   stands = loads_mended_in number body old middle new least is_disk is_disk' size size' moments found keeps stays;
   log_area = stays_then old.moments middle.moments new.moments (sync_stays old.moments middle.moments moments) stays;
 }
+
+-- ---- where the slots are as between two commits
+
+-- then there is nothing to mend
+nothing_to_mend : (log number n : ℕ) (body b : CommitBody) (medium : Medium) → Reads log medium.bytes body number → ReadsSettled log medium.bytes b n → NextIsClosed number medium × ThirdIsOlder log number medium
+nothing_to_mend log number n body b medium reads settled =
+    let same : n ≡ number = reads_one log medium.bytes n number b body settled.reads reads in
+    let closed : NextIsClosed n medium = (λ e. settled.next (sym (one_byte (gate_at ((n + 1) % 3)) medium.bytes) ∙ e)) in
+    let P : ℕ → Type 0 = λ k. NextIsClosed k medium × ThirdIsOlder log k medium in
+    subst P same (closed, settled.third)
+
+-- and nothing is written
+pub loads_settled : (number : ℕ) (body : CommitBody) (old middle new : DiskState) → IsDisk old → middle.size ≡ old.size → middle.moments ≡ moments_after after_sync old.moments → AreRead number body old
+    → LeavesMended number middle new → LeavesSettled old new
+loads_settled number body old middle new is_disk size moments found leaves = λ n b settled.
+    let log : ℕ = log_of old.size in
+    let P : Medium → Type 0 = λ medium. NextIsClosed number medium × ThirdIsOlder log number medium in
+    let slots : HoldsNow P old.moments =
+    holds_with (λ now. Reads log now.bytes body number) (λ now. ReadsSettled log now.bytes b n) P old.moments (λ now reads is. nothing_to_mend log number n body b now reads is) found settled in
+    let closed = holds_after P (NextIsClosed number) old.size after_sync old.moments middle.moments (λ medium has is. is.0) is_disk.media slots moments in
+    let older = holds_after P (ThirdIsOlder log number) old.size after_sync old.moments middle.moments (λ medium has is. is.1) is_disk.media slots moments in
+    let Q : ℕ → Type 0 = λ k. HoldsNow (ThirdIsOlder (log_of k) number) middle.moments in
+    inr (leaves closed (subst Q (sym size) older) ∙ moments)
 
 -- ---- past the slots
 

@@ -10,10 +10,10 @@ use Rattle.commit_slot.specs.Slots.{log_of}
 use Rattle.commit_slot.specs.States.{IsSettled}
 use Rattle.commit_slot.specs.LogArea.{KeepsLogAreaSince, MakesLogAreaDurable, HasDurableLogArea}
 use Rattle.commit_slot.specs.Reading.{ReadsAs, reading_cost}
-use Rattle.commit_slot.specs.Loading.{MakesAtMost, load_cost, AreRead, IsCrashSafeLoad}
-use Rattle.commit_slot.specs.Mending.{IsNewest, KeepsNewest, Mends, mend_cost}
+use Rattle.commit_slot.specs.Loading.{MakesAtMost, load_cost, AreRead, IsCrashSafeLoad, LeavesSettled}
+use Rattle.commit_slot.specs.Mending.{IsNewest, KeepsNewest, Mends, LeavesMended, mend_cost}
 use Rattle.commit_slot.proofs.LogAreaLemmas.{stays_then, sync_stays}
-use Rattle.commit_slot.proofs.LoadLemmas.{synced_newest, sync_is_synced, read_then, loads_synced, loads_mended, loads_durable, durable_now, read_calls, load_calls}
+use Rattle.commit_slot.proofs.LoadLemmas.{synced_newest, sync_is_synced, read_then, loads_synced, loads_mended, loads_settled, loads_durable, durable_now, read_calls, load_calls}
 use Rattle.commit_slot.proofs.MendLemmas.{most_as}
 
 -- the device was synced, and then its slots were read, or that failed
@@ -59,6 +59,10 @@ pub mended_crash_safe : (number : ℕ) (body : CommitBody) (is_made : Bool) (old
 mended_crash_safe number body is_made old middle next new is =
     let size : next.size ≡ old.size = size_of true old middle next is.read in
     loads_mended number body old next new is.read.least is.read.is_disk is.is_disk size (is.costs.calls.size ∙ size) (moments_of true old middle next is.read) is.found is.newest is.log_area
+
+pub mended_leaves : (number : ℕ) (body : CommitBody) (is_made : Bool) (old middle next new : DiskState) → IsMended number body is_made old middle next new → LeavesMended number next new → LeavesSettled old new
+mended_leaves number body is_made old middle next new is leaves =
+    loads_settled number body old next new is.read.is_disk (size_of true old middle next is.read) (moments_of true old middle next is.read) is.found leaves
 
 pub mended_costs : (number : ℕ) (body : CommitBody) (is_made : Bool) (old middle next new : DiskState) → IsMended number body is_made old middle next new → MakesAtMost load_cost is_made old new
 mended_costs number body is_made old middle next new is = load_calls is_made old middle next new is.read.sync is.read.read is.costs

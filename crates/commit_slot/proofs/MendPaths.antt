@@ -1,8 +1,9 @@
 -- Of `close_next`, `clear_third` and `mend_slots`: what their calls make together, by how far they got.
-use Rattle.std.proofs.Common.{◌≡◌, ◌+◌, ◌<◌, ◌≤◌, ℕ, Bool, true, List, [], ◌∷◌, ◌∙◌, get_or, replicate, subst, sym, arith}
+use Rattle.std.proofs.Common.{◌≡◌, ◌+◌, ◌<◌, ◌≤◌, ℕ, Bool, true, List, [], ◌∷◌, ◌∙◌, get_or, replicate, refl, ap, subst, sym, arith}
 use Rattle.std.proofs.lemmas.List.{length-replicate}
 use Rattle.std.specs.Prelude.{Result, OnOk, OnErr}
-use Rattle.lsvd_device.specs.Medium.{after_write, after_sync}
+use Rattle.lsvd_bytes.specs.Places.{bytes_at}
+use Rattle.lsvd_device.specs.Medium.{Medium, after_write, after_sync}
 use Rattle.lsvd_device.specs.Calls.{read_cost, write_cost, sync_cost}
 use Rattle.lsvd_device.specs.Device.{DiskState, IsDisk, HoldsNow, MakesCalls, moments_after, FailsToWrite}
 use Rattle.commit_body.specs.declared.body.CommitBody.{CommitBody}
@@ -10,11 +11,12 @@ use Rattle.commit_body.specs.Body.{IsBody}
 use Rattle.commit_slot.specs.Slots.{log_of, body_at, gate_at}
 use Rattle.commit_slot.specs.LogArea.{KeepsLogAreaSince}
 use Rattle.commit_slot.specs.Loading.{MakesAtMost}
-use Rattle.commit_slot.specs.Mending.{KeepsNewest, NextIsClosed, ThirdIsOlder, Mends, close_cost, clear_third_cost, mend_cost}
+use Rattle.commit_slot.specs.Mending.{KeepsNewest, NextIsClosed, ThirdIsOlder, Mends, LeavesOlder, HoldsNotNow, close_cost, clear_third_cost, mend_cost}
 use Rattle.commit_slot.proofs.Steps.{next_of, third_of}
 use Rattle.commit_slot.proofs.LogAreaLemmas.{body_inside, gate_inside, failed_stays, write_stays, stays_then, same_stays, sync_stays}
 use Rattle.commit_slot.proofs.Outcomes.{on_ok_as, on_both}
-use Rattle.commit_slot.proofs.MendLemmas.{AreThere, close_failed, close_made, clear_failed, clear_made, cleared_older, cleared_closed, keeps_then, keeps_same, keeps_synced, mends_none, mends_synced, two_calls, most_then, most_of}
+use Rattle.commit_slot.proofs.NewestKept.{holds_with}
+use Rattle.commit_slot.proofs.MendLemmas.{AreThere, holds_unit, close_failed, close_made, clear_failed, clear_made, cleared_older, cleared_closed, keeps_then, keeps_same, keeps_synced, mends_none, mends_synced, two_calls, most_then, most_of}
 
 -- ---- the next slot
 
@@ -98,6 +100,29 @@ third_cleared_stays number sector old middle new is moments =
 pub third_costs : (number : ℕ) (sector : List ℕ) (is_made : Bool) (old middle new : DiskState) → IsNewerRead number sector old middle → MakesCalls (write_cost 512) is_made middle new
     → MakesAtMost clear_third_cost is_made old new
 third_costs number sector is_made old middle new is second = two_calls read_cost (write_cost 512) clear_third_cost is_made old middle new (omega arith) (omega arith) (omega arith) is.read second
+
+-- a read gave what is not older
+pub third_held_newer : (number : ℕ) (sector : List ℕ) (old middle : DiskState) → IsNewerRead number sector old middle → HoldsNotNow (ThirdIsOlder (log_of old.size) number) old.moments
+third_held_newer number sector old middle is =
+    let log : ℕ = log_of old.size in
+    let P : List ℕ → Type 0 = λ s. IsBody s log (third_of number) is.newer.0 is.newer.1 in
+    holds_with (λ now. sector ≡ bytes_at (body_at (third_of number)) 512 now.bytes) (λ now. Unit {0}) (λ now. ThirdIsOlder log number now → ⊥) old.moments
+    (λ now e _ older. let less = older is.newer.0 is.newer.1 (subst P e is.newer.2) in let more = is.newer.3 in omega (arith, less, more)) is.there (holds_unit old.moments)
+
+-- where P held, and held not, there is no moment
+none_held : (P : Medium → Type 0) (old new : List Medium) → HoldsNotNow P old → (old ≡ [] → new ≡ []) → HoldsNow P old → new ≡ old
+none_held P [] new not follows holds = follows refl
+none_held P (now ∷ past) new not follows holds = absurd (not holds)
+
+pub third_failed_leaves : (number : ℕ) (sector : List ℕ) (old middle new : DiskState) → IsNewerRead number sector old middle → FailsToWrite (body_at (third_of number)) 512 middle.moments new.moments → LeavesOlder number old new
+third_failed_leaves number sector old middle new is fails =
+    let P : List Medium → Type 0 = λ m. FailsToWrite (body_at (third_of number)) 512 m new.moments in
+    none_held (ThirdIsOlder (log_of old.size) number) old.moments new.moments (third_held_newer number sector old middle is) (λ e. subst P (is.same ∙ e) fails)
+
+pub third_cleared_leaves : (number : ℕ) (sector : List ℕ) (old middle new : DiskState) → IsNewerRead number sector old middle → Clears number middle new → LeavesOlder number old new
+third_cleared_leaves number sector old middle new is moments =
+    none_held (ThirdIsOlder (log_of old.size) number) old.moments new.moments (third_held_newer number sector old middle is)
+    (λ e. moments ∙ ap (moments_after (after_write (body_at (third_of number)) (replicate 512 0))) (is.same ∙ e))
 
 -- ---- both
 

@@ -1,5 +1,5 @@
 -- Contract: what `load` promises of a device that was stopped.
-use Rattle.std.specs.Prelude.{◌≡◌, ℕ, ◌≤◌, Bool, true, false, None, List}
+use Rattle.std.specs.Prelude.{◌≡◌, ℕ, ◌≤◌, ◌⊎◌, Bool, true, false, None, List}
 use Rattle.lsvd_device.specs.Medium.{Medium, MayLeave, after_sync}
 use Rattle.lsvd_device.specs.Calls.{Cost}
 use Rattle.lsvd_device.specs.Device.{HoldsSince, DiskState, HoldsNow, MakesCalls, moments_after}
@@ -8,7 +8,7 @@ use Rattle.commit_body.specs.declared.body.CommitBody.{CommitBody}
 use Rattle.commit_slot.specs.declared.error.LoadError.{LoadError}
 use Rattle.commit_slot.specs.declared.error.LoadError.TheVariants.{NoSlot, DeviceFault}
 use Rattle.commit_slot.specs.Slots.{log_of, Reads, ReadsNone}
-use Rattle.commit_slot.specs.Commits.{CommitsState, IsCommit, LeavesNow}
+use Rattle.commit_slot.specs.Commits.{CommitsState, ReadsSettled, IsCommit, LeavesNow}
 use Rattle.commit_slot.specs.LogArea.{log_area, LeavesLogArea, KeepsLogAreaSince, MakesLogAreaDurable, HasDurableLogArea}
 
 -- calls that take at most this much: they were all made, or one of them failed
@@ -60,3 +60,13 @@ LeavesReadSince old new =
 pub record IsCrashSafeLoad (old new : DiskState) : Type 0 where
   pub stands : LeavesReadSince old new
   pub log_area : KeepsLogAreaSince old.moments new.moments
+
+-- the moments are as before, or the device was synced once
+abbrev pub AreButSynced : (old new : List Medium) → Type 0
+AreButSynced old new = (new ≡ old) ⊎ (new ≡ moments_after after_sync old)
+
+-- a device whose slots are as between two commits is not written, but synced once or not at all
+abbrev pub LeavesSettled : DiskState → DiskState → Type 0
+LeavesSettled old new =
+    (number : ℕ) (body : CommitBody) → HoldsNow (λ now. ReadsSettled (log_of old.size) now.bytes body number) old.moments
+    → AreButSynced old.moments new.moments

@@ -1,5 +1,5 @@
 -- For this crate's own clauses: the newest commit in the slots of a device that was stopped, and how the others are mended.
-use Rattle.std.specs.Prelude.{◌≢◌, ℕ, ◌+◌, ◌%◌, ◌<◌, ◌⊎◌}
+use Rattle.std.specs.Prelude.{◌≡◌, ◌≢◌, ℕ, ◌+◌, ◌%◌, ◌<◌, ◌⊎◌, List}
 use Rattle.lsvd_bytes.specs.Places.{bytes_at}
 use Rattle.lsvd_device.specs.Medium.{Medium}
 use Rattle.lsvd_device.specs.Calls.{Cost}
@@ -41,6 +41,24 @@ abbrev pub Mends : (number : ℕ) → DiskState → DiskState → Type 0
 Mends number old new =
     (body : CommitBody) → HoldsNow IsSynced old.moments → HoldsNow (IsNewest (log_of old.size) number body) old.moments
     → HoldsNow (IsSettled (log_of old.size) number body) new.moments
+
+-- a next slot that is closed is not written
+abbrev pub LeavesClosed : (number : ℕ) → DiskState → DiskState → Type 0
+LeavesClosed number old new = HoldsNow (NextIsClosed number) old.moments → new.moments ≡ old.moments
+
+-- nor is a third slot that has no newer body
+abbrev pub LeavesOlder : (number : ℕ) → DiskState → DiskState → Type 0
+LeavesOlder number old new = HoldsNow (ThirdIsOlder (log_of old.size) number) old.moments → new.moments ≡ old.moments
+
+-- and where both slots are so, the device is not even synced
+abbrev pub LeavesMended : (number : ℕ) → DiskState → DiskState → Type 0
+LeavesMended number old new =
+    HoldsNow (NextIsClosed number) old.moments → HoldsNow (ThirdIsOlder (log_of old.size) number) old.moments
+    → new.moments ≡ old.moments
+
+-- the newest moment, where there is one, has P not
+abbrev pub HoldsNotNow : (Medium → Type 0) → List Medium → Type 0
+HoldsNotNow P moments = HoldsNow (λ now. P now → ⊥) moments
 
 abbrev pub close_cost : Cost
 close_cost = record { calls = 2; changes = 1; bytes = 1 }

@@ -13,7 +13,7 @@ ghost use Rattle.commit_slot.specs.OnDisk.{AreOnDisk};
 ghost use Rattle.commit_slot.specs.Sequence.{Costs, first_half_calls, finish_calls, commit_calls};
 ghost use Rattle.commit_slot.specs.Committing.{IsCommitted, FailsToCommit, IsCrashSafeCommit};
 ghost use Rattle.commit_slot.specs.Formatting.{IsFormatted, format_cost, format_calls};
-ghost use Rattle.commit_slot.specs.Loading.{MakesAtMost, load_cost, AreLoaded, IsCrashSafeLoad, FailsToLoad};
+ghost use Rattle.commit_slot.specs.Loading.{MakesAtMost, load_cost, AreLoaded, IsCrashSafeLoad, LeavesSettled, FailsToLoad};
 ghost use Rattle.commit_slot.specs.Lending.{ChangesBudgetAlone};
 
 use crate::error::LoadError;
@@ -87,8 +87,9 @@ impl<D: Disk> Commits<D> {
     /// tells).
     ///
     /// It is synced first. Where the other slots are not as between two commits they are mended: the next one is
-    /// closed, and a newer body of the third is filled with zeros. Whenever the device stops while nothing was
-    /// pending on it before, it reads as the same commit, with the same bytes past the slots.
+    /// closed, and a newer body of the third is filled with zeros. Where they are, the device is not written, even if a
+    /// call fails. Whenever the device stops while nothing was pending on it before, it reads as the same commit, with
+    /// the same bytes past the slots.
     ///
     /// An error comes with the device. `NoSlot`, with the sectors of its log, comes where no slot is open; nothing but a
     /// sync was done then. `DeviceFault` comes where a call of the device failed; it may be loaded again.
@@ -99,8 +100,10 @@ impl<D: Disk> Commits<D> {
         ensures on_disk { IfOk result (λ commits. AreOnDisk commits) }
         ensures costs { IfOk result (λ commits. MakesAtMost load_cost true (D.state disk) commits.disk) }
         ensures crash_safe { IfOk result (λ commits. IsCrashSafeLoad (D.state disk) commits.disk) }
+        ensures settled { IfOk result (λ commits. LeavesSettled (D.state disk) commits.disk) }
         ensures err { IfErr result (λ error. FailsToLoad error.1 (D.state disk) (D.state error.0)) }
         ensures err_crash_safe { IfErr result (λ error. IsCrashSafeLoad (D.state disk) (D.state error.0)) }
+        ensures err_settled { IfErr result (λ error. LeavesSettled (D.state disk) (D.state error.0)) }
         ensures is_disk { IfErr result (λ error. IsDisk (D.state error.0)) }
     {
         match load_slots(&mut disk) {

@@ -6,8 +6,9 @@ ghost use Rattle.commit_body.specs.Body.{IsBody, MayStand};
 ghost use Rattle.commit_slot.specs.Slots.{log_of};
 ghost use Rattle.commit_slot.specs.States.{IsSettled};
 ghost use Rattle.commit_slot.specs.LogArea.{KeepsLogAreaSince, MakesLogAreaDurable, HasDurableLogArea};
-ghost use Rattle.commit_slot.specs.Loading.{MakesAtMost, load_cost, AreRead, FailsToLoad, IsCrashSafeLoad};
+ghost use Rattle.commit_slot.specs.Loading.{MakesAtMost, load_cost, AreRead, FailsToLoad, IsCrashSafeLoad, LeavesSettled};
 ghost use Rattle.commit_slot.specs.Mending.{KeepsNewest, NextIsClosed, ThirdIsOlder, Mends, close_cost, clear_third_cost, mend_cost};
+ghost use Rattle.commit_slot.specs.Mending.{LeavesClosed, LeavesOlder, LeavesMended, HoldsNotNow};
 
 use crate::error::LoadError;
 use crate::reading::read_newest;
@@ -29,6 +30,7 @@ pub(crate) fn load_slots<D: Disk>(disk: &mut D) -> Result<(CommitBody, u64), Loa
     ensures costs { OnOk result (MakesAtMost load_cost true (D.state disk.old) (D.state disk.new)) }
     ensures err { IfErr result (λ error. FailsToLoad error (D.state disk.old) (D.state disk.new)) }
     ensures crash_safe { IsCrashSafeLoad (D.state disk.old) (D.state disk.new) }
+    ensures leaves_settled { LeavesSettled (D.state disk.old) (D.state disk.new) }
     ensures durable { OnOk result (MakesLogAreaDurable (D.state disk.old).moments (D.state disk.new).moments) }
     ensures durable_now { OnOk result (HasDurableLogArea (D.state disk.new).moments) }
     ensures synced { OnOk result (HoldsNow IsSynced (D.state disk.new).moments) }
@@ -53,6 +55,7 @@ fn mend_slots<D: Disk>(disk: &mut D, number: u64) -> Result<(), Failed>
     ensures synced { OnOk result (
         HoldsNow IsSynced (D.state disk.old).moments
         → HoldsNow IsSynced (D.state disk.new).moments) }
+    ensures unwritten { LeavesMended number (D.state disk.old) (D.state disk.new) }
     ensures newest { KeepsNewest number (D.state disk.old) (D.state disk.new) }
     ensures log_area { KeepsLogAreaSince (D.state disk.old).moments (D.state disk.new).moments }
     ensures costs { MakesAtMost mend_cost (is_ok result) (D.state disk.old) (D.state disk.new) }
@@ -73,6 +76,9 @@ fn close_next<D: Disk>(disk: &mut D, number: u64) -> Result<bool, Failed>
     ensures closed { OnOk result (HoldsNow (NextIsClosed number) (D.state disk.new).moments) }
     ensures same { IfOk result (λ written.
         written ≡ false → (D.state disk.new).moments ≡ (D.state disk.old).moments) }
+    ensures written { IfOk result (λ written.
+        written ≡ true → HoldsNotNow (NextIsClosed number) (D.state disk.old).moments) }
+    ensures unwritten { LeavesClosed number (D.state disk.old) (D.state disk.new) }
     ensures newest { KeepsNewest number (D.state disk.old) (D.state disk.new) }
     ensures log_area { KeepsLogAreaSince (D.state disk.old).moments (D.state disk.new).moments }
     ensures costs { MakesAtMost close_cost (is_ok result) (D.state disk.old) (D.state disk.new) }
@@ -96,6 +102,10 @@ fn clear_third<D: Disk>(disk: &mut D, number: u64) -> Result<bool, Failed>
         HoldsNow (ThirdIsOlder (log_of (D.state disk.old).size) number) (D.state disk.new).moments) }
     ensures same { IfOk result (λ written.
         written ≡ false → (D.state disk.new).moments ≡ (D.state disk.old).moments) }
+    ensures written { IfOk result (λ written.
+        written ≡ true
+        → HoldsNotNow (ThirdIsOlder (log_of (D.state disk.old).size) number) (D.state disk.old).moments) }
+    ensures unwritten { LeavesOlder number (D.state disk.old) (D.state disk.new) }
     ensures closed { OnOk result (
         HoldsNow (NextIsClosed number) (D.state disk.old).moments
         → HoldsNow (NextIsClosed number) (D.state disk.new).moments) }

@@ -11,7 +11,7 @@ use Rattle.commit_slot.specs.Loading.{MakesAtMost}
 use Rattle.commit_slot.specs.Mending.{clear_third_cost}
 use Rattle.commit_slot.proofs.Steps.{third_of}
 use Rattle.commit_slot.proofs.MendLemmas.{AreThere, third_place, read_older}
-use Rattle.commit_slot.proofs.MendPaths.{Clears, IsNewerRead, third_failed_newest, third_failed_stays, third_cleared_newest, third_cleared_older, third_cleared_closed, third_cleared_stays, third_costs}
+use Rattle.commit_slot.proofs.MendPaths.{Clears, IsNewerRead, third_failed_newest, third_failed_stays, third_failed_leaves, third_held_newer, third_cleared_leaves, third_cleared_newest, third_cleared_older, third_cleared_closed, third_cleared_stays, third_costs}
 use Rattle.commit_slot.proofs.loading.clear_third.Given as given
 use Rattle.commit_slot.proofs.loading.clear_third.Goals as goal
 use Rattle.commit_slot.proofs.loading.clear_third.Goals.{After-is_newer, After-write, After-from_residual-in_err-write, In_ok-write}
@@ -78,6 +78,10 @@ returns-in_err-write-clause-costs g c =
     subst (λ made. MakesAtMost clear_third_cost made (g.D.Disk.state c.args.disk.now) (g.D.Disk.state c.write.new.self)) (sym failed)
     (third_costs _ _ false _ _ _ (read g (goal.at.returns-in_err-write-clause-newest g c).After-write) c.in_err-write.ensures.call)
 
+pub returns-in_err-write-clause-unwritten : goal.returns-in_err-write-clause-unwritten
+returns-in_err-write-clause-unwritten g c =
+    third_failed_leaves _ _ (g.D.Disk.state c.args.disk.now) (g.D.Disk.state c.read.new.self) (g.D.Disk.state c.write.new.self) (read g (goal.at.returns-in_err-write-clause-newest g c).After-write) (fails g c)
+
 pub returns-clause-older : goal.returns-clause-older
 returns-clause-older g c =
     third_cleared_older _ _ (g.D.Disk.state c.args.disk.now) (g.D.Disk.state c.read.new.self) (g.D.Disk.state c.write.new.self) (read g (goal.at.returns-clause-older g c).After-write) (clears g c)
@@ -96,3 +100,10 @@ returns-clause-log_area g c =
 
 pub returns-clause-costs : goal.returns-clause-costs
 returns-clause-costs g c = third_costs _ _ true _ _ _ (read g (goal.at.returns-clause-older g c).After-write) c.in_ok-write.ensures.call
+
+pub returns-clause-written : goal.returns-clause-written
+returns-clause-written g c = λ _. third_held_newer _ _ (g.D.Disk.state c.args.disk.now) (g.D.Disk.state c.read.new.self) (read g (goal.at.returns-clause-older g c).After-write)
+
+pub returns-clause-unwritten : goal.returns-clause-unwritten
+returns-clause-unwritten g c =
+    third_cleared_leaves _ _ (g.D.Disk.state c.args.disk.now) (g.D.Disk.state c.read.new.self) (g.D.Disk.state c.write.new.self) (read g (goal.at.returns-clause-older g c).After-write) (clears g c)

@@ -4,7 +4,7 @@ use Rattle.commit_slot.specs.Slots.{log_of}
 use Rattle.commit_slot.specs.Reading.{ReadsAs}
 use Rattle.commit_slot.specs.Loading.{FailsToLoad}
 use Rattle.commit_slot.specs.declared.error.LoadError.TheVariants.{DeviceFault}
-use Rattle.commit_slot.proofs.LoadPaths.{IsRead, IsMended, size_of, moments_of, read_crash_safe, read_costs, found_before, mended_crash_safe, mended_costs, mended_settles, mended_durable, mended_durable_now, mended_synced}
+use Rattle.commit_slot.proofs.LoadPaths.{IsRead, IsMended, size_of, moments_of, read_crash_safe, read_costs, found_before, mended_crash_safe, mended_leaves, mended_costs, mended_settles, mended_durable, mended_durable_now, mended_synced}
 use Rattle.commit_slot.proofs.loading.load_slots.Given as given
 use Rattle.commit_slot.proofs.loading.load_slots.Goals as goal
 use Rattle.commit_slot.proofs.loading.load_slots.Goals.{After-from_residual-in_err-body, After-log_of, After-from_residual-in_err-mend_slots, In_ok-mend_slots}
@@ -102,6 +102,9 @@ returns-in_default-clause-err g c =
 pub returns-in_err-mend_slots-clause-crash_safe : goal.returns-in_err-mend_slots-clause-crash_safe
 returns-in_err-mend_slots-clause-crash_safe g c = mended_crash_safe _ _ false _ _ _ _ (mend_failed g c)
 
+pub returns-in_err-mend_slots-clause-leaves_settled : goal.returns-in_err-mend_slots-clause-leaves_settled
+returns-in_err-mend_slots-clause-leaves_settled g c = mended_leaves _ _ false _ _ _ _ (mend_failed g c) c.mend_slots.ensures.unwritten
+
 pub returns-in_err-mend_slots-clause-err : goal.returns-in_err-mend_slots-clause-err
 returns-in_err-mend_slots-clause-err g c =
     let fault : FailsToLoad DeviceFault (g.D.Disk.state c.args.disk.now) (g.D.Disk.state c.mend_slots.new.disk) = mended_costs _ _ false _ _ _ _ (mend_failed g c) in
@@ -118,6 +121,9 @@ returns-clause-costs g c = mended_costs _ _ true _ _ _ _ (mended g c)
 
 pub returns-clause-crash_safe : goal.returns-clause-crash_safe
 returns-clause-crash_safe g c = mended_crash_safe _ _ true _ _ _ _ (mended g c)
+
+pub returns-clause-leaves_settled : goal.returns-clause-leaves_settled
+returns-clause-leaves_settled g c = mended_leaves _ _ true _ _ _ _ (mended g c) c.mend_slots.ensures.unwritten
 
 pub returns-clause-durable : goal.returns-clause-durable
 returns-clause-durable g c = mended_durable _ _ true _ _ _ _ (mended g c)

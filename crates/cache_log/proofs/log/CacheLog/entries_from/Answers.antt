@@ -1,4 +1,4 @@
-use Rattle.std.proofs.Common.{◌≡◌, ◌-◌, ◌+◌, ◌≤◌, ℕ, List, length, drop, map, true, sym, ◌∙◌, ap, subst}
+use Rattle.std.proofs.Common.{◌≡◌, ◌-◌, ◌+◌, ◌≤◌, ℕ, List, length, drop, map, true, refl, sym, ◌∙◌, ap, subst}
 use Rattle.std.specs.Prelude.{Result, Ok, Err, OnOk, IfOk, IfErr, Vec, min}
 use Rattle.std.specs.List.{AllByRecursion}
 use Rattle.std.proofs.lemmas.List.{take-append-drop, drop-drop, drop_min}
@@ -13,7 +13,7 @@ use Rattle.cache_log.specs.declared.error.ReadError.{ReadError}
 use Rattle.cache_log.specs.declared.row.Row.{Row}
 use Rattle.cache_log.specs.Rows.{position_of, record_size, entry_of}
 use Rattle.cache_log.specs.Reads.{AreReadOnly, reads_without_fault}
-use Rattle.cache_log.specs.Log.{LogState}
+use Rattle.cache_log.specs.Log.{LogState, AreRowsOf}
 use Rattle.cache_log.specs.Invariant.{IsLog}
 use Rattle.cache_log.proofs.ReadLemmas.{all_inside, log_lies, entries_on_ok}
 use Rattle.cache_log.proofs.WriteLemmas.{read_log}
@@ -35,14 +35,26 @@ read_entries-requires-clause-inside g c =
     let inside : P items = subst P (take-append-drop c.self.inside.dropped items) (all_inside _ _ _ _ _ c.self.invariant.1) in
     log_lies items c.self.inside.room.log c.self.inside.commits.disk c.self.invariant.1.is.room.limit c.self.invariant.1.is.fits inside
 
+-- the rows that are not skipped are those from the seq on
+left_from : (count seq d : ℕ) (items : List Row) (log : LogState) (view : LogState) → view.rows ≡ drop d items → view ≡ log → count ≡ min (seq - log.first) (length log.rows)
+    → drop (d + count) items ≡ drop (seq - view.first) (drop d items)
+left_from count seq d items log view same seen is =
+    let k : ℕ = seq - view.first in
+    let rows : List Row = drop d items in
+    let counted : count ≡ min k (length rows) = is ∙ ap (λ (l : LogState). min (seq - l.first) (length l.rows)) (sym seen) ∙ ap (λ r. min k (length r)) same in
+    ap (λ n. drop (d + n) items) counted ∙ sym (drop-drop (min k (length rows)) d items) ∙ drop_min k rows
+
 pub returns-clause-entries : goal.returns-clause-entries
 returns-clause-entries g c =
     let d : ℕ = c.self.inside.dropped in
     let items : List Row = c.self.inside.rows.items in
-    let rows : List Row = drop d items in
     let k : ℕ = c.args.seq - c.self.inside.tail.seq in
-    let counted : c.count_below.result ≡ min k (length rows) = c.count_below.ensures.count ∙ ap (λ (l : LogState). min (c.args.seq - l.first) (length l.rows)) (sym c.self.view_is) in
-    let skipped : drop (d + c.count_below.result) items ≡ drop k rows = ap (λ n. drop (d + n) items) counted ∙ sym (drop-drop (min k (length rows)) d items) ∙ drop_min k rows in
+    let skipped = left_from c.count_below.result c.args.seq d items _ _ refl c.self.view_is c.count_below.ensures.count in
     let moments : List Medium = c.self.inside.commits.disk.moments in
     let read = subst (λ l. IfOk c.read_entries.result (λ list. HoldsNow (λ now. list.items ≡ map (entry_of now.bytes) l) moments)) skipped c.read_entries.ensures.entries in
-    rw (← c.self.view_is) (entries_on_ok (λ (list : Vec Entry Global). list.items) c.read_entries.result rows k moments read)
+    rw (← c.self.view_is) (entries_on_ok (λ (list : Vec Entry Global). list.items) c.read_entries.result (drop d items) k moments read)
+
+pub returns-clause-rows : goal.returns-clause-rows
+returns-clause-rows g c =
+    let skipped = left_from c.count_below.result c.args.seq c.self.inside.dropped c.self.inside.rows.items _ _ refl c.self.view_is c.count_below.ensures.count in
+    rw (← c.self.view_is) (subst (λ l. IfOk c.read_entries.result (λ list. AreRowsOf l list.items)) skipped c.read_entries.ensures.rows)

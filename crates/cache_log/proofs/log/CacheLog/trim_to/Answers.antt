@@ -16,7 +16,7 @@ invariant_of-self g c =
     let left = length-drop d items in
     let less = c.self.invariant.0 in
     let at = c.start_of-position.ensures ∙ ap (λ h. start_of h (drop (d + c.count_below.result) items)) c.head.ensures.head in
-    (omega (arith, few, left, less), trimmed_log _ _ _ _ _ _ _ _ c.self.invariant.1 c.if-seq-self.false (omega arith) count at)
+    (omega (arith, few, left, less), trimmed_log _ _ _ _ _ _ _ _ _ c.self.invariant.1 (omega arith) (omega arith) count at)
 
 pub returns : goal.returns
 returns g c =
@@ -25,4 +25,4 @@ returns g c =
     let count : c.count_below.result ≡ min (c.args.seq - c.self.inside.tail.seq) (length (drop d items)) =
     c.count_below.ensures.count ∙ ap (λ (l : LogState). min (c.args.seq - l.first) (length l.rows)) (sym c.self.view_is) in
     let at = c.start_of-position.ensures ∙ ap (λ h. start_of h (drop (d + c.count_below.result) items)) c.head.ensures.head in
-    is_trimmed _ _ _ _ _ _ _ _ _ _ _ c.self.view_is c.if-seq-self.false count at refl
+    is_trimmed _ _ _ _ _ _ _ _ _ _ _ _ c.self.view_is (omega arith) count at refl
