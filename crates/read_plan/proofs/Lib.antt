@@ -5,5 +5,6 @@ mod LogLemmas
 mod PieceLemmas
 mod NumberLemmas
 mod PlanLemmas
+mod FetchLemmas
 pub mod GivenLemmas
 mod TestLemmas

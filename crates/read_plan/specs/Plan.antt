@@ -51,3 +51,7 @@ GivesOver (piece ∷ pieces) under bytes = IfSome piece.receipt.told (λ told. G
 -- a plan gives these bytes: its own with each of its pieces pasted over them
 abbrev pub Gives : PlanState → (bytes : List ℕ) → Type 0
 Gives plan bytes = GivesOver plan.pieces plan.bytes bytes
+
+-- it gives these bytes, and no others
+abbrev pub GivesNoOther : PlanState → (given : List ℕ) → Type 0
+GivesNoOther plan given = (bytes : List ℕ) → Gives plan bytes → bytes ≡ given

@@ -1,4 +1,10 @@
-use lsvd_objstore::Receipt;
+ghost use Rattle.std.specs.Prelude.{◌≡◌, length, OnOk, IfSome, IsSome, is_err};
+ghost use Rattle.lsvd_fault.specs.Faults.{Counts};
+ghost use Rattle.lsvd_objstore.specs.Store.{OnlyCounts};
+ghost use Rattle.read_plan.specs.Plan.{PieceFits, pasted};
+
+use lsvd_fault::Failed;
+use lsvd_objstore::{Receipt, Store};
 use std::marker::Model;
 
 // A part of a read that an object has.
@@ -18,4 +24,23 @@ impl<R: Receipt> Model for Piece<R> {
     ghost Value = { PieceState };
 
     ghost view = { λ p. record { at = p.at; count = p.count; receipt = R.state p.receipt; from = p.from } };
+}
+
+impl<R: Receipt> Piece<R> {
+    // Fetches the part by one get, over the bytes of the read, which it fits (a condition). Where that fails, any bytes stand in it.
+    pub(crate) fn fetch<S: Store<Receipt = R>>(
+        &self,
+        store: &mut S,
+        buf: &mut [u8],
+    ) -> Result<(), Failed>
+        requires { PieceFits (length buf.old) self.now }
+        ensures bytes { OnOk result (IfSome self.now.receipt.told (λ told. buf.new ≡ pasted self.now told buf.old)) }
+        ensures told { ((receipt : R) → IsSome (R.state receipt).told) → IsSome self.now.receipt.told }
+        ensures size { length buf.new ≡ length buf.old }
+        ensures unchanged { OnlyCounts (S.state store.old) (S.state store.new) }
+        ensures count { Counts (is_err result) (S.state store.old).faults (S.state store.new).faults }
+    {
+        let part = &mut buf[self.at..self.at + self.count];
+        store.get(&self.receipt, self.from, part)
+    }
 }

@@ -1,8 +1,8 @@
-ghost use Rattle.std.specs.Prelude.{◌≡◌, length, OnOk, is_err};
+ghost use Rattle.std.specs.Prelude.{◌≡◌, length, OnOk, IsSome, is_err};
 ghost use Rattle.std.specs.List.Sorted.{IsStrictlyIncreasing};
 ghost use Rattle.lsvd_fault.specs.Faults.{Counts};
 ghost use Rattle.lsvd_objstore.specs.Store.{OnlyCounts};
-ghost use Rattle.read_plan.specs.Plan.{Gives};
+ghost use Rattle.read_plan.specs.Plan.{Gives, GivesNoOther};
 
 use crate::piece::Piece;
 use lsvd_fault::Failed;
@@ -55,17 +55,18 @@ impl<R: Receipt> Plan<R> {
     }
 
     /// Fetches the bytes of the read into the whole of a buffer of just as many (a condition), by one get for each part that an object
-    /// has. The first of them that fails ends it with `Failed`; the store counted that, and any bytes stand in the buffer.
+    /// has. Where the receipts tell their objects' bytes, these are the bytes that the plan gives. The first get that fails ends it with
+    /// `Failed`; the store counted that, and any bytes stand in the buffer.
     pub fn fetch<S: Store<Receipt = R>>(&self, store: &mut S, buf: &mut [u8]) -> Result<(), Failed>
         requires { length buf.old ≡ length self.now.bytes }
         ensures bytes { OnOk result (Gives self.now buf.new) }
+        ensures one { ((receipt : R) → IsSome (R.state receipt).told) → OnOk result (GivesNoOther self.now buf.new) }
         ensures unchanged { OnlyCounts (S.state store.old) (S.state store.new) }
         ensures count { Counts (is_err result) (S.state store.old).faults (S.state store.new).faults }
     {
         buf.copy_from_slice(self.bytes.as_slice());
         for piece in &self.pieces {
-            let part = &mut buf[piece.at..piece.at + piece.count];
-            store.get(&piece.receipt, piece.from, part)?;
+            piece.fetch(store, buf)?;
         }
         Ok(())
     }

@@ -1,10 +1,14 @@
-use Rattle.std.proofs.Common.{◌≡◌, ℕ, List, length, drop}
+use Rattle.std.proofs.Common.{◌≡◌, ℕ, List, length, take, drop}
+use Rattle.std.specs.Prelude.{IsSome}
+use Rattle.std.specs.List.{AllByRecursion}
 use Rattle.read_plan.specs.Plan.{GivesOver}
+use Rattle.read_plan.proofs.FetchLemmas.{IsToldPiece}
 use Rattle.read_plan.proofs.plan.Plan.fetch.Given as goal
 
 abbrev pub invariant-loop-piece : goal.invariant-loop-piece
 invariant-loop-piece g l = record {
   size : length l.buf ≡ length l.self.bytes;
   gives : (bytes : List ℕ) → GivesOver (drop l.piece-index l.self.pieces) l.buf bytes → GivesOver l.self.pieces l.self.bytes bytes;
+  told : ((receipt : _) → IsSome (g.R.Receipt.state receipt).told) → AllByRecursion IsToldPiece (take l.piece-index l.self.pieces);
   unchanged : g.S.Store.state l.store ≡ g.S.Store.state l.fn.store;
 }
