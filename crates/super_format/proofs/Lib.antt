@@ -1,0 +1,6 @@
+pub mod PartLemmas
+pub mod ChainLemmas
+pub mod HeadLemmas
+pub mod TestLemmas
+pub mod LawLemmas
+pub mod EpochLemmas

@@ -1,0 +1,5 @@
+pub mod Ancestors
+pub mod Super
+pub mod Tests
+pub mod Epoch
+pub mod Laws
