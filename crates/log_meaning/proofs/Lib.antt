@@ -1,5 +1,5 @@
 pub mod Following
-mod Lists
+pub mod Lists
 pub mod Shown
 pub mod Appended
 pub mod PlainCommits

@@ -1,7 +1,6 @@
 -- Logs that show a log of the plain volume: as before, trimmed, and just formatted.
-use Rattle.std.proofs.Common.{◌≡◌, ℕ, ◌+◌, ◌-◌, ◌≤◌, List, [], ◌++◌, take, drop, refl, sym, ◌∙◌, ap, subst, inl, inr, arith, if◌then◌else◌, length-append, append_assoc}
-use Rattle.std.specs.Prelude.{Option, Some, None, IfSome, option_map, nat_lt}
-use Rattle.std.proofs.lemmas.Bool.{cases_lt, lt-ltb, le-ltb}
+use Rattle.std.proofs.Common.{◌≡◌, ℕ, ◌+◌, ◌-◌, ◌≤◌, List, [], ◌++◌, take, drop, refl, sym, ◌∙◌, ap, subst, arith, length-append, append_assoc}
+use Rattle.std.specs.Prelude.{Option, Some, None, IfSome, option_map}
 use Rattle.std.proofs.lemmas.List.{take-append-drop, length-take-le}
 use Rattle.commit_body.specs.declared.body.CommitBody.{CommitBody}
 use Rattle.commit_body.specs.declared.body.Mark.{Mark}
@@ -141,25 +140,12 @@ TailStandsIn room tail rows body = StandsIn room tail rows body.tail
 
 -- ---- trimmed
 
--- where the list begins once the first entries were dropped from it
-trimmed_start : (head start first seq : ℕ) (rows : List Row) → start ≡ start_of head rows
-    → (if nat_lt first seq then start_of head (drop (seq - first) rows) else start) ≡ start_of head (drop (seq - first) rows)
-trimmed_start head start first seq rows is =
-    elim (cases_lt first seq) [
-      | inl less ↦ ap (λ b. if b then start_of head (drop (seq - first) rows) else start) (lt-ltb first seq less)
-      | inr on ↦
-          let none : 0 ≡ seq - first = omega (arith, on) in
-          ap (λ b. if b then start_of head (drop (seq - first) rows) else start) (le-ltb first seq on)
-          ∙ is
-          ∙ ap (λ n. start_of head (drop n rows)) none
-    ]
-
 -- the log once the first entries were dropped
 abbrev trimmed_log : (seq : ℕ) → LogState → LogState
 trimmed_log seq log = record log {
   held = log.held ++ take (seq - log.first) log.rows;
   rows = drop (seq - log.first) log.rows;
-  start = if nat_lt log.first seq then start_of log.room.head (drop (seq - log.first) log.rows) else log.start;
+  start = start_of log.room.head (drop (seq - log.first) log.rows);
   first = log.first + (seq - log.first);
 }
 
@@ -184,7 +170,7 @@ trimmed_shows log plain seq is below =
       end = ap (end_of_rows room.log tail.position) (sym whole) ∙ is.end;
       numbered = subst (AreNumbered tail.seq) whole is.numbered;
       counted = omega (arith, counted, long, count);
-      start = trimmed_start room.head log.start log.first seq log.rows is.start;
+      start = refl;
       order =
           some_as (IsOrdered tail log.first) (IsOrdered tail (log.first + k)) log.commits.unfinished
           (λ body order. (order.0, (let most = order.1 in omega (arith, most)))) is.order;
@@ -198,7 +184,7 @@ trimmed_shows_same old new plain seq is below trimmed =
       room = trimmed.room;
       held = trimmed.held;
       rows = trimmed.rows;
-      start = trimmed.start ∙ ap (λ l. if nat_lt old.first seq then start_of old.room.head l else old.start) trimmed.rows;
+      start = trimmed.start ∙ ap (start_of old.room.head) trimmed.rows;
       first = trimmed.first;
       body = ap (λ c. c.body) trimmed.commits;
       unfinished = ap (λ c. c.unfinished) trimmed.commits;

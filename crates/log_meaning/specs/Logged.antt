@@ -1,18 +1,9 @@
 -- Contract: when the list of the log on the cache has the entries past the frontier's end.
-use Rattle.std.specs.Prelude.{◌≡◌, ℕ, ◌+◌, ◌-◌, ◌≤◌, IfSome, List, [], ◌∷◌, drop}
+use Rattle.std.specs.Prelude.{◌≡◌, ℕ, ◌+◌, ◌-◌, ◌≤◌, IfSome, List, drop}
 use Rattle.std.specs.List.{AllByRecursion}
-use Rattle.lsvd_base.specs.declared.entry.Entry.{Entry}
-use Rattle.cache_log.specs.declared.row.Row.{Row}
 use Rattle.cache_log.specs.Rows.{seq_of, position_of}
-use Rattle.cache_log.specs.Log.{LogState, row_of}
+use Rattle.cache_log.specs.Log.{LogState, AreRowsOf}
 use Rattle.plain_disk.specs.State.{PlainState, frontier_end, logged_entries}
-
--- these rows are those of records of these entries
-abbrev pub AreRowsOf : List Row → List Entry → Type 0
-AreRowsOf [] [] = Unit {0}
-AreRowsOf [] (entry ∷ list) = ⊥
-AreRowsOf (row ∷ rows) [] = ⊥
-AreRowsOf (row ∷ rows) (entry ∷ list) = (row ≡ row_of (seq_of row) (position_of row) entry) × AreRowsOf rows list
 
 -- what the list of a log has from a seq on
 abbrev pub listed_from : {A : Type 0} → (seq : ℕ) → LogState → List A → List A

@@ -2,7 +2,7 @@
 use Rattle.std.specs.Prelude.{◌≡◌, ℕ, ◌≤◌, ◌⊎◌, Option, List, [], ◌∷◌, ◌++◌, length, take, codes, decimal}
 use Rattle.std.specs.Io.KnownBytes.{Appends}
 use Rattle.lsvd_fault.specs.Faults.{CountsOne}
-use Rattle.vol_replay.specs.Reason.{code_of}
+use Rattle.transcript.specs.Reason.{code_of}
 use Rattle.lsvdctl.specs.declared.report.Report.{Report}
 use Rattle.lsvdctl.specs.declared.report.Report.TheVariants.{Done, Fault, Usage, BadLine, Memory}
 

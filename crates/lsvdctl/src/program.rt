@@ -78,13 +78,25 @@ fn execute<I: Source, O: Sink>(
     }
 }
 
-// How an outcome is reported.
+// How an outcome is reported. The volume that a script left is let go.
 fn report_of(outcome: Outcome) -> Report
     ensures { result ≡ report_of outcome }
 {
+    let report = told(&outcome);
+    drop(outcome);
+    report
+}
+
+// How an outcome is told.
+fn told(outcome: &Outcome) -> Report
+    ensures { result ≡ report_of outcome.now }
+{
     match outcome {
         Outcome::Done(_) => Report::Done,
-        Outcome::BadLine { number, reason } => Report::BadLine { number, reason },
+        Outcome::BadLine { number, reason } => Report::BadLine {
+            number: *number,
+            reason: *reason,
+        },
         Outcome::ReadFault | Outcome::WriteFault => Report::Fault,
         Outcome::OutOfMemory => Report::Memory,
     }

@@ -1,11 +1,10 @@
 -- What a search of the store finds.
 use Rattle.std.proofs.Common.{◌≡◌, ℕ, Option, Some, None, Ok, Err, List, length, sym, ◌∙◌, ap, subst}
-use Rattle.std.specs.Prelude.{Result, IfSome, IfErr, IsErrAnd, IsErrOf, OnErr}
+use Rattle.std.specs.Prelude.{Result, IfSome, IfErr, IsErrAnd, IsErrOf, OnOk}
 use Rattle.std.specs.Option.{IsSome}
 use Rattle.lsvd_names.specs.declared.name.Kind.{Kind}
 use Rattle.lsvd_names.specs.declared.name.Kind.TheVariants.{Object}
 use Rattle.lsvd_names.specs.declared.name.ObjName.{ObjName}
-use Rattle.lsvd_objstore.specs.Objects.{Objects}
 use Rattle.lsvd_objstore.specs.Store.{StoreState, ReceiptState, IsReceiptOf, OnlyCounts}
 use Rattle.object_stream.specs.Replay.{name_of}
 
@@ -35,14 +34,9 @@ pub error_so : {T E : Type 0} (P Q : E → Type 0) (outcome : Result T E) → ((
 error_so P Q (Ok value) so is = tt
 error_so P Q (Err error) so is = so error is
 
-pub on_error : {T E : Type 0} (P : Type 0) (outcome : Result T E) → P → OnErr outcome P
-on_error P (Ok value) is = tt
-on_error P (Err error) is = is
-
--- what follows from what is so of told objects is so of them
-pub told_so : (P Q : Objects → Type 0) (told : Option Objects) → IfSome told P → IfSome told (λ objects. P objects → Q objects) → IfSome told Q
-told_so P Q None is so = tt
-told_so P Q (Some objects) is so = so is
+pub ok_so : {T E : Type 0} (P Q : Type 0) (outcome : Result T E) → (P → Q) → OnOk outcome P → OnOk outcome Q
+ok_so P Q (Ok value) so is = so is
+ok_so P Q (Err error) so is = tt
 
 -- what an error comes to, where one is passed on
 pub passed_on : {T E : Type 0} (P : E → Type 0) (outcome : Result T E) (error : E) → IsErrAnd outcome (λ e. e ≡ error) → P error → IfErr outcome P

@@ -5,6 +5,8 @@ pub mod RemovalLemmas
 pub mod AdoptionLemmas
 pub mod StreamLemmas
 pub mod ListLemmas
+pub mod PlaceLemmas
 pub mod RecoverLemmas
 pub mod RefusalLemmas
 pub mod AgainLemmas
+pub mod SomeImageLemmas

@@ -105,7 +105,8 @@ module _ (volume : Expected) (objects : Objects) (base base_end : ℕ) (wide : v
   base_landed = ap is_some newest.is.present
 
   module _ (uuid_at : ℕ → Option (List ℕ)) (stream : Stream) (number : ℕ) (has : HasDataUpTo volume uuid_at objects stream number) where
-    base_is : base ≡ stream.number
+    -- each stream of the store begins with it
+    pub base_is : base ≡ stream.number
     base_is =
         let missing = has.stored.missing in
         let there = (has.stored.checkpoints missing.base).0 missing.newest.is_checkpoint in
@@ -181,6 +182,7 @@ module _ (volume : Expected) (objects : Objects) (base base_end : ℕ) (wide : v
             (subst (λ n. HaveLanded objects volume.uuid n log.uploads.window.last) first landed) absent;
       }
 
+-- For the proofs of callers: where the store tells its objects, the last of a recovered list is that before the first missing number.
 pub told_last : (told : Option Objects) (volume : Expected) (log : ObjLogState) → IfSome told (λ objects. IsRecoveredOf volume objects log)
     → IfSome told (λ objects. IsLastLanded volume objects log.uploads.window.last)
 told_last None volume log is = tt

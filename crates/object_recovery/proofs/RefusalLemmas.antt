@@ -176,17 +176,27 @@ module _ (volume : Expected) (objects : Objects) (base base_end : ℕ) (wide : v
 
 -- ---- where the store tells its objects
 
+-- for the proofs of callers: an error that is no answer refuses nothing
 pub told_no_answer : (told : Option Objects) (volume : Expected) (error : RecoverError) → IsNoAnswer error
     → IfSome told (λ objects. IsRefused volume objects error)
 told_no_answer None volume error none = tt
 told_no_answer (Some objects) volume error none = no_answer_refused volume objects error none
 
-pub newest_refused : (told : Option Objects) (uuid : List ℕ) (geometry : Geometry) (names : List ObjName) (error : RecoverError) → IsUuid uuid
-    → ((error ≡ errors.NoCheckpoint) ⊎ IsNoAnswer error)
-    → (error ≡ errors.NoCheckpoint → IfSome told (λ objects. (other : List ℕ) (number : ℕ) → IsUuid other → Lists other objects names → IsNoCheckpoint (expected_of other geometry) objects number))
-    → IfSome told (λ objects. Lists uuid objects names → IsRefused (expected_of uuid geometry) objects error)
-newest_refused None uuid geometry names error is_uuid answer none = tt
-newest_refused (Some objects) uuid geometry names error is_uuid answer none = λ listed.
+-- what names of objects tell: whichever volume they are of, it has no checkpoint, or this is its newest
+abbrev pub HasNoneAmong : Geometry → List ObjName → Objects → Type 0
+HasNoneAmong geometry names objects =
+    (uuid : List ℕ) (number : ℕ) → IsUuid uuid → Lists uuid objects names → IsNoCheckpoint (expected_of uuid geometry) objects number
+
+abbrev pub IsNewestAmong : Geometry → List ObjName → (number end : ℕ) → Objects → Type 0
+IsNewestAmong geometry names number end objects =
+    (uuid : List ℕ) → IsUuid uuid → Lists uuid objects names → IsNewestWithEnd (expected_of uuid geometry) objects number end
+
+pub newest_refused : (told : Option Objects) (uuid : List ℕ) (geometry : Geometry) (names : List ObjName) (error : RecoverError)
+    → IsUuid uuid → IfSome told (λ objects. Lists uuid objects names) → ((error ≡ errors.NoCheckpoint) ⊎ IsNoAnswer error)
+    → (error ≡ errors.NoCheckpoint → IfSome told (HasNoneAmong geometry names))
+    → IfSome told (λ objects. IsRefused (expected_of uuid geometry) objects error)
+newest_refused None uuid geometry names error is_uuid listed answer none = tt
+newest_refused (Some objects) uuid geometry names error is_uuid listed answer none =
     let volume = expected_of uuid geometry in
     elim answer [
       | inl no_checkpoint ↦ subst (IsRefused volume objects) (sym no_checkpoint)
@@ -194,14 +204,27 @@ newest_refused (Some objects) uuid geometry names error is_uuid answer none = λ
       | inr no_answer ↦ no_answer_refused volume objects error no_answer
     ]
 
+-- so it is of the volume that is recovered
+pub newest_told : (told : Option Objects) (uuid : List ℕ) (geometry : Geometry) (names : List ObjName) (number end : ℕ)
+    → IsUuid uuid → IfSome told (λ objects. Lists uuid objects names)
+    → IfSome told (IsNewestAmong geometry names number end)
+    → IfSome told (λ objects. IsNewestWithEnd (expected_of uuid geometry) objects number end)
+newest_told None uuid geometry names number end is_uuid listed newest = tt
+newest_told (Some objects) uuid geometry names number end is_uuid listed newest = newest uuid is_uuid listed
+
+pub newest_with_end : (told : Option Objects) (volume : Expected) (number end : ℕ)
+    → IfSome told (λ objects. IsNewestWithEnd volume objects number end)
+    → IfSome told (λ objects. (e : ℕ) × IsNewestWithEnd volume objects number e)
+newest_with_end None volume number end newest = tt
+newest_with_end (Some objects) volume number end newest = (end, newest)
+
 -- a checkpoint that is worn is so refused
-pub worn_base : (told : Option Objects) (uuid : List ℕ) (geometry : Geometry) (names : List ObjName) (number end : ℕ) → IsUuid uuid
-    → (2 ^ 60 ≤ number) ⊎ (2 ^ 60 ≤ end)
-    → IfSome told (λ objects. (other : List ℕ) → IsUuid other → Lists other objects names → IsNewestWithEnd (expected_of other geometry) objects number end)
-    → IfSome told (λ objects. Lists uuid objects names → IsRefused (expected_of uuid geometry) objects (errors.Worn number))
-worn_base None uuid geometry names number end is_uuid worn newest = tt
-worn_base (Some objects) uuid geometry names number end is_uuid worn newest = λ listed.
-    let checkpoint = (newest uuid is_uuid listed).is in
+pub worn_base : (told : Option Objects) (uuid : List ℕ) (geometry : Geometry) (number end : ℕ) → (2 ^ 60 ≤ number) ⊎ (2 ^ 60 ≤ end)
+    → IfSome told (λ objects. IsNewestWithEnd (expected_of uuid geometry) objects number end)
+    → IfSome told (λ objects. IsRefused (expected_of uuid geometry) objects (errors.Worn number))
+worn_base None uuid geometry number end worn newest = tt
+worn_base (Some objects) uuid geometry number end worn newest =
+    let checkpoint = newest.is in
     record {
       why = record {
         bytes = checkpoint.bytes;
@@ -229,29 +252,27 @@ volume_is : (uuid : List ℕ) (geometry : Geometry) (number end : ℕ) (log : Ob
 volume_is uuid geometry number end log new =
     ap (λ (u : List ℕ). expected_of u log.batch.geometry) new.list.uuid_is ∙ ap (expected_of uuid) new.list.geometry_is
 
-pub told_refused : (told : Option Objects) (uuid : List ℕ) (geometry : Geometry) (names : List ObjName) (number end : ℕ) (begun : ObjLogState)
-    (error : RecoverError) → IsUuid uuid
-    → geometry.sectors < 2 ^ 64 → IsNewList uuid geometry number end begun
-    → IfSome told (λ objects. (other : List ℕ) → IsUuid other → Lists other objects names → IsNewestWithEnd (expected_of other geometry) objects number end)
+pub told_refused : (told : Option Objects) (uuid : List ℕ) (geometry : Geometry) (number end : ℕ) (begun : ObjLogState)
+    (error : RecoverError) → geometry.sectors < 2 ^ 64 → IsNewList uuid geometry number end begun
+    → IfSome told (λ objects. IsNewestWithEnd (expected_of uuid geometry) objects number end)
     → IfSome told (λ objects. StopsPast (expected_of_volume begun) objects begun error)
-    → IfSome told (λ objects. Lists uuid objects names → IsRefused (expected_of uuid geometry) objects error)
-told_refused None uuid geometry names number end begun error is_uuid wide new newest stops = tt
-told_refused (Some objects) uuid geometry names number end begun error is_uuid wide new newest stops = λ listed.
-    stops_refused (expected_of uuid geometry) objects number end wide (newest uuid is_uuid listed) uuid geometry begun new error
+    → IfSome told (λ objects. IsRefused (expected_of uuid geometry) objects error)
+told_refused None uuid geometry number end begun error wide new newest stops = tt
+told_refused (Some objects) uuid geometry number end begun error wide new newest stops =
+    stops_refused (expected_of uuid geometry) objects number end wide newest uuid geometry begun new error
     (subst (λ v. StopsPast v objects begun error) (volume_is uuid geometry number end begun new) stops)
 
-pub told_recovered : (told : Option Objects) (uuid : List ℕ) (geometry : Geometry) (names : List ObjName) (number end : ℕ) (begun log : ObjLogState)
-    → IsUuid uuid
+pub told_recovered : (told : Option Objects) (uuid : List ℕ) (geometry : Geometry) (number end : ℕ) (begun log : ObjLogState)
     → geometry.sectors < 2 ^ 64 → IsNewList uuid geometry number end begun
     → IsListUpTo uuid geometry log.uploads.window.last log.uploads.queue.end log → begun.uploads.window.last ≤ log.uploads.window.last
-    → IfSome told (λ objects. (other : List ℕ) → IsUuid other → Lists other objects names → IsNewestWithEnd (expected_of other geometry) objects number end)
+    → IfSome told (λ objects. IsNewestWithEnd (expected_of uuid geometry) objects number end)
     → IfSome told (λ objects. KeepsStreams (expected_of_volume begun) objects begun log)
     → IfSome told (λ objects. HaveLanded objects begun.uploads.uuid begun.uploads.window.last log.uploads.window.last)
     → IfSome told (λ objects. found objects (name_of begun.uploads.uuid (log.uploads.window.last + 1)) ≡ None)
-    → IfSome told (λ objects. Lists uuid objects names → IsRecoveredOf (expected_of uuid geometry) objects log)
-told_recovered None uuid geometry names number end begun log is_uuid wide new list from newest keeps landed absent = tt
-told_recovered (Some objects) uuid geometry names number end begun log is_uuid wide new list from newest keeps landed absent = λ listed.
-    is_recovered (expected_of uuid geometry) objects number end wide (newest uuid is_uuid listed) uuid geometry begun log new
+    → IfSome told (λ objects. IsRecoveredOf (expected_of uuid geometry) objects log)
+told_recovered None uuid geometry number end begun log wide new list from newest keeps landed absent = tt
+told_recovered (Some objects) uuid geometry number end begun log wide new list from newest keeps landed absent =
+    is_recovered (expected_of uuid geometry) objects number end wide newest uuid geometry begun log new
     (subst (λ v. KeepsStreams v objects begun log) (volume_is uuid geometry number end begun new) keeps) list from
     (subst (λ u. HaveLanded objects u begun.uploads.window.last log.uploads.window.last) new.list.uuid_is landed)
     (subst (λ u. found objects (name_of u (log.uploads.window.last + 1)) ≡ None) new.list.uuid_is absent)

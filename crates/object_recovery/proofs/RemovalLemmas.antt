@@ -112,16 +112,18 @@ of_volume : (uuid : List ℕ) (names : List ObjName) (number : ℕ) → AreNames
     → IsPastOf uuid number name
 of_volume uuid names number are name listed = ((are.each name listed.0).1, listed.1)
 
--- what an end by an error leaves
-pub may_remove : (Tells : Type 0) (volume : Expected) (names : List ObjName) (number : ℕ) (old new : Option Objects) → AreNamesOf volume.uuid names
-    → (Tells → IfSome old (λ objects. IsLastLanded volume objects number)) → Becomes (Removes (IsListedPast names number)) old new
+pub some_removed : (uuid : List ℕ) (names : List ObjName) (number : ℕ) (old new : Option Objects) → AreNamesOf uuid names
+    → Becomes (Removes (IsListedPast names number)) old new → Becomes (Removes (IsPastOf uuid number)) old new
+some_removed uuid names number None new are is = is
+some_removed uuid names number (Some a) new are is =
+    (is.0, is.1, removes_such (IsListedPast names number) (IsPastOf uuid number) a is.0 (of_volume uuid names number are) is.2)
+
+-- For the proofs of callers: what a removal leaves, however it ends, where nothing else changed.
+pub may_remove : (Tells : Type 0) (volume : Expected) (number : ℕ) (old new : Option Objects)
+    → (Tells → IfSome old (λ objects. IsLastLanded volume objects number)) → Becomes (Removes (IsPastOf volume.uuid number)) old new
     → Becomes (MayRemovePast Tells volume) old new
-may_remove Tells volume names number None new are last is = is
-may_remove Tells volume names number (Some a) new are last is = (
-  is.0,
-  is.1,
-  inr (number, last, removes_such (IsListedPast names number) (IsPastOf volume.uuid number) a is.0 (of_volume volume.uuid names number are) is.2),
-)
+may_remove Tells volume number None new last is = is
+may_remove Tells volume number (Some a) new last is = (is.0, is.1, inr (number, last, is.2))
 
 -- where all are removed that are listed, none is past the number
 none_past : (uuid : List ℕ) (names : List ObjName) (number : ℕ) (a b : Objects) → AreNamesOf uuid names → Lists uuid a names

@@ -1,8 +1,12 @@
 -- Contract: what follows from what a recovery leaves.
-use Rattle.std.specs.Prelude.{ℕ, Option, List}
+use Rattle.std.specs.Prelude.{◌≡◌, ℕ, Option, List, length}
+use Rattle.lsvd_base.specs.Image.{Image}
 use Rattle.lsvd_objstore.specs.Objects.{Objects}
 use Rattle.object_format.specs.declared.expected.Expected.{Expected}
 use Rattle.object_stream.specs.Stream.{Stream}
+use Rattle.object_uploads.specs.Image.{HasImage}
+use Rattle.obj_log.specs.State.{ObjLogState}
+use Rattle.object_recovery.specs.Places.{HasPlacesInside}
 use Rattle.object_recovery.specs.Removal.{Removes}
 use Rattle.object_recovery.specs.Recovery.{HasDataUpTo, IsPastOf}
 
@@ -12,3 +16,9 @@ abbrev pub RemovalKeepsStream : Type 0
 RemovalKeepsStream =
     (volume : Expected) (uuid_at : ℕ → Option (List ℕ)) (old new : Objects) (stream : Stream) (number : ℕ)
     → Removes (IsPastOf volume.uuid number) old new → HasDataUpTo volume uuid_at old stream number → HasDataUpTo volume uuid_at new stream number
+
+-- A list whose places lie inside objects has an image of the volume's size, also where receipts tell no bytes.
+abbrev pub ListHasSomeImage : Type 0
+ListHasSomeImage =
+    (sectors : ℕ) (log : ObjLogState) → HasPlacesInside sectors log.uploads.queue
+    → (image : Image) × (length image ≡ sectors) × HasImage image log.uploads.queue

@@ -125,15 +125,14 @@ IsWhyStopped objects expected (errors.Worn number) =
 IsWhyStopped objects expected errors.StoreFault = Unit {0}
 IsWhyStopped objects expected errors.OutOfMemory = Unit {0}
 
--- the object of the next number was adopted; where receipts tell, it is the one that the store has
+-- the object of the next number was read and adopted; where receipts tell, it is the one that the store has
 pub record AdoptsNext (Tells : Type 0) (objects : Option Objects) (old new : ObjLogState) : Type 0 where
   pub rows : List DataRow
   pub end : ℕ
   pub receipt : ReceiptState
   pub order : IsUploads old.uploads.queue old.uploads.window
+  pub read : IsReadAsData receipt (next_of old) rows end
   pub adopted : HasAdoptedObject rows end receipt old new
-  pub low_end : end < 2 ^ 60
-  pub low_number : old.uploads.window.last + 1 < 2 ^ 60
   pub landed : IfSome objects (λ objects. IsTrue (landed_in objects old.uploads.uuid (old.uploads.window.last + 1)))
   pub stored : Tells → IfSome objects (λ objects. IsStoredAs objects (next_of old) rows end receipt)
 
@@ -197,7 +196,7 @@ pub record RemovesAllPast (uuid : List ℕ) (number : ℕ) (old new : Objects) :
   pub removes : Removes (IsPastOf uuid number) old new
   pub gone : (name : ObjName) → IsName name → IsPastOf uuid number name → found new name ≡ None
 
--- what a recovery that ends by an error leaves: all as it was, or without some of the objects past the first missing number
+-- what a recovery leaves, however it and the removal after it end: all as it was, or without some of the objects past the first missing number
 abbrev pub MayRemovePast : (Tells : Type 0) → (volume : Expected) → (old new : Objects) → Type 0
 MayRemovePast Tells volume old new =
     (new ≡ old) ⊎ ((number : ℕ) × (Tells → IsLastLanded volume old number) × Removes (IsPastOf volume.uuid number) old new)

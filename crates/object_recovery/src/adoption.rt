@@ -7,6 +7,7 @@ ghost use Rattle.object_stream.specs.Replay.{name_of};
 ghost use Rattle.obj_log.specs.State.{ObjLogState};
 ghost use Rattle.obj_log.specs.Changes.{expected_of_volume, next_of};
 ghost use Rattle.object_recovery.specs.Faults.{ends_by_fault, TellsBytes};
+ghost use Rattle.object_recovery.specs.Places.{HasPlacesInside};
 ghost use Rattle.object_recovery.specs.Recovery.{IsListUpTo, IsReadAsData, IsWhyNotAdopted, IsWhyStopped, AdoptsNext, HasNoNext, KeepsStreams, HaveLanded, StopsPast};
 
 use crate::error::RecoverError;
@@ -27,8 +28,9 @@ struct DataObject {
     end: u64,
 }
 
-/// Adopts the objects after the last of the list, up to the first missing number. The list has all of its objects acknowledged, and
-/// its numbers are below 2^60 (conditions). The first object that is not adopted ends it with an error.
+/// Adopts the objects after the last of the list, up to the first missing number. The list has all of its objects acknowledged, its
+/// places lie inside these, and its numbers and its end are below 2^60 (conditions). The first object that is not adopted ends it
+/// with an error.
 pub(crate) fn adopt_all<S: Store>(
     alloc: Global,
     store: &mut S,
@@ -37,9 +39,13 @@ pub(crate) fn adopt_all<S: Store>(
     requires list { IsListUpTo log.old.uploads.uuid log.old.batch.geometry log.old.uploads.window.last log.old.uploads.queue.end log.old }
     requires limits { IsTrue (is_within_limits log.old.batch.geometry) }
     requires number { log.old.uploads.window.last < 2 ^ 60 }
+    requires end { log.old.uploads.queue.end < 2 ^ 60 }
+    requires places { HasPlacesInside log.old.batch.geometry.sectors log.old.uploads.queue }
     ensures list { OnOk result
         (IsListUpTo log.old.uploads.uuid log.old.batch.geometry log.new.uploads.window.last log.new.uploads.queue.end log.new) }
     ensures number { OnOk result (log.new.uploads.window.last < 2 ^ 60) }
+    ensures end { OnOk result (log.new.uploads.queue.end < 2 ^ 60) }
+    ensures places { OnOk result (HasPlacesInside log.old.batch.geometry.sectors log.new.uploads.queue) }
     ensures from { OnOk result (log.old.uploads.window.last ≤ log.new.uploads.window.last) }
     ensures streams { TellsBytes S.Receipt.state → OnOk result (IfSome (S.state store.old).objects (λ objects.
         KeepsStreams (expected_of_volume log.old) objects log.old log.new)) }

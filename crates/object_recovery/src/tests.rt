@@ -91,9 +91,11 @@ fn holds(alloc: Global, store: &mut MemStore, number: u64) -> Result<bool, Fail>
     Ok(found.is_some())
 }
 
-// What a recovery finds: the number of the last object and its end, or the error.
+// What a recovery finds that then removes the objects past the last: the number of that object and its end, or the error.
 fn found<S: Store>(alloc: Global, store: &mut S) -> Result<(u64, u64), RecoverError> {
-    let list = recover(alloc, store, Uuid::from_bytes(UUID), GEOMETRY)?;
+    let recovered = recover(alloc, store, Uuid::from_bytes(UUID), GEOMETRY)?;
+    recovered.remove_past(alloc, store)?;
+    let list = recovered.into_log();
     Ok((list.last(), list.end()))
 }
 

@@ -35,7 +35,7 @@ use Rattle.plain_disk.proofs.CommitLemmas.{log_with_later_end, record_keeps, IsL
 
 -- ---- created
 
-log_has_sectors : (g : Geometry) → IsTrue (is_within_limits g) → (0 < g.log) × (g.log ≤ 2 ^ 31)
+pub log_has_sectors : (g : Geometry) → IsTrue (is_within_limits g) → (0 < g.log) × (g.log ≤ 2 ^ 31)
 log_has_sectors g h = grind (arith, nat_tests)
 
 pub created_is : CreatedIsPlainVolume

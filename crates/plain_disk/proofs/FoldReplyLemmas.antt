@@ -15,7 +15,7 @@ use Rattle.plain_disk.specs.declared.event.PlainEvent.{PlainEvent}
 use Rattle.plain_disk.specs.declared.event.PlainEvent.TheVariants.{Write, Zero, Flush, Look, Release, Seal, TakeJob, JobDone, JobFailed, Status}
 use Rattle.plain_disk.specs.declared.event.PlainReply.{PlainReply}
 use Rattle.plain_disk.specs.declared.event.PlainReply.TheVariants as replies
-use Rattle.plain_disk.specs.Machine.{sectors_at}
+use Rattle.plain_disk.specs.Sectors.{sectors_at}
 use Rattle.plain_disk.specs.Writers.{covers_sector, read_calls}
 use Rattle.plain_disk.specs.Log.{room_in}
 use Rattle.plain_disk.specs.Cache.{PlainCache, passes_entry, cache_after_commit, passes_commit}

@@ -1,8 +1,6 @@
 pub mod Zeros
 pub mod Overlaid
 pub mod Followed
-pub mod Held
-pub mod Kept
 pub mod EndLemmas
 pub mod CommitLemmas
 pub mod FlushLemmas

@@ -57,7 +57,7 @@ mounted_log_is end seq count log found from h later =
 -- ---- the volume
 
 -- with its objects up to a number, and the entries up to a count that is within them and not before that object's end
-cut_is : (state : PlainState) (number count : ℕ) (cache : PlainCache) → IsPlainVolume state
+pub cut_is : (state : PlainState) (number count : ℕ) (cache : PlainCache) → IsPlainVolume state
     → state.number ≤ number → number ≤ last_number (stream_in state)
     → end_at (stream_in state) number ≤ count → count ≤ history_length state
     → cache.log.size ≡ state.geometry.log → IsPlainLog (end_at (stream_in state) number) count cache.log
@@ -125,7 +125,7 @@ mounts_keep state landed kept h may = (kept_is state landed kept h may, lost_is 
 -- ---- what is committed then
 
 -- the entries of the volume that was cut off
-cut_count : (state : PlainState) (number count : ℕ) → IsPlainVolume state → end_at (stream_in state) number ≤ count → count ≤ history_length state
+pub cut_count : (state : PlainState) (number count : ℕ) → IsPlainVolume state → end_at (stream_in state) number ≤ count → count ≤ history_length state
     → state.end + length (take (count - state.end) state.entries) ≡ count
 cut_count state number count h ends within =
     let first = ends_from state number h in

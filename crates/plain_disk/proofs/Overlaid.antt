@@ -11,7 +11,7 @@ use Rattle.lsvd_base.specs.Range.{is_in_range}
 use Rattle.lsvd_base.specs.declared.entry.Entry.TheVariants.{Write, Zero}
 use Rattle.lsvd_base.specs.Image.{Image, zero_sector, blank, cut_into_sectors, overwritten, after}
 use Rattle.lsvd_base.proofs.ImageLemmas.{AllOfLength, concat-window, length-concat, concat-overwritten, All-overwritten, concat-cut, length-cut, All-cut, concat-zeros, All-zeros, IsOfLength, IsImage, IsImage-after, IsImage-blank, after-push, Write-ends, Zero-ends}
-use Rattle.plain_disk.specs.Machine.{sectors_at, AllInRange}
+use Rattle.plain_disk.specs.Sectors.{sectors_at, AllInRange}
 use Rattle.lsvd_bytes.specs.Window.{Pastes}
 use Rattle.lsvd_bytes.specs.Places.{with_bytes}
 use Rattle.plain_disk.specs.Window.{Overlays}

@@ -12,7 +12,7 @@ use Rattle.object_stream.specs.Stream.{end_after, end_at, last_number, unsealed}
 use Rattle.object_stream.specs.Plain.{stream_of}
 use Rattle.batcher.specs.Batch.{fullness_of_first}
 use Rattle.plain_disk.specs.Objects.{sealed_count}
-use Rattle.plain_disk.specs.Machine.{AllInRange}
+use Rattle.plain_disk.specs.Sectors.{AllInRange}
 use Rattle.plain_disk.specs.Fields.{max_seq, batch_refusal_of, IsPlainFields}
 
 -- an object's end is one that a list of entries has

@@ -5,6 +5,8 @@ use Rattle.lsvd_base.specs.declared.entry.Entry.{Entry}
 use Rattle.log_room.specs.Room.{record_sectors, pad_before}
 use Rattle.lsvd_device.specs.Calls.{Fuse, passes, fuse_after}
 use Rattle.lsvd_device.specs.Sequence.{passed_of}
+use Rattle.lsvd_device.specs.declared.fate.Fate.{Fate}
+use Rattle.lsvd_device.specs.declared.fate.Fate.TheVariants.{Kept}
 use Rattle.plain_disk.specs.declared.cache.PendingWrite.{PendingWrite}
 use Rattle.plain_disk.specs.declared.cache.PendingWrite.TheVariants.{Pad, Record, Body, ClosedGate, OpenedGate}
 use Rattle.plain_disk.specs.declared.log.PlainCommit.{PlainCommit}
@@ -101,6 +103,11 @@ abbrev pub keeps_opened_gate : List PendingWrite → (kept : List Bool) → Bool
 keeps_opened_gate (OpenedGate ∷ writes) (true ∷ kept) = true
 keeps_opened_gate (write ∷ writes) (is_kept ∷ kept) = keeps_opened_gate writes kept
 keeps_opened_gate writes kept = false
+
+-- a write that was not synced is kept
+abbrev pub is_kept : Fate → Bool
+is_kept Kept = true
+is_kept fate = false
 
 -- the commit that a stop leaves: the last one, or the unfinished one where the opening of its gate is kept
 abbrev pub commit_or : Option PlainCommit → PlainCommit → PlainCommit

@@ -13,7 +13,7 @@ use Rattle.object_stream.specs.Stream.{Stream, owners, is_own}
 use Rattle.plain_disk.specs.declared.cache.PendingWrite.{PendingWrite}
 use Rattle.plain_disk.specs.declared.cache.PendingWrite.TheVariants.{OpenedGate}
 use Rattle.plain_disk.specs.Log.{PlainLog, room_in}
-use Rattle.plain_disk.specs.Machine.{AllInRange}
+use Rattle.plain_disk.specs.Sectors.{AllInRange}
 use Rattle.plain_disk.specs.Writers.{covers_sector}
 use Rattle.plain_disk.specs.declared.event.PlainReply.{PlainReply}
 use Rattle.plain_disk.specs.declared.event.PlainReply.TheVariants.{NoRoom, Range, Fault}

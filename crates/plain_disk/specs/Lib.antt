@@ -1,8 +1,6 @@
 pub mod Window
+pub mod Sectors
 pub mod Writers
-pub mod Machine
-pub mod Plain
-pub mod Laws
 pub mod Log
 pub mod Cache
 pub mod State

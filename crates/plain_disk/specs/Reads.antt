@@ -6,7 +6,7 @@ use Rattle.lsvd_device.specs.Calls.{passes}
 use Rattle.object_stream.specs.Stream.{owners, is_own}
 use Rattle.plain_disk.specs.declared.event.PlainReply.{PlainReply}
 use Rattle.plain_disk.specs.declared.event.PlainReply.TheVariants.{Planned, Released, Range, Nothing, Fault}
-use Rattle.plain_disk.specs.Machine.{sectors_at}
+use Rattle.plain_disk.specs.Sectors.{sectors_at}
 use Rattle.plain_disk.specs.Writers.{covers_sector, read_calls}
 use Rattle.plain_disk.specs.Cache.{after_reads}
 use Rattle.plain_disk.specs.State.{PlainState, stream_in, history_length, image_now, frontier_of, logged_entries}

@@ -4,7 +4,7 @@ use Rattle.std.specs.List.{All}
 use Rattle.lsvd_base.specs.declared.entry.Entry.{Entry}
 use Rattle.lsvd_base.specs.Image.{Image, apply}
 use Rattle.lsvd_base.specs.Laws.{EndsBy}
-use Rattle.plain_disk.specs.Machine.{sectors_at}
+use Rattle.plain_disk.specs.Sectors.{sectors_at}
 
 -- where a window shows the sectors of an image from lba on, it is changed as those sectors are by the entry
 abbrev pub Overlays : ℕ → Entry → List ℕ → List ℕ → Type 0

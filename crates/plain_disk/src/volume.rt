@@ -30,7 +30,6 @@ use object_stream::{Content, PlainStream, StreamObject};
 use std::alloc::{AllocError, Global};
 use std::marker::Model;
 use upload_window::OpenObject;
-use volume_events::Reply;
 
 // The newest checkpoint, which is the volume's first object.
 const CHECKPOINT: u64 = 1;
@@ -265,7 +264,7 @@ impl PlainVolume {
     {
         let alloc = *self.pins.allocator();
         let entries = self.stream.entries.as_slice();
-        let Reply::Data(data) = read_history(alloc, &self.geometry, entries, lba, sectors)? else {
+        let Some(data) = read_history(alloc, &self.geometry, entries, lba, sectors)? else {
             return Ok(PlainReply::Range);
         };
         let calls = self.look_calls(lba, sectors)?;

@@ -8,7 +8,7 @@ use Rattle.lsvd_base.specs.declared.entry.Entry.{Entry}
 use Rattle.lsvd_base.specs.declared.entry.Entry.TheVariants.{Write}
 use Rattle.cache_log.specs.declared.row.Row.{Row}
 use Rattle.cache_log.specs.Rows.{seq_of, position_of, record_size, AreNumbered}
-use Rattle.cache_log.specs.Log.{LogState, row_of}
+use Rattle.cache_log.specs.Log.{LogState, row_of, AreRowsOf}
 use Rattle.object_stream.specs.Changes.{sector_of, change_at}
 use Rattle.object_stream.specs.Laws.{changed_by}
 use Rattle.volume_maps.specs.declared.place.LogPlace.{LogPlace}
@@ -19,7 +19,6 @@ use Rattle.volume_maps.specs.Maps.{settled_at, logged_at}
 use Rattle.object_uploads.specs.Image.{HoldsSector}
 use Rattle.obj_log.specs.State.{ObjLogState}
 use Rattle.plain_disk.specs.State.{PlainState, image_now, frontier_end, logged_entries}
-use Rattle.log_meaning.specs.Logged.{AreRowsOf}
 use Rattle.objects_meaning.specs.Shows.{settled_image}
 use Rattle.reads_meaning.specs.Places.{IsInRecord, IsHeldAt}
 use Rattle.reads_meaning.specs.Laws.{ShowsReads, PlacesHoldSectors}

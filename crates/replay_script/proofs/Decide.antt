@@ -10,9 +10,9 @@ use Rattle.std.proofs.lemmas.List.Splits.{length-slice_split}
 use Rattle.std.proofs.lemmas.Slice.Eq.{bytes_eq-Decides}
 use Rattle.lsvd_base.specs.Limits.{is_within_limits}
 use Rattle.lsvd_base.specs.declared.geometry.Geometry.{Geometry}
-use Rattle.replay_script.specs.Grammar.{Spells, spelling, Fits, SizesFit, words_of, name_of, BeginAs, BeginsAs, CountsAs, IsUnknown, HasWrongWordCount, IsMisspelt, SpellNone, AreRefusedAs}
+use Rattle.replay_script.specs.Grammar.{Spells, spelling, Fits, SizesFit, words_of, name_of, BeginAs, BeginsAs, CountsAs, IsUnknown, HasWrongWordCount, IsMisspelt, Spell, SpellNone, AreRefusedAs}
 use Rattle.replay_script.specs.declared.command.Command.{Command}
-use Rattle.replay_script.specs.declared.command.Command.TheVariants.{New, Write, Zero, Read, Flush, Stop, CrashKeep}
+use Rattle.replay_script.specs.declared.command.Command.TheVariants.{New, Write, Zero, Read, Flush, Seal, TakeJob, JobDone, JobFailed, Status, Stop, CrashKeep, CrashLost}
 use Rattle.replay_script.specs.declared.error.LineError.TheVariants.{UnknownCommand, WordCount, Form}
 use Rattle.replay_script.proofs.Numbers.{decided, decide_number, decide_byte, hexadecimal_injective}
 
@@ -48,13 +48,14 @@ first_byte : List (List ℕ) → ℕ
 first_byte ((byte ∷ bytes) ∷ words) = byte
 first_byte _ = 0
 
--- a zeroing is not spelled as a read
-zero_is_no_read : (lba sectors lba' sectors' : ℕ) → spelling (Zero lba sectors) ≡ spelling (Read lba' sectors') → ⊥
-unfolding first_byte
-zero_is_no_read lba sectors lba' sectors' e = let bytes : 122 ≡ 114 = ap first_byte e in omega (arith, bytes)
+-- a number for the words of each command, from the bytes of its name
+kind_by : List (List ℕ) → ℕ
+kind_by ((byte ∷ next ∷ bytes) ∷ words) = cond (byte == 99) (256 + first_byte words) (128 + byte)
+kind_by words = first_byte words
 
 -- words spell one command
 pub one_spelling : (a b : Command) → spelling a ≡ spelling b → Fits a → Fits b → a ≡ b
+unfolding first_byte kind_by
 one_spelling (New g) (New h) e fits_g fits_h = ap New (same_geometry g h e (geometry_fits g fits_g) fits_h)
 one_spelling (Write lba sectors byte) (Write lba' sectors' byte') e fits_a fits_b =
     let same_lba = decimal_injective lba lba' fits_a.0 fits_b.0 (cc) in
@@ -65,153 +66,274 @@ one_spelling (Zero lba sectors) (Zero lba' sectors') e fits_a fits_b =
     let same_lba = decimal_injective lba lba' fits_a.0 fits_b.0 (cc) in
     let same_sectors = decimal_injective sectors sectors' fits_a.1 fits_b.1 (cc) in
     cc
-one_spelling (Zero lba sectors) (Read lba' sectors') e fits_a fits_b = absurd (zero_is_no_read lba sectors lba' sectors' e)
-one_spelling (Read lba sectors) (Zero lba' sectors') e fits_a fits_b = absurd (zero_is_no_read lba' sectors' lba sectors (sym e))
 one_spelling (Read lba sectors) (Read lba' sectors') e fits_a fits_b =
     let same_lba = decimal_injective lba lba' fits_a.0 fits_b.0 (cc) in
     let same_sectors = decimal_injective sectors sectors' fits_a.1 fits_b.1 (cc) in
     cc
 one_spelling Flush Flush e fits_a fits_b = refl
-one_spelling (Stop calls) (Stop calls') e fits_a fits_b =
-    let same_calls = decimal_injective calls calls' fits_a fits_b (cc) in
-    cc
+one_spelling Seal Seal e fits_a fits_b = refl
+one_spelling TakeJob TakeJob e fits_a fits_b = refl
+one_spelling (JobDone number) (JobDone number') e fits_a fits_b = ap JobDone (decimal_injective number number' fits_a fits_b (cc))
+one_spelling (JobFailed number) (JobFailed number') e fits_a fits_b = ap JobFailed (decimal_injective number number' fits_a fits_b (cc))
+one_spelling Status Status e fits_a fits_b = refl
+one_spelling (Stop calls) (Stop calls') e fits_a fits_b = ap Stop (decimal_injective calls calls' fits_a fits_b (cc))
 one_spelling (CrashKeep device objects) (CrashKeep device' objects') e fits_a fits_b = cc
-one_spelling a b e fits_a fits_b = cc
+one_spelling (CrashLost device objects) (CrashLost device' objects') e fits_a fits_b = cc
+one_spelling a b e fits_a fits_b = let kinds : kind_by (spelling a) ≡ kind_by (spelling b) = ap kind_by e in absurd (omega (arith, kinds))
 
 -- a line spells one command
 pub one_command : (line : List ℕ) (a b : Command) → Spells line a → Spells line b → a ≡ b
 one_command line a b spells_a spells_b = one_spelling a b (sym spells_a.words ∙ spells_b.words) spells_a.fits spells_b.fits
 
+-- ---- which command words spell
+
+-- words spell some command
+abbrev IsSpelled : List (List ℕ) → Type 0
+IsSpelled words = (command : Command) × Spell words command
+
+-- whether words of these sizes spell the command `new` is decided
+decide_limits : (words : List (List ℕ)) (g : Geometry) → words ≡ spelling (New g) → SizesFit g
+    → IsSpelled words ⊎ ((h : Geometry) → ¬ Spell words (New h))
+decide_limits words g e fits =
+    elim (decided (is_within_limits g) ((λ t. t), (λ t. t))) [
+      | inl inside ↦ inl (New g, (e, inside))
+      | inr outside ↦ inr (λ h spell. no_new_outside words g e fits outside h spell.0 spell.1)
+    ]
+
 -- whether words spell the command `new` is decided
-pub decide_new : (words : List (List ℕ)) → ((g : Geometry) × (words ≡ spelling (New g)) × Fits (New g)) ⊎ ((g : Geometry) → words ≡ spelling (New g) → Fits (New g) → ⊥)
+decide_new : (words : List (List ℕ)) → IsSpelled words ⊎ ((g : Geometry) → ¬ Spell words (New g))
 decide_new (name ∷ a ∷ b ∷ c ∷ d ∷ []) =
     elim (decided (bytes_eq name (codes "new")) (bytes_eq-Decides name (codes "new"))) [
-      | inr other ↦ inr (λ g e fits. other (cc))
+      | inr other ↦ inr (λ g (e, fits). other (cc))
       | inl is_new ↦
           elim (decide_number a) [
-            | inr other ↦ inr (λ g e fits. other g.sectors (geometry_fits g fits).0 (cc))
+            | inr other ↦ inr (λ g (e, fits). other g.sectors (geometry_fits g fits).0 (cc))
             | inl sectors ↦
                 elim (decide_number b) [
-                  | inr other ↦ inr (λ g e fits. other g.log (geometry_fits g fits).1 (cc))
+                  | inr other ↦ inr (λ g (e, fits). other g.log (geometry_fits g fits).1 (cc))
                   | inl log ↦
                       elim (decide_number c) [
-                        | inr other ↦ inr (λ g e fits. other g.max_write (geometry_fits g fits).2 (cc))
+                        | inr other ↦ inr (λ g (e, fits). other g.max_write (geometry_fits g fits).2 (cc))
                         | inl max_write ↦
                             elim (decide_number d) [
-                              | inr other ↦ inr (λ g e fits. other g.batch (geometry_fits g fits).3 (cc))
+                              | inr other ↦ inr (λ g (e, fits). other g.batch (geometry_fits g fits).3 (cc))
                               | inl batch ↦
                                   let g : Geometry = record { sectors = sectors.0; log = log.0; max_write = max_write.0; batch = batch.0 } in
                                   let e : name ∷ a ∷ b ∷ c ∷ d ∷ [] ≡ spelling (New g) = cc (is_new, sectors.2, log.2, max_write.2, batch.2) in
-                                  elim (decided (is_within_limits g) ((λ t. t), (λ t. t))) [
-                                    | inl inside ↦ inl (g, e, inside)
-                                    | inr outside ↦ inr (no_new_outside _ g e (sectors.1, log.1, max_write.1, batch.1) outside)
-                                  ]
+                                  decide_limits _ g e (sectors.1, log.1, max_write.1, batch.1)
                             ]
                       ]
                 ]
           ]
     ]
-decide_new _ = inr (λ g e fits. omega (arith, ap length e))
+decide_new _ = inr (λ g (e, fits). omega (arith, ap length e))
 
 -- whether words spell the command `w` is decided
-pub decide_write : (words : List (List ℕ)) → ((command : Command) × (words ≡ spelling command) × Fits command) ⊎ ((lba sectors byte : ℕ) → words ≡ spelling (Write lba sectors byte) → Fits (Write lba sectors byte) → ⊥)
+decide_write : (words : List (List ℕ)) → IsSpelled words ⊎ ((lba sectors byte : ℕ) → ¬ Spell words (Write lba sectors byte))
 decide_write (name ∷ a ∷ b ∷ c ∷ []) =
     elim (decided (bytes_eq name (codes "w")) (bytes_eq-Decides name (codes "w"))) [
-      | inr other ↦ inr (λ lba sectors byte e fits. other (cc))
+      | inr other ↦ inr (λ lba sectors byte (e, fits). other (cc))
       | inl is_write ↦
           elim (decide_number a) [
-            | inr other ↦ inr (λ lba sectors byte e fits. other lba fits.0 (cc))
+            | inr other ↦ inr (λ lba sectors byte (e, fits). other lba fits.0 (cc))
             | inl lba ↦
                 elim (decide_number b) [
-                  | inr other ↦ inr (λ lba sectors byte e fits. other sectors fits.1 (cc))
+                  | inr other ↦ inr (λ lba sectors byte (e, fits). other sectors fits.1 (cc))
                   | inl sectors ↦
                       elim (decide_byte c) [
-                        | inr other ↦ inr (λ lba sectors byte e fits. other byte fits.2 (cc))
-                        | inl byte ↦ inl (Write lba.0 sectors.0 byte.0, cc (is_write, lba.2, sectors.2, byte.2), (lba.1, sectors.1, byte.1))
+                        | inr other ↦ inr (λ lba sectors byte (e, fits). other byte fits.2 (cc))
+                        | inl byte ↦ inl (Write lba.0 sectors.0 byte.0, (cc (is_write, lba.2, sectors.2, byte.2), (lba.1, sectors.1, byte.1)))
                       ]
                 ]
           ]
     ]
-decide_write _ = inr (λ lba sectors byte e fits. omega (arith, ap length e))
+decide_write _ = inr (λ lba sectors byte (e, fits). omega (arith, ap length e))
 
--- whether words spell the command `z` is decided
-pub decide_zero : (words : List (List ℕ)) → ((command : Command) × (words ≡ spelling command) × Fits command) ⊎ ((lba sectors : ℕ) → words ≡ spelling (Zero lba sectors) → Fits (Zero lba sectors) → ⊥)
-decide_zero (name ∷ a ∷ b ∷ []) =
-    elim (decided (bytes_eq name (codes "z")) (bytes_eq-Decides name (codes "z"))) [
-      | inr other ↦ inr (λ lba sectors e fits. other (cc))
-      | inl is_zero ↦
-          elim (decide_number a) [
-            | inr other ↦ inr (λ lba sectors e fits. other lba fits.0 (cc))
-            | inl lba ↦
-                elim (decide_number b) [
-                  | inr other ↦ inr (λ lba sectors e fits. other sectors fits.1 (cc))
-                  | inl sectors ↦ inl (Zero lba.0 sectors.0, cc (is_zero, lba.2, sectors.2), (lba.1, sectors.1))
-                ]
-          ]
-    ]
-decide_zero _ = inr (λ lba sectors e fits. omega (arith, ap length e))
-
--- whether words spell the command `r` is decided
-pub decide_read : (words : List (List ℕ)) → ((command : Command) × (words ≡ spelling command) × Fits command) ⊎ ((lba sectors : ℕ) → words ≡ spelling (Read lba sectors) → Fits (Read lba sectors) → ⊥)
-decide_read (name ∷ a ∷ b ∷ []) =
-    elim (decided (bytes_eq name (codes "r")) (bytes_eq-Decides name (codes "r"))) [
-      | inr other ↦ inr (λ lba sectors e fits. other (cc))
-      | inl is_read ↦
-          elim (decide_number a) [
-            | inr other ↦ inr (λ lba sectors e fits. other lba fits.0 (cc))
-            | inl lba ↦
-                elim (decide_number b) [
-                  | inr other ↦ inr (λ lba sectors e fits. other sectors fits.1 (cc))
-                  | inl sectors ↦ inl (Read lba.0 sectors.0, cc (is_read, lba.2, sectors.2), (lba.1, sectors.1))
-                ]
-          ]
-    ]
-decide_read _ = inr (λ lba sectors e fits. omega (arith, ap length e))
-
--- whether words spell the command `f` is decided
-pub decide_flush : (words : List (List ℕ)) → (words ≡ spelling Flush) ⊎ (words ≡ spelling Flush → ⊥)
-decide_flush (name ∷ []) =
-    elim (decided (bytes_eq name (codes "f")) (bytes_eq-Decides name (codes "f"))) [
+-- whether words are this name alone is decided
+decide_alone : (name : List ℕ) (words : List (List ℕ)) → (words ≡ name ∷ []) ⊎ ¬ (words ≡ name ∷ [])
+decide_alone name (word ∷ []) =
+    elim (decided (bytes_eq word name) (bytes_eq-Decides word name)) [
       | inr other ↦ inr (λ e. other (cc))
-      | inl is_flush ↦ inl (cc (is_flush))
+      | inl same ↦ inl (cc (same))
     ]
-decide_flush _ = inr (λ e. omega (arith, ap length e))
+decide_alone name _ = inr (λ e. omega (arith, ap length e))
 
--- whether words spell the command `stop` is decided
-pub decide_stop : (words : List (List ℕ)) → ((command : Command) × (words ≡ spelling command) × Fits command) ⊎ ((calls : ℕ) → words ≡ spelling (Stop calls) → Fits (Stop calls) → ⊥)
-decide_stop (name ∷ a ∷ []) =
-    elim (decided (bytes_eq name (codes "stop")) (bytes_eq-Decides name (codes "stop"))) [
-      | inr other ↦ inr (λ calls e fits. other (cc))
-      | inl is_stop ↦
+-- words are this name and a number
+abbrev AreWithNumber : List ℕ → List (List ℕ) → ℕ → Type 0
+AreWithNumber name words n = (words ≡ name ∷ decimal n ∷ []) × (n < 2 ^ 64)
+
+-- whether words are that is decided
+decide_with_number : (name : List ℕ) (words : List (List ℕ)) → ((n : ℕ) × AreWithNumber name words n) ⊎ ((n : ℕ) → ¬ AreWithNumber name words n)
+decide_with_number name (word ∷ a ∷ []) =
+    elim (decided (bytes_eq word name) (bytes_eq-Decides word name)) [
+      | inr other ↦ inr (λ n (e, fits). other (cc))
+      | inl same ↦
           elim (decide_number a) [
-            | inr other ↦ inr (λ calls e fits. other calls fits (cc))
-            | inl calls ↦ inl (Stop calls.0, cc (is_stop, calls.2), calls.1)
+            | inr other ↦ inr (λ n (e, fits). other n fits (cc))
+            | inl n ↦ inl (n.0, (cc (same, n.2), n.1))
           ]
     ]
-decide_stop _ = inr (λ calls e fits. omega (arith, ap length e))
+decide_with_number name _ = inr (λ n (e, fits). omega (arith, ap length e))
 
--- whether words spell the command `crash keep` is decided
-pub decide_crash_keep : (words : List (List ℕ)) → ((command : Command) × (words ≡ spelling command) × Fits command) ⊎ ((device objects : List ℕ) → words ≡ spelling (CrashKeep device objects) → ⊥)
-decide_crash_keep (name ∷ kind ∷ device ∷ objects ∷ []) =
+-- words are this name and two numbers
+abbrev AreWithNumbers : List ℕ → List (List ℕ) → (lba sectors : ℕ) → Type 0
+AreWithNumbers name words lba sectors = (words ≡ name ∷ decimal lba ∷ decimal sectors ∷ []) × ((lba < 2 ^ 64) × (sectors < 2 ^ 64))
+
+-- whether words are that is decided
+decide_with_numbers : (name : List ℕ) (words : List (List ℕ))
+    → ((lba : ℕ) × (sectors : ℕ) × AreWithNumbers name words lba sectors)
+    ⊎ ((lba sectors : ℕ) → ¬ AreWithNumbers name words lba sectors)
+decide_with_numbers name (word ∷ a ∷ b ∷ []) =
+    elim (decided (bytes_eq word name) (bytes_eq-Decides word name)) [
+      | inr other ↦ inr (λ lba sectors (e, fits). other (cc))
+      | inl same ↦
+          elim (decide_number a) [
+            | inr other ↦ inr (λ lba sectors (e, fits). other lba fits.0 (cc))
+            | inl lba ↦
+                elim (decide_number b) [
+                  | inr other ↦ inr (λ lba sectors (e, fits). other sectors fits.1 (cc))
+                  | inl sectors ↦ inl (lba.0, sectors.0, (cc (same, lba.2, sectors.2), (lba.1, sectors.1)))
+                ]
+          ]
+    ]
+decide_with_numbers name _ = inr (λ lba sectors (e, fits). omega (arith, ap length e))
+
+-- words are `crash`, this word and two words of letters
+abbrev AreCrash : List ℕ → List (List ℕ) → (device objects : List ℕ) → Type 0
+AreCrash kind words device objects = words ≡ codes "crash" ∷ kind ∷ device ∷ objects ∷ []
+
+-- whether words are that is decided
+decide_crash : (kind : List ℕ) (words : List (List ℕ))
+    → ((device : List ℕ) × (objects : List ℕ) × AreCrash kind words device objects)
+    ⊎ ((device objects : List ℕ) → ¬ AreCrash kind words device objects)
+decide_crash kind (name ∷ word ∷ device ∷ objects ∷ []) =
     elim (decided (bytes_eq name (codes "crash")) (bytes_eq-Decides name (codes "crash"))) [
       | inr other ↦ inr (λ d o e. other (cc))
       | inl is_crash ↦
-          elim (decided (bytes_eq kind (codes "keep")) (bytes_eq-Decides kind (codes "keep"))) [
+          elim (decided (bytes_eq word kind) (bytes_eq-Decides word kind)) [
             | inr other ↦ inr (λ d o e. other (cc))
-            | inl is_keep ↦ inl (CrashKeep device objects, cc (is_crash, is_keep), tt)
+            | inl same ↦ inl (device, objects, cc (is_crash, same))
           ]
     ]
-decide_crash_keep _ = inr (λ d o e. omega (arith, ap length e))
+decide_crash kind _ = inr (λ d o e. omega (arith, ap length e))
 
--- then they spell no command
+-- a decision, and where it is none, the next one
+or_next : {A B C : Type 0} → A ⊎ B → (B → A ⊎ C) → A ⊎ C
+or_next (inl a) next = inl a
+or_next (inr b) next = next b
+
+-- whether words spell a command of each other kind is decided
+decide_flush : (words : List (List ℕ)) → IsSpelled words ⊎ ¬ Spell words Flush
+decide_flush words = elim (decide_alone (codes "f") words) [ inl e ↦ inl (Flush, (e, tt)) | inr other ↦ inr (λ spell. other spell.0) ]
+
+decide_seal : (words : List (List ℕ)) → IsSpelled words ⊎ ¬ Spell words Seal
+decide_seal words = elim (decide_alone (codes "s") words) [ inl e ↦ inl (Seal, (e, tt)) | inr other ↦ inr (λ spell. other spell.0) ]
+
+decide_take : (words : List (List ℕ)) → IsSpelled words ⊎ ¬ Spell words TakeJob
+decide_take words = elim (decide_alone (codes "u") words) [ inl e ↦ inl (TakeJob, (e, tt)) | inr other ↦ inr (λ spell. other spell.0) ]
+
+decide_status : (words : List (List ℕ)) → IsSpelled words ⊎ ¬ Spell words Status
+decide_status words = elim (decide_alone (codes "i") words) [ inl e ↦ inl (Status, (e, tt)) | inr other ↦ inr (λ spell. other spell.0) ]
+
+decide_done : (words : List (List ℕ)) → IsSpelled words ⊎ ((number : ℕ) → ¬ Spell words (JobDone number))
+decide_done words = elim (decide_with_number (codes "d") words) [ inl found ↦ inl (JobDone found.0, found.1) | inr other ↦ inr other ]
+
+decide_failed : (words : List (List ℕ)) → IsSpelled words ⊎ ((number : ℕ) → ¬ Spell words (JobFailed number))
+decide_failed words = elim (decide_with_number (codes "x") words) [ inl found ↦ inl (JobFailed found.0, found.1) | inr other ↦ inr other ]
+
+decide_stop : (words : List (List ℕ)) → IsSpelled words ⊎ ((calls : ℕ) → ¬ Spell words (Stop calls))
+decide_stop words = elim (decide_with_number (codes "stop") words) [ inl found ↦ inl (Stop found.0, found.1) | inr other ↦ inr other ]
+
+decide_zero : (words : List (List ℕ)) → IsSpelled words ⊎ ((lba sectors : ℕ) → ¬ Spell words (Zero lba sectors))
+decide_zero words = elim (decide_with_numbers (codes "z") words) [ inl found ↦ inl (Zero found.0 found.1, found.2) | inr other ↦ inr other ]
+
+decide_read : (words : List (List ℕ)) → IsSpelled words ⊎ ((lba sectors : ℕ) → ¬ Spell words (Read lba sectors))
+decide_read words = elim (decide_with_numbers (codes "r") words) [ inl found ↦ inl (Read found.0 found.1, found.2) | inr other ↦ inr other ]
+
+decide_crash_keep : (words : List (List ℕ)) → IsSpelled words ⊎ ((device objects : List ℕ) → ¬ Spell words (CrashKeep device objects))
+decide_crash_keep words =
+    elim (decide_crash (codes "keep") words) [
+      | inl found ↦ inl (CrashKeep found.0 found.1, (found.2, tt))
+      | inr other ↦ inr (λ device objects spell. other device objects spell.0)
+    ]
+
+decide_crash_lost : (words : List (List ℕ)) → IsSpelled words ⊎ ((device objects : List ℕ) → ¬ Spell words (CrashLost device objects))
+decide_crash_lost words =
+    elim (decide_crash (codes "lost") words) [
+      | inl found ↦ inl (CrashLost found.0 found.1, (found.2, tt))
+      | inr other ↦ inr (λ device objects spell. other device objects spell.0)
+    ]
+
+-- words spell none of the commands, one by one
+record SpellNoKind (words : List (List ℕ)) : Type 0 where
+  no_new : (g : Geometry) → ¬ Spell words (New g)
+  no_write : (lba sectors byte : ℕ) → ¬ Spell words (Write lba sectors byte)
+  no_zero : (lba sectors : ℕ) → ¬ Spell words (Zero lba sectors)
+  no_read : (lba sectors : ℕ) → ¬ Spell words (Read lba sectors)
+  no_flush : ¬ Spell words Flush
+  no_seal : ¬ Spell words Seal
+  no_take : ¬ Spell words TakeJob
+  no_done : (number : ℕ) → ¬ Spell words (JobDone number)
+  no_failed : (number : ℕ) → ¬ Spell words (JobFailed number)
+  no_status : ¬ Spell words Status
+  no_stop : (calls : ℕ) → ¬ Spell words (Stop calls)
+  no_crash_keep : (device objects : List ℕ) → ¬ Spell words (CrashKeep device objects)
+  no_crash_lost : (device objects : List ℕ) → ¬ Spell words (CrashLost device objects)
+
+-- then they spell none
+no_command : (words : List (List ℕ)) → SpellNoKind words → SpellNone words
+no_command words other (New g) = other.no_new g
+no_command words other (Write lba sectors byte) = other.no_write lba sectors byte
+no_command words other (Zero lba sectors) = other.no_zero lba sectors
+no_command words other (Read lba sectors) = other.no_read lba sectors
+no_command words other Flush = other.no_flush
+no_command words other Seal = other.no_seal
+no_command words other TakeJob = other.no_take
+no_command words other (JobDone number) = other.no_done number
+no_command words other (JobFailed number) = other.no_failed number
+no_command words other Status = other.no_status
+no_command words other (Stop calls) = other.no_stop calls
+no_command words other (CrashKeep device objects) = other.no_crash_keep device objects
+no_command words other (CrashLost device objects) = other.no_crash_lost device objects
+
+-- whether words spell a command is decided
+decide_spelling : (words : List (List ℕ)) → IsSpelled words ⊎ SpellNone words
+decide_spelling words =
+    or_next (decide_new words) (λ no_new.
+    or_next (decide_write words) (λ no_write.
+    or_next (decide_zero words) (λ no_zero.
+    or_next (decide_read words) (λ no_read.
+    or_next (decide_flush words) (λ no_flush.
+    or_next (decide_seal words) (λ no_seal.
+    or_next (decide_take words) (λ no_take.
+    or_next (decide_done words) (λ no_done.
+    or_next (decide_failed words) (λ no_failed.
+    or_next (decide_status words) (λ no_status.
+    or_next (decide_stop words) (λ no_stop.
+    or_next (decide_crash_keep words) (λ no_crash_keep.
+    or_next (decide_crash_lost words) (λ no_crash_lost.
+    inr (no_command words (record {
+      no_new = no_new;
+      no_write = no_write;
+      no_zero = no_zero;
+      no_read = no_read;
+      no_flush = no_flush;
+      no_seal = no_seal;
+      no_take = no_take;
+      no_done = no_done;
+      no_failed = no_failed;
+      no_status = no_status;
+      no_stop = no_stop;
+      no_crash_keep = no_crash_keep;
+      no_crash_lost = no_crash_lost;
+    })))))))))))))))
+
+-- where its numbers make no geometry within the limits, they spell no command
 no_new : (words : List (List ℕ)) (g : Geometry) → words ≡ spelling (New g) → SizesFit g → (IsTrue (is_within_limits g) → ⊥) → SpellNone words
+unfolding first_byte kind_by
 no_new words g e fits outside (New h) (e', fits_h) = no_new_outside words g e fits outside h e' fits_h
-no_new words g e fits outside (Write lba sectors byte) (e', fits') = cc
-no_new words g e fits outside (Zero lba sectors) (e', fits') = cc
-no_new words g e fits outside (Read lba sectors) (e', fits') = cc
-no_new words g e fits outside Flush (e', fits') = cc
-no_new words g e fits outside (Stop calls) (e', fits') = cc
-no_new words g e fits outside (CrashKeep device objects) (e', fits') = cc
+no_new words g e fits outside command (e', fits') =
+    let kinds : kind_by (spelling (New g)) ≡ kind_by (spelling command) = ap kind_by (sym e ∙ e') in omega (arith, kinds)
 
 -- what `then_some` gives where the geometry of these words may be outside the limits
 pub new_none : (a b c d : List ℕ) (g : Geometry) (inside : Bool) (found : Option Command) → a ≡ decimal g.sectors → b ≡ decimal g.log → c ≡ decimal g.max_write → d ≡ decimal g.batch → SizesFit g → inside ≡ is_within_limits g → found ≡ then_some inside (New g) → IfNone found (SpellNone (codes "new" ∷ a ∷ b ∷ c ∷ d ∷ []))
@@ -250,8 +372,14 @@ begins_first word words (Write lba sectors byte) e = sym (ap first_word e)
 begins_first word words (Zero lba sectors) e = sym (ap first_word e)
 begins_first word words (Read lba sectors) e = sym (ap first_word e)
 begins_first word words Flush e = sym (ap first_word e)
+begins_first word words Seal e = sym (ap first_word e)
+begins_first word words TakeJob e = sym (ap first_word e)
+begins_first word words (JobDone number) e = sym (ap first_word e)
+begins_first word words (JobFailed number) e = sym (ap first_word e)
+begins_first word words Status e = sym (ap first_word e)
 begins_first word words (Stop calls) e = sym (ap first_word e)
 begins_first word words (CrashKeep device objects) e = sym (ap first_word e)
+begins_first word words (CrashLost device objects) e = sym (ap first_word e)
 
 -- what spells a command begins with its name
 spelling_begins : (command : Command) → BeginAs (spelling command) command
@@ -260,28 +388,45 @@ spelling_begins (Write lba sectors byte) = refl
 spelling_begins (Zero lba sectors) = refl
 spelling_begins (Read lba sectors) = refl
 spelling_begins Flush = refl
+spelling_begins Seal = refl
+spelling_begins TakeJob = refl
+spelling_begins (JobDone number) = refl
+spelling_begins (JobFailed number) = refl
+spelling_begins Status = refl
 spelling_begins (Stop calls) = refl
 spelling_begins (CrashKeep device objects) = refl
+spelling_begins (CrashLost device objects) = refl
 
 spelled_begins : (line : List ℕ) (command : Command) → words_of line ≡ spelling command → BeginsAs line command
 spelled_begins line command e = let P : List (List ℕ) → Type 0 = λ words. BeginAs words command in subst P (sym e) (spelling_begins command)
 
--- the words of the command that has this first word, of which its first byte is enough; 0 for none
+-- how many words the command has whose name is this one byte
+words_after_byte : ℕ → ℕ
+words_after_byte byte =
+    cond (byte == 119) 4 (cond (byte == 122) 3 (cond (byte == 114) 3 (cond (byte == 100) 2 (cond (byte == 120) 2 1))))
+
+-- how many words the command has that has this first word; its first byte is enough where it has more
 words_after : List ℕ → ℕ
-words_after (byte ∷ bytes) =
-    cond (byte == 110) 5 (cond (byte == 119) 4 (cond (byte == 102) 1 (cond (byte == 115) 2 (cond (byte == 99) 4 3))))
 words_after [] = 0
+words_after (byte ∷ []) = words_after_byte byte
+words_after (byte ∷ next ∷ bytes) = cond (byte == 110) 5 (cond (byte == 115) 2 4)
 
 -- a command has as many words as its first word has
 count_by_name : (command : Command) → length (spelling command) ≡ words_after (first_word (name_of command))
-unfolding words_after first_word
+unfolding words_after_byte words_after first_word
 count_by_name (New g) = refl
 count_by_name (Write lba sectors byte) = refl
 count_by_name (Zero lba sectors) = refl
 count_by_name (Read lba sectors) = refl
 count_by_name Flush = refl
+count_by_name Seal = refl
+count_by_name TakeJob = refl
+count_by_name (JobDone number) = refl
+count_by_name (JobFailed number) = refl
+count_by_name Status = refl
 count_by_name (Stop calls) = refl
 count_by_name (CrashKeep device objects) = refl
+count_by_name (CrashLost device objects) = refl
 
 -- commands with whose names the same words begin have as many words
 same_count : (words : List (List ℕ)) (a b : Command) → (words ≡ [] → ⊥) → BeginAs words a → BeginAs words b → length (spelling a) ≡ length (spelling b)
@@ -315,73 +460,55 @@ misspelt words command begins counts none line e = record {
   unspelled = λ other spells. none other (sym e ∙ spells.words, spells.fits);
 }
 
--- no command's name begins with another word than these seven
-no_name : (word : List ℕ) (words : List (List ℕ)) → ¬ (word ≡ codes "new") → ¬ (word ≡ codes "w") → ¬ (word ≡ codes "z") → ¬ (word ≡ codes "r") → ¬ (word ≡ codes "f") → ¬ (word ≡ codes "stop") → ¬ (word ≡ codes "crash") → (command : Command) → ¬ BeginAs (word ∷ words) command
-unfolding first_word
-no_name word words no_new no_write no_zero no_read no_flush no_stop no_crash (New g) e = no_new (begins_first word words (New g) e)
-no_name word words no_new no_write no_zero no_read no_flush no_stop no_crash (Write lba sectors byte) e = no_write (begins_first word words (Write lba sectors byte) e)
-no_name word words no_new no_write no_zero no_read no_flush no_stop no_crash (Zero lba sectors) e = no_zero (begins_first word words (Zero lba sectors) e)
-no_name word words no_new no_write no_zero no_read no_flush no_stop no_crash (Read lba sectors) e = no_read (begins_first word words (Read lba sectors) e)
-no_name word words no_new no_write no_zero no_read no_flush no_stop no_crash Flush e = no_flush (begins_first word words Flush e)
-no_name word words no_new no_write no_zero no_read no_flush no_stop no_crash (Stop calls) e = no_stop (begins_first word words (Stop calls) e)
-no_name word words no_new no_write no_zero no_read no_flush no_stop no_crash (CrashKeep device objects) e = no_crash (begins_first word words (CrashKeep device objects) e)
+-- the word is the first one of no command
+pub record IsNoName (word : List ℕ) : Type 0 where
+  pub no_new : ¬ (word ≡ codes "new")
+  pub no_write : ¬ (word ≡ codes "w")
+  pub no_zero : ¬ (word ≡ codes "z")
+  pub no_read : ¬ (word ≡ codes "r")
+  pub no_flush : ¬ (word ≡ codes "f")
+  pub no_seal : ¬ (word ≡ codes "s")
+  pub no_take : ¬ (word ≡ codes "u")
+  pub no_done : ¬ (word ≡ codes "d")
+  pub no_failed : ¬ (word ≡ codes "x")
+  pub no_status : ¬ (word ≡ codes "i")
+  pub no_stop : ¬ (word ≡ codes "stop")
+  pub no_crash : ¬ (word ≡ codes "crash")
 
--- no command's name begins with `crash` and another word than `keep`
-no_kind : (name kind : List ℕ) (words : List (List ℕ)) → name ≡ codes "crash" → ¬ (kind ≡ codes "keep") → (command : Command) → ¬ BeginAs (name ∷ kind ∷ words) command
+-- no command's name begins with such a word
+pub no_name : (word : List ℕ) (words : List (List ℕ)) → IsNoName word → (command : Command) → ¬ BeginAs (word ∷ words) command
 unfolding first_word
-no_kind name kind words is other (New g) e = let same = sym is ∙ begins_first name (kind ∷ words) (New g) e in cc
-no_kind name kind words is other (Write lba sectors byte) e = let same = sym is ∙ begins_first name (kind ∷ words) (Write lba sectors byte) e in cc
-no_kind name kind words is other (Zero lba sectors) e = let same = sym is ∙ begins_first name (kind ∷ words) (Zero lba sectors) e in cc
-no_kind name kind words is other (Read lba sectors) e = let same = sym is ∙ begins_first name (kind ∷ words) (Read lba sectors) e in cc
-no_kind name kind words is other Flush e = let same = sym is ∙ begins_first name (kind ∷ words) Flush e in cc
-no_kind name kind words is other (Stop calls) e = let same = sym is ∙ begins_first name (kind ∷ words) (Stop calls) e in cc
-no_kind name kind words is other (CrashKeep device objects) e = other (cc)
+no_name word words other (New g) e = other.no_new (begins_first word words (New g) e)
+no_name word words other (Write lba sectors byte) e = other.no_write (begins_first word words (Write lba sectors byte) e)
+no_name word words other (Zero lba sectors) e = other.no_zero (begins_first word words (Zero lba sectors) e)
+no_name word words other (Read lba sectors) e = other.no_read (begins_first word words (Read lba sectors) e)
+no_name word words other Flush e = other.no_flush (begins_first word words Flush e)
+no_name word words other Seal e = other.no_seal (begins_first word words Seal e)
+no_name word words other TakeJob e = other.no_take (begins_first word words TakeJob e)
+no_name word words other (JobDone number) e = other.no_done (begins_first word words (JobDone number) e)
+no_name word words other (JobFailed number) e = other.no_failed (begins_first word words (JobFailed number) e)
+no_name word words other Status e = other.no_status (begins_first word words Status e)
+no_name word words other (Stop calls) e = other.no_stop (begins_first word words (Stop calls) e)
+no_name word words other (CrashKeep device objects) e = other.no_crash (begins_first word words (CrashKeep device objects) e)
+no_name word words other (CrashLost device objects) e = other.no_crash (begins_first word words (CrashLost device objects) e)
+
+-- no command's name begins with `crash` and another word than `keep` and `lost`
+no_kind : (name kind : List ℕ) (words : List (List ℕ)) → name ≡ codes "crash" → ¬ (kind ≡ codes "keep") → ¬ (kind ≡ codes "lost")
+    → (command : Command) → ¬ BeginAs (name ∷ kind ∷ words) command
+no_kind name kind words is no_keep no_lost (CrashKeep device objects) e = no_keep (cc)
+no_kind name kind words is no_keep no_lost (CrashLost device objects) e = no_lost (cc)
+no_kind name kind words is no_keep no_lost command e = cc
 
 -- a line has words
 pub no_words : (words : List (List ℕ)) → words ≡ [] → AreRefusedAs words UnknownCommand
 no_words words none line e command begins = some_word line (e ∙ none)
 
--- words that spell none of the commands, one by one, spell none
-no_command : (words : List (List ℕ)) → ((g : Geometry) → words ≡ spelling (New g) → Fits (New g) → ⊥) → ((lba sectors byte : ℕ) → words ≡ spelling (Write lba sectors byte) → Fits (Write lba sectors byte) → ⊥) → ((lba sectors : ℕ) → words ≡ spelling (Zero lba sectors) → Fits (Zero lba sectors) → ⊥) → ((lba sectors : ℕ) → words ≡ spelling (Read lba sectors) → Fits (Read lba sectors) → ⊥) → (words ≡ spelling Flush → ⊥) → ((calls : ℕ) → words ≡ spelling (Stop calls) → Fits (Stop calls) → ⊥) → ((device objects : List ℕ) → words ≡ spelling (CrashKeep device objects) → ⊥) → (command : Command) → words ≡ spelling command → Fits command → ⊥
-no_command words no_new no_write no_zero no_read no_flush no_stop no_crash (New g) e fits = no_new g e fits
-no_command words no_new no_write no_zero no_read no_flush no_stop no_crash (Write lba sectors byte) e fits = no_write lba sectors byte e fits
-no_command words no_new no_write no_zero no_read no_flush no_stop no_crash (Zero lba sectors) e fits = no_zero lba sectors e fits
-no_command words no_new no_write no_zero no_read no_flush no_stop no_crash (Read lba sectors) e fits = no_read lba sectors e fits
-no_command words no_new no_write no_zero no_read no_flush no_stop no_crash Flush e fits = no_flush e
-no_command words no_new no_write no_zero no_read no_flush no_stop no_crash (Stop calls) e fits = no_stop calls e fits
-no_command words no_new no_write no_zero no_read no_flush no_stop no_crash (CrashKeep device objects) e fits = no_crash device objects e
-
 -- whether a line spells a command is decided
 pub decide_line : (line : List ℕ) → ((command : Command) × Spells line command) ⊎ ((command : Command) → Spells line command → ⊥)
 decide_line line =
-    elim (decide_new (words_of line)) [
-      | inl found ↦ inl (New found.0, record { words = found.1; fits = found.2 })
-      | inr no_new ↦
-          elim (decide_write (words_of line)) [
-            | inl found ↦ inl (found.0, record { words = found.1; fits = found.2 })
-            | inr no_write ↦
-                elim (decide_zero (words_of line)) [
-                  | inl found ↦ inl (found.0, record { words = found.1; fits = found.2 })
-                  | inr no_zero ↦
-                      elim (decide_read (words_of line)) [
-                        | inl found ↦ inl (found.0, record { words = found.1; fits = found.2 })
-                        | inr no_read ↦
-                            elim (decide_flush (words_of line)) [
-                              | inl found ↦ inl (Flush, record { words = found; fits = tt })
-                              | inr no_flush ↦
-                                  elim (decide_stop (words_of line)) [
-                                    | inl found ↦ inl (found.0, record { words = found.1; fits = found.2 })
-                                    | inr no_stop ↦
-                                        elim (decide_crash_keep (words_of line)) [
-                                          | inl found ↦ inl (found.0, record { words = found.1; fits = found.2 })
-                                          | inr no_crash ↦
-                                              inr (λ command spells. no_command (words_of line) no_new no_write no_zero no_read no_flush no_stop no_crash command spells.words spells.fits)
-                                        ]
-                                  ]
-                            ]
-                      ]
-                ]
-          ]
+    elim (decide_spelling (words_of line)) [
+      | inl found ↦ inl (found.0, record { words = found.1.0; fits = found.1.1 })
+      | inr none ↦ inr (λ command spells. none command (spells.words, spells.fits))
     ]
 
 -- ---- why a line spells no command: for one reason, and always for some
@@ -406,9 +533,13 @@ unknown_or_misspelt line unknown wrong = unknown wrong.command wrong.known
 pub miscounted_or_misspelt : (line : List ℕ) → HasWrongWordCount line → IsMisspelt line → ⊥
 miscounted_or_misspelt line wrong misspelt = wrong.miscounted misspelt.command misspelt.known misspelt.counted
 
--- some command begins with these words' name, or none does
+-- some command begins with these words' name
+abbrev BeginSome : List (List ℕ) → Type 0
+BeginSome words = (command : Command) × BeginAs words command
+
+-- or none does
 abbrev IsJudged : List (List ℕ) → Type 0
-IsJudged words = ((command : Command) × BeginAs words command) ⊎ ((command : Command) → ¬ BeginAs words command)
+IsJudged words = BeginSome words ⊎ ((command : Command) → ¬ BeginAs words command)
 
 -- after the word `crash` this is decided
 decide_kind : (name : List ℕ) (words : List (List ℕ)) → name ≡ codes "crash" → IsJudged (name ∷ words)
@@ -416,40 +547,53 @@ decide_kind name [] is = inl (CrashKeep [] [], ap (λ n. n ∷ []) (sym is))
 decide_kind name (kind ∷ words) is =
     elim (decided (bytes_eq kind (codes "keep")) (bytes_eq-Decides kind (codes "keep"))) [
       | inl is_keep ↦ inl (CrashKeep [] [], rw (is, is_keep) (begin_two (codes "crash") (codes "keep") words))
-      | inr other ↦ inr (no_kind name kind words is other)
+      | inr no_keep ↦
+          elim (decided (bytes_eq kind (codes "lost")) (bytes_eq-Decides kind (codes "lost"))) [
+            | inl is_lost ↦ inl (CrashLost [] [], rw (is, is_lost) (begin_two (codes "crash") (codes "lost") words))
+            | inr no_lost ↦ inr (no_kind name kind words is no_keep no_lost)
+          ]
+    ]
+
+-- whether a word is the name of a command, which is one word, is decided
+decide_first : (name word : List ℕ) (words : List (List ℕ)) (command : Command) → name_of command ≡ name ∷ []
+    → BeginSome (word ∷ words) ⊎ ¬ (word ≡ name)
+decide_first name word words command is =
+    elim (decided (bytes_eq word name) (bytes_eq-Decides word name)) [
+      | inl same ↦ inl (command, rw (is, same) (begin name words))
+      | inr other ↦ inr other
     ]
 
 -- whether some command's name begins with these words is decided
 decide_name : (word : List ℕ) (words : List (List ℕ)) → IsJudged (word ∷ words)
 decide_name word words =
-    elim (decided (bytes_eq word (codes "new")) (bytes_eq-Decides word (codes "new"))) [
-      | inl is_new ↦ inl (New (record { sectors = 0; max_write = 0; batch = 0; log = 0 }), rw is_new (begin (codes "new") words))
-      | inr no_new ↦
-          elim (decided (bytes_eq word (codes "w")) (bytes_eq-Decides word (codes "w"))) [
-            | inl is_write ↦ inl (Write 0 0 0, rw is_write (begin (codes "w") words))
-            | inr no_write ↦
-                elim (decided (bytes_eq word (codes "z")) (bytes_eq-Decides word (codes "z"))) [
-                  | inl is_zero ↦ inl (Zero 0 0, rw is_zero (begin (codes "z") words))
-                  | inr no_zero ↦
-                      elim (decided (bytes_eq word (codes "r")) (bytes_eq-Decides word (codes "r"))) [
-                        | inl is_read ↦ inl (Read 0 0, rw is_read (begin (codes "r") words))
-                        | inr no_read ↦
-                            elim (decided (bytes_eq word (codes "f")) (bytes_eq-Decides word (codes "f"))) [
-                              | inl is_flush ↦ inl (Flush, rw is_flush (begin (codes "f") words))
-                              | inr no_flush ↦
-                                  elim (decided (bytes_eq word (codes "stop")) (bytes_eq-Decides word (codes "stop"))) [
-                                    | inl is_stop ↦ inl (Stop 0, rw is_stop (begin (codes "stop") words))
-                                    | inr no_stop ↦
-                                        elim (decided (bytes_eq word (codes "crash")) (bytes_eq-Decides word (codes "crash"))) [
-                                          | inl is_crash ↦ decide_kind word words is_crash
-                                          | inr no_crash ↦ inr (no_name word words no_new no_write no_zero no_read no_flush no_stop no_crash)
-                                        ]
-                                  ]
-                            ]
-                      ]
-                ]
-          ]
-    ]
+    or_next (decide_first (codes "new") word words (New (record { sectors = 0; max_write = 0; batch = 0; log = 0 })) refl) (λ no_new.
+    or_next (decide_first (codes "w") word words (Write 0 0 0) refl) (λ no_write.
+    or_next (decide_first (codes "z") word words (Zero 0 0) refl) (λ no_zero.
+    or_next (decide_first (codes "r") word words (Read 0 0) refl) (λ no_read.
+    or_next (decide_first (codes "f") word words Flush refl) (λ no_flush.
+    or_next (decide_first (codes "s") word words Seal refl) (λ no_seal.
+    or_next (decide_first (codes "u") word words TakeJob refl) (λ no_take.
+    or_next (decide_first (codes "d") word words (JobDone 0) refl) (λ no_done.
+    or_next (decide_first (codes "x") word words (JobFailed 0) refl) (λ no_failed.
+    or_next (decide_first (codes "i") word words Status refl) (λ no_status.
+    or_next (decide_first (codes "stop") word words (Stop 0) refl) (λ no_stop.
+    elim (decided (bytes_eq word (codes "crash")) (bytes_eq-Decides word (codes "crash"))) [
+      | inl is_crash ↦ decide_kind word words is_crash
+      | inr no_crash ↦ inr (no_name word words (record {
+        no_new = no_new;
+        no_write = no_write;
+        no_zero = no_zero;
+        no_read = no_read;
+        no_flush = no_flush;
+        no_seal = no_seal;
+        no_take = no_take;
+        no_done = no_done;
+        no_failed = no_failed;
+        no_status = no_status;
+        no_stop = no_stop;
+        no_crash = no_crash;
+      }))
+    ])))))))))))
 
 decide_words : (words : List (List ℕ)) → (words ≡ [] → ⊥) → IsJudged words
 decide_words [] some = absurd (some refl)

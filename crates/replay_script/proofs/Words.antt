@@ -5,7 +5,7 @@ use Rattle.std.specs.Option.{IfNone}
 use Rattle.replay_script.specs.Grammar.{spelling, name_of, BeginAs, Spell, SpellNone, AreRefusedAs}
 use Rattle.replay_script.specs.Names.{BeginWith, words_of_name, word_count_of}
 use Rattle.replay_script.specs.declared.command.Command.{Command}
-use Rattle.replay_script.specs.declared.command.Command.TheVariants.{New, Write, Zero, Read, Flush, Stop, CrashKeep}
+use Rattle.replay_script.specs.declared.command.Command.TheVariants.{New, Write, Zero, Read, Flush, Seal, TakeJob, JobDone, JobFailed, Status, Stop, CrashKeep, CrashLost}
 use Rattle.replay_script.specs.declared.command.Name.{Name}
 use Rattle.replay_script.specs.declared.command.Name.TheVariants as names
 use Rattle.replay_script.specs.declared.error.LineError.{LineError}
@@ -29,8 +29,14 @@ some_command names.Write = Write 0 0 0
 some_command names.Zero = Zero 0 0
 some_command names.Read = Read 0 0
 some_command names.Flush = Flush
+some_command names.Seal = Seal
+some_command names.TakeJob = TakeJob
+some_command names.JobDone = JobDone 0
+some_command names.JobFailed = JobFailed 0
+some_command names.Status = Status
 some_command names.Stop = Stop 0
 some_command names.CrashKeep = CrashKeep [] []
+some_command names.CrashLost = CrashLost [] []
 
 -- its name is spelled as this one, and it has as many words
 name_of-some_command : (name : Name) → (name_of (some_command name) ≡ words_of_name name) × (length (spelling (some_command name)) ≡ word_count_of name)
@@ -39,8 +45,14 @@ name_of-some_command names.Write = (refl, refl)
 name_of-some_command names.Zero = (refl, refl)
 name_of-some_command names.Read = (refl, refl)
 name_of-some_command names.Flush = (refl, refl)
+name_of-some_command names.Seal = (refl, refl)
+name_of-some_command names.TakeJob = (refl, refl)
+name_of-some_command names.JobDone = (refl, refl)
+name_of-some_command names.JobFailed = (refl, refl)
+name_of-some_command names.Status = (refl, refl)
 name_of-some_command names.Stop = (refl, refl)
 name_of-some_command names.CrashKeep = (refl, refl)
+name_of-some_command names.CrashLost = (refl, refl)
 
 begins_some : (words : List (List ℕ)) (name : Name) → BeginWith words name → BeginAs words (some_command name)
 begins_some words name begin = rw (name_of-some_command name).0 begin

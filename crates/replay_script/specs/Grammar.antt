@@ -5,7 +5,7 @@ use Rattle.std.specs.List.{slice_split}
 use Rattle.lsvd_base.specs.Limits.{is_within_limits}
 use Rattle.lsvd_base.specs.declared.geometry.Geometry.{Geometry}
 use Rattle.replay_script.specs.declared.command.Command.{Command}
-use Rattle.replay_script.specs.declared.command.Command.TheVariants.{New, Write, Zero, Read, Flush, Stop, CrashKeep}
+use Rattle.replay_script.specs.declared.command.Command.TheVariants.{New, Write, Zero, Read, Flush, Seal, TakeJob, JobDone, JobFailed, Status, Stop, CrashKeep, CrashLost}
 use Rattle.replay_script.specs.declared.error.LineError.{LineError}
 use Rattle.replay_script.specs.declared.error.LineError.TheVariants.{UnknownCommand, WordCount, Form, OutOfMemory}
 
@@ -33,8 +33,14 @@ spelling (Write lba sectors byte) = codes "w" ∷ decimal lba ∷ decimal sector
 spelling (Zero lba sectors) = codes "z" ∷ decimal lba ∷ decimal sectors ∷ []
 spelling (Read lba sectors) = codes "r" ∷ decimal lba ∷ decimal sectors ∷ []
 spelling Flush = codes "f" ∷ []
+spelling Seal = codes "s" ∷ []
+spelling TakeJob = codes "u" ∷ []
+spelling (JobDone number) = codes "d" ∷ decimal number ∷ []
+spelling (JobFailed number) = codes "x" ∷ decimal number ∷ []
+spelling Status = codes "i" ∷ []
 spelling (Stop calls) = codes "stop" ∷ decimal calls ∷ []
 spelling (CrashKeep device objects) = codes "crash" ∷ codes "keep" ∷ device ∷ objects ∷ []
+spelling (CrashLost device objects) = codes "crash" ∷ codes "lost" ∷ device ∷ objects ∷ []
 
 -- each size of a geometry is below 2^64
 abbrev pub SizesFit : Geometry → Type 0
@@ -48,8 +54,14 @@ Fits (Write lba sectors byte) = (lba < 2 ^ 64) × (sectors < 2 ^ 64) × (byte < 
 Fits (Zero lba sectors) = (lba < 2 ^ 64) × (sectors < 2 ^ 64)
 Fits (Read lba sectors) = (lba < 2 ^ 64) × (sectors < 2 ^ 64)
 Fits Flush = Unit {0}
+Fits Seal = Unit {0}
+Fits TakeJob = Unit {0}
+Fits (JobDone number) = number < 2 ^ 64
+Fits (JobFailed number) = number < 2 ^ 64
+Fits Status = Unit {0}
 Fits (Stop calls) = calls < 2 ^ 64
 Fits (CrashKeep device objects) = Unit {0}
+Fits (CrashLost device objects) = Unit {0}
 
 -- a line is a command
 pub record Spells (line : List ℕ) (command : Command) : Type 0 where
@@ -63,8 +75,14 @@ name_of (Write lba sectors byte) = codes "w" ∷ []
 name_of (Zero lba sectors) = codes "z" ∷ []
 name_of (Read lba sectors) = codes "r" ∷ []
 name_of Flush = codes "f" ∷ []
+name_of Seal = codes "s" ∷ []
+name_of TakeJob = codes "u" ∷ []
+name_of (JobDone number) = codes "d" ∷ []
+name_of (JobFailed number) = codes "x" ∷ []
+name_of Status = codes "i" ∷ []
 name_of (Stop calls) = codes "stop" ∷ []
 name_of (CrashKeep device objects) = codes "crash" ∷ codes "keep" ∷ []
+name_of (CrashLost device objects) = codes "crash" ∷ codes "lost" ∷ []
 
 -- these words begin with the command's name, or are a front of that name
 abbrev pub BeginAs : List (List ℕ) → Command → Type 0

@@ -10,8 +10,14 @@ words_of_name names.Write = codes "w" ∷ []
 words_of_name names.Zero = codes "z" ∷ []
 words_of_name names.Read = codes "r" ∷ []
 words_of_name names.Flush = codes "f" ∷ []
+words_of_name names.Seal = codes "s" ∷ []
+words_of_name names.TakeJob = codes "u" ∷ []
+words_of_name names.JobDone = codes "d" ∷ []
+words_of_name names.JobFailed = codes "x" ∷ []
+words_of_name names.Status = codes "i" ∷ []
 words_of_name names.Stop = codes "stop" ∷ []
 words_of_name names.CrashKeep = codes "crash" ∷ codes "keep" ∷ []
+words_of_name names.CrashLost = codes "crash" ∷ codes "lost" ∷ []
 
 -- these words begin with the name, or are a front of it
 abbrev pub BeginWith : List (List ℕ) → Name → Type 0
@@ -24,5 +30,11 @@ word_count_of names.Write = 4
 word_count_of names.Zero = 3
 word_count_of names.Read = 3
 word_count_of names.Flush = 1
+word_count_of names.Seal = 1
+word_count_of names.TakeJob = 1
+word_count_of names.JobDone = 2
+word_count_of names.JobFailed = 2
+word_count_of names.Status = 1
 word_count_of names.Stop = 2
 word_count_of names.CrashKeep = 4
+word_count_of names.CrashLost = 4

@@ -22,11 +22,24 @@ pub enum Command {
     Read { lba: u64, sectors: u64 },
     /// `f`: flushes.
     Flush,
+    /// `s`: seals the next object.
+    Seal,
+    /// `u`: begins the put of the lowest ready object.
+    TakeJob,
+    /// `d N`: the put of the object N is made and acknowledged.
+    JobDone { number: u64 },
+    /// `x N`: the put of the object N fails.
+    JobFailed { number: u64 },
+    /// `i`: asks for the counts.
+    Status,
     /// `stop N`: lets the device pass N calls more, and fail each later one.
     Stop { calls: u64 },
     /// `crash keep D P`: stops the machine, and mounts the volume again. D has a letter for each write that was not
     /// synced, and P one for each object under way, or they are `-`; which letters fit is judged elsewhere.
     CrashKeep { device: Letters, objects: Letters },
+    /// `crash lost D P`: stops the machine, and mounts the volume without its cache. D is `-`, since nothing is left of
+    /// the writes, and P is as for `crash keep`; which letters fit is judged elsewhere.
+    CrashLost { device: Letters, objects: Letters },
 }
 
 /// Reads a line, without its newline, as the command that it spells. Where it spells none, the error is the
@@ -52,8 +65,14 @@ enum Name {
     Zero,
     Read,
     Flush,
+    Seal,
+    TakeJob,
+    JobDone,
+    JobFailed,
+    Status,
     Stop,
     CrashKeep,
+    CrashLost,
 }
 
 // The command that the words spell. The reasons why they spell none come in their order: no such command, another
@@ -69,7 +88,7 @@ fn command_from(alloc: Global, words: &[&[u8]]) -> Result<Command, LineError>
     form_of(alloc, name, words)?.ok_or(LineError::Form)
 }
 
-// The name that these words begin with, or are a front of: `crash` is one of `crash keep`.
+// The name that these words begin with, or are a front of: `crash` is one of `crash keep` and of `crash lost`.
 fn name_of(words: &[&[u8]]) -> Option<Name>
     ensures found { IfSome result (BeginWith (map (λ word. word.now) words.now)) }
     ensures none { IfNone result (AreRefusedAs (map (λ word. word.now) words.now) UnknownCommand) }
@@ -95,6 +114,16 @@ fn name_from(first: &[u8], rest: &[&[u8]]) -> Option<Name>
         Some(Name::Read)
     } else if is_word(first, b"f") {
         Some(Name::Flush)
+    } else if is_word(first, b"s") {
+        Some(Name::Seal)
+    } else if is_word(first, b"u") {
+        Some(Name::TakeJob)
+    } else if is_word(first, b"d") {
+        Some(Name::JobDone)
+    } else if is_word(first, b"x") {
+        Some(Name::JobFailed)
+    } else if is_word(first, b"i") {
+        Some(Name::Status)
     } else if is_word(first, b"stop") {
         Some(Name::Stop)
     } else if is_word(first, b"crash") {
@@ -111,7 +140,8 @@ fn crash_name_from(rest: &[&[u8]]) -> Option<Name>
 {
     match rest {
         [] => Some(Name::CrashKeep),
-        [kind, ..] => is_word(kind, b"keep").then_some(Name::CrashKeep),
+        [kind, ..] if is_word(kind, b"keep") => Some(Name::CrashKeep),
+        [kind, ..] => is_word(kind, b"lost").then_some(Name::CrashLost),
     }
 }
 
@@ -127,10 +157,10 @@ fn word_count(name: Name) -> usize
     ensures { result ≡ word_count_of name }
 {
     match name {
-        Name::Flush => 1,
-        Name::Stop => 2,
+        Name::Flush | Name::Seal | Name::TakeJob | Name::Status => 1,
+        Name::JobDone | Name::JobFailed | Name::Stop => 2,
         Name::Zero | Name::Read => 3,
-        Name::Write | Name::CrashKeep => 4,
+        Name::Write | Name::CrashKeep | Name::CrashLost => 4,
         Name::New => 5,
     }
 }
@@ -148,8 +178,14 @@ fn form_of(alloc: Global, name: Name, words: &[&[u8]]) -> Result<Option<Command>
         Name::Zero => zero_of(words[1], words[2]),
         Name::Read => read_of(words[1], words[2]),
         Name::Flush => Some(Command::Flush),
+        Name::Seal => Some(Command::Seal),
+        Name::TakeJob => Some(Command::TakeJob),
+        Name::JobDone => job_done_of(words[1]),
+        Name::JobFailed => job_failed_of(words[1]),
+        Name::Status => Some(Command::Status),
         Name::Stop => stop_of(words[1]),
         Name::CrashKeep => Some(crash_keep_of(alloc, words[2], words[3])?),
+        Name::CrashLost => Some(crash_lost_of(alloc, words[2], words[3])?),
     })
 }
 
@@ -203,6 +239,26 @@ fn read_of(lba: &[u8], sectors: &[u8]) -> Option<Command>
     })
 }
 
+// The command `d` of this word, if it is a number.
+fn job_done_of(number: &[u8]) -> Option<Command>
+    ensures found { IfSome result (Spell (codes "d" ∷ number.now ∷ [])) }
+    ensures none { IfNone result (SpellNone (codes "d" ∷ number.now ∷ [])) }
+{
+    Some(Command::JobDone {
+        number: number_of(number)?,
+    })
+}
+
+// The command `x` of this word, if it is a number.
+fn job_failed_of(number: &[u8]) -> Option<Command>
+    ensures found { IfSome result (Spell (codes "x" ∷ number.now ∷ [])) }
+    ensures none { IfNone result (SpellNone (codes "x" ∷ number.now ∷ [])) }
+{
+    Some(Command::JobFailed {
+        number: number_of(number)?,
+    })
+}
+
 // The command `stop` of this word, if it is a number.
 fn stop_of(calls: &[u8]) -> Option<Command>
     ensures found { IfSome result (Spell (codes "stop" ∷ calls.now ∷ [])) }
@@ -218,6 +274,16 @@ fn crash_keep_of(alloc: Global, device: &[u8], objects: &[u8]) -> Result<Command
     ensures { IfOk result (Spell (codes "crash" ∷ codes "keep" ∷ device.now ∷ objects.now ∷ [])) }
 {
     Ok(Command::CrashKeep {
+        device: Letters::from_word(alloc, device)?,
+        objects: Letters::from_word(alloc, objects)?,
+    })
+}
+
+// The command `crash lost` of these words, which are letters of any form.
+fn crash_lost_of(alloc: Global, device: &[u8], objects: &[u8]) -> Result<Command, AllocError>
+    ensures { IfOk result (Spell (codes "crash" ∷ codes "lost" ∷ device.now ∷ objects.now ∷ [])) }
+{
+    Ok(Command::CrashLost {
         device: Letters::from_word(alloc, device)?,
         objects: Letters::from_word(alloc, objects)?,
     })
@@ -250,11 +316,30 @@ mod tests {
             (Command::Zero { lba, sectors }, Command::Zero { lba: l, sectors: s })
             | (Command::Read { lba, sectors }, Command::Read { lba: l, sectors: s }) => lba == l
                 && sectors == s,
-            (Command::Flush, Command::Flush) => true,
-            (Command::Stop { calls }, Command::Stop { calls: c }) => calls == c,
+            (Command::JobDone { number: a }, Command::JobDone { number: b })
+            | (Command::JobFailed { number: a }, Command::JobFailed { number: b })
+            | (Command::Stop { calls: a }, Command::Stop { calls: b }) => a == b,
+            (Command::Flush, Command::Flush)
+            | (Command::Seal, Command::Seal)
+            | (Command::TakeJob, Command::TakeJob)
+            | (Command::Status, Command::Status) => true,
+            _ => are_same_crashes(a, b),
+        }
+    }
+
+    // Whether two commands are one crash.
+    fn are_same_crashes(a: &Command, b: &Command) -> bool {
+        match (a, b) {
             (
                 Command::CrashKeep { device, objects },
                 Command::CrashKeep {
+                    device: d,
+                    objects: o,
+                },
+            )
+            | (
+                Command::CrashLost { device, objects },
+                Command::CrashLost {
                     device: d,
                     objects: o,
                 },
@@ -265,7 +350,7 @@ mod tests {
 
     #[test]
     fn lines_spell_commands(rt: HostRuntime) -> Result<(), Fail> {
-        let table: [(&[u8], Command); 6] = [
+        let table: [(&[u8], Command); 12] = [
             (b"new 1024 18 8 1", Command::New(SMALL)),
             (
                 b"w 0 8 0f",
@@ -290,6 +375,15 @@ mod tests {
                 },
             ),
             (b"f", Command::Flush),
+            (b"s", Command::Seal),
+            (b"u", Command::TakeJob),
+            (b"d 2", Command::JobDone { number: 2 }),
+            (b"d 0", Command::JobDone { number: 0 }),
+            (
+                b"x 18446744073709551615",
+                Command::JobFailed { number: u64::MAX },
+            ),
+            (b"i", Command::Status),
             (b"stop 5", Command::Stop { calls: 5 }),
         ];
         for (line, command) in table {
@@ -318,8 +412,27 @@ mod tests {
     }
 
     #[test]
+    fn letters_of_a_lost_cache_are_any_words(rt: HostRuntime) -> Result<(), Fail> {
+        let alloc = rt.alloc();
+        let table: [(&[u8], &[u8], &[u8]); 4] = [
+            (b"crash lost - -", b"-", b"-"),
+            (b"crash lost - yn", b"-", b"yn"),
+            (b"crash lost  ", b"", b""),
+            (b"crash lost keep lost", b"keep", b"lost"),
+        ];
+        for (line, device, objects) in table {
+            let command = Command::CrashLost {
+                device: Letters::from_word(alloc, device)?,
+                objects: Letters::from_word(alloc, objects)?,
+            };
+            assert!(rt; are_same(&command_of(alloc, line)?, &command));
+        }
+        Ok(())
+    }
+
+    #[test]
     fn the_first_reason_is_told(rt: HostRuntime) {
-        let table: [(&[u8], LineError); 52] = [
+        let table: [(&[u8], LineError); 75] = [
             (b"", LineError::UnknownCommand),
             (b" ", LineError::UnknownCommand),
             (b" r 0 8", LineError::UnknownCommand),
@@ -329,11 +442,17 @@ mod tests {
             (b"rr 0 8", LineError::UnknownCommand),
             (b"ne 1024 18 8 1", LineError::UnknownCommand),
             (b"trim 0 8", LineError::UnknownCommand),
-            (b"d 2", LineError::UnknownCommand),
+            (b"dd 2", LineError::UnknownCommand),
+            (b"D 2", LineError::UnknownCommand),
+            (b"se", LineError::UnknownCommand),
+            (b"st 5", LineError::UnknownCommand),
             // It has the words of no command, and a word in no form.
             (b"R +1 8 0F 0 0", LineError::UnknownCommand),
             (b"stopp 5", LineError::UnknownCommand),
-            (b"crash lost - -", LineError::UnknownCommand),
+            (b"crash los - -", LineError::UnknownCommand),
+            (b"crash los", LineError::UnknownCommand),
+            (b"crash lostt - -", LineError::UnknownCommand),
+            (b"crash Lost - -", LineError::UnknownCommand),
             (b"crash foo", LineError::UnknownCommand),
             (b"crash ", LineError::UnknownCommand),
             (b"crash keepp - -", LineError::UnknownCommand),
@@ -343,8 +462,20 @@ mod tests {
             (b"crash keep", LineError::WordCount),
             (b"crash keep -", LineError::WordCount),
             (b"crash keep - - -", LineError::WordCount),
+            (b"crash lost", LineError::WordCount),
+            (b"crash lost -", LineError::WordCount),
+            (b"crash lost - - -", LineError::WordCount),
             (b"f ", LineError::WordCount),
             (b"f 1", LineError::WordCount),
+            (b"s 1", LineError::WordCount),
+            (b"s ", LineError::WordCount),
+            (b"u 2", LineError::WordCount),
+            (b"i ", LineError::WordCount),
+            (b"d", LineError::WordCount),
+            (b"d 2 2", LineError::WordCount),
+            (b"d  2", LineError::WordCount),
+            (b"x", LineError::WordCount),
+            (b"x 2 ", LineError::WordCount),
             (b"z 7", LineError::WordCount),
             (b"r", LineError::WordCount),
             (b"r 0 8 ", LineError::WordCount),
@@ -370,6 +501,11 @@ mod tests {
             (b"w 0 8 0F", LineError::Form),
             (b"w 0 8 f", LineError::Form),
             (b"w 0 8 0ff", LineError::Form),
+            (b"d ", LineError::Form),
+            (b"d 02", LineError::Form),
+            (b"d 18446744073709551616", LineError::Form),
+            (b"x +1", LineError::Form),
+            (b"x -", LineError::Form),
             (b"stop x", LineError::Form),
             (b"stop 01", LineError::Form),
             (b"new 7 18 8 1", LineError::Form),

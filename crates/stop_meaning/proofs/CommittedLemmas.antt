@@ -14,7 +14,7 @@ use Rattle.cache_log.specs.declared.row.Row.{Row}
 use Rattle.cache_log.specs.Rows.{seq_of, entries_since}
 use Rattle.cache_log.specs.Log.{LogState, entries_in, with_appended, all_rows}
 use Rattle.cache_log.specs.Committed.{body_of, first_body, IsReleased}
-use Rattle.plain_disk.specs.Machine.{AllInRange}
+use Rattle.plain_disk.specs.Sectors.{AllInRange}
 use Rattle.stop_meaning.specs.Stops.{HasCommitted}
 use Rattle.stop_meaning.specs.Laws.{FormattedHasCommitted, SameHasCommitted, TrimmedHasCommitted, AppendedHasCommitted, CommitHasCommitted}
 

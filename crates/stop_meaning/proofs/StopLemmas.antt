@@ -13,7 +13,7 @@ use Rattle.cache_log.specs.declared.row.Row.{Row}
 use Rattle.cache_log.specs.Rows.{entry_of, next, entries_between}
 use Rattle.cache_log.specs.Log.{LogState, next_seq, all_rows, entries_in}
 use Rattle.cache_log.specs.Committed.{body_of, HasRecords, LeavesEntries, LeavesEntriesSince}
-use Rattle.plain_disk.specs.Machine.{AllInRange}
+use Rattle.plain_disk.specs.Sectors.{AllInRange}
 use Rattle.plain_disk.specs.State.{PlainState, history_length, frontier_of, frontier_end, logged_entries}
 use Rattle.plain_disk.proofs.EndLemmas.{ends_from}
 use Rattle.log_meaning.specs.Shows.{records_of_rows}
@@ -37,7 +37,7 @@ pub record MayBeFound (uuid : List ℕ) (log : LogState) (plain : PlainState) (b
 -- ---- what is told, or not
 
 -- what follows from two facts on a value, where it is told
-with_told : {A : Type 0} (P Q : A → Type 0) (R : Type 0) (told : Option A) → ((x : A) → P x → Q x → R) → IfSome told P → IfSome told Q
+pub with_told : {A : Type 0} (P Q : A → Type 0) (R : Type 0) (told : Option A) → ((x : A) → P x → Q x → R) → IfSome told P → IfSome told Q
     → OnSome told R
 with_told P Q R None follows first second = tt
 with_told P Q R (Some x) follows first second = follows x first second

@@ -6,7 +6,7 @@ use Rattle.lsvd_device.specs.Medium.{Medium, MayLeave}
 use Rattle.lsvd_device.specs.Device.{HoldsSince, DiskState, HoldsNow}
 use Rattle.commit_slot.specs.Commits.{finished_body}
 use Rattle.cache_log.specs.Log.{LogState}
-use Rattle.plain_disk.specs.Machine.{AllInRange}
+use Rattle.plain_disk.specs.Sectors.{AllInRange}
 use Rattle.plain_disk.specs.State.{PlainState, history_length, frontier_end}
 use Rattle.stopped_volume.specs.Device.{DeviceStandsFor}
 

@@ -9,12 +9,13 @@ use Rattle.lsvd_device.specs.Memory.{HasRoom}
 use Rattle.log_room.specs.Room.{Room, need, free, record_sectors, pad_before}
 use Rattle.cache_log.specs.declared.error.AppendError.{AppendError}
 use Rattle.cache_log.specs.declared.error.AppendError.TheVariants as errors
-use Rattle.cache_log.specs.Log.{LogState, next_seq, append_cost}
+use Rattle.cache_log.specs.Log.{LogState, next_seq, append_cost, HasNoRoomFor}
 use Rattle.plain_disk.specs.declared.event.PlainReply.{PlainReply}
 use Rattle.plain_disk.specs.declared.event.PlainReply.TheVariants.{Entered, NoRoom, Fault}
 use Rattle.plain_disk.specs.Log.{PlainLog, room_in, with_record}
-use Rattle.plain_disk.specs.Cache.{PlainCache, writes_of}
+use Rattle.plain_disk.specs.Cache.{PlainCache, writes_of, cache_after_entry}
 use Rattle.plain_disk.specs.State.{PlainState, history_length, frontier_end}
+use Rattle.plain_disk.specs.Entries.{after_entering}
 use Rattle.log_meaning.specs.Shows.{ShowsLog}
 use Rattle.log_meaning.specs.Logged.{HasLoggedEntries}
 use Rattle.log_meaning.specs.Fuses.{fuse_in}
@@ -25,7 +26,7 @@ use Rattle.log_meaning.proofs.PlainCommits.{IsCacheOf}
 use Rattle.log_meaning.proofs.FuseLemmas.{entry_has_fuse}
 use Rattle.vol_core.specs.Calls.{Appends}
 use Rattle.vol_core.proofs.LoggedLemmas.{with_place, ReachesEnd, logged_alike, logged_appended}
-use Rattle.vol_core.proofs.PlainEntering.{EntersPlain, ComesToCache, has_no_room, write_failed, entry_taken}
+use Rattle.vol_core.proofs.PlainEntering.{EntersPlain, ComesToCache, has_no_room, write_failed, entry_taken, full_cache, entered_cache}
 
 -- ---- what an append answers and leaves
 
@@ -86,7 +87,7 @@ room_for_fewer changes bytes more_changes more_bytes None fewer less room = room
 room_for_fewer changes bytes more_changes more_bytes (Some budget) fewer less room =
     (let a = room.0 in let b = room.1 in (omega (arith, a, fewer), omega (arith, b, less)))
 
-room_for_append : (room : Room) (sectors : ℕ) (budget : Option Budget)
+pub room_for_append : (room : Room) (sectors : ℕ) (budget : Option Budget)
     → HasRoom (most_of_append sectors).changes (most_of_append sectors).bytes budget
     → HasRoom (append_cost room sectors).changes (append_cost room sectors).bytes budget
 room_for_append room sectors budget most =
@@ -146,6 +147,15 @@ has_room_in : (old : LogState) (log : PlainLog) (entry : Entry) → ShowsLog old
 has_room_in old log entry is enough =
     ap (λ r. nat_le (need r (record_sectors entry)) (free r)) is.room ∙ le-leb (need old.room (record_sectors entry)) (free old.room) enough
 
+lacks_room_in : (old new : LogState) (log : PlainLog) (entry : Entry) (needed left : ℕ) → ShowsLog old log
+    → HasNoRoomFor entry needed left old new
+    → nat_le (need (room_in log) (record_sectors entry)) (free (room_in log)) ≡ false
+lacks_room_in old new log entry needed left is few =
+    let less = few.too_few in
+    let needs : needed ≡ need (room_in log) (record_sectors entry) = few.needed_is ∙ ap (λ r. need r (record_sectors entry)) (sym is.room) in
+    let has : left ≡ free (room_in log) = few.left_is ∙ ap free (sym is.room) in
+    lt-leb (need (room_in log) (record_sectors entry)) (free (room_in log)) (omega (arith, less, needs, has))
+
 -- an entry that comes to a cache which has this log and these calls
 pub append_does : (state : PlainState) (entry : Entry) (ready : PlainCache) (result : Result ℕ AppendError) (old new : LogState) (log : PlainLog)
     (left : Fuse)
@@ -171,12 +181,29 @@ append_does state entry ready (Err errors.DeviceFault) old new log left comes is
 append_does state entry ready (Err (errors.NoRoom needed left_over)) old new log left comes is shows appends passed =
     let few = appends.err in
     let sectors : ℕ = record_sectors entry in
-    let less = few.too_few in
     let needs : needed ≡ need (room_in log) sectors = few.needed_is ∙ ap (λ r. need r sectors) (sym shows.room) in
     let has : left_over ≡ free (room_in log) = few.left_is ∙ ap free (sym shows.room) in
-    let none = lt-leb (need (room_in log) sectors) (free (room_in log)) (omega (arith, less, needs, has)) in
+    let none = lacks_room_in old new log entry needed left_over shows few in
     let lacks = ap (λ l. nat_le (need (room_in l) sectors) (free (room_in l))) is.same_log ∙ none in
     let told : NoRoom (need (room_in log) sectors) (free (room_in log)) ≡ NoRoom needed left_over = λ i. NoRoom (sym needs i) (sym has i) in
     subst (λ r. EntersPlain state entry r log (fuse_after left 0) state.entries) told
     (subst₂ (λ l f. EntersPlain state entry (NoRoom (need (room_in l) sectors) (free (room_in l))) l f state.entries)
     is.same_log (is.same_left ∙ none_spent left) (has_no_room state entry ready comes lacks))
+
+-- ---- the cache that is left
+
+-- that of an append which came to this cache
+abbrev pub cache_by : Result ℕ AppendError → Entry → PlainCache → PlainCache
+cache_by (Ok at) entry ready = cache_after_entry entry ready
+cache_by (Err (errors.NoRoom needed left)) entry ready = ready
+cache_by (Err errors.DeviceFault) entry ready = cache_after_entry entry ready
+
+pub append_cache : (state : PlainState) (entry : Entry) (ready : PlainCache) (result : Result ℕ AppendError) (old new : LogState)
+    → ComesToCache state entry ready true → ShowsLog old ready.log → Appends entry result old new
+    → (after_entering entry state).cache ≡ cache_by result entry ready
+append_cache state entry ready (Ok at) old new comes shows appends =
+    entered_cache state entry ready comes (has_room_in old ready.log entry shows appends.ok.had_room)
+append_cache state entry ready (Err (errors.NoRoom needed left)) old new comes shows appends =
+    full_cache state entry ready comes (lacks_room_in old new ready.log entry needed left shows appends.err)
+append_cache state entry ready (Err errors.DeviceFault) old new comes shows appends =
+    entered_cache state entry ready comes (has_room_in old ready.log entry shows appends.err.had_room)

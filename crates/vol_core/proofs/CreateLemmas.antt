@@ -1,16 +1,24 @@
-use Rattle.std.proofs.Common.{rules, ◌≡◌, ℕ, List, [], ◌∷◌, refl, sym, ap, subst, ◌∙◌}
+use Rattle.std.proofs.Common.{rules, arith, ◌≡◌, ℕ, true, List, [], ◌∷◌, length, take, refl, sym, ap, subst, ◌∙◌}
 use Rattle.std.specs.Prelude.{IfSome, drop, IsTrue}
 use Rattle.std.proofs.Math.Seq.{drop-nil}
+use Rattle.std.proofs.lemmas.List.{length-replicate}
 use Rattle.lsvd_base.specs.declared.geometry.Geometry.{Geometry}
 use Rattle.lsvd_base.specs.Limits.{is_within_limits}
 use Rattle.lsvd_device.specs.Calls.{Fuse}
-use Rattle.lsvd_device.specs.Device.{DiskState}
+use Rattle.lsvd_device.specs.Device.{DiskState, HoldsNow}
+use Rattle.lsvd_device.specs.Memory.{IsSynced}
+use Rattle.lsvd_device.specs.Sequence.{Call, passed_of}
+use Rattle.lsvd_device.specs.Stop.{HasNow}
 use Rattle.lsvd_device.specs.Medium.{Medium}
 use Rattle.log_room.specs.Room.{Room}
+use Rattle.commit_body.specs.declared.body.CommitBody.{CommitBody}
+use Rattle.commit_body.specs.Body.{body_bytes}
+use Rattle.commit_body.proofs.BodyLemmas.{is_one_sector}
+use Rattle.commit_slot.specs.Formatting.{clear_bytes, format_cost, format_calls}
 use Rattle.commit_slot.specs.Slots.{log_of}
 use Rattle.batcher.specs.State.{BatchState}
 use Rattle.cache_log.specs.Log.{LogState, entries_in}
-use Rattle.cache_log.specs.Committed.{IsFormattedLog}
+use Rattle.cache_log.specs.Committed.{IsFormattedLog, first_body}
 use Rattle.obj_log.specs.State.{ObjLogState}
 use Rattle.plain_disk.specs.State.{PlainState, created_volume}
 use Rattle.plain_disk.specs.Valid.{IsPlainVolume}
@@ -20,12 +28,16 @@ use Rattle.log_meaning.specs.Fuses.{fuse_in}
 use Rattle.log_meaning.specs.Logged.{HasLoggedEntries}
 use Rattle.log_meaning.proofs.Shown.{formatted_shows_empty}
 use Rattle.plain_disk.specs.Log.{empty_from}
+use Rattle.pending_meaning.specs.Pending.{ShowsPending}
+use Rattle.pending_meaning.proofs.Asked.{AreCovered, asked, has_now}
+use Rattle.pending_meaning.proofs.Shown.{synced_shows_pending}
 use Rattle.objects_meaning.proofs.ShowLemmas.{new_shows_created, shown_with_other_cache}
 use Rattle.stop_meaning.specs.Stops.{HasCommitted}
 use Rattle.stop_meaning.proofs.CommittedLemmas.{formatted_has_committed}
 use Rattle.vol_core.specs.Volume.{volume_of}
 use Rattle.vol_core.specs.Shows.{Shows}
 use Rattle.vol_core.specs.Step.{passing}
+use Rattle.vol_core.specs.Creating.{CostsFormat, CanFormat}
 
 -- a plain volume is one whatever calls its device passes
 pub passing_is_plain : (left : Fuse) (plain : PlainState) → IsPlainVolume plain → IsPlainVolume (passing left plain)
@@ -89,3 +101,29 @@ pub created_own : (objects : ObjLogState) (log : LogState) (bytes : List ℕ) (o
 created_own objects log bytes old same is =
     subst (λ uuid. HasCommitted uuid objects.batch.geometry log) same
     (formatted_has_committed bytes 0 0 objects.batch.geometry old log is)
+
+-- ---- what is pending
+
+length-clear : length clear_bytes ≡ 3072
+unfolding clear_bytes
+length-clear = length-replicate {A = ℕ} 3072 0
+
+pub format_covered : (body : CommitBody) → length body.uuid ≡ 16 → AreCovered (format_calls body) format_cost
+format_covered body uuid =
+    let whole : length (body_bytes body 0) ≡ 512 = is_one_sector body 0 uuid in
+    record { count = refl; changes = omega arith; bytes = omega (arith, whole, length-clear) }
+
+synced_now : (moments : List Medium) → HoldsNow IsSynced moments → HasNow (λ now. Unit {0}) moments → HasNow IsSynced moments
+synced_now [] synced has = absurd has
+synced_now (now ∷ past) synced has = synced
+
+-- nothing is, since formatting ends with a sync
+pub created_pends : (log : LogState) (geometry : Geometry) (uuid : List ℕ) (old : DiskState) → length uuid ≡ 16 → CanFormat old
+    → IsFormattedLog uuid 0 0 old log → CostsFormat uuid true old log.commits.disk → ShowsPending log (created_volume geometry).cache
+created_pends log geometry uuid old size can formatted costs =
+    let calls : List Call = format_calls (first_body uuid 0 0) in
+    let is = asked format_cost calls true old log.commits.disk (format_covered (first_body uuid 0 0) size) can.room costs in
+    let passed : List Call = take (passed_of (fuse_in old.budget) (length calls)) calls in
+    let now = subst (HasNow (λ m. Unit {0})) (sym is.moments) (has_now passed old.moments can.now) in
+    synced_shows_pending log (created_volume geometry).cache is.told (synced_now log.commits.disk.moments formatted.synced now)
+    formatted.commits.same_unfinished refl

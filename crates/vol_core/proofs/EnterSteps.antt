@@ -28,6 +28,7 @@ use Rattle.plain_disk.specs.declared.event.PlainEvent.TheVariants as events
 use Rattle.plain_disk.specs.declared.event.PlainReply.{PlainReply}
 use Rattle.plain_disk.specs.declared.event.PlainReply.TheVariants as replies
 use Rattle.plain_disk.specs.Log.{PlainLog}
+use Rattle.plain_disk.specs.Cache.{PlainCache}
 use Rattle.plain_disk.specs.State.{PlainState, history_length, unsealed_entries}
 use Rattle.plain_disk.specs.Entries.{reply_of_full, batch_refusal, after_entering}
 use Rattle.plain_disk.specs.Fields.{batch_refusal_of}
@@ -37,6 +38,7 @@ use Rattle.log_meaning.specs.Shows.{ShowsLog}
 use Rattle.log_meaning.specs.Logged.{HasLoggedEntries}
 use Rattle.log_meaning.specs.Fuses.{fuse_in}
 use Rattle.objects_meaning.specs.Shows.{ShowsObjects}
+use Rattle.pending_meaning.specs.Pending.{ShowsPending}
 use Rattle.objects_meaning.specs.Laws.{HasCounts}
 use Rattle.objects_meaning.proofs.ShowLemmas.{shown_have_counts, shown_with_other_cache, shown_with_other_places, room_shows_same, added_shows_entry}
 use Rattle.vol_core.specs.declared.reply.Refusal.{Refusal}
@@ -44,16 +46,17 @@ use Rattle.vol_core.specs.declared.reply.Refusal.TheVariants as refusals
 use Rattle.vol_core.specs.declared.reply.Reply.{Reply}
 use Rattle.vol_core.specs.declared.reply.Reply.TheVariants as told
 use Rattle.vol_core.specs.Volume.{VolumeState}
-use Rattle.vol_core.specs.Shows.{Shows, max_number, IsSmall}
+use Rattle.vol_core.specs.Shows.{Shows, NumbersGrow, max_number}
 use Rattle.vol_core.specs.Events.{Tells}
 use Rattle.vol_core.specs.Step.{passing, most_of_step, may_lack_memory, IsStep, IsNoStep, StepsAsPlain}
 use Rattle.vol_core.specs.Calls.{HasRoomForStep, event_of, MayEnter, fullness_in, ComesToLog, IsRefusedEntry, EntersBoth, Enters, EntersLog}
 use Rattle.vol_core.proofs.CommitLemmas.{shown_next}
 use Rattle.vol_core.proofs.LoggedLemmas.{with_place, own_place, other_place, logged_alike, reaches_on_disk}
-use Rattle.vol_core.proofs.PlainEntering.{EntersPlain, batch_refuses}
+use Rattle.vol_core.proofs.PlainEntering.{EntersPlain, refused_cache, batch_refuses}
 use Rattle.vol_core.proofs.AppendLemmas.{reply_to_append, entries_by, places_by, room_for_fewer}
 use Rattle.vol_core.proofs.LogEntering.{most_for, EntersWith, enters_with}
-use Rattle.vol_core.proofs.StepLemmas.{passing_keeps}
+use Rattle.vol_core.proofs.PendingSteps.{enter_pends}
+use Rattle.vol_core.proofs.StepLemmas.{passing_keeps, numbers_stay}
 
 -- the volume with other objects and another log
 abbrev pub with_both : ObjLogState → LogState → VolumeState → VolumeState
@@ -82,6 +85,9 @@ module _ (log : LogState) (reserved : ℕ) where
     order = is.order;
     stands = is.stands;
   }
+
+  pub reserved_pends : (cache : PlainCache) → ShowsPending log cache → ShowsPending taken_for cache
+  reserved_pends cache pends = record { told = pends.told; pending = pends.pending; broken = pends.broken }
 
 -- the uploads are those of every volume also where they have more room
 uploads_same : (old new : ObjLogState) → IsNotSealed old.uploads new.uploads → IsUploads old.uploads.queue old.uploads.window
@@ -141,6 +147,8 @@ record HasStepParts {R : Type 0} (state : R → ReceiptState) (entry : Entry) (r
   logged : HasLoggedEntries data_at log (record plain { entries = taken })
   told : HasRoom (most_of_step (event_of {R = R} entry)).changes (most_of_step (event_of {R = R} entry)).bytes old.log.commits.disk.budget
       → (left ≡ fuse_in old.log.commits.disk.budget) × (spent ≡ fuse_in log.commits.disk.budget)
+  pending : HasRoom (most_of_step (event_of {R = R} entry)).changes (most_of_step (event_of {R = R} entry)).bytes old.log.commits.disk.budget
+      → ShowsPending old.log plain.cache → ShowsPending log (after_entering entry (passing left plain)).cache
 
 module _ {R : Type 0} (state : R → ReceiptState) (reply : Reply R) (old : VolumeState) (plain : PlainState) (shows : Shows old plain)
     (objects : ObjLogState) (log : LogState) where
@@ -179,6 +187,7 @@ module _ {R : Type 0} (state : R → ReceiptState) (reply : Reply R) (old : Volu
     tells = subst (Tells state old reply) (sym parts.does.reply_is) parts.tells;
     shows = shown_then (entries.Write lba body) parts;
     told = λ room. (let own = parts.told room in (own.0, parts.does.left_is ∙ own.1));
+    pending = parts.pending;
   }
   step_by_parts (entries.Zero lba sectors) parts = record {
     left = parts.left;
@@ -187,26 +196,8 @@ module _ {R : Type 0} (state : R → ReceiptState) (reply : Reply R) (old : Volu
     tells = subst (Tells state old reply) (sym parts.does.reply_is) parts.tells;
     shows = shown_then (entries.Zero lba sectors) parts;
     told = λ room. (let own = parts.told room in (own.0, parts.does.left_is ∙ own.1));
+    pending = parts.pending;
   }
-
--- ---- numbers
-
--- one step adds one entry at most, and two commits
-pub record GoesOnByOne (old : VolumeState) (objects : ObjLogState) (log : LogState) : Type 0 where
-  pub next : next_seq log ≤ next_seq old.log + 1
-  pub last : objects.uploads.window.last ≡ old.objects.uploads.window.last
-  pub number : log.commits.number ≤ old.log.commits.number + 2
-
-pub small_then : (old : VolumeState) (objects : ObjLogState) (log : LogState) (steps : ℕ) → HasRoomForStep (record { volume = old; steps = steps })
-    → GoesOnByOne old objects log → IsSmall (with_both objects log old) steps
-small_then old objects log steps ready goes =
-    let counted = ready.counted in
-    let small = ready.small in
-    record {
-      entries = omega (arith, small.entries, goes.next);
-      objects = omega (arith, small.objects, goes.last);
-      commits = omega (arith, small.commits, goes.number);
-    }
 
 -- ---- each answer
 
@@ -250,16 +241,17 @@ module _ {R : Type 0} (state : R → ReceiptState) (entry : Entry) (old : Volume
     has_log = shows.log;
     logged = shows.logged;
     told = λ room. (shows.fuse, shows.fuse);
+    pending = λ room pends. subst (ShowsPending old.log) (sym (refused_cache plain entry answer is)) pends;
   }
 
   refused_step : (reply : Reply R) (answer : PlainReply) (objects : ObjLogState) (log : LogState) → batch_refusal plain entry ≡ Some answer
       → Tells state old reply answer
       → objects ≡ old.objects → log ≡ old.log
-      → IsStep state (event_of entry) reply plain old (with_both objects log old) × GoesOnByOne old objects log
+      → IsStep state (event_of entry) reply plain old (with_both objects log old) × NumbersGrow old (with_both objects log old)
   refused_step reply answer objects log is tells same_objects same_log =
-      subst₂ (λ o l. IsStep state (event_of entry) reply plain old (with_both o l old) × GoesOnByOne old o l) (sym same_objects) (sym same_log) (
+      subst₂ (λ o l. IsStep state (event_of entry) reply plain old (with_both o l old) × NumbersGrow old (with_both o l old)) (sym same_objects) (sym same_log) (
         step_by_parts state reply old plain shows old.objects old.log entry (refused_parts reply answer is tells),
-        record { next = omega arith; last = refl; number = omega arith },
+        numbers_stay old old refl refl,
       )
 
   -- an entry that comes to the log
@@ -275,6 +267,19 @@ module _ {R : Type 0} (state : R → ReceiptState) (entry : Entry) (old : Volume
         (in_range_then true comes.in_range ∙ ap (option_map reply_of_full) comes.not_full)
         (reaches_on_disk old.log plain (omega (arith, next, frontier_ends plain shows.valid)) disk)
         (subst (λ end. EntersLog entry end result before log) counts.end comes.log)
+
+    -- as many writes are pending as on the plain volume's cache
+    came_pending : HasRoom (most_of_step (event_of {R = R} entry)).changes (most_of_step (event_of {R = R} entry)).bytes old.log.commits.disk.budget
+        → ShowsPending old.log plain.cache → ShowsPending log (after_entering entry (passing came.left plain)).cache
+    came_pending room pends =
+        let before : LogState = taken_for old.log comes.reserved in
+        let enough = room_for_step old.log.commits.unfinished entry R old.log.commits.disk.budget room in
+        subst (λ f. ShowsPending log (after_entering entry (passing f plain)).cache) (sym (came.told enough).0)
+        (enter_pends entry shows.data_at before plain (reserved_shows old.log comes.reserved plain.cache.log shows.log) shows.valid
+        (logged_alike shows.data_at old.log before plain refl refl refl shows.logged)
+        (in_range_then true comes.in_range ∙ ap (option_map reply_of_full) comes.not_full)
+        disk.commits enough (reserved_pends old.log comes.reserved plain.cache pends) result log
+        (subst (λ end. EntersLog entry end result before log) counts.end comes.log))
 
     came_parts : (reply : Reply R) (objects : ObjLogState) → Tells state old reply (reply_to_append result (history_length plain))
         → ShowsObjects (places_by result shows.data_at (history_length plain)) objects
@@ -293,6 +298,7 @@ module _ {R : Type 0} (state : R → ReceiptState) (entry : Entry) (old : Volume
       has_log = came.shows;
       logged = came.logged;
       told = λ room. came.told (room_for_step old.log.commits.unfinished entry R old.log.commits.disk.budget room);
+      pending = came_pending;
     }
 
     ready_last : ready.uploads.window.last ≡ old.objects.uploads.window.last
@@ -305,12 +311,13 @@ module _ {R : Type 0} (state : R → ReceiptState) (entry : Entry) (old : Volume
   came_step : (reply : Reply R) (error : AppendError) (objects : ObjLogState) (log : LogState)
       → ComesToLog entry (Err error) old.objects objects old.log log
       → Tells state old reply (reply_to_append (Err error) (history_length plain))
-      → IsStep state (event_of entry) reply plain old (with_both objects log old) × GoesOnByOne old objects log
+      → IsStep state (event_of entry) reply plain old (with_both objects log old) × NumbersGrow old (with_both objects log old)
   came_step reply error objects log comes tells =
-      let with = came (Err error) objects log comes in (
+      let with = came (Err error) objects log comes in
+      let last = ready_last (Err error) objects log comes in (
         step_by_parts state reply old plain shows objects log entry
             (came_parts (Err error) objects log comes reply objects tells (ready_shows (Err error) objects log comes)),
-        record { next = with.next; last = ready_last (Err error) objects log comes; number = with.number },
+        record { entries = with.next; objects = omega (arith, last); commits = with.number },
       )
 
   -- it is entered
@@ -338,28 +345,28 @@ module _ {R : Type 0} (state : R → ReceiptState) (entry : Entry) (old : Volume
       omega (arith, first, many, more, was_first, was_many, next, is)
 
   entered_step : (count : ℕ) (objects : ObjLogState) (log : LogState) → EntersBoth entry count old.objects objects old.log log
-      → IsStep state (event_of entry) (told.Entered count) plain old (with_both objects log old) × GoesOnByOne old objects log
+      → IsStep state (event_of entry) (told.Entered count) plain old (with_both objects log old) × NumbersGrow old (with_both objects log old)
   entered_step count objects log both =
       let comes = both.comes in
       let with = came (Ok both.at) both.ready log comes in
+      let added_last = ap (λ (w : WindowState). w.last) both.added.window in
+      let last = ready_last (Ok both.at) both.ready log comes in
       let tells = ap replies.Entered (count_after both.at count both.ready objects comes.same both.added both.count_is) in
       let shown = added_shows both.at both.ready objects comes.same (ready_shows (Ok both.at) both.ready log comes) both.added in (
         step_by_parts state (told.Entered count) old plain shows objects log entry
             (came_parts (Ok both.at) both.ready log comes (told.Entered count) objects tells shown),
-        record {
-          next = with.next;
-          last = ap (λ (w : WindowState). w.last) both.added.window ∙ ready_last (Ok both.at) both.ready log comes;
-          number = with.number;
-        },
+        record { entries = with.next; objects = omega (arith, added_last, last); commits = with.number },
       )
 
   -- memory ran out
   lacking_step : (back : Entry) (objects : ObjLogState) (log : LogState) → IsSame old.objects objects
       → log ≡ record old.log { reserved = log.reserved }
-      → IsNoStep {R = R} (event_of entry) (told.NotEntered back refusals.OutOfMemory) plain (with_both objects log old) × GoesOnByOne old objects log
+      → IsNoStep {R = R} (event_of entry) (told.NotEntered back refusals.OutOfMemory) plain old (with_both objects log old)
+      × NumbersGrow old (with_both objects log old)
   lacking_step back objects log same is =
       let before : LogState = taken_for old.log log.reserved in
       let next = ap (λ (l : LogState). next_seq l) is in
+      let last = ap (λ (w : WindowState). w.last) same.uploads.window in
       let number = ap (λ (l : LogState). l.commits.number) is in (
         record {
           may = may_lack R entry;
@@ -375,16 +382,18 @@ module _ {R : Type 0} (state : R → ReceiptState) (entry : Entry) (old : Volume
             pins = shows.pins;
             fuse = shows.fuse ∙ sym (ap (λ (l : LogState). fuse_in l.commits.disk.budget) is);
           };
+          pending = λ pends. subst (λ l. ShowsPending l plain.cache) (sym is) (reserved_pends old.log log.reserved plain.cache pends);
         },
-        record { next = omega (arith, next); last = ap (λ (w : WindowState). w.last) same.uploads.window; number = omega (arith, number) },
+        record { entries = omega (arith, next); objects = omega (arith, last); commits = omega (arith, number) },
       )
 
   -- ---- all of them
 
   abbrev Outcome : Reply R → ObjLogState → LogState → Type 0
   Outcome reply objects log =
-      (IsStep state (event_of entry) reply plain old (with_both objects log old) ⊎ IsNoStep (event_of entry) reply plain (with_both objects log old))
-      × GoesOnByOne old objects log
+      (IsStep state (event_of entry) reply plain old (with_both objects log old)
+      ⊎ IsNoStep (event_of entry) reply plain old (with_both objects log old))
+      × NumbersGrow old (with_both objects log old)
 
   refused_outcome : (back : Entry) (why : Refusal) (objects : ObjLogState) (log : LogState) → IsRefusedEntry entry why old.objects objects old.log log
       → Outcome (told.NotEntered back why) objects log
@@ -420,13 +429,13 @@ pub enter_steps : {R : Type 0} (state : R → ReceiptState) (entry : Entry) (rep
 enter_steps state entry reply old objects log uploads disk enters plain shows =
     (each_outcome state entry old plain shows uploads disk reply objects log enters).0
 
-pub enter_goes_on : {R : Type 0} (state : R → ReceiptState) (entry : Entry) (reply : Reply R) (old : VolumeState) (objects : ObjLogState)
+pub enter_grow : {R : Type 0} (state : R → ReceiptState) (entry : Entry) (reply : Reply R) (old : VolumeState) (objects : ObjLogState)
     (log : LogState)
     (plain : PlainState)
     → IsUploads old.objects.uploads.queue old.objects.uploads.window → IsOnDisk old.log → Enters entry reply old.objects objects old.log log
     → Shows old plain
-    → GoesOnByOne old objects log
-enter_goes_on state entry reply old objects log plain uploads disk enters shows =
+    → NumbersGrow old (with_both objects log old)
+enter_grow state entry reply old objects log plain uploads disk enters shows =
     (each_outcome state entry old plain shows uploads disk reply objects log enters).1
 
 -- ---- before it

@@ -7,6 +7,7 @@ use Rattle.lsvd_objstore.specs.Store.{ReceiptState}
 use Rattle.commit_body.specs.declared.body.CommitBody.{CommitBody}
 use Rattle.commit_slot.specs.Commits.{commit_cost}
 use Rattle.cache_log.specs.Log.{LogState}
+use Rattle.cache_log.specs.Committed.{IsOnDisk}
 use Rattle.batcher.specs.State.{BatchState}
 use Rattle.object_uploads.specs.Order.{IsUploads}
 use Rattle.plain_disk.specs.declared.event.PlainEvent.TheVariants as events
@@ -17,16 +18,18 @@ use Rattle.plain_disk.specs.Entries.{flush_reply, after_flush}
 use Rattle.plain_disk.proofs.EventLemmas.{flush_keeps}
 use Rattle.log_meaning.specs.Fuses.{fuse_in}
 use Rattle.objects_meaning.proofs.ShowLemmas.{shown_have_counts, shown_with_other_cache}
+use Rattle.pending_meaning.specs.Pending.{ShowsPending}
 use Rattle.vol_core.specs.declared.event.Event.TheVariants.{Flush}
 use Rattle.vol_core.specs.declared.reply.Reply.{Reply}
 use Rattle.vol_core.specs.declared.reply.Reply.TheVariants as told
 use Rattle.vol_core.specs.Volume.{VolumeState}
-use Rattle.vol_core.specs.Shows.{Shows, IsSmall, IsVolume}
+use Rattle.vol_core.specs.Shows.{Shows, NumbersGrow, IsVolume}
 use Rattle.vol_core.specs.Events.{Tells}
 use Rattle.vol_core.specs.Step.{passing, most_of_commit, IsStep, StepsAsPlain}
 use Rattle.vol_core.specs.Calls.{HasRoomForStep, CommitsFrom}
 use Rattle.vol_core.proofs.CommitLemmas.{CommitsWithFuse, commit_has_fuse}
-use Rattle.vol_core.proofs.StepLemmas.{passing_keeps}
+use Rattle.vol_core.proofs.StepLemmas.{passing_keeps, small_of}
+use Rattle.vol_core.proofs.PendingSteps.{commit_pends}
 
 -- the volume with another log
 abbrev pub with_log : LogState → VolumeState → VolumeState
@@ -76,15 +79,12 @@ module _ (old : VolumeState) (log : LogState) (is_made : Bool) (plain : PlainSta
         fuse = refl;
       }
 
-  flush_small : (steps : ℕ) → HasRoomForStep (record { volume = old; steps = steps }) → IsSmall (with_log log old) steps
-  flush_small steps ready =
-      let counted = ready.counted in
-      let small = ready.small in
-      record {
-        entries = omega (arith, small.entries, commit.commits.next);
-        objects = omega (arith, small.objects);
-        commits = omega (arith, small.commits, commit.commits.number);
-      }
+  committed_grow : NumbersGrow old (with_log log old)
+  committed_grow = record {
+    entries = omega (arith, commit.commits.next);
+    objects = omega arith;
+    commits = omega (arith, commit.commits.number);
+  }
 
   -- the plain volume answers what the volume does
   reply_is : {R : Type 0} (state : R → ReceiptState) (made : Bool) (count : ℕ) → passes_commit asked.cache ≡ made → count ≡ history_length plain
@@ -100,9 +100,20 @@ module _ (old : VolumeState) (log : LogState) (is_made : Bool) (plain : PlainSta
       let told = commit.told (room_for_commit old.log.commits.unfinished old.log.commits.disk.budget room) in
       (told.0, commit.commits.left ∙ sym told.1)
 
-  flush_step : {R : Type 0} (state : R → ReceiptState) (count : ℕ) → count ≡ old.objects.batch.first + length old.objects.batch.entries
+  -- as many writes are pending as on the plain volume's cache
+  flush_pending : IsOnDisk old.log → HasRoom most_of_commit.changes most_of_commit.bytes old.log.commits.disk.budget
+      → ShowsPending old.log plain.cache → ShowsPending log (after_flush asked).cache
+  flush_pending on_disk room pends =
+      let counts = shown_have_counts shows.data_at old.objects plain uploads shows.valid shows.objects in
+      let enough = room_for_commit old.log.commits.unfinished old.log.commits.disk.budget room in
+      subst (λ f. ShowsPending log (after_flush (passing f plain)).cache) (sym (commit.told enough).0)
+      (commit_pends is_made old.log log plain shows.log shows.valid on_disk.commits enough pends
+      (subst (λ end. CommitsFrom end is_made old.log log) counts.end commits))
+
+  flush_step : {R : Type 0} (state : R → ReceiptState) (count : ℕ) → IsOnDisk old.log
+      → count ≡ old.objects.batch.first + length old.objects.batch.entries
       → IsStep state Flush (flush_told is_made count) plain old (with_log log old)
-  flush_step state count is =
+  flush_step state count on_disk is =
       let counts = shown_have_counts shows.data_at old.objects plain uploads shows.valid shows.objects in
       record {
         left = commit.fuse;
@@ -111,18 +122,25 @@ module _ (old : VolumeState) (log : LogState) (is_made : Bool) (plain : PlainSta
         tells = reply_is state is_made count commit.commits.passed (is ∙ counts.next);
         shows = flushed_shown;
         told = fuse_told;
+        pending = flush_pending on_disk;
       }
 
 pub flush_steps : {R : Type 0} (state : R → ReceiptState) (old : VolumeState) (log : LogState) (batch : BatchState) (is_made : Bool) (end count : ℕ)
     → (reply : Reply R)
-    → IsUploads old.objects.uploads.queue old.objects.uploads.window → end ≡ old.objects.uploads.queue.end → CommitsFrom end is_made old.log log
-    → batch ≡ old.objects.batch → count ≡ batch.first + length batch.entries → reply ≡ flush_told is_made count
+    → IsUploads old.objects.uploads.queue old.objects.uploads.window → IsOnDisk old.log → end ≡ old.objects.uploads.queue.end
+    → CommitsFrom end is_made old.log log → batch ≡ old.objects.batch → count ≡ batch.first + length batch.entries → reply ≡ flush_told is_made count
     → StepsAsPlain state Flush reply old (with_log log old)
-flush_steps state old log batch is_made end count reply uploads end_is commits same count_is told plain shows =
+flush_steps state old log batch is_made end count reply uploads on_disk end_is commits same count_is told plain shows =
     let from = subst (λ n. CommitsFrom n is_made old.log log) end_is commits in
     let counted = count_is ∙ ap (λ (b : BatchState). b.first + length b.entries) same in
-    let step = flush_step old log is_made plain shows uploads from state count counted in
+    let step = flush_step old log is_made plain shows uploads from state count on_disk counted in
     inl (subst (λ r. IsStep state Flush r plain old (with_log log old)) (sym told) step)
+
+pub flush_grow : (old : VolumeState) (log : LogState) (is_made : Bool) (end : ℕ) (plain : PlainState) → Shows old plain
+    → IsUploads old.objects.uploads.queue old.objects.uploads.window → end ≡ old.objects.uploads.queue.end → CommitsFrom end is_made old.log log
+    → NumbersGrow old (with_log log old)
+flush_grow old log is_made end plain shows uploads end_is commits =
+    committed_grow old log is_made plain shows uploads (subst (λ n. CommitsFrom n is_made old.log log) end_is commits)
 
 pub flush_keeps_volume : (old : VolumeState) (log : LogState) (is_made : Bool) (end steps : ℕ)
     → IsUploads old.objects.uploads.queue old.objects.uploads.window → end ≡ old.objects.uploads.queue.end → CommitsFrom end is_made old.log log
@@ -134,5 +152,5 @@ flush_keeps_volume old log is_made end steps uploads end_is commits ready is =
       plain = flushed old log is_made is.plain is.shows uploads from;
       shows = flushed_shown old log is_made is.plain is.shows uploads from;
       steps = is.steps;
-      small = flush_small old log is_made is.plain is.shows uploads from steps ready;
+      small = small_of old (with_log log old) steps (committed_grow old log is_made is.plain is.shows uploads from) ready;
     }

@@ -1,11 +1,12 @@
-mod CreateLemmas
+pub mod CreateLemmas
 mod Lending
 mod LoggedLemmas
 mod CommitLemmas
 mod PlainEntering
 mod AppendLemmas
 mod LogEntering
-mod StepLemmas
+mod PendingSteps
+pub mod StepLemmas
 mod ObjectSteps
 mod FlushLemmas
 mod EnterSteps
@@ -17,3 +18,4 @@ mod ReleaseSteps
 mod LookSteps
 mod CommitStops
 mod StopSteps
+mod BytesLemmas

@@ -48,18 +48,18 @@ pub record EntersWith (entry : Entry) (result : Result ℕ AppendError) (data_at
 
 -- ---- room for the calls
 
-room_for_first : (first second : Cost) (budget : Option Budget) → HasRoom (together first second).changes (together first second).bytes budget
+pub room_for_first : (first second : Cost) (budget : Option Budget) → HasRoom (together first second).changes (together first second).bytes budget
     → HasRoom first.changes first.bytes budget
 room_for_first first second budget room =
     room_for_fewer first.changes first.bytes (first.changes + second.changes) (first.bytes + second.bytes) budget (omega arith) (omega arith) room
 
-room_for_second : (first second : Cost) (budget : Option Budget) → HasRoom (together first second).changes (together first second).bytes budget
+pub room_for_second : (first second : Cost) (budget : Option Budget) → HasRoom (together first second).changes (together first second).bytes budget
     → HasRoom second.changes second.bytes budget
 room_for_second first second budget room =
     room_for_fewer second.changes second.bytes (first.changes + second.changes) (first.bytes + second.bytes) budget (omega arith) (omega arith) room
 
 -- where there is room for two, there is room for the second after the first
-room_then : (first second : Cost) (are_made : Bool) (old new : Option Budget) → Takes first are_made old new
+pub room_then : (first second : Cost) (are_made : Bool) (old new : Option Budget) → Takes first are_made old new
     → HasRoom (together first second).changes (together first second).bytes old
     → HasRoom second.changes second.bytes new
 room_then first second are_made None new takes room = absurd room
@@ -131,7 +131,7 @@ module _ (entry : Entry) (data_at : ℕ → ℕ) (old : LogState) (plain : Plain
       ap (λ b. not b && nat_lt plain.cache.log.last.tail.seq (frontier_end plain)) has ∙ ap (λ b. not room && b) released
 
   -- no commit comes first
-  none_first : (result : Result ℕ AppendError) (new : LogState) → EntersAtOnce entry (frontier_end plain) result old new
+  pub none_first : (result : Result ℕ AppendError) (new : LogState) → EntersAtOnce entry (frontier_end plain) result old new
       → commits_for_room plain entry ≡ false
   none_first (Ok at) new at_once = first_by true _ (room_has at_once.appends.ok.had_room) refl
   none_first (Err errors.DeviceFault) new at_once = first_by true _ (room_has at_once.appends.err.had_room) refl
@@ -146,7 +146,7 @@ module _ (entry : Entry) (data_at : ℕ → ℕ) (old : LogState) (plain : Plain
       (le-ltb plain.cache.log.last.tail.seq (frontier_end plain) (omega (arith, last, seq)))
 
   -- a commit comes first
-  one_first : (result : Result ℕ AppendError) (new : LogState) → EntersAfterCommit entry (frontier_end plain) result old new
+  pub one_first : (result : Result ℕ AppendError) (new : LogState) → EntersAfterCommit entry (frontier_end plain) result old new
       → commits_for_room plain entry ≡ true
   one_first result new after =
       let few = after.first.err in

@@ -11,12 +11,13 @@ use Rattle.lsvd_base.specs.declared.entry.Entry.TheVariants as entries
 use Rattle.lsvd_device.specs.Medium.{Medium}
 use Rattle.log_room.specs.Room.{position, record_sectors}
 use Rattle.cache_log.specs.Rows.{seq_of, position_of, entry_of, AreNumbered}
-use Rattle.cache_log.specs.Log.{LogState, row_of, next_seq, with_appended, entries_in, IsTrimmed, IsAppended}
+use Rattle.cache_log.specs.Log.{LogState, row_of, AreRowsOf, next_seq, with_appended, entries_in, IsTrimmed, IsAppended}
 use Rattle.cache_log.specs.Committed.{IsOnDisk}
+use Rattle.cache_log.proofs.ForCallers.{rows_more}
 use Rattle.plain_disk.specs.Log.{PlainLog}
 use Rattle.plain_disk.specs.State.{PlainState, history_length, frontier_end, logged_entries}
 use Rattle.log_meaning.specs.Shows.{ShowsLog}
-use Rattle.log_meaning.specs.Logged.{AreRowsOf, HasLoggedEntries}
+use Rattle.log_meaning.specs.Logged.{HasLoggedEntries}
 
 -- the data of a row begin one sector past its record
 abbrev pub HasDataBehind : (ℕ → ℕ) → Row → Type 0
@@ -102,14 +103,6 @@ numbered_behind (row ∷ held) rows seq are = subst (λ n. AreNumbered n rows) (
 all_more : (P : Row → Type 0) (rows : List Row) (row : Row) → AllByRecursion P rows → P row → AllByRecursion P (rows ++ row ∷ [])
 all_more P [] row all own = (own, tt)
 all_more P (first ∷ rows) row all own = (all.0, all_more P rows row all.1 own)
-
-rows_more : (rows : List Row) (list : List Entry) (row : Row) (entry : Entry) → AreRowsOf rows list
-    → row ≡ row_of (seq_of row) (position_of row) entry
-    → AreRowsOf (rows ++ row ∷ []) (list ++ entry ∷ [])
-rows_more [] [] row entry are is = (is, tt)
-rows_more [] (other ∷ list) row entry are is = absurd are
-rows_more (first ∷ rows) [] row entry are is = absurd are
-rows_more (first ∷ rows) (other ∷ list) row entry are is = (are.0, rows_more rows list row entry are.1 is)
 
 row_is : (entry : Entry) (seq at : ℕ) → row_of seq at entry ≡ row_of (seq_of (row_of seq at entry)) (position_of (row_of seq at entry)) entry
 row_is (entries.Write lba body) seq at = refl

@@ -7,11 +7,15 @@ use Rattle.lsvd_device.specs.Calls.{Fuse, passes, fuse_after}
 use Rattle.lsvd_objstore.specs.Store.{ReceiptState}
 use Rattle.commit_slot.specs.Commits.{IsAsBefore}
 use Rattle.cache_log.specs.Log.{LogState, HasSameEntries}
+use Rattle.cache_log.specs.Reads.{reads_cost}
 use Rattle.object_uploads.specs.Order.{IsUploads}
+use Rattle.pending_meaning.specs.Pending.{ShowsPending}
+use Rattle.pending_meaning.proofs.Asked.{spent_after}
+use Rattle.pending_meaning.proofs.Shown.{still_shows_pending}
 use Rattle.plain_disk.specs.declared.event.PlainEvent.TheVariants as events
 use Rattle.plain_disk.specs.declared.event.PlainReply.{PlainReply}
 use Rattle.plain_disk.specs.declared.event.PlainReply.TheVariants as replies
-use Rattle.plain_disk.specs.Machine.{sectors_at}
+use Rattle.plain_disk.specs.Sectors.{sectors_at}
 use Rattle.plain_disk.specs.Cache.{PlainCache}
 use Rattle.plain_disk.specs.State.{PlainState, history_length, image_now}
 use Rattle.plain_disk.specs.Reads.{objects_read, look_calls, look_reply, after_look}
@@ -27,16 +31,16 @@ use Rattle.vol_core.specs.declared.event.Event.TheVariants.{Look}
 use Rattle.vol_core.specs.declared.reply.Reply.{Reply}
 use Rattle.vol_core.specs.declared.reply.Reply.TheVariants as told
 use Rattle.vol_core.specs.Volume.{VolumeState}
-use Rattle.vol_core.specs.Shows.{Shows, IsSmall}
+use Rattle.vol_core.specs.Shows.{Shows, NumbersGrow}
 use Rattle.vol_core.specs.Events.{Tells}
 use Rattle.vol_core.specs.Step.{passing, IsStep, StepsAsPlain}
-use Rattle.vol_core.specs.Calls.{HasRoomForStep}
 use Rattle.vol_core.proofs.StepLemmas.{quiet_step}
+use Rattle.vol_core.proofs.PendingSteps.{told_stays}
 use Rattle.vol_core.proofs.LoggedLemmas.{logged_alike}
 use Rattle.vol_core.proofs.ObjectsRead.{objects_are_read}
 use Rattle.vol_core.proofs.PlanGives.{plan_gives_read}
 use Rattle.vol_core.proofs.LookLemmas.{read_shown, may_read, read_ends, reads_are_calls, reads_have_fuse}
-use Rattle.vol_core.proofs.ReleaseSteps.{logged_with, pins_small}
+use Rattle.vol_core.proofs.ReleaseSteps.{logged_with}
 
 -- ---- what a look leaves
 
@@ -156,6 +160,13 @@ module _ {R : Type 0} (state : R → ReceiptState) (old : VolumeState) (lba sect
           (has.told room).0,
           ap (λ (p : PlainState). p.cache.left) after ∙ (ap (fuse_after has.fuse) (sym same) ∙ (has.told room).1),
         );
+        pending = λ room pends.
+            let cache : PlainCache = record plain.cache { left = fuse_after has.fuse (look_calls plain lba sectors) } in
+            subst (λ (p : PlainState). ShowsPending log p.cache) (sym after)
+            (still_shows_pending old.log log plain.cache cache pends rows.commits rows.moments
+            (told_stays (reads_cost (reads_of reads.rows)) are_made old.log.commits.disk.budget log.commits.disk.budget rows.calls.budget pends.told)
+            (λ is. sym (has.told room).1 ∙ spent_after has.fuse (reads_of reads.rows) ((has.told room).0 ∙ is))
+            refl);
       }
 
   planned_step : (plan : PlanState) (log : LogState) (pins : List ℕ) → IsReadPlan lba sectors old.objects old.log plan
@@ -200,7 +211,13 @@ fault_steps state old lba sectors log pins ordered may pinned reads plain shows 
 pub memory_steps : {R : Type 0} (state : R → ReceiptState) (old : VolumeState) (lba sectors : ℕ) (log : LogState) (pins : List ℕ)
     → log ≡ old.log → HasSamePins old.pins pins → StepsAsPlain state (Look lba sectors) told.OutOfMemory old (with_reads log pins old)
 memory_steps state old lba sectors log pins same pinned plain shows =
-    inr (record { may = refl; lacks = refl; shows = unlooked_shown old log pins plain shows same pinned })
+    inr
+    (record {
+      may = refl;
+      lacks = refl;
+      shows = unlooked_shown old log pins plain shows same pinned;
+      pending = λ pends. subst (λ l. ShowsPending l plain.cache) (sym same) pends;
+    })
 
 -- the volume does not take a read of these sectors
 pub range_steps : {R : Type 0} (state : R → ReceiptState) (old : VolumeState) (lba sectors : ℕ)
@@ -212,20 +229,16 @@ range_steps state old lba sectors may_not plain shows =
     inl
     (quiet_step state (Look lba sectors) told.Range plain old old (events.Look lba sectors) shows refl
     (look_reply_is left plain lba sectors false made not refl)
-    (subst (Shows old) (sym (after_look_is left plain lba sectors false made not refl)) shows))
+    (subst (Shows old) (sym (after_look_is left plain lba sectors false made not refl)) shows) refl
+    (ap (λ (p : PlainState). p.cache) (after_look_is left plain lba sectors false made not refl)))
 
 -- ---- the numbers after a look
 
-pub reads_small : (old : VolumeState) (log : LogState) (pins : List ℕ) (steps lba sectors : ℕ) (are_made : Bool)
-    → HasRoomForStep (record { volume = old; steps = steps }) → ReadsRange lba sectors old.objects.uploads.queue.maps are_made old.log log
-    → IsSmall (with_reads log pins old) steps
-reads_small old log pins steps lba sectors are_made ready reads =
-    let small = pins_small old pins steps ready in
+-- reads of the log leave them
+pub reads_grow : (old : VolumeState) (log : LogState) (pins : List ℕ) (lba sectors : ℕ) (are_made : Bool)
+    → ReadsRange lba sectors old.objects.uploads.queue.maps are_made old.log log → NumbersGrow old (with_reads log pins old)
+reads_grow old log pins lba sectors are_made reads =
     let first = reads.reads.same.first in
     let rows = ap length reads.reads.same.rows in
     let number = reads.reads.commits.same_number in
-    record { entries = omega (arith, small.entries, first, rows); objects = small.objects; commits = omega (arith, small.commits, number) }
-
-pub memory_small : (old : VolumeState) (log : LogState) (pins : List ℕ) (steps : ℕ) → HasRoomForStep (record { volume = old; steps = steps })
-    → log ≡ old.log → IsSmall (with_reads log pins old) steps
-memory_small old log pins steps ready same = subst (λ l. IsSmall (with_reads l pins old) steps) (sym same) (pins_small old pins steps ready)
+    record { entries = omega (arith, first, rows); objects = omega arith; commits = omega (arith, number) }

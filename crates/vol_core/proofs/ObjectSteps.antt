@@ -29,56 +29,50 @@ use Rattle.vol_core.specs.declared.event.Event.TheVariants.{Seal, TakeJob, JobDo
 use Rattle.vol_core.specs.declared.reply.Reply.{Reply}
 use Rattle.vol_core.specs.declared.reply.Reply.TheVariants as told
 use Rattle.vol_core.specs.Volume.{VolumeState}
-use Rattle.vol_core.specs.Shows.{Shows, IsSmall}
+use Rattle.vol_core.specs.Shows.{Shows, NumbersGrow}
 use Rattle.vol_core.specs.Events.{Asks, Tells}
 use Rattle.vol_core.specs.Step.{IsStep, StepsAsPlain}
-use Rattle.vol_core.specs.Calls.{HasRoomForStep, Seals, Takes, Finishes, Returns}
+use Rattle.vol_core.specs.Calls.{Seals, Takes, Finishes, Returns}
 use Rattle.vol_core.proofs.StepLemmas.{quiet_step, IsOfOtherObjects, with_objects, objects_shown}
 
 -- ---- numbers
 
--- at most one object more was sealed
-abbrev pub HasLastWithin : (old new : ObjLogState) → Type 0
-HasLastWithin old new = new.uploads.window.last ≤ old.uploads.window.last + 1
+module _ (old : VolumeState) (objects : ObjLogState) where
+  -- they grow where this window has at most one object more
+  by_window : (window : WindowState) → objects.uploads.window ≡ window → window.last ≤ old.objects.uploads.window.last + 1
+      → NumbersGrow old (with_objects objects old)
+  by_window window is within =
+      let same = ap (λ (w : WindowState). w.last) is in
+      record { entries = omega arith; objects = omega (arith, same, within); commits = omega arith }
 
--- then the numbers stay small
-pub small_after : (old : VolumeState) (objects : ObjLogState) (steps : ℕ) → HasRoomForStep (record { volume = old; steps = steps })
-    → HasLastWithin old.objects objects → IsSmall (with_objects objects old) steps
-small_after old objects steps ready last =
-    let counted = ready.counted in
-    let small = ready.small in
-    record { entries = omega (arith, small.entries); objects = omega (arith, small.objects); commits = omega (arith, small.commits) }
+  -- the same of the window of this list
+  by_list : (list : ObjLogState) → objects ≡ list → list.uploads.window.last ≤ old.objects.uploads.window.last + 1
+      → NumbersGrow old (with_objects objects old)
+  by_list list is within = by_window list.uploads.window (ap (λ (o : ObjLogState). o.uploads.window) is) within
 
-by_window : (old new : ObjLogState) (window : WindowState) → new.uploads.window ≡ window → window.last ≤ old.uploads.window.last + 1
-    → HasLastWithin old new
-by_window old new window is within = let same = ap (λ (w : WindowState). w.last) is in omega (arith, same)
+module _ {R : Type 0} (old : VolumeState) (objects : ObjLogState) where
+  pub taken_grow : (reply : Reply R) → Takes reply old.objects objects → NumbersGrow old (with_objects objects old)
+  taken_grow (told.Taken job) taken = by_list old objects _ taken.2 (omega arith)
+  taken_grow told.Nothing taken = by_list old objects old.objects taken.1 (omega arith)
+  taken_grow reply taken = absurd taken
 
-by_list : (old new list : ObjLogState) → new ≡ list → HasLastWithin old list → HasLastWithin old new
-by_list old new list is within = let same = ap (λ (o : ObjLogState). o.uploads.window.last) is in omega (arith, same)
+  pub returned_grow : (job : JobState) (reply : Reply R) → Returns job reply old.objects objects → NumbersGrow old (with_objects objects old)
+  returned_grow job told.Returned returned = by_list old objects _ returned.1 (omega arith)
+  returned_grow job (told.NotReturned back) returned = by_list old objects old.objects returned.2 (omega arith)
+  returned_grow job reply returned = absurd returned
 
-module _ {R : Type 0} (old new : ObjLogState) where
-  pub taken_last : (reply : Reply R) → Takes reply old new → HasLastWithin old new
-  taken_last (told.Taken job) taken = by_list old new _ taken.2 (omega arith)
-  taken_last told.Nothing taken = by_list old new old taken.1 (omega arith)
-  taken_last reply taken = absurd taken
+  pub done_grow : (state : R → ReceiptState) (job : JobState) (receipt : R) (reply : Reply R)
+      → Finishes state job receipt reply old.objects objects → NumbersGrow old (with_objects objects old)
+  done_grow state job receipt (told.Done frontier) done = by_window old objects _ done.1.window (omega arith)
+  done_grow state job receipt (told.NotDone back given) done = by_list old objects old.objects done.3 (omega arith)
+  done_grow state job receipt reply done = absurd done
 
-  pub returned_last : (job : JobState) (reply : Reply R) → Returns job reply old new → HasLastWithin old new
-  returned_last job told.Returned returned = by_list old new _ returned.1 (omega arith)
-  returned_last job (told.NotReturned back) returned = by_list old new old returned.2 (omega arith)
-  returned_last job reply returned = absurd returned
-
-  pub done_last : (state : R → ReceiptState) (job : JobState) (receipt : R) (reply : Reply R) → Finishes state job receipt reply old new
-      → HasLastWithin old new
-  done_last state job receipt (told.Done frontier) done = by_window old new _ done.1.window (omega arith)
-  done_last state job receipt (told.NotDone back given) done = by_list old new old done.3 (omega arith)
-  done_last state job receipt reply done = absurd done
-
-  pub sealed_last : (reply : Reply R) → Seals reply old new → HasLastWithin old new
-  sealed_last (told.Sealed number) seals = by_window old new _ seals.0.uploads.window (omega arith)
-  sealed_last told.Nothing seals = by_window old new old.uploads.window seals.0.uploads.window (omega arith)
-  sealed_last told.Busy seals = by_window old new old.uploads.window seals.0.uploads.window (omega arith)
-  sealed_last told.OutOfMemory seals = by_window old new old.uploads.window seals.uploads.window (omega arith)
-  sealed_last reply seals = absurd seals
+  pub sealed_grow : (reply : Reply R) → Seals reply old.objects objects → NumbersGrow old (with_objects objects old)
+  sealed_grow (told.Sealed number) seals = by_window old objects _ seals.0.uploads.window (omega arith)
+  sealed_grow told.Nothing seals = by_window old objects old.objects.uploads.window seals.0.uploads.window (omega arith)
+  sealed_grow told.Busy seals = by_window old objects old.objects.uploads.window seals.0.uploads.window (omega arith)
+  sealed_grow told.OutOfMemory seals = by_window old objects old.objects.uploads.window seals.uploads.window (omega arith)
+  sealed_grow reply seals = absurd seals
 
 -- ---- the counts are told
 
@@ -93,7 +87,8 @@ status_steps state volume batch writes sealed frontier uploads same writes_is se
     let reached : frontier_of plain ≡ frontier = sym (frontier_is ∙ counts.frontier) in
     let newest : plain.checkpoint ≡ volume.checkpoint = sym shows.checkpoint in
     let tells : status_reply plain ≡ replies.Told writes sealed frontier volume.checkpoint = cc in
-    inl (quiet_step state Status (told.Told writes sealed frontier volume.checkpoint) plain volume volume events.Status shows refl tells shows)
+    inl (quiet_step state Status (told.Told writes sealed frontier volume.checkpoint) plain volume volume events.Status shows refl tells shows
+    refl refl)
 
 -- ---- the window changes
 
@@ -155,7 +150,8 @@ module _ {R : Type 0} (state : R → ReceiptState) (old : VolumeState) (objects 
       → IsStep state event reply plain old changed
   unchanged event reply plain asked shows same stays asks tells =
       quiet_step state event reply plain old changed asked shows asks tells
-      (subst₂ (λ (o : ObjLogState) (p : PlainState). Shows (with_objects o old) p) (sym same) (sym stays) shows)
+      (subst₂ (λ (o : ObjLogState) (p : PlainState). Shows (with_objects o old) p) (sym same) (sym stays) shows) refl
+      (ap (λ (p : PlainState). p.cache) stays)
 
   -- ---- a put begins
 
@@ -169,7 +165,8 @@ module _ {R : Type 0} (state : R → ReceiptState) (old : VolumeState) (objects 
       (taken_shows_take shows.data_at old.objects plain number shows.objects taken.0) in
       let leaves = window_changes plain (window_after_take lowest plain.window) shows.valid (take_leaves lowest plain.window) in
       let now = objects_shown old objects plain (after_take plain) shows leaves (take_keeps plain lowest shows.valid) shown in
-      inl (quiet_step state TakeJob (told.Taken job) plain old changed events.TakeJob shows refl (ap reply_of_taken found, taken.1) now)
+      inl (quiet_step state TakeJob (told.Taken job) plain old changed events.TakeJob shows refl (ap reply_of_taken found, taken.1) now
+      refl refl)
   taken_steps told.Nothing taken plain shows =
       let lowest = lowest_ready plain.window.objects in
       let none : lowest ≡ None = ap (λ (w : WindowState). lowest_ready w.objects) (sym shows.objects.window) ∙ taken.0 in
@@ -196,7 +193,7 @@ module _ {R : Type 0} (state : R → ReceiptState) (old : VolumeState) (objects 
       let now =
       objects_shown old objects plain (after_failed (Some number) plain) shows leaves (failed_keeps plain (Some number) shows.valid) shown in
       inl (quiet_step state (JobFailed job) told.Returned plain old changed (events.JobFailed (Some number)) shows (Some number, refl, (refl, out))
-      (ap (λ b. cond b replies.Returned replies.Nothing) way) now)
+      (ap (λ b. cond b replies.Returned replies.Nothing) way) now refl refl)
   returned_steps job (told.NotReturned back) returned plain shows =
       inl (unchanged (JobFailed job) (told.NotReturned back) plain (events.JobFailed None) shows returned.2 refl (None, refl, returned.0) refl)
   returned_steps job reply returned plain shows = absurd returned
@@ -224,7 +221,7 @@ module _ {R : Type 0} (state : R → ReceiptState) (old : VolumeState) (objects 
       ap (λ b. cond b (replies.Done (below_open (cond b (acknowledged number plain.window) plain.window))) replies.Nothing) way
       ∙ ap replies.Done (sym (done.3 ∙ later)) in
       inl (quiet_step state (JobDone job receipt) (told.Done frontier) plain old changed (events.JobDone (Some number)) shows
-      (Some number, refl, (refl, out, done.0.1)) tells now)
+      (Some number, refl, (refl, out, done.0.1)) tells now refl refl)
   done_steps job receipt (told.NotDone back given) uploads own done plain shows =
       inl (unchanged (JobDone job receipt) (told.NotDone back given) plain (events.JobDone None) shows done.3 refl (None, refl, done.0) refl)
   done_steps job receipt reply uploads own done plain shows = absurd done
@@ -241,6 +238,7 @@ module _ {R : Type 0} (state : R → ReceiptState) (old : VolumeState) (objects 
       → Tells state old reply (seal_reply plain) → IsStep state Seal reply plain old changed
   refused reply plain shows same stays tells =
       quiet_step state Seal reply plain old changed events.Seal shows refl tells (subst (Shows changed) (sym stays) (room_shown plain shows same))
+      refl (ap (λ (p : PlainState). p.cache) stays)
 
   pub seal_steps : (reply : Reply R) → IsUploads old.objects.uploads.queue old.objects.uploads.window → Seals reply old.objects objects
       → StepsAsPlain state Seal reply old changed
@@ -248,12 +246,14 @@ module _ {R : Type 0} (state : R → ReceiptState) (old : VolumeState) (objects 
       let shown = sealed_shows_seal shows.data_at old.objects objects plain uploads shows.valid shows.objects seals.0 seals.2 seals.3 in
       let leaves = seal_changes plain (has_unsealed plain && not (is_busy plain)) shows.valid in
       let now = objects_shown old objects plain (after_seal plain) shows leaves (seal_keeps plain shows.valid) shown.0 in
-      inl (quiet_step state Seal (told.Sealed number) plain old changed events.Seal shows refl (shown.1 ∙ ap replies.Sealed (sym seals.1)) now)
+      inl (quiet_step state Seal (told.Sealed number) plain old changed events.Seal shows refl (shown.1 ∙ ap replies.Sealed (sym seals.1)) now
+      refl leaves.cache)
   seal_steps told.Nothing uploads seals plain shows =
       let none = (refused_seal_shows_none shows.data_at old.objects plain shows.objects).0 seals.1 in
       inl (refused told.Nothing plain shows seals.0 none.1 none.0)
   seal_steps told.Busy uploads seals plain shows =
       let none = (refused_seal_shows_none shows.data_at old.objects plain shows.objects).1 seals.1 seals.2 in
       inl (refused told.Busy plain shows seals.0 none.1 none.0)
-  seal_steps told.OutOfMemory uploads seals plain shows = inr (record { may = refl; lacks = refl; shows = room_shown plain shows seals })
+  seal_steps told.OutOfMemory uploads seals plain shows =
+      inr (record { may = refl; lacks = refl; shows = room_shown plain shows seals; pending = λ pends. pends })
   seal_steps reply uploads seals plain shows = absurd seals

@@ -7,7 +7,7 @@ use Rattle.log_room.specs.Room.{need, free, record_sectors}
 use Rattle.plain_disk.specs.declared.event.PlainReply.{PlainReply}
 use Rattle.plain_disk.specs.declared.event.PlainReply.TheVariants.{Entered, NoRoom, Fault}
 use Rattle.plain_disk.specs.Log.{PlainLog, room_in, with_record}
-use Rattle.plain_disk.specs.Cache.{PlainCache, writes_of, after_writes, passes_entry, passes_commit, cache_after_commit}
+use Rattle.plain_disk.specs.Cache.{PlainCache, writes_of, after_writes, passes_entry, passes_commit, cache_after_entry, cache_after_commit}
 use Rattle.plain_disk.specs.State.{PlainState, history_length, frontier_end}
 use Rattle.plain_disk.specs.Entries.{batch_refusal, has_room_for, commits_for_room, commits_are_made, cache_for, comes_to_log, room_reply, enter_reply, after_entering}
 
@@ -41,12 +41,18 @@ no_room_in ready entry = NoRoom (need (room_in ready.log) (record_sectors entry)
 
 -- ---- refused by the batch
 
+pub refused_cache : (state : PlainState) (entry : Entry) (reply : PlainReply) → batch_refusal state entry ≡ Some reply
+    → (after_entering entry state).cache ≡ state.cache
+refused_cache state entry reply is =
+    let ready : PlainCache = cache_for state entry in
+    ap (λ r. cache_by_case (is_some r) (not (is_some r) && commits_are_made state entry && has_room_for ready entry)
+    (passes_entry ready entry) state.cache ready entry) is
+
 pub batch_refuses : (state : PlainState) (entry : Entry) (reply : PlainReply) → batch_refusal state entry ≡ Some reply
     → EntersPlain state entry reply state.cache.log state.cache.left state.entries
 batch_refuses state entry reply is =
     let ready : PlainCache = cache_for state entry in
-    let cache = ap (λ r. cache_by_case (is_some r) (not (is_some r) && commits_are_made state entry && has_room_for ready entry)
-    (passes_entry ready entry) state.cache ready entry) is in
+    let cache = refused_cache state entry reply is in
     record {
       reply_is = ap (λ r. unwrap_or r (room_reply state ready entry)) is;
       log_is = ap (λ c. c.log) cache;
@@ -151,6 +157,21 @@ entry_taken state entry ready comes has passed =
       left_is = ap (λ c. c.left) cache;
       entries_are = entries_by state entry ready true true true comes has passed;
     }
+
+-- ---- the cache that is left
+
+pub failed_cache : (state : PlainState) (entry : Entry) (ready : PlainCache) → ComesToCache state entry ready false
+    → (after_entering entry state).cache ≡ ready
+failed_cache state entry ready comes =
+    cache_by state entry ready false (has_room_for ready entry) (passes_entry ready entry) comes refl refl
+
+pub full_cache : (state : PlainState) (entry : Entry) (ready : PlainCache) → ComesToCache state entry ready true → has_room_for ready entry ≡ false
+    → (after_entering entry state).cache ≡ ready
+full_cache state entry ready comes none = cache_by state entry ready true false (passes_entry ready entry) comes none refl
+
+pub entered_cache : (state : PlainState) (entry : Entry) (ready : PlainCache) → ComesToCache state entry ready true → has_room_for ready entry ≡ true
+    → (after_entering entry state).cache ≡ cache_after_entry entry ready
+entered_cache state entry ready comes has = cache_by state entry ready true true (passes_entry ready entry) comes has refl
 
 -- ---- the cache that it comes to
 

@@ -21,7 +21,7 @@ use Rattle.object_uploads.specs.Queue.{receipt_of}
 use Rattle.object_uploads.specs.Image.{GivesSector}
 use Rattle.obj_log.specs.State.{ObjLogState}
 use Rattle.plain_disk.specs.State.{PlainState, image_now}
-use Rattle.plain_disk.specs.Machine.{sectors_at}
+use Rattle.plain_disk.specs.Sectors.{sectors_at}
 use Rattle.read_plan.specs.Plan.{PieceState, PlanState, TellsWhole, pasted, GivesOver, Gives}
 use Rattle.read_plan.specs.Places.{OneFetches, HoldsPlace}
 use Rattle.read_plan.specs.Look.{IsReadPlan}

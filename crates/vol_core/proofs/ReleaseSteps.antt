@@ -1,5 +1,5 @@
 -- A plan is given back as the plain volume does.
-use Rattle.std.proofs.Common.{◌≡◌, ℕ, ◌-◌, ◌<◌, inl, Bool, true, false, cond, List, refl, sym, ◌∙◌, ap, subst, arith}
+use Rattle.std.proofs.Common.{◌≡◌, ℕ, ◌-◌, ◌<◌, inl, Bool, true, false, cond, List, refl, sym, ◌∙◌, ap, subst}
 use Rattle.std.specs.Prelude.{IsTrue, ◌↔◌}
 use Rattle.std.specs.List.{All}
 use Rattle.std.specs.List.Sorted.{IsStrictlyIncreasing}
@@ -20,9 +20,8 @@ use Rattle.read_plan.specs.Pins.{times, AreUnpinned}
 use Rattle.vol_core.specs.declared.event.Event.TheVariants.{Release}
 use Rattle.vol_core.specs.declared.reply.Reply.TheVariants as told
 use Rattle.vol_core.specs.Volume.{VolumeState}
-use Rattle.vol_core.specs.Shows.{Shows, IsSmall}
+use Rattle.vol_core.specs.Shows.{Shows}
 use Rattle.vol_core.specs.Step.{StepsAsPlain}
-use Rattle.vol_core.specs.Calls.{HasRoomForStep}
 use Rattle.vol_core.proofs.StepLemmas.{quiet_step}
 use Rattle.vol_core.proofs.PinCounts.{times_without, ascending_are_pinned, ascending_are_not_pinned}
 
@@ -35,14 +34,6 @@ with_pins pins volume = record volume { pins = pins }
 pub logged_with : (data_at : ℕ → ℕ) (log : LogState) (plain : PlainState) (cache : PlainCache) (pins : List ℕ) → HasLoggedEntries data_at log plain
     → HasLoggedEntries data_at log (record plain { cache = cache; pins = pins })
 logged_with data_at log plain cache pins is = record { first = is.first; rows = is.rows; entries = is.entries; placed = is.placed }
-
--- the numbers of a volume stay small where only its pins change
-pub pins_small : (old : VolumeState) (pins : List ℕ) (steps : ℕ) → HasRoomForStep (record { volume = old; steps = steps })
-    → IsSmall (with_pins pins old) steps
-pins_small old pins steps ready =
-    let counted = ready.counted in
-    let small = ready.small in
-    record { entries = omega (arith, small.entries); objects = omega (arith, small.objects); commits = omega (arith, small.commits) }
 
 -- ---- a plan is given back
 
@@ -76,7 +67,8 @@ released_steps state plan old pins numbers more all ascend asked taken means eac
     inl
     (quiet_step state (Release plan) told.Released plain old (with_pins pins old) (events.Release plan.objects) shows refl
     (ap (λ b. cond b replies.Released replies.Nothing) are)
-    (released_shown old pins plan.objects plain shows are (subst (λ list. AreUnpinned list old.pins pins) taken out)))
+    (released_shown old pins plan.objects plain shows are (subst (λ list. AreUnpinned list old.pins pins) taken out)) refl
+    (ap (λ b. (cond b (record plain { pins = without_pins plan.objects plain.pins }) plain).cache) are))
 
 -- one was not
 pub not_released_steps : {R : Type 0} (state : R → ReceiptState) (plan : PlanState) (old : VolumeState) (numbers : List ℕ) (all : Bool)
@@ -89,4 +81,5 @@ not_released_steps state plan old numbers all asked means not_all plain shows =
     let stays : after_plan_release plan.objects plain ≡ plain = ap (λ b. cond b now plain) not in
     inl
     (quiet_step state (Release plan) (told.NotReleased plan) plain old old (events.Release plan.objects) shows refl
-    (ap (λ b. cond b replies.Released replies.Nothing) not) (subst (Shows old) (sym stays) shows))
+    (ap (λ b. cond b replies.Released replies.Nothing) not) (subst (Shows old) (sym stays) shows) refl
+    (ap (λ (p : PlainState). p.cache) stays))

@@ -1,12 +1,13 @@
 -- A step that asks the device for nothing, and the invariant after a step.
 use Rattle.std.proofs.Common.{◌≡◌, ℕ, zero, suc, ◌+◌, ◌-◌, ◌≤◌, ◌⊎◌, inl, inr, Option, Some, None, List, [], ◌∷◌, drop, sym, ◌∙◌, ap, subst, arith}
 use Rattle.std.specs.Prelude.{IfSome}
+use Rattle.std.proofs.Math.Path.{subst₂}
 use Rattle.std.proofs.lemmas.List.{drop-drop}
 use Rattle.lsvd_base.specs.declared.entry.Entry.{Entry}
 use Rattle.lsvd_device.specs.Calls.{Fuse}
 use Rattle.lsvd_objstore.specs.Store.{ReceiptState}
 use Rattle.cache_log.specs.declared.row.Row.{Row}
-use Rattle.cache_log.specs.Log.{LogState}
+use Rattle.cache_log.specs.Log.{LogState, next_seq, AreRowsOf}
 use Rattle.obj_log.specs.State.{ObjLogState}
 use Rattle.plain_disk.specs.declared.event.PlainEvent.{PlainEvent}
 use Rattle.plain_disk.specs.Cache.{PlainCache}
@@ -15,15 +16,17 @@ use Rattle.plain_disk.specs.Step.{plain_reply, plain_after}
 use Rattle.plain_disk.specs.Valid.{IsPlainVolume}
 use Rattle.plain_disk.proofs.EndLemmas.{ends_from}
 use Rattle.log_meaning.specs.Shows.{ShowsLog}
-use Rattle.log_meaning.specs.Logged.{AreRowsOf, listed_from, HasLoggedEntries}
+use Rattle.log_meaning.specs.Logged.{listed_from, HasLoggedEntries}
 use Rattle.objects_meaning.specs.Shows.{ShowsObjects}
+use Rattle.pending_meaning.specs.Pending.{ShowsPending}
 use Rattle.read_plan.specs.Pins.{times}
 use Rattle.vol_core.specs.declared.event.Event.{Event}
 use Rattle.vol_core.specs.declared.reply.Reply.{Reply}
 use Rattle.vol_core.specs.Volume.{VolumeState, SteppedVolume}
-use Rattle.vol_core.specs.Shows.{Shows, IsSmall, IsVolume}
+use Rattle.vol_core.specs.Shows.{Shows, IsSmall, NumbersGrow, IsVolume}
 use Rattle.vol_core.specs.Events.{Asks, Tells}
 use Rattle.vol_core.specs.Step.{passing, IsStep, IsNoStep, StepsAsPlain}
+use Rattle.vol_core.specs.Calls.{HasRoomForStep}
 
 -- ---- other calls
 
@@ -46,34 +49,62 @@ passing_keeps left plain valid = record {
 
 -- ---- a step without calls of the device
 
--- It takes the fuse that the plain volume has, which is the one that the device tells.
+-- It takes the fuse that the plain volume has, which is the one that the device tells; and the log and the cache are as they were.
 pub quiet_step : {R : Type 0} (state : R → ReceiptState) (event : Event R) (reply : Reply R) (plain : PlainState) (old new : VolumeState)
     → (asked : PlainEvent) → Shows old plain → Asks state old event asked → Tells state old reply (plain_reply plain asked)
-    → Shows new (plain_after asked plain)
+    → Shows new (plain_after asked plain) → new.log ≡ old.log → (plain_after asked plain).cache ≡ plain.cache
     → IsStep state event reply plain old new
-quiet_step state event reply plain old new asked shows asks tells now = record {
+quiet_step state event reply plain old new asked shows asks tells now same_log same_cache = record {
   left = plain.cache.left;
   asked = asked;
   asks = asks;
   tells = tells;
   shows = subst (λ left. Shows new (passing left (plain_after asked plain))) now.fuse now;
   told = λ room. (shows.fuse, now.fuse);
+  pending = λ room pends. subst₂ ShowsPending (sym same_log) (sym same_cache) pends;
 }
+
+-- ---- numbers
+
+-- they do not grow where neither the log nor the objects change
+pub numbers_stay : (old new : VolumeState) → new.log ≡ old.log → new.objects ≡ old.objects → NumbersGrow old new
+numbers_stay old new same_log same_objects =
+    let next = ap next_seq same_log in
+    let last = ap (λ (o : ObjLogState). o.uploads.window.last) same_objects in
+    let number = ap (λ (l : LogState). l.commits.number) same_log in
+    record { entries = omega (arith, next); objects = omega (arith, last); commits = omega (arith, number) }
+
+-- they grow from those of the volume as it is seen before
+pub numbers_seen : (new : VolumeState) (inside seen : SteppedVolume) → inside ≡ seen → NumbersGrow inside.volume new → NumbersGrow seen.volume new
+numbers_seen new inside seen same grow = subst (λ (s : SteppedVolume). NumbersGrow s.volume new) same grow
+
+-- a step leaves them small
+pub small_of : (old new : VolumeState) (steps : ℕ) → NumbersGrow old new → HasRoomForStep (record { volume = old; steps = steps })
+    → IsSmall new steps
+small_of old new steps grow ready =
+    let counted = ready.counted in
+    let small = ready.small in
+    record {
+      entries = omega (arith, counted, small.entries, grow.entries);
+      objects = omega (arith, counted, small.objects, grow.objects);
+      commits = omega (arith, counted, small.commits, grow.commits);
+    }
 
 -- ---- the invariant after a step
 
 -- a step leaves a volume that shows some plain volume
 pub shown_after : {R : Type 0} (state : R → ReceiptState) (event : Event R) (reply : Reply R) (plain : PlainState) (old new : VolumeState)
-    → IsStep state event reply plain old new ⊎ IsNoStep event reply plain new → (now : PlainState) × Shows new now
+    → IsStep state event reply plain old new ⊎ IsNoStep event reply plain old new → (now : PlainState) × Shows new now
 shown_after state event reply plain old new (inl step) = (_, step.shows)
 shown_after state event reply plain old new (inr none) = (plain, none.shows)
 
 pub steps_keep_volume : {R : Type 0} (state : R → ReceiptState) (event : Event R) (reply : Reply R) (old new : VolumeState) (steps : ℕ)
-    → IsVolume (record { volume = old; steps = steps }) → StepsAsPlain state event reply old new → IsSmall new steps
+    → IsVolume (record { volume = old; steps = steps }) → HasRoomForStep (record { volume = old; steps = steps })
+    → StepsAsPlain state event reply old new → NumbersGrow old new
     → IsVolume (record { volume = new; steps = steps })
-steps_keep_volume state event reply old new steps is as_plain small =
+steps_keep_volume state event reply old new steps is ready as_plain grow =
     let after = shown_after state event reply is.plain old new (as_plain is.plain is.shows) in
-    record { plain = after.0; shows = after.1; steps = is.steps; small = small }
+    record { plain = after.0; shows = after.1; steps = is.steps; small = small_of old new steps grow ready }
 
 -- the step is that of the volume as it is seen before
 pub step_seen : {R : Type 0} (state : R → ReceiptState) (event : Event R) (reply : Reply R) (new : VolumeState) (inside seen : SteppedVolume)

@@ -178,6 +178,7 @@ reserved_stops uuid data_at log plain reserved is =
         numbered = disk.numbered;
         held = disk.held;
         start = disk.start;
+        ends = disk.ends;
         all = disk.all;
         entries = disk.entries;
         stands = disk.stands;

@@ -35,6 +35,12 @@ pub record IsSmall (volume : VolumeState) (steps : ℕ) : Type 0 where
   pub objects : volume.objects.uploads.window.last ≤ max_number + steps
   pub commits : volume.log.commits.number ≤ max_number + 2 * steps
 
+-- a step adds an entry and an object at most, and makes two commits at most
+pub record NumbersGrow (old new : VolumeState) : Type 0 where
+  pub entries : next_seq new.log ≤ next_seq old.log + 1
+  pub objects : new.objects.uploads.window.last ≤ old.objects.uploads.window.last + 1
+  pub commits : new.log.commits.number ≤ old.log.commits.number + 2
+
 -- what holds of each volume
 pub record IsVolume (stepped : SteppedVolume) : Type 0 where
   pub plain : PlainState

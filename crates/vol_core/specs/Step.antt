@@ -1,12 +1,17 @@
 -- Contract: what a step of a volume is: one step of the plain volume that it shows.
-use Rattle.std.specs.Prelude.{◌≡◌, ℕ, ◌+◌, ◌⊎◌, Bool, true, false, length}
+use Rattle.std.specs.Prelude.{◌≡◌, ℕ, ◌+◌, ◌⊎◌, Bool, true, false, List, length}
+use Rattle.std.specs.List.{list_any}
 use Rattle.lsvd_base.specs.declared.entry.Entry.TheVariants as entries
 use Rattle.lsvd_fault.specs.Faults.{Counts}
 use Rattle.lsvd_device.specs.Calls.{Fuse, Cost, write_cost, together}
 use Rattle.lsvd_device.specs.Memory.{HasRoom}
 use Rattle.lsvd_objstore.specs.Store.{ReceiptState}
 use Rattle.commit_slot.specs.Commits.{first_half_cost, second_half_cost, no_cost}
+use Rattle.upload_window.specs.Window.{has_number}
+use Rattle.object_uploads.specs.Queue.{HasBytesAt}
+use Rattle.object_uploads.specs.Changes.{index_of}
 use Rattle.object_uploads.specs.Image.{IsReceiptFor}
+use Rattle.pending_meaning.specs.Pending.{ShowsPending}
 use Rattle.plain_disk.specs.declared.event.PlainEvent.{PlainEvent}
 use Rattle.plain_disk.specs.State.{PlainState}
 use Rattle.plain_disk.specs.Step.{plain_reply, plain_after}
@@ -90,7 +95,8 @@ passing left plain = record plain { cache = record plain.cache { left = left } }
 
 -- A step is one of the plain volume that the volume shows, whose device passes some calls: those that the volume's device tells that
 -- it passes, where it has room for the step's; and else as many as it did, as if a fuse had failed the others. The reply tells the
--- plain volume's, and the volume shows what that becomes.
+-- plain volume's, and the volume shows what that becomes. Where the device has room for the step's calls, and as many writes were
+-- pending on it as on the plain volume's cache, so they are then.
 pub record IsStep {R : Type 0} (state : R → ReceiptState) (event : Event R) (reply : Reply R) (plain : PlainState) (old new : VolumeState) : Type 0 where
   pub left : Fuse
   pub asked : PlainEvent
@@ -100,12 +106,15 @@ pub record IsStep {R : Type 0} (state : R → ReceiptState) (event : Event R) (r
   pub told : HasRoom (most_of_step event).changes (most_of_step event).bytes old.log.commits.disk.budget
       → (left ≡ fuse_in old.log.commits.disk.budget)
       × ((plain_after asked (passing left plain)).cache.left ≡ fuse_in new.log.commits.disk.budget)
+  pub pending : HasRoom (most_of_step event).changes (most_of_step event).bytes old.log.commits.disk.budget
+      → ShowsPending old.log plain.cache → ShowsPending new.log (plain_after asked (passing left plain)).cache
 
 -- nothing was done, since memory ran out
-pub record IsNoStep {R : Type 0} (event : Event R) (reply : Reply R) (plain : PlainState) (new : VolumeState) : Type 0 where
+pub record IsNoStep {R : Type 0} (event : Event R) (reply : Reply R) (plain : PlainState) (old new : VolumeState) : Type 0 where
   pub may : may_lack_memory event ≡ true
   pub lacks : lacks_memory reply ≡ true
   pub shows : Shows new plain
+  pub pending : ShowsPending old.log plain.cache → ShowsPending new.log plain.cache
 
 -- no step changes the geometry, nor the uuid
 pub record HasSameSizes (old new : VolumeState) : Type 0 where
@@ -115,4 +124,19 @@ pub record HasSameSizes (old new : VolumeState) : Type 0 where
 -- what the reply to an event and the volume after it are, by each plain volume that the volume showed
 abbrev pub StepsAsPlain : {R : Type 0} → (R → ReceiptState) → Event R → Reply R → (old new : VolumeState) → Type 0
 StepsAsPlain state event reply old new =
-    (plain : PlainState) → Shows old plain → IsStep state event reply plain old new ⊎ IsNoStep event reply plain new
+    (plain : PlainState) → Shows old plain → IsStep state event reply plain old new ⊎ IsNoStep event reply plain old new
+
+-- ---- objects on their way
+
+-- an object is on its way to the store: it is sealed, and not acknowledged
+abbrev pub IsOnItsWay : VolumeState → (number : ℕ) → Type 0
+IsOnItsWay volume number = list_any (has_number number) volume.objects.uploads.window.objects ≡ true
+
+-- bytes are those of the object of a number that is on its way
+abbrev pub HasBytesOf : VolumeState → (number : ℕ) → (bytes : List ℕ) → Type 0
+HasBytesOf volume number bytes = HasBytesAt (index_of volume.objects.uploads number) volume.objects.uploads.queue.sealed bytes
+
+-- an object that is on its way keeps its bytes
+abbrev pub KeepsBytes : (old new : VolumeState) → Type 0
+KeepsBytes old new =
+    (number : ℕ) (bytes : List ℕ) → IsOnItsWay old number → HasBytesOf old number bytes → IsOnItsWay new number → HasBytesOf new number bytes

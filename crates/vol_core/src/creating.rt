@@ -1,10 +1,12 @@
-ghost use Rattle.std.specs.Prelude.{◌≡◌, ◌+◌, ◌<◌, ◌≤◌, ◌^◌, IfOk, IfErr, IsTrue};
+ghost use Rattle.std.specs.Prelude.{◌≡◌, ◌+◌, ◌<◌, ◌≤◌, ◌^◌, true, false, IfOk, IfErr, IsTrue};
 ghost use Rattle.lsvd_base.specs.Limits.{is_within_limits};
 ghost use Rattle.lsvd_device.specs.Device.{IsDisk};
 ghost use Rattle.log_room.specs.Room.{max_log};
 ghost use Rattle.cache_log.specs.Rows.{byte_of};
 ghost use Rattle.commit_slot.specs.Slots.{log_of};
-ghost use Rattle.vol_core.specs.Creating.{IsCreated};
+ghost use Rattle.plain_disk.specs.State.{created_volume};
+ghost use Rattle.pending_meaning.specs.Pending.{ShowsPending};
+ghost use Rattle.vol_core.specs.Creating.{IsCreated, CostsFormat, CanFormat};
 
 use crate::volume::Volume;
 use cache_log::CacheLog;
@@ -23,7 +25,8 @@ const FIRST_OBJECT: u64 = 1;
 /// a checkpoint of no sectors, which the caller has put into the store.
 ///
 /// The geometry is within the limits, and its log has just the sectors of the device past byte 4,096 (conditions). `Failed` comes
-/// with the device where a call of it failed; it is to be formatted again.
+/// with the device where a call of it failed; it is to be formatted again. The device is asked for the calls of formatting alone, of
+/// which those are made that its fuse passes, where it has room for them; and where it tells what it holds too, nothing is pending then.
 pub fn create<D: Disk, R: Receipt>(
     alloc: Global,
     disk: D,
@@ -35,6 +38,10 @@ pub fn create<D: Disk, R: Receipt>(
     requires is_disk { IsDisk (D.state disk) }
     ensures ok { IfOk result (IsCreated uuid geometry) }
     ensures is_disk { IfErr result (λ error. IsDisk (D.state error.0)) }
+    ensures calls { IfOk result (λ stepped. CostsFormat uuid true (D.state disk) stepped.volume.log.commits.disk) }
+    ensures err { IfErr result (λ error. CostsFormat uuid false (D.state disk) (D.state error.0)) }
+    ensures pending { IfOk result (λ stepped.
+        CanFormat (D.state disk) → ShowsPending stepped.volume.log (created_volume geometry).cache) }
 {
     let log = CacheLog::format(alloc, disk, uuid.into_bytes(), 0, 0)?;
     let objects = ObjLog::new(alloc, uuid, geometry, FIRST_OBJECT, 0);

@@ -1,12 +1,14 @@
 ghost use Rattle.std.specs.Prelude.{◌≡◌, ◌+◌, ◌<◌, [], false};
 ghost use Rattle.std.specs.Fn.{FnOnceReturnsAtMut};
 ghost use Rattle.commit_slot.specs.Lending.{ChangesBudgetAlone};
+ghost use Rattle.cache_log.specs.Committed.{IsOnDisk};
+ghost use Rattle.object_uploads.specs.Order.{IsUploads};
 ghost use Rattle.plain_disk.specs.State.{PlainState};
 ghost use Rattle.log_meaning.specs.Fuses.{fuse_in};
 ghost use Rattle.vol_core.specs.Volume.{volume_of, with_budget_of};
 ghost use Rattle.vol_core.specs.declared.event.Event.TheVariants as events;
-ghost use Rattle.vol_core.specs.Shows.{Shows, IsSmall, max_number};
-ghost use Rattle.vol_core.specs.Step.{passing, HasItsReceipt, StepsAsPlain, HandsBack, HasSameSizes, tells_fault, CountsFault};
+ghost use Rattle.vol_core.specs.Shows.{Shows, IsSmall, NumbersGrow, max_number};
+ghost use Rattle.vol_core.specs.Step.{passing, HasItsReceipt, StepsAsPlain, HandsBack, HasSameSizes, tells_fault, CountsFault, KeepsBytes};
 ghost use Rattle.vol_core.specs.Stops.{HasOwnCommits, KeepsNow, StepKeeps};
 ghost use Rattle.vol_core.specs.Calls.{HasRoomForStep, event_of};
 
@@ -74,7 +76,9 @@ impl<D: Disk, R: Receipt> Volume<D, R> {
     /// The reply is that of the plain volume which this one shows, and this one then shows what that becomes. A device that fails a
     /// call without being told to stop does as one whose fuse ends there. After want of memory the volume shows what it showed. A step
     /// makes at most the device calls of one commit and one record, or one read for each run of sectors that a write past the
-    /// frontier's end wrote last; `Fault` is told exactly where one of them failed, which the device counted once.
+    /// frontier's end wrote last; `Fault` is told exactly where one of them failed, which the device counted once. Where the device has
+    /// room for them, as many writes are pending on it after the step as on the plain volume's cache, if so many were before. A step
+    /// adds an entry and an object at most, and makes two commits at most.
     pub fn step(&mut self, event: Event<R>) -> Reply<R>
         requires steps { self.old.steps < max_number }
         requires receipt { HasItsReceipt R.state event }
@@ -82,8 +86,10 @@ impl<D: Disk, R: Receipt> Volume<D, R> {
         ensures back { HandsBack event result }
         ensures steps { self.new.steps ≡ self.old.steps + 1 }
         ensures sizes { HasSameSizes self.old.volume self.new.volume }
+        ensures numbers { NumbersGrow self.old.volume self.new.volume }
         ensures stops { StepKeeps self.old.volume self.new.volume }
         ensures faults { CountsFault result self.old.volume self.new.volume }
+        ensures bytes { KeepsBytes self.old.volume self.new.volume }
     {
         self.steps += 1;
         match event {
@@ -129,6 +135,22 @@ impl<D: Disk, R: Receipt> Volume<D, R> {
         self.log.on_disk();
     }
 
+    /// What is so of the log and the objects of every volume, as facts for the proofs of callers. Nothing is done.
+    pub fn is_ordered(&self)
+        ensures on_disk { IsOnDisk self.now.volume.log }
+        ensures uploads { IsUploads self.now.volume.objects.uploads.queue self.now.volume.objects.uploads.window }
+    {
+        self.log.on_disk();
+        self.objects.ordered();
+    }
+
+    /// The device.
+    pub fn disk(&self) -> &D
+        ensures { D.state result.now ≡ self.now.volume.log.commits.disk }
+    {
+        self.log.disk()
+    }
+
     /// Lends the device to a closure, which may be called, and changes no more of it than the calls that it still passes and its room
     /// (conditions). What the closure answers is answered. The volume shows what it showed, but for these calls.
     pub fn with_disk<T, F: FnOnce(&mut D) -> T>(&mut self, change: F) -> T
@@ -154,8 +176,10 @@ impl<D: Disk, R: Receipt> Volume<D, R> {
         ensures back { HandsBack (event_of entry) result }
         ensures steps { self.new.steps ≡ self.old.steps }
         ensures sizes { HasSameSizes self.old.volume self.new.volume }
+        ensures numbers { NumbersGrow self.old.volume self.new.volume }
         ensures stops { StepKeeps self.old.volume self.new.volume }
         ensures faults { CountsFault result self.old.volume self.new.volume }
+        ensures bytes { KeepsBytes self.old.volume self.new.volume }
     {
         self.objects.ordered();
         self.log.on_disk();
@@ -169,8 +193,10 @@ impl<D: Disk, R: Receipt> Volume<D, R> {
         ensures back { HandsBack events.Flush result }
         ensures steps { self.new.steps ≡ self.old.steps }
         ensures sizes { HasSameSizes self.old.volume self.new.volume }
+        ensures numbers { NumbersGrow self.old.volume self.new.volume }
         ensures stops { StepKeeps self.old.volume self.new.volume }
         ensures faults { CountsFault result self.old.volume self.new.volume }
+        ensures bytes { KeepsBytes self.old.volume self.new.volume }
     {
         self.objects.ordered();
         self.log.on_disk();
@@ -187,8 +213,10 @@ impl<D: Disk, R: Receipt> Volume<D, R> {
         ensures back { HandsBack (events.Look lba sectors) result }
         ensures steps { self.new.steps ≡ self.old.steps }
         ensures sizes { HasSameSizes self.old.volume self.new.volume }
+        ensures numbers { NumbersGrow self.old.volume self.new.volume }
         ensures stops { StepKeeps self.old.volume self.new.volume }
         ensures faults { CountsFault result self.old.volume self.new.volume }
+        ensures bytes { KeepsBytes self.old.volume self.new.volume }
     {
         self.objects.ordered();
         if !self.geometry().may_transfer(lba, sectors) {
@@ -209,8 +237,10 @@ impl<D: Disk, R: Receipt> Volume<D, R> {
         ensures back { HandsBack (events.Release plan) result }
         ensures steps { self.new.steps ≡ self.old.steps }
         ensures sizes { HasSameSizes self.old.volume self.new.volume }
+        ensures numbers { NumbersGrow self.old.volume self.new.volume }
         ensures stops { StepKeeps self.old.volume self.new.volume }
         ensures faults { CountsFault result self.old.volume self.new.volume }
+        ensures bytes { KeepsBytes self.old.volume self.new.volume }
     {
         if !self.pins.has_all(plan.objects()) {
             return Reply::NotReleased(plan);
@@ -226,8 +256,10 @@ impl<D: Disk, R: Receipt> Volume<D, R> {
         ensures back { HandsBack events.Seal result }
         ensures steps { self.new.steps ≡ self.old.steps }
         ensures sizes { HasSameSizes self.old.volume self.new.volume }
+        ensures numbers { NumbersGrow self.old.volume self.new.volume }
         ensures stops { StepKeeps self.old.volume self.new.volume }
         ensures faults { CountsFault result self.old.volume self.new.volume }
+        ensures bytes { KeepsBytes self.old.volume self.new.volume }
     {
         self.objects.ordered();
         seal(self.alloc, &mut self.objects)
@@ -240,8 +272,10 @@ impl<D: Disk, R: Receipt> Volume<D, R> {
         ensures back { HandsBack events.TakeJob result }
         ensures steps { self.new.steps ≡ self.old.steps }
         ensures sizes { HasSameSizes self.old.volume self.new.volume }
+        ensures numbers { NumbersGrow self.old.volume self.new.volume }
         ensures stops { StepKeeps self.old.volume self.new.volume }
         ensures faults { CountsFault result self.old.volume self.new.volume }
+        ensures bytes { KeepsBytes self.old.volume self.new.volume }
     {
         take_job(&mut self.objects)
     }
@@ -254,11 +288,15 @@ impl<D: Disk, R: Receipt> Volume<D, R> {
         ensures back { HandsBack (events.JobDone job receipt) result }
         ensures steps { self.new.steps ≡ self.old.steps }
         ensures sizes { HasSameSizes self.old.volume self.new.volume }
+        ensures numbers { NumbersGrow self.old.volume self.new.volume }
         ensures stops { StepKeeps self.old.volume self.new.volume }
         ensures faults { CountsFault result self.old.volume self.new.volume }
+        ensures bytes { KeepsBytes self.old.volume self.new.volume }
     {
         self.objects.ordered();
-        job_done(&mut self.objects, job, receipt)
+        let reply = job_done(&mut self.objects, job, receipt);
+        self.objects.ordered();
+        reply
     }
 
     // Makes the object of a put that failed ready again.
@@ -268,8 +306,10 @@ impl<D: Disk, R: Receipt> Volume<D, R> {
         ensures back { HandsBack (events.JobFailed job) result }
         ensures steps { self.new.steps ≡ self.old.steps }
         ensures sizes { HasSameSizes self.old.volume self.new.volume }
+        ensures numbers { NumbersGrow self.old.volume self.new.volume }
         ensures stops { StepKeeps self.old.volume self.new.volume }
         ensures faults { CountsFault result self.old.volume self.new.volume }
+        ensures bytes { KeepsBytes self.old.volume self.new.volume }
     {
         job_failed(&mut self.objects, job)
     }

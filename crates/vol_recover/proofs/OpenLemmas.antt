@@ -1,165 +1,189 @@
 -- For `open_log`: a log that was opened, and why one was not.
-use Rattle.std.proofs.Common.{◌≡◌, ℕ, ◌*◌, ◌<◌, ◌≤◌, Bool, true, false, List, map, sym, ◌∙◌, subst}
-use Rattle.std.specs.Prelude.{Option, Some}
-use Rattle.lsvd_base.specs.declared.entry.Entry.{Entry}
+use Rattle.std.proofs.Common.{◌≡◌, ℕ, ◌+◌, ◌*◌, ◌<◌, ◌≤◌, ◌⊎◌, true, false, List, length, refl, sym, ◌∙◌, ap, subst, inl, inr}
+use Rattle.std.specs.Prelude.{not}
 use Rattle.lsvd_base.specs.declared.geometry.Geometry.{Geometry}
 use Rattle.lsvd_device.specs.Device.{DiskState, HoldsNow}
 use Rattle.log_record.specs.declared.reason.Reason.{Reason}
 use Rattle.commit_body.specs.declared.body.CommitBody.{CommitBody}
+use Rattle.commit_body.specs.Body.{MayStand}
 use Rattle.commit_slot.specs.declared.error.LoadError.{LoadError}
 use Rattle.commit_slot.specs.declared.error.LoadError.TheVariants as load_errors
 use Rattle.commit_slot.specs.Slots.{log_of, Reads, ReadsNone}
 use Rattle.commit_slot.specs.Commits.{CommitsState}
-use Rattle.commit_slot.specs.Loading.{MakesAtMost, load_cost, AreLoaded, FailsToLoad, IsCrashSafeLoad}
+use Rattle.commit_slot.specs.Loading.{MakesAtMost, load_cost, AreLoaded, FailsToLoad, IsCrashSafeLoad, LeavesSettled, AreButSynced}
 use Rattle.cache_log.specs.declared.error.OpenError.{OpenError}
 use Rattle.cache_log.specs.declared.error.OpenError.TheVariants as open_errors
 use Rattle.cache_log.specs.declared.row.Row.{Row}
-use Rattle.cache_log.specs.Reads.{AreReadOnly, reads_cost, opens_without_fault}
-use Rattle.cache_log.specs.Rows.{entry_of}
+use Rattle.cache_log.specs.Reads.{AreReadOnly, opens_without_fault}
 use Rattle.cache_log.specs.Opening.{AreRecordsInRange, IsBadRecord, IsBadLog, IsOpenedLog, entry_count}
-use Rattle.cache_log.specs.Log.{LogState}
+use Rattle.cache_log.specs.Log.{LogState, next_seq}
+use Rattle.vol_core.specs.Shows.{max_number}
 use Rattle.vol_recover.specs.declared.error.MountError.{MountError}
-use Rattle.vol_recover.specs.declared.error.MountError.TheVariants.{Worn}
-use Rattle.vol_recover.specs.Mounting.{FailsToMount, IsWorn, IsBadVolume, worn_number}
-use Rattle.vol_recover.specs.CrashSafety.{IsCrashSafeFailure}
-use Rattle.vol_recover.specs.MountCosts.{open_cost, again_cost, CostsFailure}
-use Rattle.vol_recover.specs.Steps.{IsOpened, of_load, of_open}
+use Rattle.vol_recover.specs.declared.error.MountError.TheVariants.{NoCheckpoint, BadObject, NotData, NoSlot, WrongVolume, BadRecord, Worn, StoreFault, DeviceFault, OutOfMemory}
+use Rattle.vol_recover.specs.Refusals.{of_load, of_open, ReadsAs, IsBadLeftLog, is_device_fault}
+use Rattle.vol_recover.specs.Costs.{open_cost, CostsMount}
+use Rattle.vol_recover.specs.Steps.{IsOpenedOf, IsWhyNotOpened, IsWhyRefusedCommit}
 use Rattle.vol_recover.proofs.Moments.{now_as, now_with}
-use Rattle.vol_recover.proofs.RecordLemmas.{records_before, entries_before, bad_before}
-use Rattle.vol_recover.proofs.CrashLemmas.{load_keeps_volume, load_then_reads}
-use Rattle.vol_recover.proofs.CostLemmas.{most_then, most_more, most_reads, load_alone, counts_none, counts_read}
+use Rattle.vol_recover.proofs.RecordLemmas.{bad_before}
+use Rattle.vol_recover.proofs.CostLemmas.{opened_calls, costs_load, costs_open}
 
--- ---- the log is opened
+-- all that is promised where a log was not opened
+pub record IsNotOpened (uuid : List ℕ) (geometry : Geometry) (end : ℕ) (error : MountError) (old new : DiskState) : Type 0 where
+  pub why : IsWhyNotOpened uuid geometry end old error
+  pub settled : LeavesSettled old new
+  pub costs : CostsMount geometry (not (is_device_fault error)) old new
 
-pub opened : (geometry : Geometry) (old : DiskState) (commits : CommitsState) (log : LogState) → log_of old.size ≡ geometry.log → IsCrashSafeLoad old commits.disk → AreLoaded old commits
-    → commits.number < worn_number → IsOpenedLog geometry commits log → IsOpened geometry old log
-opened geometry old commits log sectors safe loaded young is =
-    let N : ℕ → Type 0 = λ n. HoldsNow (λ now. Reads n now.bytes commits.body commits.number) old.moments in
-    let E : Option (List Entry) → Type 0 = λ list. HoldsNow (λ now. list ≡ Some (map (entry_of now.bytes) log.rows)) old.moments in
-    let other : LogState = record log { commits = record log.commits { number = commits.number; body = commits.body; unfinished = commits.unfinished } } in
-    let all : IsOpened geometry old other = record {
-      read = subst N sectors loaded.read;
-      young = young;
-      finished = loaded.finished;
-      room = is.room;
-      held = is.held;
-      start = is.start;
-      first = is.first;
-      rows = is.rows;
-      records = records_before geometry commits.body log.rows old.moments commits.disk.moments safe.log_area is.records;
-      entries = subst E (sym is.entries) (entries_before geometry commits.body log.rows old.moments commits.disk.moments safe.log_area is.records);
-      all = is.all;
-      in_range = is.in_range;
-    } in
-    let P : ℕ → CommitBody → Option CommitBody → Type 0 = λ n b u. IsOpened geometry old (record log { commits = record log.commits { number = n; body = b; unfinished = u } }) in
-    subst (λ u. P log.commits.number log.commits.body u) (sym is.only.same.same_unfinished)
-    (subst (λ b. P log.commits.number b commits.unfinished) (sym is.only.same.same_body) (subst (λ n. P n commits.body commits.unfinished) (sym is.only.same.same_number) all))
+-- ---- the commits were not loaded
 
--- what it took
-opened_calls : (count : ℕ) (is_made : Bool) (old : DiskState) (middle new : CommitsState) → MakesAtMost load_cost true old middle.disk → AreReadOnly (2 * count) is_made middle new
-    → MakesAtMost (open_cost count) is_made old new.disk
-opened_calls count is_made old middle new first second =
-    most_then load_cost (reads_cost (2 * count)) is_made old middle.disk new.disk first (most_reads (2 * count) is_made middle.disk new.disk second.reads)
+module _ (uuid : List ℕ) (geometry : Geometry) (end : ℕ) (old : DiskState) (sectors : geometry.log ≡ log_of old.size) where
+  load_fails : (error : LoadError) (new : DiskState) → FailsToLoad error old new → LeavesSettled old new
+      → IsNotOpened uuid geometry end (of_load error) old new
+  load_fails (load_errors.NoSlot log) new fails settled = record {
+    why = (fails.0 ∙ sym sectors, subst (λ n. HoldsNow (λ now. ReadsNone n now.bytes) old.moments) (sym sectors) fails.1);
+    settled = settled;
+    costs = costs_load geometry true old new fails.3;
+  }
+  load_fails load_errors.DeviceFault new fails settled = record { why = tt; settled = settled; costs = costs_load geometry false old new fails }
 
-pub opened_cost : (geometry : Geometry) (old : DiskState) (commits : CommitsState) (log : LogState) → MakesAtMost load_cost true old commits.disk → IsOpenedLog geometry commits log
-    → MakesAtMost (open_cost (entry_count log.commits.body)) true old log.commits.disk
-opened_cost geometry old commits log load is =
-    let P : CommitBody → Type 0 = λ b. MakesAtMost (open_cost (entry_count b)) true old log.commits.disk in
-    subst P (sym is.only.same.same_body) (opened_calls (entry_count commits.body) true old commits log.commits load is.only)
+  pub not_loaded : (error : LoadError) (result : MountError) (new : DiskState) → result ≡ of_load error → FailsToLoad error old new
+      → LeavesSettled old new
+      → IsNotOpened uuid geometry end result old new
+  not_loaded error result new is fails settled =
+      subst (λ r. IsNotOpened uuid geometry end r old new) (sym is) (load_fails error new fails settled)
 
--- ---- it is not
+  -- ---- they were loaded
 
--- all that is promised of a mount that failed
-pub record IsNotMounted (geometry : Geometry) (error : MountError) (old new : DiskState) : Type 0 where
-  pub why : FailsToMount geometry error old
-  pub crash_safe : IsCrashSafeFailure geometry error old new
-  pub costs : CostsFailure geometry error old new
+  module _ (commits : CommitsState) (loaded : AreLoaded old commits) (load : MakesAtMost load_cost true old commits.disk)
+      (settled : LeavesSettled old commits.disk) where
+    read_is : HoldsNow (λ now. Reads geometry.log now.bytes commits.body commits.number) old.moments
+    read_is = subst (λ n. HoldsNow (λ now. Reads n now.bytes commits.body commits.number) old.moments) (sym sectors) loaded.read
 
--- the commits were not loaded
-load_fails : (error : LoadError) (geometry : Geometry) (old new : DiskState) → log_of old.size ≡ geometry.log → IsCrashSafeLoad old new → FailsToLoad error old new → IsNotMounted geometry (of_load error) old new
-load_fails (load_errors.NoSlot log) geometry old new sectors safe fails =
-    let N : ℕ → Type 0 = λ n. HoldsNow (λ now. ReadsNone n now.bytes) old.moments in
-    record {
-      why = (fails.0 ∙ sectors, subst N sectors fails.1);
-      crash_safe = record { stops = load_keeps_volume geometry old new sectors safe; left_alone = fails.2 };
-      costs = record { count = 0; is_count = counts_none geometry.log old.moments; calls = fails.3 };
+    -- it reads as this commit
+    reads_as : (P : ℕ → CommitBody → Type 0) → P commits.number commits.body → ReadsAs geometry P old
+    reads_as P is =
+        now_as (λ now. Reads geometry.log now.bytes commits.body commits.number)
+        (λ now. (number : ℕ) × (body : CommitBody) × Reads geometry.log now.bytes body number × P number body) old.moments
+        (λ now reads. (commits.number, commits.body, reads, is)) read_is
+
+    -- as it is left by reads
+    settled_on : (new : DiskState) → new.moments ≡ commits.disk.moments → LeavesSettled old new
+    settled_on new same = λ number body reads. subst (AreButSynced old.moments) (sym same) (settled number body reads)
+
+    -- the commit is refused
+    why_refused : (error : MountError) → IsWhyRefusedCommit uuid end commits.body error
+        → IsWhyNotOpened uuid geometry end old error × (not (is_device_fault error) ≡ true)
+    why_refused NoCheckpoint why = absurd why
+    why_refused (BadObject number reason) why = absurd why
+    why_refused (NotData number) why = absurd why
+    why_refused (NoSlot log) why = absurd why
+    why_refused (WrongVolume found) why = (reads_as (λ number body. (body.uuid ≡ found) × (found ≡ uuid → ⊥)) why, refl)
+    why_refused (BadRecord seq reason) why =
+        (inr (why.0, why.1, reads_as (λ number body. seq < body.tail.seq) (subst (λ n. n < commits.body.tail.seq) (sym why.0) why.2)), refl)
+    why_refused (Worn value) why = absurd why
+    why_refused StoreFault why = absurd why
+    why_refused DeviceFault why = absurd why
+    why_refused OutOfMemory why = absurd why
+
+    pub not_taken : (error : MountError) (new : DiskState) → new ≡ commits.disk → IsWhyRefusedCommit uuid end commits.body error
+        → IsNotOpened uuid geometry end error old new
+    not_taken error new same why =
+        let is = why_refused error why in
+        record {
+          why = is.0;
+          settled = settled_on new (ap (λ (d : DiskState). d.moments) same);
+          costs =
+              subst (λ made. CostsMount geometry made old new) (sym is.1)
+              (costs_load geometry true old new (subst (MakesAtMost load_cost true old) (sym same) load));
+        }
+
+    -- the log is not opened
+    bad_left : (safe : IsCrashSafeLoad old commits.disk) (seq : ℕ) (reason : Reason)
+        → IsBadLog geometry commits.body commits.disk.moments (open_errors.BadRecord seq reason) → IsBadLeftLog geometry old seq reason
+    bad_left safe seq reason bad =
+        let B : List ℕ → Type 0 = λ bytes.
+        IsBadRecord geometry commits.body seq reason bytes × ((rows : List Row) → AreRecordsInRange geometry commits.body rows bytes → ⊥) in
+        now_with (λ now. Reads geometry.log now.bytes commits.body commits.number) (λ now. B now.bytes)
+        (λ now. (number : ℕ) × (body : CommitBody) × Reads geometry.log now.bytes body number × IsBadRecord geometry body seq reason now.bytes
+        × ((rows : List Row) → AreRecordsInRange geometry body rows now.bytes → ⊥)) old.moments
+        (λ now reads is. (commits.number, commits.body, reads, is.0, is.1)) read_is
+        (bad_before geometry commits.body seq reason old.moments commits.disk.moments safe.log_area bad)
+
+    open_fails : (safe : IsCrashSafeLoad old commits.disk) (error : OpenError) (new : CommitsState)
+        → IsBadLog geometry commits.body commits.disk.moments error
+        → AreReadOnly (2 * entry_count commits.body) (opens_without_fault error) commits new
+        → IsNotOpened uuid geometry end (of_open error) old new.disk
+    open_fails safe (open_errors.BadRecord seq reason) new bad reads = record {
+      why = inl (bad_left safe seq reason bad);
+      settled = settled_on new.disk reads.moments;
+      costs =
+          costs_open geometry true old new.disk commits.number commits.body read_is
+          (opened_calls (entry_count commits.body) true old commits new load reads);
     }
-load_fails load_errors.DeviceFault geometry old new sectors safe fails = record {
-  why = tt;
-  crash_safe = record { stops = load_keeps_volume geometry old new sectors safe; left_alone = tt };
-  costs = record { count = 0; is_count = counts_none geometry.log old.moments; calls = load_alone false old new fails };
-}
-
-pub not_loaded : (error : LoadError) (result : MountError) (geometry : Geometry) (old new : DiskState) → result ≡ of_load error → log_of old.size ≡ geometry.log → IsCrashSafeLoad old new
-    → FailsToLoad error old new → IsNotMounted geometry result old new
-not_loaded error result geometry old new is sectors safe fails =
-    let P : MountError → Type 0 = λ r. IsNotMounted geometry r old new in
-    subst P (sym is) (load_fails error geometry old new sectors safe fails)
-
--- the volume is worn out
-pub worn_crash_safe : (number : ℕ) (geometry : Geometry) (old middle new : DiskState) → log_of old.size ≡ geometry.log → IsCrashSafeLoad old middle → new ≡ middle → IsCrashSafeFailure geometry (Worn number) old new
-worn_crash_safe number geometry old middle new sectors safe same =
-    subst (IsCrashSafeFailure geometry (Worn number) old) (sym same) (record { stops = load_keeps_volume geometry old middle sectors safe; left_alone = safe })
-
-pub worn_costs : (number : ℕ) (geometry : Geometry) (old middle new : DiskState) → MakesAtMost load_cost true old middle → new ≡ middle → CostsFailure geometry (Worn number) old new
-worn_costs number geometry old middle new load same =
-    subst (CostsFailure geometry (Worn number) old) (sym same) (record { count = 0; is_count = counts_none geometry.log old.moments; calls = load })
-
--- the log is not opened
-bad_volume : (geometry : Geometry) (seq : ℕ) (reason : Reason) (old : DiskState) (commits : CommitsState) → log_of old.size ≡ geometry.log → IsCrashSafeLoad old commits.disk → AreLoaded old commits
-    → commits.number < worn_number → IsBadLog geometry commits.body commits.disk.moments (open_errors.BadRecord seq reason) → HoldsNow (λ now. IsBadVolume geometry seq reason now.bytes) old.moments
-bad_volume geometry seq reason old commits sectors safe loaded young bad =
-    let N : ℕ → Type 0 = λ n. HoldsNow (λ now. Reads n now.bytes commits.body commits.number) old.moments in
-    let was = bad_before geometry commits.body seq reason old.moments commits.disk.moments safe.log_area bad in
-    now_with (λ now. Reads geometry.log now.bytes commits.body commits.number)
-    (λ now. IsBadRecord geometry commits.body seq reason now.bytes × ((rows : List Row) → ¬ AreRecordsInRange geometry commits.body rows now.bytes)) (λ now. IsBadVolume geometry seq reason now.bytes) old.moments
-    (λ now reads is. record { number = commits.number; body = commits.body; read = reads; young = young; bad = is.0; none = is.1 }) (subst N sectors loaded.read) was
-
-open_fails : (error : OpenError) (geometry : Geometry) (old : DiskState) (commits new : CommitsState) → log_of old.size ≡ geometry.log → IsCrashSafeLoad old commits.disk
-    → MakesAtMost load_cost true old commits.disk → AreLoaded old commits → commits.number < worn_number → IsBadLog geometry commits.body commits.disk.moments error
-    → AreReadOnly (2 * entry_count commits.body) (opens_without_fault error) commits new → IsNotMounted geometry (of_open error) old new.disk
-open_fails (open_errors.BadRecord seq reason) geometry old commits new sectors safe load loaded young bad reads =
-    let N : ℕ → Type 0 = λ n. HoldsNow (λ now. Reads n now.bytes commits.body commits.number) old.moments in
-    let kept = load_then_reads old commits.disk new.disk reads.moments safe in
-    record {
-      why = bad_volume geometry seq reason old commits sectors safe loaded young bad;
-      crash_safe = record { stops = load_keeps_volume geometry old new.disk sectors kept; left_alone = kept };
-      costs = record {
-        count = entry_count commits.body;
-        is_count = counts_read geometry.log commits.number commits.body old.moments (subst N sectors loaded.read);
-        calls = opened_calls (entry_count commits.body) true old commits new load reads;
-      };
-    }
-open_fails open_errors.DeviceFault geometry old commits new sectors safe load loaded young bad reads =
-    let count : ℕ = entry_count commits.body in
-    let N : ℕ → Type 0 = λ n. HoldsNow (λ now. Reads n now.bytes commits.body commits.number) old.moments in
-    let kept = load_then_reads old commits.disk new.disk reads.moments safe in
-    record {
+    open_fails safe open_errors.DeviceFault new bad reads = record {
       why = tt;
-      crash_safe = record { stops = load_keeps_volume geometry old new.disk sectors kept; left_alone = tt };
-      costs = record {
-        count = count;
-        is_count = counts_read geometry.log commits.number commits.body old.moments (subst N sectors loaded.read);
-        calls = most_more (open_cost count) (again_cost count) false old new.disk (opened_calls count false old commits new load reads);
-      };
+      settled = settled_on new.disk reads.moments;
+      costs =
+          costs_open geometry false old new.disk commits.number commits.body read_is
+          (opened_calls (entry_count commits.body) false old commits new load reads);
     }
-open_fails open_errors.OutOfMemory geometry old commits new sectors safe load loaded young bad reads =
-    let count : ℕ = entry_count commits.body in
-    let N : ℕ → Type 0 = λ n. HoldsNow (λ now. Reads n now.bytes commits.body commits.number) old.moments in
-    let kept = load_then_reads old commits.disk new.disk reads.moments safe in
-    record {
+    open_fails safe open_errors.OutOfMemory new bad reads = record {
       why = tt;
-      crash_safe = record { stops = load_keeps_volume geometry old new.disk sectors kept; left_alone = kept };
-      costs = record {
-        count = count;
-        is_count = counts_read geometry.log commits.number commits.body old.moments (subst N sectors loaded.read);
-        calls = most_more (open_cost count) (reads_cost count) true old new.disk (opened_calls count true old commits new load reads);
-      };
+      settled = settled_on new.disk reads.moments;
+      costs =
+          costs_open geometry true old new.disk commits.number commits.body read_is
+          (opened_calls (entry_count commits.body) true old commits new load reads);
     }
 
-pub not_opened : (error : OpenError) (result : MountError) (geometry : Geometry) (old new : DiskState) (commits after : CommitsState) → result ≡ of_open error → new ≡ after.disk → log_of old.size ≡ geometry.log
-    → IsCrashSafeLoad old commits.disk → MakesAtMost load_cost true old commits.disk → AreLoaded old commits → commits.number < worn_number → IsBadLog geometry commits.body commits.disk.moments error
-    → AreReadOnly (2 * entry_count commits.body) (opens_without_fault error) commits after → IsNotMounted geometry result old new
-not_opened error result geometry old new commits after is same sectors safe load loaded young bad reads =
-    let P : MountError → DiskState → Type 0 = λ r disk. IsNotMounted geometry r old disk in
-    subst (λ r. P r new) (sym is) (subst (λ disk. P (of_open error) disk) (sym same) (open_fails error geometry old commits after sectors safe load loaded young bad reads))
+    pub not_opened : (safe : IsCrashSafeLoad old commits.disk) (error : OpenError) (result : MountError) (after : CommitsState) (new : DiskState)
+        → result ≡ of_open error → new ≡ after.disk → IsBadLog geometry commits.body commits.disk.moments error
+        → AreReadOnly (2 * entry_count commits.body) (opens_without_fault error) commits after → IsNotOpened uuid geometry end result old new
+    not_opened safe error result after new is same bad reads =
+        subst (λ disk. IsNotOpened uuid geometry end result old disk) (sym same)
+        (subst (λ r. IsNotOpened uuid geometry end r old after.disk) (sym is) (open_fails safe error after bad reads))
+
+    -- ---- it was opened
+
+    module _ (log : LogState) (is : IsOpenedLog geometry commits log) where
+      number_is : log.commits.number ≡ commits.number
+      number_is = is.only.same.same_number
+
+      seq_is : next_seq log ≡ commits.body.head.seq
+      seq_is = ap (λ n. n + length log.rows) is.first ∙ is.rows.seqs
+
+      open_calls : MakesAtMost (open_cost (entry_count commits.body)) true old log.commits.disk
+      open_calls = opened_calls (entry_count commits.body) true old commits log.commits load is.only
+
+      -- and is worn out
+      pub worn_left : (value : ℕ) (new : DiskState) → new ≡ log.commits.disk → max_number ≤ value
+          → (value ≡ log.commits.number) ⊎ (value ≡ next_seq log) → IsNotOpened uuid geometry end (Worn value) old new
+      worn_left value new same great which =
+          let which_is : (value ≡ commits.number) ⊎ (value ≡ commits.body.head.seq) =
+          elim which [ inl e ↦ inl (e ∙ number_is) | inr e ↦ inr (e ∙ seq_is) ] in
+          record {
+            why = (great, reads_as (λ number body. (value ≡ number) ⊎ (value ≡ body.head.seq)) which_is);
+            settled = settled_on new (ap (λ (d : DiskState). d.moments) same ∙ is.only.moments);
+            costs =
+                subst (λ disk. CostsMount geometry true old disk) (sym same)
+                (costs_open geometry true old log.commits.disk commits.number commits.body read_is open_calls);
+          }
+
+      -- or has small numbers
+      pub opened_of : commits.body.uuid ≡ uuid → commits.body.tail.seq ≤ end → MayStand commits.body (log_of commits.disk.size)
+          → log.commits.number < max_number → next_seq log < max_number → IsOpenedOf uuid geometry end old log
+      opened_of is_of tail stands number seq =
+          let size : log_of commits.disk.size ≡ geometry.log = ap log_of load.calls.size ∙ sym sectors in
+          record {
+            commits = commits;
+            read = read_is;
+            is_of = is_of;
+            up_to = record {
+              may_stand = subst (MayStand commits.body) size stands;
+              finished = loaded.finished;
+              opened = is;
+              tail = tail;
+              number = subst (λ n. n < max_number) number_is number;
+              head = subst (λ n. n < max_number) seq_is seq;
+            };
+            settled = settled_on log.commits.disk is.only.moments;
+            calls = open_calls;
+          }

@@ -1,4 +1,6 @@
+pub mod Mounted
 pub mod Mounting
-pub mod CrashSafety
-pub mod MountCosts
+pub mod Refusals
+pub mod Costs
 pub mod Steps
+pub mod Creating

@@ -1,69 +1,63 @@
--- Contract: what a mount finds on a device and makes of it, and why it fails.
-use Rattle.std.specs.Prelude.{◌≡◌, ℕ, ◌+◌, ◌^◌, ◌<◌, ◌≤◌, Some, None, IsTrue, List, map}
-use Rattle.std.specs.List.{AllByRecursion}
-use Rattle.lsvd_base.specs.declared.entry.Entry.{Entry}
+-- Contract: what a mount makes of a plain volume that device and store have, and what a stop leaves meanwhile.
+use Rattle.std.specs.Prelude.{◌≡◌, ℕ, false, Option, IsSomeAnd, List}
 use Rattle.lsvd_base.specs.declared.geometry.Geometry.{Geometry}
-use Rattle.lsvd_base.specs.Range.{is_in_range}
-use Rattle.lsvd_device.specs.Device.{DiskState, HoldsNow}
+use Rattle.lsvd_device.specs.Device.{DiskState, HoldsNow, HoldsSince}
 use Rattle.lsvd_device.specs.Memory.{IsSynced}
-use Rattle.log_room.specs.Room.{room_of}
-use Rattle.log_record.specs.declared.reason.Reason.{Reason}
-use Rattle.commit_body.specs.declared.body.CommitBody.{CommitBody}
-use Rattle.commit_slot.specs.Slots.{Reads, ReadsNone}
-use Rattle.commit_slot.specs.Commits.{IsAt, IsCommit}
-use Rattle.cache_log.specs.declared.row.Row.{Row}
-use Rattle.cache_log.specs.Rows.{entry_of}
-use Rattle.cache_log.specs.Opening.{AreRowsOfLog, AreRecordsInRange, IsBadRecord, sectors_between}
-use Rattle.cache_log.specs.Log.{LogState}
-use Rattle.cache_log.specs.Committed.{LeavesEntriesNow}
+use Rattle.lsvd_device.specs.Stop.{HasNow}
+use Rattle.lsvd_objstore.specs.Objects.{Objects}
+use Rattle.plain_disk.specs.declared.log.PlainCommit.{PlainCommit}
+use Rattle.plain_disk.specs.State.{PlainState, history_length}
+use Rattle.plain_disk.specs.Valid.{IsPlainVolume}
+use Rattle.stop_meaning.specs.Stops.{StopKeeps}
+use Rattle.mount_meaning.specs.Found.{HasCommit, HasObjects}
+use Rattle.mount_meaning.specs.Mounted.{end_of_object, mounted_with, mounted_without}
 use Rattle.vol_recover.specs.declared.error.MountError.{MountError}
-use Rattle.vol_recover.specs.declared.error.MountError.TheVariants.{NoSlot, Worn, BadRecord, DeviceFault, OutOfMemory}
+use Rattle.vol_recover.specs.Mounted.{MountedState, IsMountOf}
+use Rattle.vol_recover.specs.Refusals.{refuses}
 
--- the number of a last commit from which on a volume is worn out
-abbrev pub worn_number : ℕ
-worn_number = 2 ^ 60
+-- ---- without the cache
 
--- The volume was mounted: the log is that of the commit that the device read as, with its entries, and a further commit
--- of the same body was made.
-pub record IsMounted (geometry : Geometry) (old : DiskState) (log : LogState) (list : List Entry) : Type 0 where
-  -- the commit that was found
-  pub number : ℕ
-  pub body : CommitBody
-  pub read : HoldsNow (λ now. Reads geometry.log now.bytes body number) old.moments
-  pub young : number < worn_number
-  -- its log
-  pub room : log.room ≡ room_of geometry.log body.head.position (sectors_between geometry.log body)
-  pub first : log.first ≡ body.tail.seq
-  pub rows : AreRowsOfLog geometry body log.rows
-  pub records : HoldsNow (λ now. AreRecordsInRange geometry body log.rows now.bytes) old.moments
-  -- its entries
-  pub entries : HoldsNow (λ now. list ≡ map (entry_of now.bytes) log.rows) old.moments
-  pub same_entries : HoldsNow (λ now. log.entries ≡ Some list) old.moments
-  pub in_range : HoldsNow (λ now. AllByRecursion (λ entry. IsTrue (is_in_range geometry entry)) list) old.moments
-  -- the commit that was made
-  pub commits : IsAt (number + 1) body None log.commits
-  pub synced : HoldsNow IsSynced log.commits.disk.moments
-  pub stands : LeavesEntriesNow log (IsCommit (number + 1) body)
+-- a store has a plain volume, with its objects up to a number: that before the first missing one
+pub record IsStored (uuid : List ℕ) (geometry : Geometry) (plain : PlainState) (number : ℕ) (objects : Option Objects) : Type 0 where
+  pub valid : IsPlainVolume plain
+  pub geometry_is : plain.geometry ≡ geometry
+  pub objects_are : IsSomeAnd objects (HasObjects uuid plain number)
 
--- the commit is worn out
-pub record IsWorn (geometry : Geometry) (number : ℕ) (bytes : List ℕ) : Type 0 where
-  pub body : CommitBody
-  pub read : Reads geometry.log bytes body number
-  pub worn : worn_number ≤ number
+-- whichever plain volume the store has, the mount makes of it what one without the cache is to make
+abbrev pub MountsStored : (uuid : List ℕ) → Geometry → Option Objects → MountedState → Type 0
+MountsStored uuid geometry objects mounted =
+    (plain : PlainState) (number : ℕ) → IsStored uuid geometry plain number objects → IsMountOf (mounted_without number plain) number mounted
 
--- the log of the commit has no list of records up to its head, and the first bad record is this one
-pub record IsBadVolume (geometry : Geometry) (seq : ℕ) (reason : Reason) (bytes : List ℕ) : Type 0 where
-  pub number : ℕ
-  pub body : CommitBody
-  pub read : Reads geometry.log bytes body number
-  pub young : number < worn_number
-  pub bad : IsBadRecord geometry body seq reason bytes
-  pub none : (rows : List Row) → ¬ AreRecordsInRange geometry body rows bytes
+-- ---- with the cache
 
--- why a volume was not mounted
-abbrev pub FailsToMount : Geometry → MountError → DiskState → Type 0
-FailsToMount geometry (NoSlot log) old = (log ≡ geometry.log) × HoldsNow (λ now. ReadsNone geometry.log now.bytes) old.moments
-FailsToMount geometry (Worn number) old = (worn_number ≤ number) × HoldsNow (λ now. IsWorn geometry number now.bytes) old.moments
-FailsToMount geometry (BadRecord seq reason) old = HoldsNow (λ now. IsBadVolume geometry seq reason now.bytes) old.moments
-FailsToMount geometry DeviceFault old = Unit {0}
-FailsToMount geometry OutOfMemory old = Unit {0}
+-- Device and store have a plain volume: the store its objects up to a number, and the device reads as this commit of its log.
+pub record IsLeft (uuid : List ℕ) (geometry : Geometry) (plain : PlainState) (found : PlainCommit) (number : ℕ) (objects : Option Objects)
+    (disk : DiskState) : Type 0 where
+  pub stored : IsStored uuid geometry plain number objects
+  pub device : HasNow (λ now. HasCommit uuid plain found (end_of_object number plain) now.bytes) disk.moments
+
+-- whichever plain volume they have, the mount makes of it what one with the cache is to make
+abbrev pub MountsLeft : (uuid : List ℕ) → Geometry → Option Objects → DiskState → MountedState → Type 0
+MountsLeft uuid geometry objects disk mounted =
+    (plain : PlainState) (found : PlainCommit) (number : ℕ) → IsLeft uuid geometry plain found number objects disk
+    → IsMountOf (mounted_with found number plain) number mounted
+
+-- ---- stops
+
+-- Where nothing was pending on the device, whatever a stop leaves of it at each moment of the mount keeps all entries of what is made.
+abbrev pub KeepsLeft : (uuid : List ℕ) → Geometry → Option Objects → (old new : DiskState) → Type 0
+KeepsLeft uuid geometry objects old new =
+    (plain : PlainState) (found : PlainCommit) (number : ℕ) → IsLeft uuid geometry plain found number objects old → HoldsNow IsSynced old.moments
+    → HoldsSince (StopKeeps uuid (mounted_with found number plain) (λ head. head ≡ history_length (mounted_with found number plain)))
+    old.moments new.moments
+
+-- ---- completeness
+
+-- an error refuses no plain volume that the store has, and none that device and store have
+abbrev pub RefusesNoneStored : (uuid : List ℕ) → Geometry → Option Objects → MountError → Type 0
+RefusesNoneStored uuid geometry objects error =
+    (plain : PlainState) (number : ℕ) → IsStored uuid geometry plain number objects → refuses error ≡ false
+
+abbrev pub RefusesNoneLeft : (uuid : List ℕ) → Geometry → Option Objects → DiskState → MountError → Type 0
+RefusesNoneLeft uuid geometry objects disk error =
+    (plain : PlainState) (found : PlainCommit) (number : ℕ) → IsLeft uuid geometry plain found number objects disk → refuses error ≡ false

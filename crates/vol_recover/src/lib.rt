@@ -1,17 +1,26 @@
-//! Mounting the volume of a cache device that was stopped.
+//! Creating a volume with its store, and mounting it after a stop: with the cache that it had, or without it on a new device.
 //!
-//! Its contract: `mount` finds the volume that the device reads as, with the entries up to the head
-//! of its last commit, and makes one commit more of just these. Whenever the device stops while it
-//! mounts, it reads as the same volume, and may be mounted again. A volume that is refused is left
-//! as it was, and so is a device without one. The calls of the device are bounded by the number of
-//! entries.
-//! It stands on `cache_log` for the log and its entries, and on `commit_slot` for the commits.
+//! Its contract: a volume that was created has no entries, and its store has its first object. A mount with the cache makes of the plain
+//! volume that device and store have what such a mount is to make: the entries of the objects before the first missing one, or those up to
+//! the head of the commit that the cache reads as, if that are more. One without the cache makes the entries of the objects. Objects past
+//! the first missing number are removed. Whenever the device stops meanwhile, the same is left, and the volume may be mounted again. What
+//! is refused is left as it was.
+//! It stands on `object_recovery` for the objects, on `cache_log` for the log, and on `vol_core` for the volume.
 #![tactic(auto)]
 
+mod adding;
+mod creating;
 mod error;
-mod mounting;
+mod kept;
+mod lost;
+mod mounted;
+mod opening;
+mod recovery;
 #[cfg(test)]
 mod tests;
 
+pub use creating::{CreateError, create};
 pub use error::MountError;
-pub use mounting::{Mounted, mount};
+pub use kept::mount_kept;
+pub use lost::mount_lost;
+pub use mounted::Mounted;

@@ -1,155 +1,267 @@
+ghost use Rattle.std.specs.Prelude.{◌≡◌};
+ghost use Rattle.lsvd_names.specs.Spelling.{IsName};
+ghost use Rattle.lsvd_objstore.specs.Memory.{told_receipt};
+ghost use Rattle.vol_core.specs.Step.{HasItsReceipt};
+
 use super::*;
-use cache_log::CacheLog;
-use commit_slot::LOG_START;
 use log_record::Reason;
-use lsvd_base::{Body, Entry, Geometry, SECTOR_BYTES};
-use lsvd_device::{Disk, FuseDisk, MemDisk};
-use std::alloc::Global;
+use lsvd_base::{Body, Geometry, ObjectBytes};
+use lsvd_device::{Disk, Fate, FuseDisk, MemDisk, StoppedDisk};
+use lsvd_names::{Kind, ObjName};
+use lsvd_objstore::{MemReceipt, MemStore, Store};
+use object_format::{BadObject, Expected, ObjectWriter, Rows};
+use std::alloc::{AllocError, Global};
 use std::process::Abort;
 use std::test::Fail;
+use uuid::Uuid;
+use vol_core::{Event, Reply, Volume, create};
 
-// The sectors of the log of the volume.
-const LOG: u64 = 64;
+const UUID: [u8; 16] = [7; 16];
 
 // The volume of the tests.
 const GEOMETRY: Geometry = Geometry {
     sectors: 64,
     max_write: 8,
     batch: 16,
-    log: LOG,
+    log: 64,
 };
 
 // The bytes of its device.
-const SIZE: u64 = LOG_START + SECTOR_BYTES * LOG;
+const SIZE: u64 = 4_096 + 512 * 64;
 
-// The calls that a mount of it makes.
-const CALLS: u64 = 17;
+type TestVolume = Volume<MemDisk, MemReceipt>;
 
-// Appends an entry to a log.
-fn enter(rt: &impl Abort, log: &mut CacheLog<MemDisk>, entry: &Entry) -> Result<(), Fail> {
-    log.reserve(entry)?;
-    assert!(rt; log.next_seq() < 100);
-    assert!(rt; log.append(entry).is_ok());
+// Another volume's.
+const OTHER: [u8; 16] = [8; 16];
+
+// The name of the object of a number.
+fn name_of(number: u64) -> ObjName
+    ensures { IsName result }
+{
+    ObjName {
+        uuid: Uuid::from_bytes(UUID),
+        kind: Kind::Object,
+        number,
+    }
+}
+
+// The first object of the volume: a checkpoint without entries before it.
+fn checkpoint(alloc: Global) -> Result<ObjectBytes, Fail> {
+    let expected = Expected {
+        uuid: UUID,
+        number: 1,
+        sectors: GEOMETRY.sectors,
+        ancestors: 0,
+        end_before: None,
+    };
+    let header = Rows::Checkpoint.header(&expected, 0, 0);
+    if !expected.may_be_written(&header, &Rows::Checkpoint) {
+        return Err("no object".into());
+    }
+    let writer = ObjectWriter::new(alloc, &expected, 0, 0, &Rows::Checkpoint)?;
+    Ok(writer.finish()?)
+}
+
+// A store that has that object alone.
+fn new_store(alloc: Global) -> Result<MemStore, Fail> {
+    let mut store = MemStore::new(alloc);
+    store.put(alloc, &name_of(1), &checkpoint(alloc)?)?;
+    Ok(store)
+}
+
+// A volume that was just created.
+fn created(alloc: Global, uuid: [u8; 16]) -> Result<TestVolume, Fail> {
+    let disk = MemDisk::new(alloc, SIZE)?;
+    Ok(create(alloc, disk, Uuid::from_bytes(uuid), GEOMETRY).map_err(|(_, failed)| failed)?)
+}
+
+fn step(volume: &mut TestVolume, event: Event<MemReceipt>) -> Result<Reply<MemReceipt>, Fail>
+    requires { HasItsReceipt told_receipt event }
+{
+    if 1_000 < volume.steps() {
+        return Err("too many steps")?;
+    }
+    Ok(volume.step(event))
+}
+
+// Writes a sector.
+fn write(alloc: Global, volume: &mut TestVolume, lba: u64) -> Result<(), Fail> {
+    let body = Body::filled(alloc, 1, 0x41)?;
+    step(volume, Event::Write { lba, body })?;
     Ok(())
 }
 
-// A device on which a write of two sectors and a zeroing of three are committed, and one more is
-// not.
-fn stopped(rt: &impl Abort, alloc: Global) -> Result<MemDisk, Fail> {
-    let disk = MemDisk::new(alloc, SIZE)?;
-    assert!(rt; disk.len() == SIZE);
-    let mut log = CacheLog::format(alloc, disk, [0; 16], 0, 0).map_err(|(_, failed)| failed)?;
-    let body = Body::filled(alloc, 2, 0x41)?;
-    enter(rt, &mut log, &Entry::Write { lba: 7, body })?;
-    enter(rt, &mut log, &Entry::Zero { lba: 3, sectors: 3 })?;
-    assert!(rt; log.number() < 100);
-    assert!(rt; log.commit().is_ok());
-    enter(rt, &mut log, &Entry::Zero { lba: 9, sectors: 1 })?;
-    Ok(log.into_disk())
+// Seals an object and puts it into the store.
+fn seal_and_put(alloc: Global, volume: &mut TestVolume, store: &mut MemStore) -> Result<(), Fail> {
+    step(volume, Event::Seal)?;
+    let Reply::Taken(job) = step(volume, Event::TakeJob)? else {
+        return Err("no job")?;
+    };
+    let receipt = store.put(alloc, &name_of(job.name().number), job.object())?;
+    step(volume, Event::JobDone { job, receipt })?;
+    Ok(())
 }
 
-// Mounts the volume of a device.
-fn mounted<D: Disk>(
+// What a stop leaves of a disk of which no write that was not synced stands.
+fn stopped(alloc: Global, disk: &mut MemDisk) -> Result<MemDisk, AllocError>
+    ensures { disk.new ≡ disk.old }
+{
+    let fates = vec![in alloc; Fate::Old; disk.pending()]?;
+    disk.stopped(alloc, fates.as_slice())
+}
+
+// The device of a volume of four writes: two are in object 2 of the store, one more was flushed, and the last one was not.
+fn stopped_device(alloc: Global, store: &mut MemStore) -> Result<MemDisk, Fail> {
+    let mut volume = created(alloc, UUID)?;
+    write(alloc, &mut volume, 3)?;
+    write(alloc, &mut volume, 5)?;
+    seal_and_put(alloc, &mut volume, store)?;
+    write(alloc, &mut volume, 7)?;
+    step(&mut volume, Event::Flush)?;
+    write(alloc, &mut volume, 9)?;
+    Ok(volume.with_disk(|disk| stopped(alloc, disk))?)
+}
+
+// The entries and the number of a mount, or its error with the device.
+type Outcome<D> = Result<(u64, u64), (D, MountError)>;
+
+// Mounts a volume with its cache.
+fn kept<D: Disk + Drop>(
     rt: &impl Abort,
     alloc: Global,
     disk: D,
-) -> Result<Mounted<D>, (D, MountError)> {
-    assert!(rt; disk.len() == SIZE);
-    assert!(rt; GEOMETRY.is_within_limits());
-    mount(alloc, disk, &GEOMETRY)
+    store: &mut MemStore,
+) -> Outcome<D> {
+    assert!(rt; disk.len() == SIZE && GEOMETRY.is_within_limits());
+    let mounted = mount_kept(alloc, disk, store, Uuid::from_bytes(UUID), GEOMETRY)?;
+    Ok((mounted.entries, mounted.number))
 }
 
-// Whether the entries are those that were committed.
-fn are_committed(entries: &[Entry]) -> bool {
-    match entries {
-        [
-            Entry::Write { lba: 7, body },
-            Entry::Zero { lba: 3, sectors: 3 },
-        ] => body.sectors() == 2 && body.as_bytes().iter().all(|byte| *byte == 0x41),
-        _ => false,
+// Mounts the volume without it.
+fn lost(rt: &impl Abort, alloc: Global, store: &mut MemStore) -> Result<(u64, u64), Fail> {
+    let disk = MemDisk::new(alloc, SIZE)?;
+    assert!(rt; disk.len() == SIZE && GEOMETRY.is_within_limits());
+    match mount_lost(alloc, disk, store, Uuid::from_bytes(UUID), GEOMETRY) {
+        Ok(mounted) => Ok((mounted.entries, mounted.number)),
+        Err(_) => Err("not mounted")?,
     }
 }
 
 #[test]
-fn a_mount_that_was_stopped_is_made_again(rt: HostRuntime) -> Result<(), Fail> {
+fn a_volume_is_mounted_with_and_without_its_cache(rt: HostRuntime) -> Result<(), Fail> {
     let alloc = rt.alloc();
-    for calls in 0..CALLS + 2 {
-        let disk = stopped(&rt, alloc)?;
-        let _ = disk.len();
-        let disk = match mounted(&rt, alloc, FuseDisk::new(disk, Some(calls))) {
-            Ok(mounted) => {
-                assert!(rt;
-                    CALLS <= calls && are_committed(&mounted.entries),
-                    "{calls}"
-                );
-                mounted.log.into_disk()
+    let mut store = new_store(alloc)?;
+    let disk = stopped_device(alloc, &mut store)?;
+    let mounted = kept(&rt, alloc, disk, &mut store);
+    assert!(rt; matches!(mounted, Ok((3, 2))));
+    assert_eq!(rt; lost(&rt, alloc, &mut store)?, (2, 2));
+    Ok(())
+}
+
+#[test]
+fn a_mount_that_a_fault_ended_is_made_again(rt: HostRuntime) -> Result<(), Fail> {
+    let alloc = rt.alloc();
+    for calls in 0..20 {
+        let mut store = new_store(alloc)?;
+        let disk = stopped_device(alloc, &mut store)?;
+        assert!(rt; disk.len() == SIZE);
+        let fused = FuseDisk::new(disk, Some(calls));
+        match kept(&rt, alloc, fused, &mut store) {
+            Ok(mounted) => assert_eq!(rt; mounted, (3, 2)),
+            Err((fused, error)) => {
+                assert_eq!(rt; error, MountError::DeviceFault, "call {calls}");
+                let again = kept(&rt, alloc, fused.into_disk(), &mut store);
+                assert!(rt; matches!(again, Ok((3, 2))), "call {calls}");
             }
-            Err((disk, error)) => {
-                assert_eq!(rt;
-                    (error, calls < CALLS),
-                    (MountError::DeviceFault, true),
-                    "{calls}"
-                );
-                disk
-            }
-        };
-        let Ok(first) = mounted(&rt, alloc, disk.into_disk()) else {
-            return Err("not mounted")?;
-        };
-        assert!(rt; are_committed(&first.entries), "{calls}");
-        let number = first.log.number();
-        let Ok(second) = mounted(&rt, alloc, first.log.into_disk()) else {
-            return Err("not mounted again")?;
-        };
-        assert!(rt; are_committed(&second.entries), "{calls}");
-        assert_eq!(rt; number.checked_add(1), Some(second.log.number()), "{calls}");
+        }
     }
     Ok(())
 }
 
+// Why a mount gave none.
+fn refusal(outcome: Outcome<MemDisk>) -> Option<MountError> {
+    match outcome {
+        Ok(_) => None,
+        Err((_disk, error)) => Some(error),
+    }
+}
+
 #[test]
-fn a_device_of_zeros_has_no_slot(rt: HostRuntime) -> Result<(), Fail> {
-    let disk = MemDisk::new(rt.alloc(), SIZE)?;
-    let Err((_, error)) = mounted(&rt, rt.alloc(), disk) else {
-        return Err("mounted")?;
-    };
-    assert_eq!(rt; error, MountError::NoSlot { log: LOG });
+fn a_device_without_a_slot_is_refused(rt: HostRuntime) -> Result<(), Fail> {
+    let alloc = rt.alloc();
+    let blank = MemDisk::new(alloc, SIZE)?;
+    let error = refusal(kept(&rt, alloc, blank, &mut new_store(alloc)?));
+    assert_eq!(rt; error, Some(MountError::NoSlot { log: 64 }));
     Ok(())
 }
 
 #[test]
-fn a_record_that_was_overwritten_is_told(rt: HostRuntime) -> Result<(), Fail> {
-    let mut disk = stopped(&rt, rt.alloc())?;
-    assert!(rt; disk.len() == SIZE);
-    assert!(rt; disk.write(LOG_START, &[0]).is_ok());
-    let Err((_, error)) = mounted(&rt, rt.alloc(), disk) else {
-        return Err("mounted")?;
-    };
-    let reason = Reason::Magic;
-    assert_eq!(rt; error, MountError::BadRecord { seq: 0, reason });
+fn the_cache_of_another_volume_is_refused(rt: HostRuntime) -> Result<(), Fail> {
+    let alloc = rt.alloc();
+    let mut other = created(alloc, OTHER)?;
+    let disk = other.with_disk(|disk| stopped(alloc, disk))?;
+    let error = refusal(kept(&rt, alloc, disk, &mut new_store(alloc)?));
+    let found = Uuid::from_bytes(OTHER);
+    assert_eq!(rt; error, Some(MountError::WrongVolume { found }));
     Ok(())
 }
+
+#[test]
+fn a_log_that_begins_past_the_objects_is_refused(rt: HostRuntime) -> Result<(), Fail> {
+    let alloc = rt.alloc();
+    let disk = stopped_device(alloc, &mut new_store(alloc)?)?;
+    let error = refusal(kept(&rt, alloc, disk, &mut new_store(alloc)?));
+    let reason = Reason::Seq;
+    assert_eq!(rt; error, Some(MountError::BadRecord { seq: 0, reason }));
+    Ok(())
+}
+
+// Errors that name no volume, and their texts.
+const TEXTS: [(MountError, &str); 9] = [
+    (
+        MountError::NoCheckpoint,
+        "the store has no checkpoint of the volume",
+    ),
+    (
+        MountError::BadObject {
+            number: 3,
+            reason: BadObject::Seqs,
+        },
+        "bad object 3: seqs out of order",
+    ),
+    (
+        MountError::NotData { number: 4 },
+        "object 4 holds no entries",
+    ),
+    (
+        MountError::NoSlot { log: 9 },
+        "no slot of the device is open",
+    ),
+    (
+        MountError::BadRecord {
+            seq: 5,
+            reason: Reason::Seq,
+        },
+        "bad record 5: another seq",
+    ),
+    (
+        MountError::Worn { value: 1 << 60 },
+        "1152921504606846976: the volume is worn out",
+    ),
+    (MountError::StoreFault, "the store failed"),
+    (MountError::DeviceFault, "the device failed"),
+    (MountError::OutOfMemory, "out of memory"),
+];
 
 #[test]
 fn errors_are_told(rt: HostRuntime) -> Result<(), Fail> {
-    let reason = Reason::Seq;
-    for (error, wanted) in [
-        (
-            MountError::NoSlot { log: 9 },
-            "no slot of the device is open",
-        ),
-        (
-            MountError::Worn { number: 1 << 60 },
-            "commit 1152921504606846976: the volume is worn out",
-        ),
-        (
-            MountError::BadRecord { seq: 5, reason },
-            "bad record 5: another seq",
-        ),
-        (MountError::DeviceFault, "the device failed"),
-        (MountError::OutOfMemory, "out of memory"),
-    ] {
-        assert_eq!(rt; format!(in rt.alloc(); "{error}")?.as_str(), wanted);
+    for (error, wanted) in TEXTS {
+        let told = format!(in rt.alloc(); "{error}")?;
+        assert_eq!(rt; told.as_str(), wanted);
     }
+    let found = Uuid::from_bytes(UUID);
+    let told = format!(in rt.alloc(); "{}", MountError::WrongVolume { found })?;
+    let wanted = "the device is of the volume 07070707-0707-0707-0707-070707070707";
+    assert_eq!(rt; told.as_str(), wanted);
     Ok(())
 }

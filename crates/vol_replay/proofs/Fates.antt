@@ -1,16 +1,11 @@
--- The fates of the letters of a line `crash keep`.
-use Rattle.std.proofs.Common.{◌≡◌, ℕ, Bool, true, false, List, length, map, replicate, refl, sym, ◌∙◌, ap, subst, arith, ◌==◌, ◌&&◌, ◌||◌, if◌then◌else◌}
-use Rattle.std.specs.Prelude.{Some}
+-- Letters that fit, and the fates of those of writes.
+use Rattle.std.proofs.Common.{◌≡◌, ℕ, Bool, true, false, List, length, map, replicate, refl, sym, ◌∙◌, arith, ◌==◌, ◌&&◌, ◌||◌, if◌then◌else◌}
 use Rattle.std.specs.List.{list_all}
 use Rattle.std.proofs.lemmas.List.{length-replicate, length-map}
+use Rattle.std.proofs.lemmas.Bool.{eq-eqb}
 use Rattle.std.proofs.lemmas.Grind.{common_steps}
-use Rattle.lsvd_device.specs.declared.fate.Fate.{Fate}
 use Rattle.lsvd_device.specs.declared.fate.Fate.TheVariants.{Kept}
-use Rattle.plain_disk.specs.Machine.{Disk, kept_mark, mounted}
-use Rattle.log_volume.specs.Standing.{keeps_last}
-use Rattle.replay_script.specs.declared.command.Command.TheVariants.{CrashKeep}
-use Rattle.vol_replay.specs.Letters.{is_dash, is_letter, fits_writes, fits_objects, fate_of, fates_of}
-use Rattle.vol_replay.specs.Transcript.{Answers, text_of_mount}
+use Rattle.transcript.specs.Letters.{is_dash, is_letter, fits_writes, fate_of, fates_of}
 
 -- the word has N letters
 counted_as : (word : List ℕ) (n : ℕ) (a b : Bool) → (length word == n) ≡ a → (a && b) ≡ true → length word ≡ n
@@ -26,11 +21,8 @@ count_of pending word false fits = length-map word fate_of ∙ counted_as word p
 pub fates_count : (pending : ℕ) (word : List ℕ) → fits_writes pending word ≡ true → length (fates_of pending word) ≡ pending
 fates_count pending word fits = count_of pending word (is_dash word) fits
 
--- the line is answered by a mount with these fates
-pub crash_answers : (disk next : Disk) (device objects : List ℕ) (fates : List Fate) (count pending : ℕ) → fits_writes disk.device.pending device ≡ true → fits_objects objects ≡ true
-    → pending ≡ disk.device.pending → fates ≡ fates_of pending device
-    → count ≡ (kept_mark (keeps_last fates) disk.device).count → next ≡ mounted (keeps_last fates) disk
-    → Answers (Some disk) (CrashKeep device objects) (text_of_mount count) (Some next)
-crash_answers disk next device objects fates count pending fit also pending_is are told is =
-    let same : fates ≡ fates_of disk.device.pending device = are ∙ ap (λ n. fates_of n device) pending_is in
-    ((fit, also), (ap text_of_mount (told ∙ ap (λ f. (kept_mark (keeps_last f) disk.device).count) same), ap Some (is ∙ ap (λ f. mounted (keeps_last f) disk) same)))
+-- where a word is no dash and has N letters, they tell whether it fits
+pub fits_by_letters : (dash all fit : Bool) (word : List ℕ) (n : ℕ) → dash ≡ false → length word ≡ n → fit ≡ all → fit ≡ (dash || (length word == n && all))
+fits_by_letters dash all fit word n none long is =
+    let same : (length word == n) ≡ true = eq-eqb (length word) n long in
+    rw (none, same) is

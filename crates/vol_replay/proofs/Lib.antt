@@ -1,9 +1,20 @@
-mod Benches
-pub mod Determined
-pub mod Existence
+mod Commands
+mod CrashLemmas
+mod Crashing
 mod Fates
-mod Mounted
+mod Halting
+mod Mounts
+mod Opening
+mod PlainLemmas
 pub mod Progress
-pub mod Reached
+mod PutLemmas
+mod Putting
+mod Reading
 mod Refused
 pub mod Results
+mod Rooms
+mod Says
+mod Standing
+mod Stepped
+mod WindowLemmas
+mod Windows

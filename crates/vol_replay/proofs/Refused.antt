@@ -1,25 +1,106 @@
--- A line is refused as its command is.
-use Rattle.std.proofs.Common.{◌≤◌, ℕ, List, length}
-use Rattle.std.specs.Prelude.{Result, Ok, Err, IfErr}
+-- A line is refused as its command is, and a write out of range as the plain volume refuses it.
+use Rattle.std.proofs.Common.{◌≡◌, ℕ, ◌+◌, ◌*◌, ◌/◌, ◌≤◌, Bool, true, false, cond, not, ◌&&◌, List, [], ◌∷◌, ◌++◌, length, replicate, refl, sym, ◌∙◌, ap, subst, arith}
+use Rattle.std.specs.Prelude.{Option, Some, is_some, option_map, unwrap_or, Result, Ok, Err, IfErr, if◌then◌else◌}
+use Rattle.std.specs.List.{sum_by}
+use Rattle.std.proofs.lemmas.List.{length-replicate}
+use Rattle.lsvd_base.specs.declared.entry.Entry.{Entry}
+use Rattle.lsvd_base.specs.declared.entry.Entry.TheVariants as entries
+use Rattle.lsvd_base.specs.declared.geometry.Geometry.{Geometry}
+use Rattle.lsvd_base.specs.Limits.{may_transfer}
+use Rattle.lsvd_base.specs.Range.{is_in_range}
+use Rattle.batcher.specs.Batch.{data_sectors, fullness}
+use Rattle.plain_disk.specs.declared.event.PlainEvent.TheVariants as events
+use Rattle.plain_disk.specs.declared.event.PlainReply.{PlainReply}
+use Rattle.plain_disk.specs.declared.event.PlainReply.TheVariants as replies
+use Rattle.plain_disk.specs.Cache.{PlainCache, passes_entry, cache_after_entry}
+use Rattle.plain_disk.specs.Entries.{reply_of_full, batch_refusal, has_room_for, cache_for, commits_are_made, room_reply, enter_reply, after_entering}
+use Rattle.plain_disk.specs.State.{PlainState, unsealed_entries}
+use Rattle.plain_disk.specs.Step.{plain_after}
 use Rattle.replay_script.specs.declared.command.Command.{Command}
 use Rattle.replay_script.specs.Grammar.{Spells}
-use Rattle.vol_replay.specs.declared.answer.Refusal.{Refusal}
-use Rattle.vol_replay.specs.declared.answer.Refusal.TheVariants.{Bad, OutOfMemory}
-use Rattle.vol_replay.specs.declared.outcome.Reason.TheVariants.{UnknownCommand, WordCount, Form, NotAllowed, Letters, TooLong}
-use Rattle.vol_replay.specs.Answer.{IsRefused, IsUnanswered}
-use Rattle.vol_replay.specs.Transcript.{State}
+use Rattle.transcript.specs.Answers.{State}
+use Rattle.transcript.specs.Transcript.{IsBad}
+use Rattle.transcript.specs.declared.reason.Reason.{Reason}
+use Rattle.transcript.specs.declared.reason.Reason.TheVariants.{UnknownCommand, WordCount, Form, NotAllowed, Letters, TooLong}
+use Rattle.vol_replay.specs.declared.answer.Answer.TheVariants as answers
+use Rattle.vol_replay.specs.declared.line.Refusal.{Refusal}
+use Rattle.vol_replay.specs.declared.line.Refusal.TheVariants.{Bad, OutOfMemory}
+use Rattle.vol_replay.specs.Answers.{SaysReply}
+use Rattle.vol_replay.specs.Bench.{AnswersEvent}
+use Rattle.vol_replay.specs.Lines.{IsUnfit, IsUnanswered, IsRefused, AnswersCommand, AnswersLine}
+use Rattle.vol_replay.specs.Answers.{TellsAnswer}
+use Rattle.vol_replay.specs.declared.answer.Answer.{Answer}
+use Rattle.vol_replay.specs.Rig.{RigState, rig_of, ShowsPlain}
+use Rattle.vol_replay.specs.Written.{ShowsState}
+use Rattle.vol_replay.proofs.Rooms.{later_rig}
 
-refused_line : (state : State) (line : List ℕ) (command : Command) (old new : List ℕ) (refusal : Refusal) → length line ≤ 65536 → Spells line command
-    → IsUnanswered state command old new refusal → IsRefused state line old new refusal
-refused_line state line command old new (Bad UnknownCommand) short spelled h = absurd h.1
-refused_line state line command old new (Bad WordCount) short spelled h = absurd h.1
-refused_line state line command old new (Bad Form) short spelled h = absurd h.1
-refused_line state line command old new (Bad NotAllowed) short spelled h = (h.0, (short, (command, spelled, h.1)))
-refused_line state line command old new (Bad Letters) short spelled h = (h.0, (short, (command, spelled, h.1.0, h.1.1)))
-refused_line state line command old new (Bad TooLong) short spelled h = absurd h.1
-refused_line state line command old new OutOfMemory short spelled h = tt
+-- ---- out of range
 
-pub refused_as : {T : Type 0} (state : State) (line : List ℕ) (command : Command) (old new : List ℕ) (result : Result T Refusal) → length line ≤ 65536 → Spells line command
-    → IfErr result (IsUnanswered state command old new) → IfErr result (IsRefused state line old new)
-refused_as state line command old new (Ok done) short spelled h = tt
-refused_as state line command old new (Err refusal) short spelled h = refused_line state line command old new refusal short spelled h
+-- what is left of an entry, by why the batch refuses it
+abbrev left_by_refusal : PlainState → Entry → Option PlainReply → PlainState
+left_by_refusal plain entry refusal = record plain {
+  cache =
+      if is_some refusal then plain.cache else
+      (if not (is_some refusal) && commits_are_made plain entry && has_room_for (cache_for plain entry) entry
+      then cache_after_entry entry (cache_for plain entry) else cache_for plain entry);
+  entries =
+      if (not (is_some refusal) && commits_are_made plain entry && has_room_for (cache_for plain entry) entry)
+      && passes_entry (cache_for plain entry) entry then plain.entries ++ entry ∷ [] else plain.entries;
+}
+
+range_refuses : (plain : PlainState) (entry : Entry) → is_in_range plain.geometry entry ≡ false
+    → (enter_reply plain entry ≡ replies.Range) × (after_entering entry plain ≡ plain)
+range_refuses plain entry out =
+    let unsealed : List Entry = unsealed_entries plain in
+    let full = option_map reply_of_full (fullness plain.geometry.batch (sum_by data_sectors unsealed) (length unsealed)) in
+    let refused : batch_refusal plain entry ≡ Some replies.Range = ap (λ (b : Bool). cond b full (Some replies.Range)) out in
+    (ap (λ r. unwrap_or r (room_reply plain (cache_for plain entry) entry)) refused, ap (left_by_refusal plain entry) refused)
+
+-- so many sectors of one byte
+sectors_of : (sectors byte : ℕ) → length (replicate (512 * sectors) byte) / 512 ≡ sectors
+sectors_of sectors byte = (let e = length-replicate (512 * sectors) byte in omega (arith, e))
+
+pub write_range : (old : RigState) (lba sectors byte : ℕ) (geometry : Geometry) → geometry ≡ old.volume.volume.objects.batch.geometry
+    → may_transfer geometry lba sectors ≡ false
+    → AnswersEvent (events.Write lba (replicate (512 * sectors) byte)) answers.Range old
+    (rig_of old.volume old.objects old.puts old.is_stopping (old.lines + 1))
+write_range old lba sectors byte geometry is out plain h =
+    let body : List ℕ = replicate (512 * sectors) byte in
+    let entry : Entry = entries.Write lba body in
+    let far : is_in_range plain.geometry entry ≡ false =
+    ap (may_transfer plain.geometry lba) (sectors_of sectors byte) ∙ ap (λ (g : Geometry). may_transfer g lba sectors) (sym (is ∙ h.shows.objects.geometry)) ∙ out in
+    let both = range_refuses plain entry far in
+    let rig : RigState = rig_of old.volume old.objects old.puts old.is_stopping (old.lines + 1) in (
+      subst (λ r. SaysReply r answers.Range) (sym both.0) refl,
+      subst (ShowsPlain rig) (sym both.1) (later_rig old (old.lines + 1) plain (omega arith) h),
+    )
+
+-- ---- lines
+
+bad_line : (state : State) (line : List ℕ) (command : Command) (reason : Reason) → length line ≤ 65536 → Spells line command
+    → IsUnfit state command reason → IsBad state line reason
+bad_line state line command UnknownCommand short spelled unfit = absurd unfit
+bad_line state line command WordCount short spelled unfit = absurd unfit
+bad_line state line command Form short spelled unfit = absurd unfit
+bad_line state line command NotAllowed short spelled unfit = (short, (command, spelled, unfit))
+bad_line state line command Letters short spelled unfit = (short, (command, spelled, unfit.0, unfit.1))
+bad_line state line command TooLong short spelled unfit = absurd unfit
+
+refused_line : (line : List ℕ) (command : Command) (rig : Option RigState) (before after : List ℕ) (refusal : Refusal) → length line ≤ 65536
+    → Spells line command → after ≡ before → IsUnanswered rig command refusal → IsRefused line rig before after refusal
+refused_line line command rig before after (Bad reason) short spelled same h =
+    (same, λ state shown. bad_line state line command reason short spelled (h state shown))
+refused_line line command rig before after OutOfMemory short spelled same h = tt
+
+pub refused_as : {T : Type 0} (line : List ℕ) (command : Command) (rig : Option RigState) (before after : List ℕ) (result : Result T Refusal)
+    → length line ≤ 65536 → Spells line command → after ≡ before → IfErr result (IsUnanswered rig command) → IfErr result (IsRefused line rig before after)
+refused_as line command rig before after (Ok done) short spelled same h = tt
+refused_as line command rig before after (Err refusal) short spelled same h = refused_line line command rig before after refusal short spelled same h
+
+-- the line of a command that was answered is answered by the text that tells it
+pub answered_line : (line : List ℕ) (command : Command) (answer : Answer) (text : List ℕ) (old new : Option RigState) (before after : List ℕ)
+    → length line ≤ 65536 → Spells line command → AnswersCommand command answer old new → TellsAnswer answer text
+    → after ≡ before ++ (text ++ 10 ∷ []) → AnswersLine line old new before after
+answered_line line command answer text old new before after short spelled h tells is state shown =
+    let (next, told, now) = h state shown in
+    (text, next, record { short = short; command = command; spelled = spelled; answered = told text tells }, now, is)

@@ -6,11 +6,14 @@ use Rattle.std.proofs.lemmas.Bool.{cases_lt}
 use Rattle.std.proofs.lemmas.List.{take-append-le}
 use Rattle.vol_replay.specs.declared.outcome.Outcome.{Outcome}
 use Rattle.vol_replay.specs.declared.outcome.Outcome.TheVariants.{Done, BadLine, ReadFault, WriteFault, OutOfMemory}
-use Rattle.vol_replay.specs.declared.outcome.Reason.TheVariants.{TooLong}
-use Rattle.lsvd_fault.specs.Faults.{Counts}
+use Rattle.transcript.specs.declared.reason.Reason.{Reason}
+use Rattle.transcript.specs.declared.reason.Reason.TheVariants.{TooLong}
+use Rattle.lsvd_fault.specs.Faults.{Counts, CountsOne}
 use Rattle.lsvd_fault.proofs.Streams.{appends_nothing}
-use Rattle.vol_replay.proofs.Existence.{nothing_written}
-use Rattle.vol_replay.specs.Transcript.{IsTranscript, IsFrontOfTranscript, IsWritten, line_after}
+use Rattle.transcript.specs.Transcript.{Ending, AllAnswered, Stopped, IsTranscript, IsFrontOfTranscript, line_after}
+use Rattle.transcript.proofs.Existence.{nothing_written}
+use Rattle.vol_replay.specs.Written.{IsWritten}
+use Rattle.vol_replay.specs.Lines.{IsHandedOver}
 
 -- what holds at an error
 pub at_error : {T E P : Type 0} (r : Result T E) → is_err r ≡ true → OnErr r P → P
@@ -27,6 +30,17 @@ pub not_counted : {T E : Type 0} (r : Result T E) → is_err r ≡ false → (be
 not_counted (Ok x) e before now counts = counts
 not_counted (Err x) e before now counts = cc
 
+-- one was counted at an error
+pub one_counted : {T E : Type 0} (r : Result T E) → is_err r ≡ true → (before now : ℕ) → Counts (is_err r) before now → CountsOne before now
+one_counted (Ok x) e before now counts = cc
+one_counted (Err x) e before now counts = counts
+
+-- answers that were handed over before a bad line end by no fault of reading
+pub bad_line_is_told : (old new : Option (List ℕ)) (answers : List ℕ) (number : ℕ) (reason : Reason) (result : Outcome)
+    → IsHandedOver old new answers (BadLine number reason) result → result ≡ ReadFault → ⊥
+bad_line_is_told old new answers number reason result (inl e) is = (let f : BadLine number reason ≡ ReadFault = sym e.0 ∙ is in cc)
+bad_line_is_told old new answers number reason result (inr e) is = (let f : WriteFault ≡ ReadFault = sym e.0 ∙ is in cc)
+
 -- a list that is empty by its test
 pub is_nothing : (xs : List ℕ) → (length xs == 0) ≡ true → xs ≡ []
 is_nothing [] e = refl
@@ -38,23 +52,23 @@ nothing_for_source None out = tt
 nothing_for_source (Some script) out = ([], appends_nothing out, nothing_written script)
 
 -- a script past its limit goes on as it likes
-transcript_of_longer : (front left text : List ℕ) (outcome : Outcome) → 2 ^ 24 < length front → IsTranscript front text outcome → IsTranscript (front ++ left) text outcome
+transcript_of_longer : (front left text : List ℕ) (ending : Ending) → 2 ^ 24 < length front → IsTranscript front text ending → IsTranscript (front ++ left) text ending
 unfolding line_after
-transcript_of_longer front left text outcome long (inl t) = absurd (omega (arith, t.0, long))
-transcript_of_longer front left text outcome long (inr t) =
+transcript_of_longer front left text ending long (inl t) = absurd (omega (arith, t.0, long))
+transcript_of_longer front left text ending long (inr t) =
     let same : take (2 ^ 24) (front ++ left) ≡ take (2 ^ 24) front = take-append-le (2 ^ 24) front left (omega (arith, long)) in
     inr (
       (let e = length-append front left in omega (arith, e, long)),
       t.1,
-      t.2 ∙ ap (λ bytes. BadLine (1 + count_by (λ b. b == 10) bytes) TooLong) (sym same),
+      t.2 ∙ ap (λ bytes. Stopped (1 + count_by (λ b. b == 10) bytes) TooLong) (sym same),
     )
 
 front_of_longer : (front left text : List ℕ) → 2 ^ 24 < length front → IsFrontOfTranscript front text → IsFrontOfTranscript (front ++ left) text
-front_of_longer front left text long t = record { rest = t.rest; outcome = t.outcome; transcript = transcript_of_longer front left (text ++ t.rest) t.outcome long t.transcript }
+front_of_longer front left text long t = record { rest = t.rest; ending = t.ending; transcript = transcript_of_longer front left (text ++ t.rest) t.ending long t.transcript }
 
 written_of_longer : (front left text : List ℕ) (outcome : Outcome) → 2 ^ 24 < length front → IsWritten front text outcome → IsWritten (front ++ left) text outcome
-written_of_longer front left text (Done state) long t = transcript_of_longer front left text (Done state) long t
-written_of_longer front left text (BadLine number reason) long t = transcript_of_longer front left text (BadLine number reason) long t
+written_of_longer front left text (Done rig) long t = (t.0, transcript_of_longer front left text (AllAnswered t.0) long t.1, t.2)
+written_of_longer front left text (BadLine number reason) long t = transcript_of_longer front left text (Stopped number reason) long t
 written_of_longer front left text ReadFault long t = front_of_longer front left text long t
 written_of_longer front left text WriteFault long t = front_of_longer front left text long t
 written_of_longer front left text OutOfMemory long t = front_of_longer front left text long t

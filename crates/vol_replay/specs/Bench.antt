@@ -1,37 +1,90 @@
--- For this crate's own clauses: a volume whose machine can be stopped.
-use Rattle.std.specs.Prelude.{◌≡◌, ℕ, ◌+◌, ◌^◌, ◌<◌, Bool, is_some, List}
-use Rattle.lsvd_base.specs.declared.geometry.Geometry.{Geometry}
-use Rattle.lsvd_device.specs.Medium.{Medium}
-use Rattle.lsvd_device.specs.Stop.{HasNow}
-use Rattle.commit_body.specs.declared.body.CommitBody.{CommitBody}
-use Rattle.commit_slot.specs.Slots.{Reads}
-use Rattle.cache_log.specs.declared.row.Row.{Row}
-use Rattle.cache_log.specs.Opening.{AreRecordsInRange}
-use Rattle.plain_disk.specs.Machine.{Disk}
-use Rattle.log_volume.specs.Volume.{VolumeState}
-use Rattle.log_volume.specs.Stepping.{FailsByFuse}
+-- For this crate's own clauses: what a line makes of a rig, by each plain volume that it showed.
+use Rattle.std.specs.Prelude.{◌≡◌, ℕ, Some, is_some, IsTrue, Bool, true, false, List, map}
+use Rattle.object_stream.specs.Landed.{Numbers}
+use Rattle.lsvd_device.specs.declared.fate.Fate.{Fate}
+use Rattle.lsvd_objstore.specs.Memory.{Kept, told_receipt}
+use Rattle.plain_disk.specs.declared.event.PlainEvent.{PlainEvent}
+use Rattle.plain_disk.specs.declared.event.PlainEvent.TheVariants as events
+use Rattle.plain_disk.specs.State.{PlainState, history_length}
+use Rattle.plain_disk.specs.Step.{plain_reply, plain_after}
+use Rattle.plain_disk.specs.Stops.{stopping_after_calls, recovered_number, mounted_kept, mounted_lost}
+use Rattle.vol_core.specs.declared.event.Event.{Event}
+use Rattle.vol_core.specs.declared.event.Event.TheVariants.{Write, Zero, Flush, Seal, Status}
+use Rattle.vol_core.specs.Events.{Asks}
+use Rattle.vol_core.specs.Volume.{SteppedVolume, with_budget_of}
+use Rattle.vol_core.specs.Shows.{Shows}
+use Rattle.log_meaning.specs.Fuses.{fuse_in}
+use Rattle.plain_disk.specs.Cache.{is_kept}
+use Rattle.transcript.specs.Letters.{landed_by}
+use Rattle.transcript.specs.Answers.{released_by}
+use Rattle.vol_replay.specs.declared.answer.Answer.{Answer}
+use Rattle.vol_replay.specs.declared.answer.Answer.TheVariants.{Failed, Mounted}
+use Rattle.vol_replay.specs.Answers.{SaysReply}
+use Rattle.vol_replay.specs.Rig.{RigState, ShowsPlain}
 
--- It knows whether its device was told to stop, and that has failed by its fuse alone.
-pub record IsBench (is_stopping : Bool) (volume : VolumeState) : Type 0 where
-  pub stopping : is_stopping ≡ is_some volume.plain.device.fuse
-  pub by_fuse : FailsByFuse volume
+-- ---- events
 
--- the volume is as before, but for room that was made on its device
-pub record IsUntouched (old new : VolumeState) : Type 0 where
-  pub plain : new.plain ≡ old.plain
-  pub unfinished : new.unfinished ≡ old.unfinished
-  pub moments : new.disk.moments ≡ old.disk.moments
+-- the answer says the plain volume's reply to an event, and the rig shows what that leaves
+abbrev pub AnswersEvent : PlainEvent → Answer → (old new : RigState) → Type 0
+AnswersEvent event answer old new =
+    (plain : PlainState) → ShowsPlain old plain → SaysReply (plain_reply plain event) answer × ShowsPlain new (plain_after event plain)
+
+-- an event of a volume that hands nothing out but counts, and leaves the puts alone
+abbrev pub is_counted : Event Kept → Bool
+is_counted (Write lba body) = true
+is_counted (Zero lba sectors) = true
+is_counted Flush = true
+is_counted Seal = true
+is_counted Status = true
+is_counted event = false
+
+-- the answer says the plain volume's reply to what an event of the volume asks for
+abbrev pub AnswersAsked : Event Kept → Answer → (old new : RigState) → Type 0
+AnswersAsked event answer old new =
+    (plain : PlainState) → ShowsPlain old plain
+    → (asked : PlainEvent) × Asks told_receipt old.volume.volume event asked × SaysReply (plain_reply plain asked) answer
+    × ShowsPlain new (plain_after asked plain)
+
+-- the same of a read, which gives the plan back that it was answered
+abbrev pub AnswersRead : (lba sectors : ℕ) → Answer → (old new : RigState) → Type 0
+AnswersRead lba sectors answer old new =
+    (plain : PlainState) → ShowsPlain old plain
+    → SaysReply (plain_reply plain (events.Look lba sectors)) answer
+    × ShowsPlain new (released_by (plain_reply plain (events.Look lba sectors)) (plain_after (events.Look lba sectors) plain))
+
+-- the put of an object failed, which the answer tells
+abbrev pub FailsPut : (number : ℕ) → Answer → (old new : RigState) → Type 0
+FailsPut number answer old new =
+    (plain : PlainState) → ShowsPlain old plain → (answer ≡ Failed number) × ShowsPlain new (plain_after (events.JobFailed (Some number)) plain)
+
+-- nothing of a volume has changed but the room on its device
+pub record IsUntouched (old new : SteppedVolume) : Type 0 where
   pub steps : new.steps ≡ old.steps
+  pub volume : new.volume ≡ with_budget_of new.volume.log.commits.disk old.volume
+  pub told : IsTrue (is_some old.volume.log.commits.disk.budget) → IsTrue (is_some new.volume.log.commits.disk.budget)
+  pub fuse : fuse_in new.volume.log.commits.disk.budget ≡ fuse_in old.volume.log.commits.disk.budget
+  pub shows : (plain : PlainState) → Shows old.volume plain → Shows new.volume plain
 
--- a request made no further step, and left this disk
-pub record LeavesPlain (next : Disk) (old new : VolumeState) : Type 0 where
-  pub plain : new.plain ≡ next
-  pub steps : new.steps ≡ old.steps
+-- ---- stops and mounts
 
--- A device reads as a commit, and its log has records up to the head: it may be mounted.
-pub record MayBeMounted (geometry : Geometry) (moments : List Medium) : Type 0 where
-  pub number : ℕ
-  pub body : CommitBody
-  pub rows : List Row
-  pub young : number < 2 ^ 60
-  pub read : HasNow (λ now. Reads geometry.log now.bytes body number × AreRecordsInRange geometry body rows now.bytes) moments
+-- the rig shows a volume whose device passes so many calls more
+abbrev pub StopsAfter : (calls : ℕ) → (old new : RigState) → Type 0
+StopsAfter calls old new = (plain : PlainState) → ShowsPlain old plain → ShowsPlain new (stopping_after_calls calls plain)
+
+-- the answer tells of a mount of which this is made, with these objects landed
+abbrev pub IsMountTold : Numbers → (old mounted : PlainState) → Answer → Type 0
+IsMountTold landed old mounted answer = answer ≡ Mounted (history_length mounted) (recovered_number landed old)
+
+-- the machine was stopped, where the writes met these fates and these letters say what has landed, and the volume was mounted with its
+-- cache, or without it
+abbrev pub MountsKeptRig : List Fate → (letters : List ℕ) → Answer → (old new : RigState) → Type 0
+MountsKeptRig fates letters answer old new =
+    (plain : PlainState) → ShowsPlain old plain
+    → IsMountTold (landed_by plain.window letters) plain (mounted_kept (landed_by plain.window letters) (map is_kept fates) plain) answer
+    × ShowsPlain new (mounted_kept (landed_by plain.window letters) (map is_kept fates) plain)
+
+abbrev pub MountsLostRig : (letters : List ℕ) → Answer → (old new : RigState) → Type 0
+MountsLostRig letters answer old new =
+    (plain : PlainState) → ShowsPlain old plain
+    → IsMountTold (landed_by plain.window letters) plain (mounted_lost (landed_by plain.window letters) plain) answer
+    × ShowsPlain new (mounted_lost (landed_by plain.window letters) plain)

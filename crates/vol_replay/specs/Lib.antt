@@ -1,6 +1,9 @@
-pub mod Answer
+pub mod Answers
 pub mod Bench
-pub mod Letters
-pub mod Reached
-pub mod Reason
-pub mod Transcript
+pub mod Crash
+pub mod Held
+pub mod Lines
+pub mod Places
+pub mod Puts
+pub mod Rig
+pub mod Written

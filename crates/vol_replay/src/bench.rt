@@ -1,249 +1,337 @@
-ghost use Rattle.std.specs.Prelude.{◌≡◌, ◌+◌, ◌*◌, ◌^◌, ◌<◌, ◌≤◌, ◌∷◌, [], None, Some, IfOk, OnOk, OnErr, IsTrue, is_some, length, replicate};
+ghost use Rattle.std.specs.Prelude.{◌≡◌, ◌+◌, ◌*◌, ◌^◌, ◌<◌, ◌≤◌, [], true, false, is_some, length, replicate, IsTrue, IfOk, OnOk, Some, None};
 ghost use Rattle.lsvd_base.specs.Limits.{is_within_limits};
-ghost use Rattle.lsvd_device.specs.Calls.{fuse_of};
-ghost use Rattle.lsvd_device.specs.Device.{IsDisk};
-ghost use Rattle.lsvd_device.specs.Medium.{durable};
-ghost use Rattle.lsvd_device.specs.Memory.{HasRoom, IsSynced};
-ghost use Rattle.lsvd_device.specs.Stop.{HasNow};
-ghost use Rattle.commit_slot.specs.Slots.{log_of};
-ghost use Rattle.commit_slot.specs.Formatting.{format_cost};
-ghost use Rattle.cache_log.specs.Rows.{byte_of};
-ghost use Rattle.cache_log.specs.Committed.{IsFormattedLog};
-ghost use Rattle.plain_disk.specs.Machine.{created, reply_of, disk_after, stopping_after, kept_mark, mounted};
-ghost use Rattle.volume_events.specs.declared.event.Event.TheVariants as events;
-ghost use Rattle.log_volume.specs.Volume.{script_uuid};
-ghost use Rattle.log_volume.specs.Standing.{IsCommittedCount, IsCommittingCount, IsCrashSafe, StopKeepsNow, keeps_last};
-ghost use Rattle.log_volume.specs.Stepping.{HasRoomForCost};
-ghost use Rattle.vol_replay.specs.Bench.{IsUntouched, LeavesPlain};
+ghost use Rattle.lsvd_device.specs.Memory.{HasRoom};
+ghost use Rattle.upload_window.specs.Window.{is_started};
+ghost use Rattle.plain_disk.specs.declared.event.PlainEvent.TheVariants as events;
+ghost use Rattle.plain_disk.specs.State.{PlainState, created_volume};
+ghost use Rattle.vol_core.specs.Step.{most_of_step};
+ghost use Rattle.transcript.specs.Letters.{under_way};
+ghost use Rattle.vol_replay.specs.Bench.{AnswersEvent, is_counted, AnswersAsked, AnswersRead, FailsPut, IsUntouched, StopsAfter, MountsKeptRig, MountsLostRig};
+ghost use Rattle.vol_replay.specs.Rig.{rig_of, ShowsPlain, IsKeptByRig};
 
-use crate::crash::{mount_again, stopped_disk};
-use cache_log::CacheLog;
+use crate::answer::{Answer, answer_of};
+use crate::crash::{
+    MountedVolume, ScriptVolume, blank_disk, create_volume, land, mount_again, mount_anew,
+    put_object, stopped_disk,
+};
+use crate::puts::Puts;
 use commit_slot::LOG_START;
-use log_volume::Volume;
 use lsvd_base::{Body, Geometry, SECTOR_BYTES};
-use lsvd_device::{Disk, Fate, FuseDisk, MemDisk, StoppedDisk};
+use lsvd_device::{Fate, StoppedDisk};
+use lsvd_objstore::{MemReceipt, MemStore};
 use std::alloc::{AllocError, Global};
 use std::marker::Model;
-use volume_events::Reply;
+use vol_core::{Event, Reply};
 
-// The uuid of the volume of a script.
-const UUID: [u8; 16] = [0, 0, 0, 0, 0, 0, 0x40, 0, 0x80, 0, 0, 0, 0, 0, 0, 1];
+// The writes and syncs that a step asks for at most: those of a commit that makes first what was left of another, and those of a record
+// and of the pad before it.
+const STEP_CALLS: u64 = 7 + 2;
 
-// Its epoch.
-const EPOCH: u64 = 0;
+// The bytes that they write beside a record's data.
+const STEP_BYTES: u64 = 512 + 3 + 2 * SECTOR_BYTES;
 
-// The writes and syncs of formatting, and the bytes that they write.
-const FORMAT_CALLS: u64 = 7;
-
-const FORMAT_BYTES: u64 = 3_072 + 512 + 3;
-
-// The writes and syncs of a flush that makes first what was left of another, and the bytes that they write.
-const FLUSH_CALLS: u64 = 7;
-
-const FLUSH_BYTES: u64 = 512 + 3;
-
-// The writes of a record and of the pad before it.
-const ENTRY_CALLS: u64 = 2;
-
-// The bytes that they write beside the record's data.
-const ENTRY_BYTES: u64 = 2 * SECTOR_BYTES;
-
-/// A volume on a disk in memory, with a fuse before it, whose machine can be stopped. Contracts see the volume.
+/// A volume on a disk in memory with a fuse before it, and its store in memory, whose machine can be stopped.
 #[derive(Drop)]
 pub(crate) struct Bench {
-    volume: Volume<FuseDisk<MemDisk>>,
+    volume: ScriptVolume,
+    store: MemStore,
+    /// The objects under way.
+    puts: Puts,
     /// Whether the device was told to stop since the last mount.
     is_stopping: bool,
+    /// How many lines it has answered.
+    lines: u64,
 }
 
 impl Model for Bench {
-    ghost use Rattle.log_volume.specs.Volume.{VolumeState};
-    ghost use Rattle.vol_replay.specs.Bench.{IsBench};
+    ghost use Rattle.vol_replay.specs.Rig.{RigState};
 
-    ghost Value = { VolumeState };
+    ghost Value = { RigState };
 
-    ghost view = { λ b. b.volume };
+    ghost use Rattle.plain_disk.specs.State.{PlainState};
+    ghost use Rattle.vol_replay.specs.Rig.{rig_of, ShowsPlain};
 
-    ghost invariant = { λ b. IsBench b.is_stopping b.volume };
+    ghost view = { λ b. rig_of b.volume b.store b.puts.list b.is_stopping b.lines };
+
+    ghost invariant = { λ b. (plain : PlainState) × ShowsPlain (rig_of b.volume b.store b.puts.list b.is_stopping b.lines) plain };
 }
 
 impl Bench {
     /// A volume that was just created, whose geometry is within the limits (a condition). The one error is out of memory.
     pub(crate) fn new(alloc: Global, geometry: Geometry) -> Result<Bench, AllocError>
         requires { IsTrue (is_within_limits geometry) }
-        ensures plain { IfOk result (λ bench. bench.plain ≡ created geometry) }
-        ensures steps { IfOk result (λ bench. bench.steps ≡ 0) }
-        ensures stands { IfOk result StopKeepsNow }
+        ensures shows { IfOk result (λ bench. ShowsPlain bench (created_volume geometry)) }
+        ensures lines { IfOk result (λ bench. bench.lines ≡ 0) }
     {
+        let mut store = MemStore::new(alloc);
         let disk = blank_disk(alloc, LOG_START + SECTOR_BYTES * geometry.log)?;
-        let log = format(alloc, disk)?;
-        let volume = Volume::new(geometry, log, Vec::new(alloc));
+        let volume = create_volume(alloc, disk, &mut store, geometry)?;
         Ok(Bench {
             volume,
+            store,
+            puts: Puts::new(alloc),
             is_stopping: false,
+            lines: 0,
         })
     }
 
-    /// Writes `sectors` sectors of one byte. No data is made for a request that is out of range. The one error is out of
-    /// memory, after which the volume is as before.
+    /// Writes `sectors` sectors of one byte. No data is made for a request that is out of range.
     pub(crate) fn write(
         &mut self,
         alloc: Global,
         lba: u64,
         sectors: u64,
         byte: u8,
-    ) -> Result<Reply, AllocError>
-        ensures reply { IfOk result (λ reply. reply ≡ reply_of self.old.plain (events.Write lba (replicate (512 * sectors) byte))) }
-        ensures left { OnOk result (LeavesPlain (disk_after self.old.plain (events.Write lba (replicate (512 * sectors) byte))) self.old self.new) }
-        ensures crash_safe { OnOk result (IsCrashSafe (IsCommittedCount self.old) self.old self.new) }
-        ensures err { OnErr result (IsUntouched self.old self.new) }
+    ) -> Result<Answer, AllocError>
+        requires { self.old.lines < 2 ^ 40 }
+        ensures ok { IfOk result (λ answer. AnswersEvent (events.Write lba (replicate (512 * sectors) byte)) answer self.old self.new) }
+        ensures lines { self.new.lines ≤ self.old.lines + 1 }
     {
         if !self.volume.geometry().may_transfer(lba, sectors) {
-            self.volume.stands();
-            return Ok(Reply::Range);
+            self.lines += 1;
+            return Ok(Answer::Range);
         }
         let body = Body::filled(alloc, sectors, byte)?;
-        self.reserve(ENTRY_CALLS, ENTRY_BYTES + SECTOR_BYTES * sectors)?;
-        self.volume.write(lba, body)
+        self.answer(Event::Write { lba, body })
     }
 
-    /// Puts zeros at `sectors` sectors. The one error is out of memory, after which the volume is as before.
-    pub(crate) fn zero(&mut self, lba: u64, sectors: u64) -> Result<Reply, AllocError>
-        ensures reply { IfOk result (λ reply. reply ≡ reply_of self.old.plain (events.Zero lba sectors)) }
-        ensures left { OnOk result (LeavesPlain (disk_after self.old.plain (events.Zero lba sectors)) self.old self.new) }
-        ensures crash_safe { OnOk result (IsCrashSafe (IsCommittedCount self.old) self.old self.new) }
-        ensures err { OnErr result (IsUntouched self.old self.new) }
+    /// Puts zeros at `sectors` sectors.
+    pub(crate) fn zero(&mut self, lba: u64, sectors: u64) -> Result<Answer, AllocError>
+        requires { self.old.lines < 2 ^ 40 }
+        ensures ok { IfOk result (λ answer. AnswersEvent (events.Zero lba sectors) answer self.old self.new) }
+        ensures lines { self.new.lines ≤ self.old.lines + 1 }
     {
-        self.reserve(ENTRY_CALLS, ENTRY_BYTES)?;
-        self.volume.zero(lba, sectors)
+        self.answer(Event::Zero { lba, sectors })
     }
 
-    /// Reads `sectors` sectors. The one error is out of memory, after which the volume is as before.
+    /// Reads `sectors` sectors: looks, fetches, and gives the plan back.
     pub(crate) fn read(
         &mut self,
         alloc: Global,
         lba: u64,
         sectors: u64,
-    ) -> Result<Reply, AllocError>
-        ensures reply { IfOk result (λ reply. reply ≡ reply_of self.old.plain (events.Read lba sectors)) }
-        ensures left { OnOk result (LeavesPlain (disk_after self.old.plain (events.Read lba sectors)) self.old self.new) }
-        ensures moments { self.new.disk.moments ≡ self.old.disk.moments }
-        ensures err { OnErr result (IsUntouched self.old self.new) }
+    ) -> Result<Answer, AllocError>
+        requires { self.old.lines < 2 ^ 40 }
+        ensures ok { IfOk result (λ answer. AnswersRead lba sectors answer self.old self.new) }
+        ensures lines { self.new.lines ≤ self.old.lines + 1 }
     {
-        self.volume.read(alloc, lba, sectors)
+        self.lines += 1;
+        self.volume.is_ordered();
+        let plan = match self.volume.step(Event::Look { lba, sectors }) {
+            Reply::Planned(plan) => plan,
+            reply => return answer_of(&reply),
+        };
+        let mut bytes = vec![in alloc; 0; plan.len()]?;
+        // A store in memory fails no call.
+        let _ = plan.fetch(&mut self.store, bytes.as_mut_slice());
+        let _ = self.volume.step(Event::Release(plan));
+        Ok(Answer::Sectors(bytes))
     }
 
-    /// Makes each entry so far durable. Fewer than 2^62 steps were made (a condition). The one error is out of memory, after
-    /// which the volume is as before.
-    pub(crate) fn flush(&mut self) -> Result<Reply, AllocError>
-        requires { self.old.steps < 2 ^ 62 }
-        ensures reply { IfOk result (λ reply. reply ≡ reply_of self.old.plain events.Flush) }
-        ensures plain { OnOk result (self.new.plain ≡ disk_after self.old.plain events.Flush) }
-        ensures steps { self.new.steps ≤ self.old.steps + 1 }
-        ensures crash_safe { OnOk result (IsCrashSafe (IsCommittingCount self.old) self.old self.new) }
-        ensures err { OnErr result (IsUntouched self.old self.new) }
+    /// Makes each entry so far durable.
+    pub(crate) fn flush(&mut self) -> Result<Answer, AllocError>
+        requires { self.old.lines < 2 ^ 40 }
+        ensures ok { IfOk result (λ answer. AnswersEvent events.Flush answer self.old self.new) }
+        ensures lines { self.new.lines ≤ self.old.lines + 1 }
     {
-        self.reserve(FLUSH_CALLS, FLUSH_BYTES)?;
-        Ok(self.volume.flush())
+        self.answer(Event::Flush)
+    }
+
+    /// Seals the next object.
+    pub(crate) fn seal(&mut self) -> Result<Answer, AllocError>
+        requires { self.old.lines < 2 ^ 40 }
+        ensures ok { IfOk result (λ answer. AnswersEvent events.Seal answer self.old self.new) }
+        ensures lines { self.new.lines ≤ self.old.lines + 1 }
+    {
+        self.answer(Event::Seal)
+    }
+
+    /// Begins the put of the lowest ready object.
+    pub(crate) fn begin_put(&mut self) -> Result<Answer, AllocError>
+        requires { self.old.lines < 2 ^ 40 }
+        ensures ok { IfOk result (λ answer. AnswersEvent events.TakeJob answer self.old self.new) }
+        ensures lines { self.new.lines ≤ self.old.lines + 1 }
+    {
+        self.lines += 1;
+        self.puts.reserve()?;
+        self.volume.is_ordered();
+        let Reply::Taken(job) = self.volume.step(Event::TakeJob) else {
+            return Ok(Answer::Nothing);
+        };
+        let number = job.name().number;
+        self.puts.begin(job);
+        Ok(Answer::Put(number))
+    }
+
+    /// Whether the put of this number is out.
+    pub(crate) fn is_out(&self, number: u64) -> bool
+        ensures { (plain : PlainState) → ShowsPlain self.now plain → result ≡ is_started number plain.window.objects }
+    {
+        self.puts.is_out(number)
+    }
+
+    /// Makes the put of this number, which is out (a condition).
+    pub(crate) fn finish_put(&mut self, alloc: Global, number: u64) -> Result<Answer, AllocError>
+        requires lines { self.old.lines < 2 ^ 40 }
+        requires out { (plain : PlainState) → ShowsPlain self.old plain → IsTrue (is_started number plain.window.objects) }
+        ensures ok { IfOk result (λ answer. AnswersEvent (events.JobDone (Some number)) answer self.old self.new) }
+        ensures lines { self.new.lines ≤ self.old.lines + 1 }
+    {
+        self.lines += 1;
+        let object = self.puts.object(number)?;
+        let receipt = put_object(alloc, &mut self.store, number, &object)?;
+        let Some(job) = self.puts.finish(number) else {
+            return Ok(Answer::Nothing);
+        };
+        answer_of(&self.volume.step(Event::JobDone { job, receipt }))
+    }
+
+    /// Fails the put of this number, which is out (a condition).
+    pub(crate) fn fail_put(&mut self, number: u64) -> Result<Answer, AllocError>
+        requires lines { self.old.lines < 2 ^ 40 }
+        requires out { (plain : PlainState) → ShowsPlain self.old plain → IsTrue (is_started number plain.window.objects) }
+        ensures ok { IfOk result (λ answer. FailsPut number answer self.old self.new) }
+        ensures lines { self.new.lines ≤ self.old.lines + 1 }
+    {
+        self.lines += 1;
+        let Some(job) = self.puts.fail(number)? else {
+            return Ok(Answer::Nothing);
+        };
+        let _ = self.volume.step(Event::JobFailed(job));
+        Ok(Answer::Failed(number))
+    }
+
+    /// Asks for the counts.
+    pub(crate) fn status(&mut self) -> Result<Answer, AllocError>
+        requires { self.old.lines < 2 ^ 40 }
+        ensures ok { IfOk result (λ answer. AnswersEvent events.Status answer self.old self.new) }
+        ensures lines { self.new.lines ≤ self.old.lines + 1 }
+    {
+        self.answer(Event::Status)
+    }
+
+    // Answers an event that hands nothing out but counts, with room on the device for what it may ask for.
+    fn answer(&mut self, event: Event<MemReceipt>) -> Result<Answer, AllocError>
+        requires counted { is_counted event ≡ true }
+        requires lines { self.old.lines < 2 ^ 40 }
+        ensures ok { IfOk result (λ answer. AnswersAsked event answer self.old self.new) }
+        ensures lines { self.new.lines ≤ self.old.lines + 1 }
+    {
+        self.lines += 1;
+        make_room(&mut self.volume, &event)?;
+        answer_of(&self.volume.step(event))
     }
 
     /// Whether its device was told to stop since the last mount.
     pub(crate) fn is_stopping(&self) -> bool
-        ensures { result ≡ is_some self.now.plain.device.fuse }
+        ensures { (plain : PlainState) → ShowsPlain self.now plain → result ≡ is_some plain.cache.left }
     {
         self.is_stopping
     }
 
-    /// Lets the device pass `calls` calls more, and fail each later one. It was not told so since the last mount (a
-    /// condition, which `is_stopping` tells).
-    pub(crate) fn stop(&mut self, calls: u64)
-        requires { self.old.plain.device.fuse ≡ None }
-        ensures left { LeavesPlain (stopping_after calls self.old.plain) self.old self.new }
-        ensures moments { self.new.disk.moments ≡ self.old.disk.moments }
-        ensures stands { StopKeepsNow self.new }
+    /// Lets the device pass `calls` calls more, and fail each later one. It was not told so since the last mount (a condition).
+    pub(crate) fn stop(&mut self, calls: u64) -> Answer
+        requires lines { self.old.lines < 2 ^ 40 }
+        requires once { (plain : PlainState) → ShowsPlain self.old plain → plain.cache.left ≡ None }
+        ensures answer { result ≡ Answer.Stopping calls }
+        ensures stops { StopsAfter calls self.old self.new }
+        ensures lines { self.new.lines ≤ self.old.lines + 1 }
     {
+        self.lines += 1;
         self.volume.with_disk(|disk| disk.set_fuse(Some(calls)));
         self.is_stopping = true;
+        Answer::Stopping(calls)
     }
 
     /// How many writes were made since the last sync.
     pub(crate) fn pending(&self) -> usize
-        ensures { result ≡ self.now.plain.device.pending }
+        ensures { (plain : PlainState) → ShowsPlain self.now plain → result ≡ length plain.cache.pending }
     {
         self.volume.disk().pending()
     }
 
-    /// How many steps it made.
-    pub(crate) fn steps(&self) -> u64
-        ensures { result ≡ self.now.steps }
+    /// How many objects are under way.
+    pub(crate) fn under_way(&self) -> usize
+        ensures { (plain : PlainState) → ShowsPlain self.now plain → result ≡ length (under_way plain.window) }
     {
-        self.volume.steps()
+        self.puts.len()
     }
 
-    /// Stops the machine, where each write that was not synced meets its fate, and mounts the volume again: how many
-    /// entries are kept. The fates are as many as `pending` says, and fewer than 2^59 steps were made (conditions). The
-    /// one error is out of memory, after which the volume is as before.
-    pub(crate) fn crash(&mut self, alloc: Global, fates: &[Fate]) -> Result<u64, AllocError>
-        requires count { length fates.now ≡ self.old.plain.device.pending }
-        requires steps { self.old.steps < 2 ^ 59 }
-        ensures kept { IfOk result (λ count. count ≡ (kept_mark (keeps_last fates.now) self.old.plain.device).count) }
-        ensures plain { OnOk result (self.new.plain ≡ mounted (keeps_last fates.now) self.old.plain) }
-        ensures steps { self.new.steps ≤ self.old.steps + 1 }
-        ensures err { OnErr result (self.new ≡ self.old) }
-        ensures stands { OnOk result (StopKeepsNow self.new) }
+    /// Stops the machine, where each write that was not synced meets its fate, and each object under way with the letter `y` has landed,
+    /// and mounts the volume with its cache. The fates are as many as `pending` says (a condition).
+    pub(crate) fn crash_keep(
+        mut self,
+        alloc: Global,
+        fates: &[Fate],
+        letters: &[u8],
+    ) -> Result<(Bench, Answer), AllocError>
+        requires lines { self.lines < 2 ^ 40 }
+        requires fates { (plain : PlainState) → ShowsPlain self plain → length fates.now ≡ length plain.cache.pending }
+        ensures ok { IfOk result (λ made. MountsKeptRig fates.now letters.now made.1 self made.0) }
+        ensures lines { IfOk result (λ made. made.0.lines ≤ self.lines + 1) }
     {
+        self.volume.is_ordered();
+        let geometry = self.volume.geometry();
         let disk = stopped_disk(alloc, self.volume.disk(), fates)?;
-        let geometry = *self.volume.geometry();
-        let mounted = mount_again(alloc, disk, &geometry)?;
-        self.volume = Volume::new(geometry, mounted.log, mounted.entries);
-        self.is_stopping = false;
-        Ok(self.volume.len())
+        land(alloc, &mut self.store, self.puts.as_slice(), letters)?;
+        let mounted = mount_again(alloc, disk, &mut self.store, geometry)?;
+        Ok(go_on(alloc, mounted, self.store, self.lines))
     }
 
-    // Makes room on the device for `calls` more writes and syncs, and for `bytes` bytes. The one error is out of memory;
-    // the volume is as before.
-    fn reserve(&mut self, calls: u64, bytes: u64) -> Result<(), AllocError>
-        ensures room { OnOk result (HasRoom calls bytes self.new.disk.budget) }
-        ensures same { IsUntouched self.old self.new }
+    /// The same without its cache, on a new device of the same length.
+    pub(crate) fn crash_lost(
+        mut self,
+        alloc: Global,
+        letters: &[u8],
+    ) -> Result<(Bench, Answer), AllocError>
+        requires { self.lines < 2 ^ 40 }
+        ensures ok { IfOk result (λ made. MountsLostRig letters.now made.1 self made.0) }
+        ensures lines { IfOk result (λ made. made.0.lines ≤ self.lines + 1) }
     {
-        self.volume.with_disk(|disk| disk.reserve(calls, bytes))
+        let geometry = self.volume.geometry();
+        let disk = blank_disk(alloc, LOG_START + SECTOR_BYTES * geometry.log)?;
+        land(alloc, &mut self.store, self.puts.as_slice(), letters)?;
+        let mounted = mount_anew(alloc, disk, &mut self.store, geometry)?;
+        Ok(go_on(alloc, mounted, self.store, self.lines))
+    }
+
+    /// What is so of every volume with its store, as a fact for the proofs of callers. Nothing is done.
+    pub(crate) fn stands(&self)
+        ensures { (plain : PlainState) → ShowsPlain self.now plain → IsKeptByRig self.now plain }
+    {
+        self.volume.is_ordered();
     }
 }
 
-// A disk of `len` bytes, all of them zeros, without a limit of its calls and with room for formatting.
-fn blank_disk(alloc: Global, len: u64) -> Result<FuseDisk<MemDisk>, AllocError>
-    ensures size { IfOk result (λ disk. disk.size ≡ len) }
-    ensures moments { IfOk result (λ disk. disk.moments ≡ durable (replicate len 0) ∷ []) }
-    ensures fuse { IfOk result (λ disk. fuse_of disk.budget ≡ Some None) }
-    ensures room { IfOk result (HasRoomForCost format_cost) }
-    ensures is_disk { IfOk result IsDisk }
+// Makes room on the device of a volume for what an event may ask for.
+fn make_room(volume: &mut ScriptVolume, event: &Event<MemReceipt>) -> Result<(), AllocError>
+    ensures room { OnOk result (HasRoom (most_of_step event.now).changes (most_of_step event.now).bytes volume.new.volume.log.commits.disk.budget) }
+    ensures same { IsUntouched volume.old volume.new }
 {
-    let disk = MemDisk::new(alloc, len)?;
-    let _ = disk.len();
-    let mut disk = FuseDisk::new(disk, None);
-    disk.reserve(FORMAT_CALLS, FORMAT_BYTES)?;
-    let _ = disk.len();
-    Ok(disk)
+    let bytes = match event {
+        Event::Write { body, .. } => body.as_bytes().len() as u64,
+        _ => 0,
+    };
+    volume.with_disk(|disk| disk.reserve(STEP_CALLS, STEP_BYTES + bytes))
 }
 
-// Formats such a disk. The one error would be out of memory, and there is none.
-fn format(alloc: Global, disk: FuseDisk<MemDisk>) -> Result<CacheLog<FuseDisk<MemDisk>>, AllocError>
-    requires least { byte_of 1 ≤ disk.size }
-    requires most { disk.size < byte_of (2 ^ 31 + 1) }
-    requires is_disk { IsDisk disk }
-    requires fuse { fuse_of disk.budget ≡ Some None }
-    requires room { HasRoomForCost format_cost disk }
-    requires moments { disk.moments ≡ durable (replicate disk.size 0) ∷ [] }
-    ensures ok { IfOk result (IsFormattedLog script_uuid 0 0 disk) }
-    ensures still { IfOk result (λ log. HasNow IsSynced log.commits.disk.moments) }
-    ensures fuse { IfOk result (λ log. fuse_of log.commits.disk.budget ≡ Some None) }
+// Goes on with a volume that was mounted, and one line more.
+fn go_on(alloc: Global, mounted: MountedVolume, store: MemStore, lines: u64) -> (Bench, Answer)
+    requires shows { (plain : PlainState) × ShowsPlain (rig_of mounted.volume store [] false (lines + 1)) plain }
+    requires lines { lines < 2 ^ 40 }
+    ensures bench { result.0 ≡ rig_of mounted.volume store [] false (lines + 1) }
+    ensures answer { result.1 ≡ Answer.Mounted mounted.entries mounted.number }
 {
-    match CacheLog::format(alloc, disk, UUID, EPOCH, 0) {
-        Ok(log) => Ok(log),
-        Err(_) => {
-            // Within the room that was made the disk fails no call.
-            prove!(false);
-            Err(AllocError)
-        }
-    }
+    let answer = Answer::Mounted {
+        entries: mounted.entries,
+        number: mounted.number,
+    };
+    let bench = Bench {
+        volume: mounted.volume,
+        store,
+        puts: Puts::new(alloc),
+        is_stopping: false,
+        lines: lines + 1,
+    };
+    (bench, answer)
 }

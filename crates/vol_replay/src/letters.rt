@@ -1,23 +1,22 @@
 ghost use Rattle.std.specs.Prelude.{◌≡◌, IfOk, IsTrue, length, map};
 ghost use Rattle.std.specs.List.{list_all};
-ghost use Rattle.vol_replay.specs.Letters.{is_letter, is_dash, fits_writes, fits_objects, fate_of, fates_of};
+ghost use Rattle.transcript.specs.Letters.{is_letter, is_object_letter, is_dash, fits_writes, fits_objects, fate_of, fates_of};
 
-use crate::bench::Bench;
 use lsvd_device::Fate;
 use std::alloc::{AllocError, Global};
 
-/// Whether the word keeps all, or has a letter for each write that was not synced.
-pub(crate) fn fits_writes(bench: &Bench, word: &[u8]) -> bool
-    ensures { result ≡ fits_writes bench.now.plain.device.pending word.now }
+/// Whether the word keeps all, or has a letter for each of this many writes.
+pub(crate) fn fits_writes(pending: usize, word: &[u8]) -> bool
+    ensures { result ≡ fits_writes pending word.now }
 {
-    is_dash(word) || (word.len() == bench.pending() && are_letters(word))
+    is_dash(word) || (word.len() == pending && word.iter().all(|b| is_letter(*b)))
 }
 
-/// Whether the word keeps all, or is empty.
-pub(crate) fn fits_objects(word: &[u8]) -> bool
-    ensures { result ≡ fits_objects word.now }
+/// Whether the word lands none, or has a letter for each of this many objects.
+pub(crate) fn fits_objects(count: usize, word: &[u8]) -> bool
+    ensures { result ≡ fits_objects count word.now }
 {
-    is_dash(word) || word.is_empty()
+    is_dash(word) || (word.len() == count && word.iter().all(|b| is_object_letter(*b)))
 }
 
 /// The fates of `pending` writes that were not synced, which the word fits (a condition). The one error is out of memory.
@@ -51,18 +50,11 @@ fn fate_of(letter: u8) -> Fate
     }
 }
 
-// Whether the word keeps all.
-fn is_dash(word: &[u8]) -> bool
+/// Whether the word keeps all writes, and lands no object.
+pub(crate) fn is_dash(word: &[u8]) -> bool
     ensures { result ≡ is_dash word.now }
 {
     word == b"-".as_slice()
-}
-
-// Whether each byte is a letter.
-fn are_letters(word: &[u8]) -> bool
-    ensures { result ≡ list_all is_letter word.now }
-{
-    word.iter().all(|b| is_letter(*b))
 }
 
 // Whether a write has this letter.
@@ -70,4 +62,11 @@ fn is_letter(letter: u8) -> bool
     ensures { result ≡ is_letter letter }
 {
     letter == b'k' || letter == b'o' || letter == b'z' || letter == b't'
+}
+
+// Whether an object has this letter.
+fn is_object_letter(letter: u8) -> bool
+    ensures { result ≡ is_object_letter letter }
+{
+    letter == b'y' || letter == b'n'
 }

@@ -1,16 +1,17 @@
 ghost use Rattle.std.specs.Prelude.{◌≡◌, ◌≢◌, ℕ, ◌^◌, ◌≤◌, List, false, length, is_err, IfSome, OnOk, OnErr};
 ghost use Rattle.std.specs.Io.KnownBytes.{Appends, IsAtEnd};
 ghost use Rattle.lsvd_fault.specs.Faults.{Counts};
-ghost use Rattle.vol_replay.specs.Answer.{TakesFront, MovesOn, IsHandedOver, state_of};
-ghost use Rattle.vol_replay.specs.Transcript.{IsWritten, IsDone, ends_by_read_fault, ends_by_write_fault};
+ghost use Rattle.vol_replay.specs.Lines.{TakesFront, MovesOn, IsHandedOver};
+ghost use Rattle.vol_replay.specs.Written.{IsWritten, IsDone, ends_by_read_fault, ends_by_write_fault};
 
-use crate::answer::{Refusal, answer_line};
 use crate::bench::Bench;
-use crate::outcome::{Outcome, Reason};
+use crate::line::{Refusal, answer_line};
+use crate::outcome::Outcome;
 use crate::rig::Rig;
 use lsvd_fault::{Failed, ReadError, Sink, Source, read_past_limit, write_all};
 use replay_script::{SCRIPT_LIMIT, line_number, split_line};
 use std::alloc::Global;
+use transcript::Reason;
 
 // The answers are handed to the sink each time that there are this many bytes of them.
 const BATCH: usize = 65_536;
@@ -83,7 +84,7 @@ fn run_lines<O: Sink>(alloc: Global, script: &[u8], sink: &mut O) -> Outcome
 
 // Each line was answered, and left this volume.
 fn done(bench: Option<Bench>) -> Outcome
-    ensures { result ≡ Outcome.Done (state_of bench) }
+    ensures { result ≡ Outcome.Done bench }
 {
     match bench {
         None => Outcome::Done(None),

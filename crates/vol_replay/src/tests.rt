@@ -1,9 +1,13 @@
-use crate::outcome::{Outcome, Reason};
+mod stops;
+
+use crate::answer::push_counted;
+use crate::outcome::Outcome;
 use crate::run::replay;
 use lsvd_fault::{MemSink, MemSource, Sink, Source};
 use std::alloc::{AllocError, Global};
 use std::process::Abort;
 use std::test::Fail;
+use transcript::Reason;
 
 // An outcome without the rig.
 #[derive(Clone, Copy, Debug, PartialEq, Eq)]
@@ -139,6 +143,82 @@ fn what_was_flushed_is_there_after_a_stop(rt: HostRuntime) -> Result<(), Fail> {
     Ok(())
 }
 
+// The lines after `new 64 64 8 16`, and the answers after `new 64`: objects that are sealed, put, landed or not.
+const UPLOADS: &[(&[u8], &[u8])] = &[
+    (
+        b"w 0 1 41\ns\nu\ncrash lost - n\nr 0 1\n",
+        b"ok 1\nsealed 2\nput 2\nmounted 0 1\n00x512\n",
+    ),
+    (
+        b"w 0 1 41\ns\nu\ncrash lost - y\nr 0 1\n",
+        b"ok 1\nsealed 2\nput 2\nmounted 1 2\n41x512\n",
+    ),
+    // The object past the gap is acknowledged, and removed.
+    (
+        b"w 0 1 41\ns\nw 0 1 42\ns\nu\nu\nd 3\ncrash lost - n\nr 0 1\nw 0 1 43\ns\nu\nd 2\ncrash lost - -\nr 0 1\n",
+        b"ok 1\nsealed 2\nok 2\nsealed 3\nput 2\nput 3\ndone 1\nmounted 0 1\n00x512\nok 1\nsealed 2\nput 2\ndone 2\nmounted 1 2\n43x512\n",
+    ),
+    (
+        b"w 0 1 41\ns\nw 0 1 42\ns\nu\nu\nd 3\nf\ncrash keep - n\nr 0 1\n",
+        b"ok 1\nsealed 2\nok 2\nsealed 3\nput 2\nput 3\ndone 1\nok 2\nmounted 2 1\n42x512\n",
+    ),
+    (
+        b"w 0 1 41\ns\nw 0 1 42\ns\nu\nu\nd 3\ncrash lost - y\nr 0 1\n",
+        b"ok 1\nsealed 2\nok 2\nsealed 3\nput 2\nput 3\ndone 1\nmounted 2 3\n42x512\n",
+    ),
+    // Seven records of nine sectors take 63 of the log: the eighth waits for an acknowledged object, whose records its commit releases.
+    (
+        b"w 0 8 41\nw 0 8 41\nw 0 8 41\ns\nw 0 8 41\nw 0 8 41\ns\nw 0 8 41\nw 0 8 41\ns\nw 0 8 41\nw 0 8 41\nu\nd 2\nw 0 8 41\n",
+        b"ok 1\nok 2\nagain batch 16\nsealed 2\nok 3\nok 4\nsealed 3\nok 5\nok 6\nsealed 4\nok 7\nagain room 10 1\nput 2\ndone 2\nok 8\n",
+    ),
+    // The object passes the committed head.
+    (
+        b"w 0 1 41\ns\nu\nd 2\ncrash keep o -\nr 0 1\n",
+        b"ok 1\nsealed 2\nput 2\ndone 2\nmounted 1 2\n41x512\n",
+    ),
+    (
+        b"w 0 8 41\nw 8 8 42\ns\nw 16 8 43\nf\ncrash keep - -\nw 24 1 44\ns\nw 24 1 44\n",
+        b"ok 1\nok 2\nsealed 2\nok 3\nok 3\nmounted 3 1\nagain batch 24\nsealed 2\nok 4\n",
+    ),
+    (
+        b"w 0 1 41\ns\nu\nx 2\nu\nd 2\ni\n",
+        b"ok 1\nsealed 2\nput 2\nfailed 2\nput 2\ndone 2\ninfo 1 2 2\n",
+    ),
+    // A put that failed may have landed, and one that never began has no letter.
+    (
+        b"s\nu\nw 0 1 41\ns\nw 1 1 42\ns\nu\nx 2\ncrash keep - y\ni\nr 0 2\n",
+        b"none\nnone\nok 1\nsealed 2\nok 2\nsealed 3\nput 2\nfailed 2\nmounted 1 2\ninfo 1 2 2\n41x512 00x512\n",
+    ),
+];
+
+#[test]
+fn objects_are_recovered_up_to_the_first_missing(rt: HostRuntime) -> Result<(), Fail> {
+    for (lines, answers) in UPLOADS {
+        let mut script = Vec::from_slice(rt.alloc(), FIRST)?;
+        script.extend_from_slice(lines)?;
+        let mut text = Vec::from_slice(rt.alloc(), b"new 64\n")?;
+        text.extend_from_slice(answers)?;
+        assert_replays(&rt, rt.alloc(), script, &text, Ending::Done);
+    }
+    Ok(())
+}
+
+#[test]
+fn sixteen_objects_may_be_on_their_way(rt: HostRuntime) -> Result<(), Fail> {
+    let mut script = Vec::from_slice(rt.alloc(), FIRST)?;
+    let mut text = Vec::from_slice(rt.alloc(), b"new 64\n")?;
+    for number in 1..17u64 {
+        script.extend_from_slice(b"w 0 1 41\ns\n")?;
+        push_counted(&mut text, b"ok ", number)?;
+        push_counted(&mut text, b"\nsealed ", number + 1)?;
+        text.push(b'\n')?;
+    }
+    script.extend_from_slice(b"w 0 1 41\ns\n")?;
+    text.extend_from_slice(b"ok 17\nbusy\n")?;
+    assert_replays(&rt, rt.alloc(), script, &text, Ending::Done);
+    Ok(())
+}
+
 // A good first line, this line, and a line that must not be reached where this one is bad.
 fn with_line(alloc: Global, line: &[u8]) -> Result<Vec<u8>, AllocError> {
     let mut script = Vec::from_slice(alloc, FIRST)?;
@@ -173,12 +253,12 @@ fn requests_out_of_range_are_answered(rt: HostRuntime) -> Result<(), Fail> {
 
 #[test]
 fn a_bad_line_keeps_the_answers_before_it(rt: HostRuntime) -> Result<(), Fail> {
-    let table: [(&[u8], Reason); 34] = [
+    let table: [(&[u8], Reason); 43] = [
         (b"", Reason::UnknownCommand),
         (b" w 0 1 41", Reason::UnknownCommand),
         (b"f\r", Reason::UnknownCommand),
         (b"trim 0 1", Reason::UnknownCommand),
-        (b"d 2", Reason::UnknownCommand),
+        (b"c", Reason::UnknownCommand),
         (&[0xff; 65_536], Reason::UnknownCommand),
         (b"w 0 1", Reason::WordCount),
         (b"w  0 1 41", Reason::WordCount),
@@ -197,8 +277,17 @@ fn a_bad_line_keeps_the_answers_before_it(rt: HostRuntime) -> Result<(), Fail> {
         (b"new 7 64 8 16", Reason::Form),
         (b"new 64 64 8 16", Reason::NotAllowed),
         (b"new 128 64 8 16", Reason::NotAllowed),
-        (b"crash lost - -", Reason::UnknownCommand),
+        (b"d 2", Reason::NotAllowed),
+        (b"x 2", Reason::NotAllowed),
+        (b"crash lose - -", Reason::UnknownCommand),
         (b"crash", Reason::WordCount),
+        (b"crash lost -", Reason::WordCount),
+        (b"d", Reason::WordCount),
+        (b"s 2", Reason::WordCount),
+        (b"x 02", Reason::Form),
+        (b"crash lost k -", Reason::Letters),
+        (b"crash lost  -", Reason::Letters),
+        (b"crash lost - y", Reason::Letters),
         // The letters do not fit, too.
         (b"crash keep k", Reason::WordCount),
         (b"stop 01", Reason::Form),
@@ -221,10 +310,11 @@ fn a_bad_line_keeps_the_answers_before_it(rt: HostRuntime) -> Result<(), Fail> {
 
 #[test]
 fn a_bad_first_line_is_answered_by_nothing(rt: HostRuntime) -> Result<(), Fail> {
-    let table: [(&[u8], Reason); 16] = [
+    let table: [(&[u8], Reason); 17] = [
         (b"\n", Reason::UnknownCommand),
         (b" new 64 64 8 16\n", Reason::UnknownCommand),
-        (b"d 2\nnew 64 64 8 16\n", Reason::UnknownCommand),
+        (b"g\nnew 64 64 8 16\n", Reason::UnknownCommand),
+        (b"d 2\nnew 64 64 8 16\n", Reason::NotAllowed),
         (b"new 64 64 8\n", Reason::WordCount),
         // It is not allowed here, too.
         (b"r 0\nnew 64 64 8 16\n", Reason::WordCount),

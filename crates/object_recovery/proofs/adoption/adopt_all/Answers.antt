@@ -1,16 +1,19 @@
 use Rattle.std.proofs.Common.{◌≡◌, ◌+◌, ◌<◌, ◌^◌, subst, sym, ap, ◌∙◌, refl, arith}
 use Rattle.std.specs.Prelude.{IfSome, IsTrue}
 use Rattle.std.proofs.lemmas.Bool.Decides.{nat_tests}
+use Rattle.lsvd_base.specs.declared.geometry.Geometry.{Geometry}
 use Rattle.lsvd_objstore.specs.Store.{StoreState}
 use Rattle.upload_window.specs.Window.{WindowState}
 use Rattle.stopped_volume.specs.Objects.{landed_in}
-use Rattle.obj_log.specs.Changes.{expected_of_volume}
+use Rattle.obj_log.specs.Changes.{expected_of_volume, next_of}
 use Rattle.obj_log.specs.State.{ObjLogState}
 use Rattle.obj_log.proofs.StreamLemmas.{same_volume}
 use Rattle.object_recovery.specs.Faults.{TellsBytes}
+use Rattle.object_recovery.specs.Places.{HasPlacesInside}
 use Rattle.object_recovery.specs.Recovery.{AdoptsNext, KeepsStreams, HaveLanded}
 use Rattle.object_recovery.proofs.FindLemmas.{same_store}
 use Rattle.object_recovery.proofs.ListLemmas.{list_more, landed_none, landed_more, told_same, told_more}
+use Rattle.object_recovery.proofs.PlaceLemmas.{places_more}
 use Rattle.object_recovery.proofs.adoption.adopt_all.Goals as goal
 
 pub loop-preserved : goal.loop-preserved
@@ -28,7 +31,11 @@ loop-preserved g c =
     record {
       list =
           list_more begun.uploads.uuid begun.batch.geometry old.uploads.window.last old.uploads.queue.end adopts.end adopts.rows adopts.receipt old new is adopts.adopted;
-      number = omega (arith, next, adopts.low_number);
+      number = omega (arith, next, adopts.read.low_number);
+      end = omega (arith, adopts.adopted.uploads.settled.ends, adopts.read.low_end);
+      places =
+          places_more begun.batch.geometry.sectors adopts.end adopts.rows (next_of old) adopts.receipt old.uploads.queue new.uploads.queue
+          adopts.order.receipts (ap (λ (sizes : Geometry). sizes.sectors) is.geometry_is) adopts.read adopts.adopted.uploads.settled c.loop.invariant.places;
       from = omega (arith, next, c.loop.invariant.from);
       same = after ∙ c.loop.invariant.same;
       landed =
@@ -55,6 +62,8 @@ pub loop-init : goal.loop-init
 loop-init g c = record {
   list = c.requires.list;
   number = c.requires.number;
+  end = c.requires.end;
+  places = c.requires.places;
   from = omega arith;
   same = refl;
   landed = landed_none (g.S.Store.state c.args.store.now).objects c.args.log.now.uploads.uuid c.args.log.now.uploads.window.last;
@@ -67,3 +76,8 @@ returns-clause-landed g c =
     subst (λ (new : ObjLogState). IfSome (g.S.Store.state c.args.store.now).objects (λ objects.
     HaveLanded objects c.args.log.now.uploads.uuid c.args.log.now.uploads.window.last new.uploads.window.last))
     (sym none.same) c.loop.invariant.landed
+
+pub returns-clause-places : goal.returns-clause-places
+returns-clause-places g c =
+    let none = c.in_ok-adopt_next.ensures.missing c.if-branch.false in
+    subst (λ (new : ObjLogState). HasPlacesInside c.args.log.now.batch.geometry.sectors new.uploads.queue) (sym none.same) c.loop.invariant.places

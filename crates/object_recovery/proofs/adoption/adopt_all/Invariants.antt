@@ -2,6 +2,7 @@ use Rattle.std.proofs.Common.{◌≡◌, ◌-◌, ◌^◌, ◌<◌, ◌≤◌}
 use Rattle.std.specs.Prelude.{IfSome}
 use Rattle.obj_log.specs.Changes.{expected_of_volume}
 use Rattle.object_recovery.specs.Faults.{TellsBytes}
+use Rattle.object_recovery.specs.Places.{HasPlacesInside}
 use Rattle.object_recovery.specs.Recovery.{IsListUpTo, KeepsStreams, HaveLanded}
 use Rattle.object_recovery.proofs.adoption.adopt_all.Given as goal
 
@@ -9,6 +10,8 @@ abbrev pub invariant-loop : goal.invariant-loop
 invariant-loop g l = record {
   list : IsListUpTo l.initial.log.uploads.uuid l.initial.log.batch.geometry l.log.uploads.window.last l.log.uploads.queue.end l.log;
   number : l.log.uploads.window.last < 2 ^ 60;
+  end : l.log.uploads.queue.end < 2 ^ 60;
+  places : HasPlacesInside l.initial.log.batch.geometry.sectors l.log.uploads.queue;
   from : l.initial.log.uploads.window.last ≤ l.log.uploads.window.last;
   same : g.S.Store.state l.store ≡ g.S.Store.state l.initial.store;
   landed : IfSome (g.S.Store.state l.initial.store).objects (λ objects. HaveLanded objects l.initial.log.uploads.uuid l.initial.log.uploads.window.last l.log.uploads.window.last);

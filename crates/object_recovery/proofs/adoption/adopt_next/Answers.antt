@@ -34,10 +34,9 @@ returns-clause-adopted g c = λ yes.
       end = end;
       receipt = receipt;
       order = c.ordered.ensures;
+      read = is;
       adopted =
           subst (λ list. HasAdoptedObject list end receipt c.args.log.now c.adopt.new.self) c.as_slice.ensures.value c.in_ok-adopt.ensures.adopted;
-      low_end = is.low_end;
-      low_number = is.low_number;
       landed =
           found_landed (g.S.Store.state c.args.store.now).objects c.args.log.now.uploads.uuid (c.args.log.now.uploads.window.last + 1) receipt
           (subst (λ n. Finds n (g.S.Store.state c.args.store.now).objects (Some receipt)) name finds);

@@ -1,7 +1,7 @@
 use Rattle.std.proofs.Common.{◌≡◌, ◌+◌, ◌*◌, ◌<◌, ◌≤◌, ◌∙◌, sym, ap, arith, length, take, drop, get_or, replicate, rules}
 use Rattle.std.proofs.lemmas.List.{take_at}
 use Rattle.lsvd_base.specs.Image.{blank, after}
-use Rattle.plain_disk.specs.Machine.{sectors_at}
+use Rattle.plain_disk.specs.Sectors.{sectors_at}
 use Rattle.plain_disk.proofs.Overlaid.{sectors_at-blank, transfer_ends, EndsBy-more, EndsBy-in_range, entry_in_range, one_more, sectors_limit}
 use Rattle.plain_disk.proofs.history.read_history.Goals as goal
 

@@ -1,6 +1,6 @@
 use Rattle.std.proofs.Common.{◌≡◌, take}
 use Rattle.lsvd_base.specs.Image.{blank, after}
-use Rattle.plain_disk.specs.Machine.{sectors_at}
+use Rattle.plain_disk.specs.Sectors.{sectors_at}
 use Rattle.plain_disk.proofs.history.read_history.Given as goal
 
 abbrev pub invariant-loop-entry : goal.invariant-loop-entry

@@ -1,7 +1,7 @@
 use Rattle.std.proofs.Common.{ℕ, List, codes, ◌∙◌, Bor}
 use Rattle.replay_script.proofs.Words.{found_in_same, have_same, name_alone, name_and_one, name_and_two, name_and_three, name_and_four, names_and_two}
 use Rattle.replay_script.proofs.command.form_of.Goals as goal
-use Rattle.replay_script.proofs.command.form_of.Goals.{in-New, in-Write, in-Zero, in-Read, in-Flush, in-Stop, in-CrashKeep+in_ok-crash_keep_of-in-CrashKeep}
+use Rattle.replay_script.proofs.command.form_of.Goals.{in-New, in-Write, in-Zero, in-Read, in-Flush, in-Seal, in-TakeJob, in-JobDone, in-JobFailed, in-Status, in-Stop, in-CrashKeep+in_ok-crash_keep_of-in-CrashKeep, in-CrashLost+in_ok-crash_lost_of-in-CrashLost}
 
 -- the bytes of a word
 abbrev bytes_of : Bor (List ℕ) → List ℕ
@@ -25,6 +25,23 @@ returns-clause-found c =
       | in-Flush w ↦
           let have = have_same bytes_of c.args.words.now _ _ w.in-Flush.is c.requires.begun c.requires.counted in
           rw w.result-is (name_alone bytes_of c.args.words.now (codes "f") have.0 have.1, tt)
+      | in-Seal w ↦
+          let have = have_same bytes_of c.args.words.now _ _ w.in-Seal.is c.requires.begun c.requires.counted in
+          rw w.result-is (name_alone bytes_of c.args.words.now (codes "s") have.0 have.1, tt)
+      | in-TakeJob w ↦
+          let have = have_same bytes_of c.args.words.now _ _ w.in-TakeJob.is c.requires.begun c.requires.counted in
+          rw w.result-is (name_alone bytes_of c.args.words.now (codes "u") have.0 have.1, tt)
+      | in-JobDone w ↦
+          let have = have_same bytes_of c.args.words.now _ _ w.in-JobDone.is c.requires.begun c.requires.counted in
+          let spelled = name_and_one bytes_of c.args.words.now (codes "d") _ have.0 have.1 in
+          rw w.result-is (found_in_same _ _ w.job_done_of.result spelled w.job_done_of.ensures.found)
+      | in-JobFailed w ↦
+          let have = have_same bytes_of c.args.words.now _ _ w.in-JobFailed.is c.requires.begun c.requires.counted in
+          let spelled = name_and_one bytes_of c.args.words.now (codes "x") _ have.0 have.1 in
+          rw w.result-is (found_in_same _ _ w.job_failed_of.result spelled w.job_failed_of.ensures.found)
+      | in-Status w ↦
+          let have = have_same bytes_of c.args.words.now _ _ w.in-Status.is c.requires.begun c.requires.counted in
+          rw w.result-is (name_alone bytes_of c.args.words.now (codes "i") have.0 have.1, tt)
       | in-Stop w ↦
           let have = have_same bytes_of c.args.words.now _ _ w.in-Stop.is c.requires.begun c.requires.counted in
           rw w.result-is (found_in_same _ _ w.stop_of.result (name_and_one bytes_of c.args.words.now (codes "stop") _ have.0 have.1) w.stop_of.ensures.found)
@@ -32,4 +49,8 @@ returns-clause-found c =
           let have = have_same bytes_of c.args.words.now _ _ w.in-CrashKeep.is c.requires.begun c.requires.counted in
           let kept = w.in_ok-crash_keep_of-in-CrashKeep.ensures in
           rw w.result-is (names_and_two bytes_of c.args.words.now (codes "crash") (codes "keep") _ have.0 have.1 ∙ kept.0, kept.1)
+      | in-CrashLost+in_ok-crash_lost_of-in-CrashLost w ↦
+          let have = have_same bytes_of c.args.words.now _ _ w.in-CrashLost.is c.requires.begun c.requires.counted in
+          let lost = w.in_ok-crash_lost_of-in-CrashLost.ensures in
+          rw w.result-is (names_and_two bytes_of c.args.words.now (codes "crash") (codes "lost") _ have.0 have.1 ∙ lost.0, lost.1)
     ]

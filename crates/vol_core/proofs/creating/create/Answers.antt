@@ -1,12 +1,13 @@
-use Rattle.std.proofs.Common.{subst, sym, refl, ◌∙◌, []}
+use Rattle.std.proofs.Common.{rules, ◌≡◌, length, subst, sym, refl, ◌∙◌, []}
 use Rattle.plain_disk.specs.State.{created_volume}
 use Rattle.log_meaning.specs.Fuses.{fuse_in}
-use Rattle.vol_core.specs.Volume.{volume_of}
+use Rattle.pending_meaning.specs.Pending.{ShowsPending}
+use Rattle.vol_core.specs.Volume.{SteppedVolume, volume_of}
 use Rattle.vol_core.specs.Shows.{Shows}
 use Rattle.vol_core.specs.Step.{passing}
-use Rattle.vol_core.specs.Creating.{IsCreated}
+use Rattle.vol_core.specs.Creating.{IsCreated, CanFormat}
 use Rattle.vol_core.specs.Stops.{HasOwnCommits}
-use Rattle.vol_core.proofs.CreateLemmas.{created_shows, created_own}
+use Rattle.vol_core.proofs.CreateLemmas.{created_shows, created_own, created_pends}
 use Rattle.vol_core.proofs.creating.create.Given as given
 use Rattle.vol_core.proofs.creating.create.Goals.{After-new-objects}
 use Rattle.vol_core.proofs.creating.create.Goals as goal
@@ -32,6 +33,19 @@ returns-clause-ok g c =
     subst (IsCreated c.args.uuid c.args.geometry) (sym c.new.ensures) (record {
       steps = refl;
       uuid_is = c.new-objects.ensures.uuid;
+      number = c.in_ok-log.ensures.ok.commits.same_number;
       own = own g before;
       shows = shows g before;
     })
+
+pends : (g : given.Over) (c : After-new-objects g) → CanFormat (g.D.Disk.state c.args.disk)
+    → ShowsPending c.in_ok-log.log (created_volume c.args.geometry).cache
+pends g c can =
+    let size : length c.into_bytes.result ≡ 16 = search rules in
+    created_pends c.in_ok-log.log c.args.geometry c.into_bytes.result (g.D.Disk.state c.args.disk) size can c.in_ok-log.ensures.ok
+    c.in_ok-log.ensures.calls
+
+pub returns-clause-pending : goal.returns-clause-pending
+returns-clause-pending g c = λ can.
+    let before = (goal.at.returns-clause-pending g c).After-new-objects in
+    subst (λ (s : SteppedVolume). ShowsPending s.volume.log (created_volume c.args.geometry).cache) (sym c.new.ensures) (pends g before can)

@@ -1,13 +1,13 @@
 use Rattle.std.proofs.Common.{◌≡◌, ◌+◌, ◌^◌, ◌≤◌, length}
-use Rattle.vol_replay.specs.Answer.{state_of, steps_of}
-use Rattle.vol_replay.proofs.Progress.{IsRun}
+use Rattle.vol_replay.specs.Lines.{lines_of}
+use Rattle.vol_replay.proofs.Progress.{IsRunning}
 use Rattle.vol_replay.proofs.run.run_lines.Given as goal
 
 abbrev pub invariant-loop-rest : goal.invariant-loop-rest
 invariant-loop-rest g l = record {
-  run : IsRun (g.O.Sink.contents l.fn.sink) (g.O.Sink.contents l.sink) l.script l.answers.items l.rest l.number (state_of l.bench);
+  run : IsRunning (g.O.Sink.contents l.fn.sink) (g.O.Sink.contents l.sink) l.script l.answers.items l.rest l.number l.bench;
   counted : l.number + length l.rest ≤ 2 ^ 24 + 1;
-  young : steps_of l.bench ≤ l.number;
+  young : lines_of l.bench ≤ l.number;
   none : g.O.Sink.faults l.sink ≡ g.O.Sink.faults l.fn.sink;
 }
 

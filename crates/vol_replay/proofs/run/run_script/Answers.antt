@@ -1,11 +1,10 @@
 use Rattle.std.proofs.Common.{ℕ, [], inr, refl, ap}
 use Rattle.lsvd_fault.proofs.Streams.{appends_nothing}
-use Rattle.vol_replay.specs.declared.outcome.Outcome.TheVariants.{BadLine}
-use Rattle.vol_replay.specs.declared.outcome.Reason.TheVariants.{TooLong}
-use Rattle.vol_replay.specs.Transcript.{line_after}
+use Rattle.transcript.specs.declared.reason.Reason.TheVariants.{TooLong}
+use Rattle.transcript.specs.Transcript.{Stopped, line_after}
 use Rattle.vol_replay.proofs.run.run_script.Goals as goal
 
 pub returns-then-script-gt-SCRIPT_LIMIT-clause-transcript : goal.returns-then-script-gt-SCRIPT_LIMIT-clause-transcript
 unfolding line_after
 returns-then-script-gt-SCRIPT_LIMIT-clause-transcript g c =
-    ([], appends_nothing _, inr (c.if-script-gt-SCRIPT_LIMIT.true, refl, ap (λ (n : ℕ). BadLine n TooLong) c.line_number.ensures))
+    ([], appends_nothing _, inr (c.if-script-gt-SCRIPT_LIMIT.true, refl, ap (λ (n : ℕ). Stopped n TooLong) c.line_number.ensures))

@@ -2,8 +2,9 @@ use Rattle.std.proofs.Common.{subst, sym}
 use Rattle.vol_core.specs.Volume.{VolumeState, SteppedVolume, volume_of}
 use Rattle.vol_core.specs.Step.{StepsAsPlain}
 use Rattle.vol_core.specs.Calls.{HasRoomForStep, event_of}
-use Rattle.vol_core.proofs.StepLemmas.{steps_keep_volume}
-use Rattle.vol_core.proofs.EnterSteps.{with_both, may_enter, enter_steps, enter_goes_on, small_then}
+use Rattle.vol_core.proofs.StepLemmas.{steps_keep_volume, numbers_seen}
+use Rattle.vol_core.proofs.EnterSteps.{with_both, may_enter, enter_steps, enter_grow}
+use Rattle.vol_core.proofs.BytesLemmas.{bytes_seen, entering_keeps_bytes}
 use Rattle.vol_core.proofs.StopSteps.{keeps_seen, entering_keeps_stops}
 use Rattle.vol_core.proofs.volume.Volume.enter.Goals as goal
 
@@ -23,10 +24,9 @@ invariant_of-self g c =
     let ready = subst HasRoomForStep (sym c.self.view_is) c.requires in
     let reply = c.enter.result in
     let is = c.self.invariant in
-    let goes = enter_goes_on g.R.Receipt.state c.args.entry reply volume objects log is.plain c.ordered.ensures c.on_disk.ensures c.enter.ensures is.shows in
-    steps_keep_volume g.R.Receipt.state (event_of c.args.entry) reply volume (with_both objects log volume) inside.steps c.self.invariant
+    steps_keep_volume g.R.Receipt.state (event_of c.args.entry) reply volume (with_both objects log volume) inside.steps is ready
     (enter_steps g.R.Receipt.state c.args.entry reply volume objects log c.ordered.ensures c.on_disk.ensures c.enter.ensures)
-    (small_then volume objects log inside.steps ready goes)
+    (enter_grow g.R.Receipt.state c.args.entry reply volume objects log is.plain c.ordered.ensures c.on_disk.ensures c.enter.ensures is.shows)
 
 pub returns-clause-step : goal.returns-clause-step
 returns-clause-step g c =
@@ -46,3 +46,22 @@ returns-clause-stops g c =
     let log = c.enter.new.log in
     keeps_seen (with_both objects log volume) _ _ c.self.view_is
     (entering_keeps_stops c.args.entry volume c.ordered.ensures c.on_disk.ensures c.enter.result objects log c.enter.ensures)
+
+pub returns-clause-numbers : goal.returns-clause-numbers
+returns-clause-numbers g c =
+    let inside = c.self.inside in
+    let volume : VolumeState = volume_of inside.objects inside.log inside.pins inside.checkpoint in
+    let objects = c.enter.new.objects in
+    let log = c.enter.new.log in
+    let is = c.self.invariant in
+    numbers_seen (with_both objects log volume) _ _ c.self.view_is
+    (enter_grow g.R.Receipt.state c.args.entry c.enter.result volume objects log is.plain c.ordered.ensures c.on_disk.ensures c.enter.ensures is.shows)
+
+pub returns-clause-bytes : goal.returns-clause-bytes
+returns-clause-bytes g c =
+    let inside = c.self.inside in
+    let volume : VolumeState = volume_of inside.objects inside.log inside.pins inside.checkpoint in
+    let objects = c.enter.new.objects in
+    let log = c.enter.new.log in
+    bytes_seen (with_both objects log volume) _ _ c.self.view_is
+    (entering_keeps_bytes c.args.entry volume objects log c.enter.result c.enter.ensures)

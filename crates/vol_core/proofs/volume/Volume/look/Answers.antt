@@ -1,14 +1,15 @@
-use Rattle.std.proofs.Common.{false, true, sym, ap, subst, Err}
+use Rattle.std.proofs.Common.{false, true, refl, sym, ap, subst, Err}
 use Rattle.cache_log.specs.Log.{LogState}
 use Rattle.vol_core.specs.declared.event.Event.TheVariants as events
 use Rattle.vol_core.specs.declared.reply.Reply.TheVariants as replies
 use Rattle.vol_core.specs.Volume.{VolumeState, SteppedVolume, volume_of}
-use Rattle.vol_core.specs.Shows.{IsSmall}
+use Rattle.vol_core.specs.Shows.{NumbersGrow}
 use Rattle.vol_core.specs.Step.{StepsAsPlain}
 use Rattle.vol_core.specs.Calls.{HasRoomForStep}
-use Rattle.vol_core.proofs.StepLemmas.{steps_keep_volume}
+use Rattle.vol_core.proofs.StepLemmas.{steps_keep_volume, numbers_stay, numbers_seen}
 use Rattle.vol_core.proofs.LookLemmas.{may_of_own, log_has_read, objects_have_read}
-use Rattle.vol_core.proofs.LookSteps.{with_reads, planned_steps, fault_steps, memory_steps, range_steps, reads_small, memory_small}
+use Rattle.vol_core.proofs.LookSteps.{with_reads, planned_steps, fault_steps, memory_steps, range_steps, reads_grow}
+use Rattle.vol_core.proofs.BytesLemmas.{bytes_seen, same_bytes}
 use Rattle.vol_core.proofs.StopSteps.{keeps_seen, still, read_is_still, look_keeps, IsStill}
 use Rattle.vol_core.proofs.volume.Volume.look.Given as given
 use Rattle.vol_core.proofs.volume.Volume.look.Goals.{Joined-look, in-Ok, in-Err-Fault, in-Err-OutOfMemory}
@@ -77,31 +78,32 @@ steps g c =
           (memory_steps state volume lba sectors log pins (says.memory (ap Err w.in-Err-OutOfMemory.field-0-is)) says.same_pins)
     ]
 
-small : (g : given.Over) (c : Joined-look g)
-    → IsSmall (volume_of c.self.inside.objects c.look.new.log c.look.new.pins c.self.inside.checkpoint) c.self.inside.steps
-small g c =
+grow : (g : given.Over) (c : Joined-look g)
+    → NumbersGrow (volume_of c.self.inside.objects c.self.inside.log c.self.inside.pins c.self.inside.checkpoint)
+    (volume_of c.self.inside.objects c.look.new.log c.look.new.pins c.self.inside.checkpoint)
+grow g c =
     let inside = c.self.inside in
     let volume : VolumeState = volume_of inside.objects inside.log inside.pins inside.checkpoint in
     let lba = c.args.lba in
     let sectors = c.args.sectors in
     let log = c.look.new.log in
     let pins = c.look.new.pins in
-    let ready = subst HasRoomForStep (sym c.self.view_is) c.requires in
     elim c.match-look.branch [
-      | in-Ok w ↦ reads_small volume log pins inside.steps lba sectors true ready (w.in-Ok.ensures.reads (λ e. cc))
+      | in-Ok w ↦ reads_grow volume log pins lba sectors true (w.in-Ok.ensures.reads (λ e. cc))
       | in-Err-Fault w ↦
           let fault = w.in-Err-Fault.field-0-is in
-          reads_small volume log pins inside.steps lba sectors false ready (w.in-Err-Fault.ensures.reads (λ e. cc))
+          reads_grow volume log pins lba sectors false (w.in-Err-Fault.ensures.reads (λ e. cc))
       | in-Err-OutOfMemory w ↦
-          memory_small volume log pins inside.steps ready (w.in-Err-OutOfMemory.ensures.memory (ap Err w.in-Err-OutOfMemory.field-0-is))
+          numbers_stay volume (with_reads log pins volume) (w.in-Err-OutOfMemory.ensures.memory (ap Err w.in-Err-OutOfMemory.field-0-is)) refl
     ]
 
 pub invariant_of-self : goal.invariant_of-self
 invariant_of-self g c =
     let inside = c.self.inside in
     let volume : VolumeState = volume_of inside.objects inside.log inside.pins inside.checkpoint in
+    let ready = subst HasRoomForStep (sym c.self.view_is) c.requires in
     steps_keep_volume g.R.Receipt.state (events.Look c.args.lba c.args.sectors) c.match-look.result volume
-    (with_reads c.look.new.log c.look.new.pins volume) inside.steps c.self.invariant (steps g c) (small g c)
+    (with_reads c.look.new.log c.look.new.pins volume) inside.steps c.self.invariant ready (steps g c) (grow g c)
 
 pub returns-clause-step : goal.returns-clause-step
 returns-clause-step g c =
@@ -133,3 +135,19 @@ returns-clause-stops g c =
     let volume : VolumeState = volume_of inside.objects inside.log inside.pins inside.checkpoint in
     let log : LogState = c.look.new.log in
     keeps_seen (record volume { log = log; pins = c.look.new.pins }) _ _ c.self.view_is (look_keeps volume log c.look.new.pins (is_still g c))
+
+pub returns-clause-numbers : goal.returns-clause-numbers
+returns-clause-numbers g c =
+    let inside = c.self.inside in
+    let volume : VolumeState = volume_of inside.objects inside.log inside.pins inside.checkpoint in
+    numbers_seen (with_reads c.look.new.log c.look.new.pins volume) _ _ c.self.view_is (grow g c)
+
+pub returns-then-not-may_transfer-clause-bytes : goal.returns-then-not-may_transfer-clause-bytes
+returns-then-not-may_transfer-clause-bytes g c = same_bytes c.args.self.now.volume c.args.self.now.volume refl refl
+
+pub returns-clause-bytes : goal.returns-clause-bytes
+returns-clause-bytes g c =
+    let inside = c.self.inside in
+    let volume : VolumeState = volume_of inside.objects inside.log inside.pins inside.checkpoint in
+    let now : VolumeState = with_reads c.look.new.log c.look.new.pins volume in
+    bytes_seen now _ _ c.self.view_is (same_bytes volume now refl refl)

@@ -5,8 +5,9 @@ use Rattle.vol_core.specs.Volume.{VolumeState, SteppedVolume, volume_of}
 use Rattle.vol_core.specs.Step.{StepsAsPlain}
 use Rattle.vol_core.specs.Calls.{HasRoomForStep}
 use Rattle.vol_core.specs.Stops.{StepKeeps}
-use Rattle.vol_core.proofs.StepLemmas.{steps_keep_volume}
-use Rattle.vol_core.proofs.ReleaseSteps.{with_pins, released_steps, not_released_steps, pins_small}
+use Rattle.vol_core.proofs.StepLemmas.{steps_keep_volume, numbers_stay, numbers_seen}
+use Rattle.vol_core.proofs.ReleaseSteps.{with_pins, released_steps, not_released_steps}
+use Rattle.vol_core.proofs.BytesLemmas.{bytes_seen, same_bytes}
 use Rattle.vol_core.proofs.StopSteps.{keeps_seen, still, still_keeps}
 use Rattle.vol_core.proofs.volume.Volume.release.Goals as goal
 
@@ -26,10 +27,10 @@ invariant_of-self g c =
     let plan = c.args.plan in
     let pins = c.unpin.new.self in
     let ready = subst HasRoomForStep (sym c.self.view_is) c.requires in
-    steps_keep_volume g.R.Receipt.state (events.Release plan) replies.Released volume (with_pins pins volume) inside.steps c.self.invariant
+    steps_keep_volume g.R.Receipt.state (events.Release plan) replies.Released volume (with_pins pins volume) inside.steps c.self.invariant ready
     (released_steps g.R.Receipt.state plan volume pins c.objects.result.now c.objects-2.result.now c.has_all.result c.objects.ensures.ascending
     c.objects.ensures.objects c.objects-2.ensures.objects c.has_all.ensures c.if-not-has_all.false c.unpin.ensures)
-    (pins_small volume pins inside.steps ready)
+    (numbers_stay volume (with_pins pins volume) refl refl)
 
 pub returns-clause-step : goal.returns-clause-step
 returns-clause-step g c =
@@ -55,3 +56,20 @@ returns-clause-stops g c =
     let volume : VolumeState = volume_of inside.objects inside.log inside.pins inside.checkpoint in
     let new : VolumeState = with_pins c.unpin.new.self volume in
     keeps_seen new _ _ c.self.view_is (still_keeps volume new (record { uuid = refl; geometry = refl }) (still volume.log))
+
+pub returns-clause-numbers : goal.returns-clause-numbers
+returns-clause-numbers g c =
+    let inside = c.self.inside in
+    let volume : VolumeState = volume_of inside.objects inside.log inside.pins inside.checkpoint in
+    let new : VolumeState = with_pins c.unpin.new.self volume in
+    numbers_seen new _ _ c.self.view_is (numbers_stay volume new refl refl)
+
+pub returns-then-not-has_all-clause-bytes : goal.returns-then-not-has_all-clause-bytes
+returns-then-not-has_all-clause-bytes g c = same_bytes c.args.self.now.volume c.args.self.now.volume refl refl
+
+pub returns-clause-bytes : goal.returns-clause-bytes
+returns-clause-bytes g c =
+    let inside = c.self.inside in
+    let volume : VolumeState = volume_of inside.objects inside.log inside.pins inside.checkpoint in
+    let now : VolumeState = with_pins c.unpin.new.self volume in
+    bytes_seen now _ _ c.self.view_is (same_bytes volume now refl refl)

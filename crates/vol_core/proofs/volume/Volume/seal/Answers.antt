@@ -2,8 +2,9 @@ use Rattle.std.proofs.Common.{subst, sym}
 use Rattle.vol_core.specs.declared.event.Event.TheVariants as events
 use Rattle.vol_core.specs.Volume.{VolumeState, volume_of}
 use Rattle.vol_core.specs.Calls.{HasRoomForStep}
-use Rattle.vol_core.proofs.StepLemmas.{with_objects, steps_keep_volume, step_seen}
-use Rattle.vol_core.proofs.ObjectSteps.{seal_steps, sealed_last, small_after}
+use Rattle.vol_core.proofs.StepLemmas.{with_objects, steps_keep_volume, step_seen, numbers_seen}
+use Rattle.vol_core.proofs.ObjectSteps.{seal_steps, sealed_grow}
+use Rattle.vol_core.proofs.BytesLemmas.{bytes_seen, seal_keeps_bytes}
 use Rattle.vol_core.proofs.StopSteps.{keeps_seen, seal_keeps}
 use Rattle.vol_core.proofs.volume.Volume.seal.Goals as goal
 
@@ -15,9 +16,9 @@ invariant_of-self g c =
     let reply = c.seal.result in
     let objects = c.seal.new.objects in
     let ready = subst HasRoomForStep (sym c.self.view_is) c.requires in
-    steps_keep_volume state events.Seal reply volume (with_objects objects volume) inside.steps c.self.invariant
+    steps_keep_volume state events.Seal reply volume (with_objects objects volume) inside.steps c.self.invariant ready
     (seal_steps state volume objects reply c.ordered.ensures c.seal.ensures)
-    (small_after volume objects inside.steps ready (sealed_last volume.objects objects reply c.seal.ensures))
+    (sealed_grow volume objects reply c.seal.ensures)
 
 pub returns-clause-step : goal.returns-clause-step
 returns-clause-step g c =
@@ -35,3 +36,17 @@ returns-clause-stops g c =
     let volume : VolumeState = volume_of inside.objects inside.log inside.pins inside.checkpoint in
     let objects = c.seal.new.objects in
     keeps_seen (with_objects objects volume) _ _ c.self.view_is (seal_keeps volume objects c.seal.result c.seal.ensures)
+
+pub returns-clause-numbers : goal.returns-clause-numbers
+returns-clause-numbers g c =
+    let inside = c.self.inside in
+    let volume : VolumeState = volume_of inside.objects inside.log inside.pins inside.checkpoint in
+    let objects = c.seal.new.objects in
+    numbers_seen (with_objects objects volume) _ _ c.self.view_is (sealed_grow volume objects c.seal.result c.seal.ensures)
+
+pub returns-clause-bytes : goal.returns-clause-bytes
+returns-clause-bytes g c =
+    let inside = c.self.inside in
+    let volume : VolumeState = volume_of inside.objects inside.log inside.pins inside.checkpoint in
+    let objects = c.seal.new.objects in
+    bytes_seen (with_objects objects volume) _ _ c.self.view_is (seal_keeps_bytes volume objects c.seal.result c.seal.ensures)

@@ -1,10 +1,7 @@
-use Rattle.std.proofs.Common.{subst}
-use Rattle.log_volume.specs.Volume.{VolumeState}
-use Rattle.log_volume.specs.Standing.{IsCommittingCount, IsCrashSafe}
-use Rattle.vol_replay.proofs.Benches.{flush_safe}
+use Rattle.plain_disk.specs.declared.event.PlainEvent.TheVariants as events
+use Rattle.vol_core.specs.declared.event.Event.TheVariants.{Flush}
+use Rattle.vol_replay.proofs.Rooms.{answers_event}
 use Rattle.vol_replay.proofs.bench.Bench.flush.Goals as goal
 
-pub returns-clause-crash_safe : goal.returns-clause-crash_safe
-returns-clause-crash_safe c =
-    let P : VolumeState → Type 0 = λ v. IsCrashSafe (IsCommittingCount v) v c.flush.new.self in
-    flush_safe c.args.self.now c.reserve.new.self c.flush.new.self c.reserve.ensures.same (subst P c.self.view_is c.flush.ensures.crash_safe)
+pub returns-clause-ok : goal.returns-clause-ok
+returns-clause-ok c = answers_event Flush events.Flush c.args.self.now c.answer.new.self c.answer.result (λ other asks. asks) c.answer.ensures.ok

@@ -1,12 +1,10 @@
-use Rattle.std.proofs.Common.{◌≡◌, subst}
+use Rattle.std.proofs.Common.{◌≡◌, ◌∙◌, ap, subst, length}
 use Rattle.lsvd_device.specs.Device.{DiskState, HoldsNow}
-use Rattle.std.specs.Prelude.{length}
-use Rattle.log_volume.specs.Volume.{VolumeState}
-use Rattle.vol_replay.proofs.Mounted.{pending_is}
+use Rattle.vol_replay.specs.Rig.{RigState}
+use Rattle.vol_replay.proofs.Halting.{count_pending}
 use Rattle.vol_replay.proofs.bench.Bench.pending.Goals as goal
 
 pub returns : goal.returns
-returns c =
-    let P : VolumeState → Type 0 = λ v. c.pending.result ≡ v.plain.device.pending in
-    let Q : DiskState → Type 0 = λ d. HoldsNow (λ now. c.pending.result ≡ length now.pending) d.moments in
-    subst P c.self.view_is (pending_is c.self.inside.volume c.pending.result c.disk.ensures.device (subst Q c.disk.ensures.disk c.pending.ensures))
+returns c = λ plain h.
+    count_pending c.args.self.now plain c.disk.result.now c.pending.result h
+    (c.disk.ensures ∙ ap (λ (r : RigState). r.volume.volume.log.commits.disk) c.self.view_is) c.pending.ensures

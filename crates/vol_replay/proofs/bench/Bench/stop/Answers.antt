@@ -1,25 +1,31 @@
-use Rattle.std.proofs.Common.{◌≡◌, ◌∙◌, ap, rules, subst}
+use Rattle.std.proofs.Common.{◌≡◌, ◌+◌, sym, subst, rules}
 use Rattle.std.specs.Prelude.{Some, None}
 use Rattle.lsvd_device.specs.Fuse.{with_new_fuse}
-use Rattle.plain_disk.specs.Machine.{stopping_after}
-use Rattle.log_volume.specs.Volume.{VolumeState}
-use Rattle.vol_replay.specs.Bench.{LeavesPlain}
-use Rattle.vol_replay.proofs.Benches.{fuse_set, stop_left, stop_bench}
+use Rattle.plain_disk.specs.State.{PlainState}
+use Rattle.plain_disk.specs.Stops.{stopping_after_calls}
+use Rattle.vol_core.specs.Volume.{SteppedVolume}
+use Rattle.vol_replay.specs.Rig.{RigState, rig_of, ShowsPlain}
+use Rattle.vol_replay.proofs.Halting.{stopping_rig}
 use Rattle.vol_replay.proofs.bench.Bench.stop.Goals as goal
 
 pub invariant_of-self : goal.invariant_of-self
 invariant_of-self c =
-    let old : VolumeState = c.self.inside.volume in
-    let new : VolumeState = c.with_disk.new.self in
-    let budget : new.disk.budget ≡ with_new_fuse (Some c.args.calls) old.disk.budget = search rules in
-    let none : old.plain.device.fuse ≡ None = ap (λ (v : VolumeState). v.plain.device.fuse) c.self.view_is ∙ c.requires in
-    stop_bench c.self.inside.is_stopping c.args.calls old new c.self.invariant c.with_disk.ensures.device none c.with_disk.ensures.rest
-    (fuse_set (Some c.args.calls) old.disk.budget new.disk.budget c.with_disk.ensures.device.told budget)
+    let inside = c.self.inside in
+    let old : RigState = rig_of inside.volume inside.store inside.puts.list inside.is_stopping inside.lines in
+    let volume : SteppedVolume = c.with_disk.new.self in
+    let plain : PlainState = c.self.invariant.0 in
+    let shown : ShowsPlain old plain = c.self.invariant.1 in
+    let budget : volume.volume.log.commits.disk.budget ≡ with_new_fuse (Some c.args.calls) inside.volume.volume.log.commits.disk.budget = search rules in (
+      stopping_after_calls c.args.calls plain,
+      stopping_rig c.args.calls old volume plain shown
+          (c.requires.once plain (subst (λ (r : RigState). ShowsPlain r plain) c.self.view_is shown)) c.with_disk.ensures.rest (c.with_disk.ensures.shows plain) budget,
+    )
 
-pub returns-clause-left : goal.returns-clause-left
-returns-clause-left c =
-    let old : VolumeState = c.self.inside.volume in
-    let new : VolumeState = c.with_disk.new.self in
-    let budget : new.disk.budget ≡ with_new_fuse (Some c.args.calls) old.disk.budget = search rules in
-    let P : VolumeState → Type 0 = λ v. LeavesPlain (stopping_after c.args.calls v.plain) v new in
-    subst P c.self.view_is (stop_left c.args.calls old new c.with_disk.ensures.rest (fuse_set (Some c.args.calls) old.disk.budget new.disk.budget c.with_disk.ensures.device.told budget))
+pub returns-clause-stops : goal.returns-clause-stops
+returns-clause-stops c = λ plain h.
+    let inside = c.self.inside in
+    let old : RigState = rig_of inside.volume inside.store inside.puts.list inside.is_stopping inside.lines in
+    let volume : SteppedVolume = c.with_disk.new.self in
+    let budget : volume.volume.log.commits.disk.budget ≡ with_new_fuse (Some c.args.calls) inside.volume.volume.log.commits.disk.budget = search rules in
+    stopping_rig c.args.calls old volume plain (subst (λ (r : RigState). ShowsPlain r plain) (sym c.self.view_is) h)
+    (c.requires.once plain h) c.with_disk.ensures.rest (c.with_disk.ensures.shows plain) budget

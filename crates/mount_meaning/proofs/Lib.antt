@@ -1,0 +1,12 @@
+pub mod RestLemmas
+pub mod ListLemmas
+pub mod EntryLemmas
+pub mod FoundLemmas
+pub mod ReopenedLemmas
+pub mod OpenedLemmas
+pub mod GoingLemmas
+pub mod StopLemmas
+pub mod RunLemmas
+pub mod HeldLemmas
+pub mod GateLemmas
+pub mod LeftLemmas

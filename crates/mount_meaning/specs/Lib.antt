@@ -1,0 +1,4 @@
+pub mod Found
+pub mod Mounted
+pub mod Rest
+pub mod Laws

@@ -1,0 +1,5 @@
+pub mod Asked
+mod Cached
+mod Bodies
+mod Gates
+pub mod Shown

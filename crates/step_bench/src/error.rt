@@ -1,0 +1,46 @@
+use lsvd_fault::Failed;
+use lsvd_objstore::StoreError;
+use std::alloc::AllocError;
+use std::io;
+use thiserror::Error;
+
+/// Why a round was not made.
+#[derive(Clone, Copy, Debug, Error)]
+pub enum BenchError {
+    /// A size is past what a volume takes.
+    #[error("a size past the limits")]
+    Refused,
+    /// A step or a put did not do what it should.
+    #[error("a step answered otherwise")]
+    Answer,
+    /// The clock, the output or the count of resident pages failed.
+    #[error("the clock, the output or the count of resident pages failed")]
+    System,
+    /// Memory ran out.
+    #[error("out of memory")]
+    Memory,
+}
+
+impl From<AllocError> for BenchError {
+    fn from(_error: AllocError) -> BenchError {
+        BenchError::Memory
+    }
+}
+
+impl From<Failed> for BenchError {
+    fn from(_error: Failed) -> BenchError {
+        BenchError::Answer
+    }
+}
+
+impl From<StoreError> for BenchError {
+    fn from(_error: StoreError) -> BenchError {
+        BenchError::Answer
+    }
+}
+
+impl From<io::Error> for BenchError {
+    fn from(_error: io::Error) -> BenchError {
+        BenchError::System
+    }
+}

@@ -1,0 +1,61 @@
+ghost use Rattle.std.specs.Prelude.{◌≡◌};
+
+use lsvd_names::ObjName;
+use lsvd_objstore::Receipt;
+use std::alloc::{AllocError, Global};
+
+/// A receipt that keeps no bytes, as that of a directory keeps none. A volume has one for each object, so that else its memory would
+/// grow by all that was ever written.
+#[derive(Drop)]
+pub struct PlainReceipt {
+    name: ObjName,
+    size: u64,
+}
+
+impl PlainReceipt {
+    /// The receipt of an object with this name and this many bytes.
+    pub fn new(name: ObjName, size: u64) -> PlainReceipt
+        ensures name { result.name ≡ name }
+        ensures size { result.size ≡ size }
+    {
+        PlainReceipt { name, size }
+    }
+}
+
+impl Receipt for PlainReceipt {
+    ghost use Rattle.std.specs.Prelude.{◌≡◌};
+    ghost use Rattle.std.proofs.Common.{ap};
+    ghost use Rattle.step_bench.specs.Receipts.{untold_receipt};
+    ghost use Rattle.step_bench.specs.declared.receipt.PlainReceipt.{PlainReceipt};
+
+    ghost state = { untold_receipt };
+
+    ghost are_same = { λ receipt other. receipt ≡ other };
+
+    fn name(&self) -> ObjName {
+        self.name
+    }
+
+    fn len(&self) -> u64 {
+        self.size
+    }
+
+    fn copy(&self, _alloc: Global) -> Result<PlainReceipt, AllocError> {
+        Ok(PlainReceipt {
+            name: self.name,
+            size: self.size,
+        })
+    }
+
+    fn same(&self, other: &PlainReceipt) -> bool {
+        self.name == other.name && self.size == other.size
+    }
+
+    ghost told_whole = { λ _. tt };
+
+    ghost only_same = { λ receipt other one. record {
+      named = ap (λ (receipt : PlainReceipt). receipt.name) one;
+      size = ap (λ (receipt : PlainReceipt). receipt.size) one;
+      told = tt;
+    } };
+}

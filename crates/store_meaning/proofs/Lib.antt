@@ -1,0 +1,4 @@
+pub mod ObjectLemmas
+pub mod KeepLemmas
+pub mod JobLemmas
+pub mod LeftLemmas

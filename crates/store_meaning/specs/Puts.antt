@@ -1,0 +1,72 @@
+-- Contract: the bytes of a plain volume's objects, how far their puts have come, and what a stop leaves of them in a store.
+use Rattle.std.specs.Prelude.{◌≡◌, ℕ, ◌+◌, ◌-◌, ◌<◌, ◌≤◌, Option, Some, None, if◌then◌else◌, List, take, drop}
+use Rattle.std.specs.List.{slice_get, list_any}
+use Rattle.std.specs.Global.{Vec}
+use Rattle.lsvd_base.specs.declared.entry.Entry.{Entry}
+use Rattle.lsvd_base.specs.Image.{blank}
+use Rattle.lsvd_objstore.specs.Objects.{Objects, found}
+use Rattle.object_format.specs.declared.data_row.DataRow.{DataRow}
+use Rattle.object_format.specs.declared.expected.Expected.{Expected}
+use Rattle.object_format.specs.declared.header.Header.{Header}
+use Rattle.object_format.specs.declared.rows.Rows.TheVariants as rows_of
+use Rattle.object_stream.specs.declared.object.Content.TheVariants.{Data}
+use Rattle.object_stream.specs.Changes.{change_at, change_in}
+use Rattle.object_stream.specs.Stream.{Stream, end_at}
+use Rattle.object_stream.specs.Replay.{name_of, HasParts, expected_at}
+use Rattle.upload_window.specs.Window.{WindowState, has_number, was_started}
+use Rattle.stopped_volume.specs.Objects.{IsCheckpointOf}
+use Rattle.stopped_volume.specs.Store.{PutState, MayHoldPuts}
+use Rattle.stopped_volume.specs.Store.PutState.{Acknowledged, Begun, NotBegun}
+use Rattle.plain_disk.specs.State.{PlainState, stream_in}
+use Rattle.object_recovery.specs.Checkpoints.{expected_of}
+
+-- ---- the bytes of an object
+
+-- the entries that the object of a number has
+abbrev pub entries_in_object : Stream → ℕ → List Entry
+entries_in_object stream number =
+    let from : ℕ = end_at stream (number - 1) in
+    take (end_at stream number - from) (drop (from - stream.end) stream.entries)
+
+-- Bytes are those of a plain volume's data object of a number: of the grammar, going on where the object before it ends, and they do to
+-- each sector what the object's entries do.
+pub record IsObjectOf (volume : Expected) (plain : PlainState) (number : ℕ) (bytes : List ℕ) : Type 0 where
+  pub past : plain.number < number
+  pub header : Header
+  pub object : slice_get plain.objects (number - (plain.number + 1)) ≡ Some (record { content = Data; end = header.end_seq })
+  pub rows : Vec DataRow
+  pub payload : List ℕ
+  pub parts : HasParts (expected_at volume number (end_at (stream_in plain) (number - 1))) bytes header (rows_of.Data rows) payload
+  pub changes : (k : ℕ) → change_in rows.items payload k ≡ change_at (entries_in_object (stream_in plain) number) k
+
+-- ---- the puts
+
+-- how far the put of an object has come
+abbrev pub state_of_put : WindowState → ℕ → PutState
+state_of_put window number =
+    if was_started number window.objects then Begun else (if list_any (has_number number) window.objects then NotBegun else Acknowledged)
+
+-- the object's bytes are known once its put was begun
+abbrev pub AreBytesOfPut : PutState → Expected → PlainState → (number : ℕ) → (bytes : List ℕ) → Type 0
+AreBytesOfPut Acknowledged volume plain number bytes = IsObjectOf volume plain number bytes
+AreBytesOfPut Begun volume plain number bytes = IsObjectOf volume plain number bytes
+AreBytesOfPut NotBegun volume plain number bytes = Unit {0}
+
+-- these are the puts of a plain volume's objects, after the one that it opens at, with the bytes of those that were begun
+pub record ArePuts (volume : Expected) (plain : PlainState) (puts : ℕ → Option (PutState × List ℕ)) : Type 0 where
+  pub known : (number : ℕ) → plain.number < number → number ≤ plain.window.last
+      → (bytes : List ℕ) × (puts number ≡ Some (state_of_put plain.window number, bytes))
+      × AreBytesOfPut (state_of_put plain.window number) volume plain number bytes
+  pub none_else : (number : ℕ) → plain.window.last < number → puts number ≡ None
+
+-- ---- a stop
+
+-- What a stop may leave of the store of a plain volume, which opens blank at its newest checkpoint: that checkpoint, and of each later
+-- object what its put allows. Each volume opens at object 1, and none of its objects has a lower number.
+pub record MayBeLeft (uuid : List ℕ) (plain : PlainState) (puts : ℕ → Option (PutState × List ℕ)) (objects : Objects) : Type 0 where
+  pub opened : plain.checkpoint ≡ plain.number
+  pub opened_first : plain.number ≡ 1
+  pub blank_is : plain.opening ≡ blank plain.geometry.sectors
+  pub first : IsCheckpointOf (expected_of uuid plain.geometry) objects plain.number plain.end (stream_in plain).opening
+  pub none_lower : (number : ℕ) → number < plain.number → found objects (name_of uuid number) ≡ None
+  pub held : MayHoldPuts uuid puts plain.number objects

@@ -1,0 +1,5 @@
+pub mod Determined
+pub mod Existence
+pub mod LandedLetters
+pub mod Reached
+pub mod Replies

@@ -1,0 +1,93 @@
+-- What holds of the volume in each state that a script reaches.
+use Rattle.std.proofs.Common.{◌≡◌, ℕ, ◌+◌, ◌*◌, List, [], ◌∷◌, length, replicate, refl, subst, sym, ◌∙◌, inl, inr}
+use Rattle.std.specs.Prelude.{Some, None}
+use Rattle.plain_disk.specs.State.{PlainState}
+use Rattle.plain_disk.specs.Step.{plain_reply}
+use Rattle.plain_disk.specs.Valid.{IsPlainVolume}
+use Rattle.plain_disk.specs.declared.event.PlainEvent.TheVariants as events
+use Rattle.plain_disk.specs.declared.event.PlainReply.{PlainReply}
+use Rattle.plain_disk.specs.declared.event.PlainReply.TheVariants.{Planned}
+use Rattle.plain_disk.proofs.EventLemmas.{created_is, events_keep}
+use Rattle.plain_disk.proofs.MountLemmas.{mounts_keep}
+use Rattle.plain_disk.proofs.StopLemmas.{stops_keep, stop_keeps_acknowledged}
+use Rattle.replay_script.specs.declared.command.Command.{Command}
+use Rattle.replay_script.specs.declared.command.Command.TheVariants.{New, Write, Zero, Read, Flush, Seal, TakeJob, JobDone, JobFailed, Status, Stop, CrashKeep, CrashLost}
+use Rattle.replay_script.specs.Grammar.{lines_of, Fits}
+use Rattle.transcript.specs.Letters.{kept_by, landed_by}
+use Rattle.transcript.specs.Answers.{State, released_by, Answers}
+use Rattle.transcript.specs.Transcript.{Ending, AllAnswered, Stopped, Transcript, IsTranscript}
+use Rattle.transcript.specs.Reached.{StopsKeepFlushed}
+use Rattle.transcript.proofs.LandedLetters.{may_land}
+
+-- a plain volume, where there is a volume
+abbrev pub IsPlainState : State → Type 0
+IsPlainState None = Unit {0}
+IsPlainState (Some plain) = IsPlainVolume plain
+
+along : (state : State) (plain : PlainState) → state ≡ Some plain → IsPlainVolume plain → IsPlainState state
+along state plain is h = let P : State → Type 0 = λ s. IsPlainState s in subst P (sym is) h
+
+-- a plan that is given back leaves a plain volume
+released_keeps : (reply : PlainReply) (plain : PlainState) → IsPlainVolume plain → IsPlainVolume (released_by reply plain)
+released_keeps (Planned front bytes objects) plain h = events_keep plain (events.Release objects) h
+released_keeps reply plain h = h
+
+-- a command that is answered leaves a plain volume
+pub answer_keeps : (state : State) (command : Command) (text : List ℕ) (next : State) → Fits command → Answers state command text next
+    → IsPlainState state → IsPlainState next
+answer_keeps None (New g) text next fits s h = along next _ s.1 (created_is g fits)
+answer_keeps None (Write lba sectors byte) text next fits s h = absurd s
+answer_keeps None (Zero lba sectors) text next fits s h = absurd s
+answer_keeps None (Read lba sectors) text next fits s h = absurd s
+answer_keeps None Flush text next fits s h = absurd s
+answer_keeps None Seal text next fits s h = absurd s
+answer_keeps None TakeJob text next fits s h = absurd s
+answer_keeps None (JobDone number) text next fits s h = absurd s
+answer_keeps None (JobFailed number) text next fits s h = absurd s
+answer_keeps None Status text next fits s h = absurd s
+answer_keeps None (Stop calls) text next fits s h = absurd s
+answer_keeps None (CrashKeep device objects) text next fits s h = absurd s
+answer_keeps None (CrashLost device objects) text next fits s h = absurd s
+answer_keeps (Some plain) (New g) text next fits s h = absurd s
+answer_keeps (Some plain) (Write lba sectors byte) text next fits s h =
+    along next _ s.1 (events_keep plain (events.Write lba (replicate (512 * sectors) byte)) h)
+answer_keeps (Some plain) (Zero lba sectors) text next fits s h = along next _ s.1 (events_keep plain (events.Zero lba sectors) h)
+answer_keeps (Some plain) (Read lba sectors) text next fits s h =
+    along next _ s.1 (released_keeps (plain_reply plain (events.Look lba sectors)) _ (events_keep plain (events.Look lba sectors) h))
+answer_keeps (Some plain) Flush text next fits s h = along next _ s.1 (events_keep plain events.Flush h)
+answer_keeps (Some plain) Seal text next fits s h = along next _ s.1 (events_keep plain events.Seal h)
+answer_keeps (Some plain) TakeJob text next fits s h = along next _ s.1 (events_keep plain events.TakeJob h)
+answer_keeps (Some plain) (JobDone number) text next fits s h = along next _ s.1.1 (events_keep plain (events.JobDone (Some number)) h)
+answer_keeps (Some plain) (JobFailed number) text next fits s h = along next _ s.2 (events_keep plain (events.JobFailed (Some number)) h)
+answer_keeps (Some plain) Status text next fits s h = along next _ s.1 (events_keep plain events.Status h)
+answer_keeps (Some plain) (Stop calls) text next fits s h = along next _ s.2 (stops_keep plain calls h)
+answer_keeps (Some plain) (CrashKeep device objects) text next fits s h =
+    let kept = kept_by (length plain.cache.pending) device in
+    along next _ s.1.1 (mounts_keep plain (landed_by plain.window objects) kept h (may_land plain objects h)).0
+answer_keeps (Some plain) (CrashLost device objects) text next fits s h =
+    along next _ s.1.1 (mounts_keep plain (landed_by plain.window objects) [] h (may_land plain objects h)).1
+
+-- an ending with a volume has such a one
+abbrev EndingIs : Ending → Type 0
+EndingIs ending = (state : State) → ending ≡ AllAnswered state → IsPlainState state
+
+lines_keep : (lines : List (List ℕ)) (number : ℕ) (state : State) (text : List ℕ) (ending : Ending) → Transcript number state lines text ending
+    → IsPlainState state → EndingIs ending
+lines_keep [] number state text ending t h = λ other is.
+    let same : AllAnswered state ≡ AllAnswered other = sym t.1 ∙ is in
+    let one : state ≡ other = cc in
+    let P : State → Type 0 = λ s. IsPlainState s in subst P one h
+lines_keep (line ∷ lines) number state text ending (inl t) h =
+    lines_keep lines (number + 1) t.1 t.2 ending t.5 (answer_keeps state t.3.command t.0 t.1 t.3.spelled.fits t.3.answered h)
+lines_keep (line ∷ lines) number state text ending (inr t) h = λ other is.
+    let same : Stopped number t.1.0 ≡ AllAnswered other = sym t.1.2 ∙ is in cc
+
+script_keeps : (script text : List ℕ) (plain : PlainState) → IsTranscript script text (AllAnswered (Some plain)) → IsPlainVolume plain
+script_keeps script text plain (inl t) = lines_keep (lines_of script) 1 None text (AllAnswered (Some plain)) t.1 tt (Some plain) refl
+script_keeps script text plain (inr t) = cc
+
+-- in each state that a script reaches, a stop keeps what was flushed, and no more than was taken
+pub reached_keeps : StopsKeepFlushed
+reached_keeps script plain landed kept (text, t) may =
+    let stops = stop_keeps_acknowledged plain landed kept (script_keeps script text plain t) may in
+    record { flushed = stops.3; settled = stops.1; recovered = stops.2; taken = stops.4 }

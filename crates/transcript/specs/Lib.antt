@@ -1,0 +1,5 @@
+pub mod Letters
+pub mod Reason
+pub mod Answers
+pub mod Transcript
+pub mod Reached

@@ -1,0 +1,31 @@
+use Rattle.std.proofs.Common.{◌≡◌, List, ◌∙◌, subst, ap, ℕ}
+use Rattle.lsvd_objstore.specs.Objects.{IsPut, MayBePut}
+use Rattle.lsvd_objstore.specs.Store.{Becomes}
+use Rattle.lsvd_objstore.specs.declared.error.StoreError.TheVariants as store_errors
+use Rattle.object_stream.specs.Replay.{name_of}
+use Rattle.object_recovery.proofs.FindLemmas.{passed_on, error_of}
+use Rattle.vol_recover.specs.Creating.{MayPutFirst, of_put}
+use Rattle.vol_recover.proofs.CreateLemmas.{puts_first, after_error}
+use Rattle.vol_recover.proofs.creating.put_first.Goals as goal
+
+pub returns-in_err-put-clause-err : goal.returns-in_err-put-clause-err
+returns-in_err-put-clause-err g c =
+    let old = g.S.Store.state c.args.store.now in
+    let new = g.S.Store.state c.put.new.self in
+    let name : c.first_name.result ≡ name_of c.args.uuid 1 = c.first_name.ensures.is ∙ ap (λ (u : List ℕ). name_of u 1) c.into_bytes.ensures in
+    let error = c.in_err-put.field-0.0 in
+    let e = c.in_err-put.ensures in
+    passed_on (λ e. Becomes (MayPutFirst c.args.uuid c.args.geometry.now e) old.objects new.objects) c.from_residual-in_err-put.result (of_put error)
+    c.from_residual-in_err-put.ensures.1
+    (after_error c.args.uuid c.args.geometry.now c.in_ok-object.object error old new c.in_ok-object.ensures
+    (λ same. subst (λ n. Becomes (MayBePut n c.in_ok-object.object) old.objects new.objects) name
+    (e.failed (error_of error store_errors.Failed same)))
+    (λ same. e.unchanged (error_of error store_errors.OutOfMemory same)))
+
+pub returns-clause-ok : goal.returns-clause-ok
+returns-clause-ok g c =
+    let old = (g.S.Store.state c.args.store.now).objects in
+    let new = (g.S.Store.state c.put.new.self).objects in
+    let name : c.first_name.result ≡ name_of c.args.uuid 1 = c.first_name.ensures.is ∙ ap (λ (u : List ℕ). name_of u 1) c.into_bytes.ensures in
+    puts_first c.args.uuid c.args.geometry.now c.in_ok-object.object old new c.in_ok-object.ensures
+    (subst (λ n. Becomes (IsPut n c.in_ok-object.object) old new) name c.in_ok-put.ensures.put)

@@ -1,0 +1,159 @@
+ghost use Rattle.std.specs.Prelude.{◌≡◌, true, IsTrue, IfOk, IfErr, OnOk, length};
+ghost use Rattle.lsvd_base.specs.Limits.{is_within_limits};
+ghost use Rattle.lsvd_fault.specs.Faults.{Counts};
+ghost use Rattle.lsvd_device.specs.Device.{IsDisk};
+ghost use Rattle.lsvd_names.specs.Spelling.{IsUuid, IsName};
+ghost use Rattle.lsvd_objstore.specs.Store.{Becomes};
+ghost use Rattle.object_stream.specs.Replay.{name_of};
+ghost use Rattle.commit_slot.specs.Slots.{log_of};
+ghost use Rattle.plain_disk.specs.State.{created_volume};
+ghost use Rattle.pending_meaning.specs.Pending.{ShowsPending};
+ghost use Rattle.vol_core.specs.Creating.{IsCreated, CostsFormat, CanFormat};
+ghost use Rattle.vol_recover.specs.declared.creating.CreateError.TheVariants as create_errors;
+ghost use Rattle.vol_recover.specs.Creating.{IsFirstObject, PutsFirst, MayPutFirst, MayFormat, of_put, ends_by_put, ends_by_put_fault};
+
+use lsvd_base::{Geometry, ObjectBytes};
+use lsvd_device::Disk;
+use lsvd_fault::Failed;
+use lsvd_names::{Kind, ObjName};
+use lsvd_objstore::{Store, StoreError};
+use object_format::{Expected, ObjectWriter, Rows, what_is_written_is_an_object};
+use std::alloc::{AllocError, Global};
+use thiserror::Error;
+use uuid::Uuid;
+use vol_core::{Volume, create as create_cache};
+
+/// Why a volume was not created.
+#[derive(Clone, Copy, Debug, PartialEq, Eq, Error)]
+pub enum CreateError {
+    /// A call of the store failed, and was counted by it.
+    #[error("the store failed")]
+    StoreFault,
+    /// A call of the device failed, and was counted by it.
+    #[error("the device failed")]
+    DeviceFault,
+    /// Memory ran out.
+    #[error("out of memory")]
+    OutOfMemory,
+}
+
+impl From<StoreError> for CreateError {
+    ghost from_gives = { λ error e. e ≡ of_put error };
+
+    fn from(error: StoreError) -> CreateError {
+        match error {
+            StoreError::Failed => CreateError::StoreFault,
+            StoreError::OutOfMemory => CreateError::OutOfMemory,
+        }
+    }
+}
+
+impl From<AllocError> for CreateError {
+    ghost from_gives = { λ _ e. e ≡ create_errors.OutOfMemory };
+
+    fn from(_: AllocError) -> CreateError {
+        CreateError::OutOfMemory
+    }
+}
+
+impl From<Failed> for CreateError {
+    ghost from_gives = { λ _ e. e ≡ create_errors.DeviceFault };
+
+    fn from(_: Failed) -> CreateError {
+        CreateError::DeviceFault
+    }
+}
+
+/// Creates a volume: puts its first object, a checkpoint without rows, into the store, and formats its cache device.
+///
+/// The geometry is within the limits, its log has just the sectors of the device past byte 4,096, and the device is a disk (conditions).
+/// The device is asked for the calls of formatting alone, of which those are made that its fuse passes, where it has room for them; and
+/// where it tells what it holds too, nothing is pending then. An error comes with the device, which is a disk still:
+///
+/// - `StoreFault`: the put of the first object failed, which the store counted. What was there stands, or that object too.
+/// - `DeviceFault`: a call of the device failed. The store has the first object.
+/// - `OutOfMemory`: memory ran out. Nothing changed.
+pub fn create<D: Disk, S: Store>(
+    alloc: Global,
+    disk: D,
+    store: &mut S,
+    uuid: Uuid,
+    geometry: Geometry,
+) -> Result<Volume<D, S::Receipt>, (D, CreateError)>
+    requires limits { IsTrue (is_within_limits geometry) }
+    requires log { geometry.log ≡ log_of (D.state disk).size }
+    requires is_disk { IsDisk (D.state disk) }
+    ensures ok { IfOk result (IsCreated uuid geometry) }
+    ensures first { OnOk result (Becomes (PutsFirst uuid geometry) (S.state store.old).objects (S.state store.new).objects) }
+    ensures calls { IfOk result (λ stepped. CostsFormat uuid true (D.state disk) stepped.volume.log.commits.disk) }
+    ensures pending { IfOk result (λ stepped.
+        CanFormat (D.state disk) → ShowsPending stepped.volume.log (created_volume geometry).cache) }
+    ensures err { IfErr result (λ error.
+        Becomes (MayPutFirst uuid geometry error.1) (S.state store.old).objects (S.state store.new).objects) }
+    ensures err_calls { IfErr result (λ error. MayFormat uuid error.1 (D.state disk) (D.state error.0)) }
+    ensures faults { Counts (ends_by_put_fault result) (S.state store.old).faults (S.state store.new).faults }
+    ensures is_disk { IfErr result (λ error. IsDisk (D.state error.0)) }
+{
+    if let Err(error) = put_first(alloc, store, uuid, &geometry) {
+        return Err((disk, error));
+    }
+    match create_cache(alloc, disk, uuid, geometry) {
+        Ok(volume) => Ok(volume),
+        Err((disk, failed)) => Err((disk, failed.into())),
+    }
+}
+
+// Puts the first object of a volume.
+fn put_first<S: Store>(
+    alloc: Global,
+    store: &mut S,
+    uuid: Uuid,
+    geometry: &Geometry,
+) -> Result<(), CreateError>
+    ensures ok { OnOk result (Becomes (PutsFirst uuid geometry.now) (S.state store.old).objects (S.state store.new).objects) }
+    ensures err { IfErr result (λ error.
+        Becomes (MayPutFirst uuid geometry.now error) (S.state store.old).objects (S.state store.new).objects) }
+    ensures no_device { IfErr result (λ error. error ≡ create_errors.DeviceFault → ⊥) }
+    ensures faults { Counts (ends_by_put result) (S.state store.old).faults (S.state store.new).faults }
+{
+    let object = first_object(alloc, uuid, geometry)?;
+    store.put(alloc, &first_name(uuid.into_bytes()), &object)?;
+    Ok(())
+}
+
+// The name of the first object of a volume.
+fn first_name(uuid: [u8; 16]) -> ObjName
+    ensures is { result ≡ name_of uuid 1 }
+    ensures named { IsName result }
+{
+    is_uuid(uuid.as_slice());
+    ObjName {
+        uuid: Uuid::from_bytes(uuid),
+        kind: Kind::Object,
+        number: FIRST,
+    }
+}
+
+// A fact for the proof of the caller: 16 bytes are those of a uuid. Nothing is done.
+fn is_uuid(bytes: &[u8])
+    requires { length bytes.now ≡ 16 }
+    ensures { IsUuid bytes.now }
+{}
+
+// The number of the first object.
+const FIRST: u64 = 1;
+
+// The first object of a volume: a checkpoint without rows, and without entries before it.
+fn first_object(alloc: Global, uuid: Uuid, geometry: &Geometry) -> Result<ObjectBytes, AllocError>
+    ensures { IfOk result (IsFirstObject uuid geometry.now) }
+{
+    what_is_written_is_an_object();
+    let expected = Expected {
+        uuid: uuid.into_bytes(),
+        number: FIRST,
+        sectors: geometry.sectors,
+        ancestors: 0,
+        end_before: None,
+    };
+    ObjectWriter::new(alloc, &expected, 0, 0, &Rows::Checkpoint)?.finish()
+}

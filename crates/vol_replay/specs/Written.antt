@@ -1,0 +1,47 @@
+-- Contract: what a replay wrote when it ended.
+use Rattle.std.specs.Prelude.{◌≡◌, ℕ, Option, Some, None, Bool, true, false, List}
+use Rattle.plain_disk.specs.State.{PlainState}
+use Rattle.transcript.specs.Answers.{State}
+use Rattle.transcript.specs.Transcript.{AllAnswered, Stopped, IsTranscript, IsFrontOfTranscript}
+use Rattle.vol_replay.specs.declared.outcome.Outcome.{Outcome}
+use Rattle.vol_replay.specs.declared.outcome.Outcome.TheVariants.{Done, BadLine, ReadFault, WriteFault, OutOfMemory}
+use Rattle.vol_replay.specs.Rig.{RigState, ShowsPlain}
+
+-- a rig shows a state of the transcript: there is none before the line `new`
+abbrev pub ShowsState : Option RigState → State → Type 0
+ShowsState None None = Unit {0}
+ShowsState None (Some plain) = ⊥
+ShowsState (Some rig) None = ⊥
+ShowsState (Some rig) (Some plain) = ShowsPlain rig plain
+
+-- The whole transcript where each line was answered, and the rig shows what it leaves; the answers before a bad line; and a front of the
+-- transcript after a fault or where memory ran out.
+abbrev pub IsWritten : List ℕ → List ℕ → Outcome → Type 0
+IsWritten script text (Done rig) = (state : State) × IsTranscript script text (AllAnswered state) × ShowsState rig state
+IsWritten script text (BadLine number reason) = IsTranscript script text (Stopped number reason)
+IsWritten script text ReadFault = IsFrontOfTranscript script text
+IsWritten script text WriteFault = IsFrontOfTranscript script text
+IsWritten script text OutOfMemory = IsFrontOfTranscript script text
+
+-- each line was answered
+abbrev pub IsDone : Outcome → Type 0
+IsDone (Done rig) = Unit {0}
+IsDone (BadLine number reason) = ⊥
+IsDone ReadFault = ⊥
+IsDone WriteFault = ⊥
+IsDone OutOfMemory = ⊥
+
+-- whether a replay ended by a fault of the source, and by one of the sink
+abbrev pub ends_by_read_fault : Outcome → Bool
+ends_by_read_fault (Done rig) = false
+ends_by_read_fault (BadLine number reason) = false
+ends_by_read_fault ReadFault = true
+ends_by_read_fault WriteFault = false
+ends_by_read_fault OutOfMemory = false
+
+abbrev pub ends_by_write_fault : Outcome → Bool
+ends_by_write_fault (Done rig) = false
+ends_by_write_fault (BadLine number reason) = false
+ends_by_write_fault ReadFault = false
+ends_by_write_fault WriteFault = true
+ends_by_write_fault OutOfMemory = false
