@@ -4,4 +4,5 @@ pub mod Device
 pub mod Memory
 pub mod Sequence
 pub mod Fuse
+pub mod File
 pub mod Stop

@@ -4,3 +4,5 @@ mod Listed
 mod Plans
 mod Changed
 mod OneList
+mod Temporary
+mod Gathered

@@ -3,3 +3,4 @@ pub mod Store
 pub mod Memory
 pub mod Faulty
 pub mod Laws
+pub mod Directory

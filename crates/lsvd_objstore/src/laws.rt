@@ -1,4 +1,5 @@
 ghost use Rattle.lsvd_objstore.specs.Laws.{PutsWhole, RemovesWhole, HasOneList, NeverFails};
+ghost use Rattle.lsvd_objstore.specs.Directory.{NameIsNotTemporary};
 
 use crate::memory::MemStore;
 use crate::store::Store;
@@ -17,4 +18,9 @@ pub fn a_volume_has_one_list()
 /// A law: no call of a store in memory fails, since none counts a fault.
 pub fn a_store_in_memory_never_fails()
     ensures { NeverFails ⟦<MemStore as Store>⟧.state }
+{}
+
+/// A law: no file of a directory has the name of an object and one that a put gives it until it is whole.
+pub fn a_temporary_name_is_no_objects()
+    ensures { NameIsNotTemporary }
 {}

@@ -1,24 +1,30 @@
 //! The store of a virtual disk's objects: a finite map from names to bytes, where each put is whole or absent.
 //!
 //! Its contract is that of the trait `Store`: what a put, a removal, a search and a list do, acknowledged or not, and
-//! when a call fails. A receipt stands for the bytes that one object had. It stands on `lsvd_names`, `lsvd_base` and
-//! `lsvd_fault`. A store in memory and its receipts share the bytes of an object with whoever put it.
+//! when a call fails. A receipt stands for the bytes that one object had. It stands on `lsvd_names`, `lsvd_base`, `lsvd_fault`
+//! and the kit's `lru`. A store in memory and its receipts share the bytes of an object with whoever put it. `DirStore` is a
+//! store over a directory of the operating system: it counts its faults, and tells nothing of what it holds.
 #![tactic(auto)]
 
+mod directory;
 mod error;
 mod faulty;
 mod laws;
 mod memory;
 mod names;
+mod object_files;
 mod store;
 #[cfg(test)]
 mod tests;
 
+pub use directory::{DirReceipt, DirStore};
 pub use error::StoreError;
 pub use faulty::{FaultStore, PlannedFault};
 pub use laws::{
-    a_store_in_memory_never_fails, a_volume_has_one_list, an_object_is_changed_whole_or_not_at_all,
+    a_store_in_memory_never_fails, a_temporary_name_is_no_objects, a_volume_has_one_list,
+    an_object_is_changed_whole_or_not_at_all,
 };
 pub use memory::{MemReceipt, MemStore};
 pub use names::Names;
+pub use object_files::DirectoryError;
 pub use store::{Receipt, Store};

@@ -1,6 +1,8 @@
 ghost use Rattle.std.specs.Prelude.{IfOk};
 ghost use Rattle.lsvd_names.specs.Spelling.{IsName};
 
+mod directories;
+
 use crate::{FaultStore, MemStore, PlannedFault, Receipt, Store, StoreError};
 use lsvd_base::ObjectBytes;
 use lsvd_names::ObjName;

@@ -1,0 +1,333 @@
+ghost use Rattle.std.specs.Prelude.{◌≡◌, ◌<◌, ◌↔◌, IfOk, IsErr, IsSome, is_err, is_ok};
+ghost use Rattle.lsvd_fault.specs.Faults.{Counts};
+ghost use Rattle.lsvd_device.specs.File.{silent};
+
+use crate::disk::Disk;
+use lsvd_fault::Failed;
+use std::alloc::{AllocError, Global};
+use std::fs::{File, OpenOptions, TryLockError};
+use std::io::ErrorKind;
+use std::marker::Model;
+use std::os::fd::AsRawFd;
+use std::os::unix::fs::FileExt;
+use std::{fs, io};
+use thiserror::Error;
+
+/// Why a file could not be made or opened as a disk. None of these is counted anywhere, since there is no disk.
+#[derive(Clone, Copy, Debug, Error)]
+pub enum FileError {
+    /// Another disk has the file, of this program or of another. Nothing of it was read or changed.
+    #[error("in use by another program")]
+    InUse,
+    /// The operating system refused a call, or the path leads to no regular file.
+    #[error("{0}")]
+    System(io::Error),
+    /// Memory ran out.
+    #[error("out of memory")]
+    OutOfMemory,
+}
+
+impl From<AllocError> for FileError {
+    fn from(_: AllocError) -> FileError {
+        FileError::OutOfMemory
+    }
+}
+
+impl From<io::Error> for FileError {
+    // An error that has no number of the system's is one of this program's own.
+    fn from(error: io::Error) -> FileError {
+        if error.kind() == ErrorKind::OutOfMemory && error.raw_os_error().is_none() {
+            return FileError::OutOfMemory;
+        }
+        FileError::System(error)
+    }
+}
+
+impl From<TryLockError> for FileError {
+    fn from(error: TryLockError) -> FileError {
+        match error {
+            TryLockError::WouldBlock => FileError::InUse,
+            TryLockError::Error(error) => FileError::System(error),
+        }
+    }
+}
+
+/// A disk over a file of the operating system, which no other disk has as long as this one lives: the file is locked,
+/// by an advisory lock. It tells its length and its count of faults, and nothing of what the file holds.
+///
+/// A call of the system that does less than it was asked is gone on with, and one that a signal interrupts is made
+/// again. Any other error is a fault. After a sync that failed each later one fails too: the system may have given up
+/// what it could not write, and says so only once.
+#[derive(Drop)]
+pub struct FileDisk {
+    file: File,
+    size: u64,
+    faults: u64,
+    /// Why the last call that failed did.
+    last_error: Option<io::Error>,
+    /// Why a sync failed, if one did.
+    sync_error: Option<io::Error>,
+}
+
+impl Model for FileDisk {
+    ghost use Rattle.std.specs.Prelude.{◌<◌, ◌↔◌, IsSome};
+    ghost use Rattle.lsvd_device.specs.Device.{DiskState};
+    ghost use Rattle.lsvd_device.specs.File.{silent};
+
+    ghost Value = { DiskState };
+
+    ghost view = { λ d. silent d.size d.faults };
+
+    ghost invariant = { λ d. IsSome d.last_error ↔ (0 < d.faults) };
+}
+
+impl FileDisk {
+    /// Makes the file, or takes one that there is, and writes `len` zeros to it, each once. It is synced then, and so is
+    /// the directory that has its name; so later writes and syncs change the file's bytes alone. What stood in the file
+    /// is lost once it is locked; a file of which the zeros could not be written is left empty.
+    pub fn create(rt: &HostRuntime, path: &str, len: u64) -> Result<FileDisk, FileError>
+        ensures { IfOk result (λ disk. disk ≡ silent len 0) }
+    {
+        let file = open_locked(rt, path, true)?;
+        if let Err(error) = fill_with_zeros(rt.alloc(), &file, len) {
+            let _ = file.set_len(0);
+            return Err(error);
+        }
+        sync_directory_of(rt, path)?;
+        Ok(FileDisk::over(file, len))
+    }
+
+    /// Opens a file that there is, and syncs it: what an earlier program wrote, and did not sync, outlasts a stop now.
+    /// The length of the disk is that of the file, in bytes.
+    pub fn open(rt: &HostRuntime, path: &str) -> Result<FileDisk, FileError>
+        ensures { IfOk result (λ disk. disk ≡ silent disk.size 0) }
+    {
+        let file = open_locked(rt, path, false)?;
+        file.sync_all()?;
+        let len = file.metadata()?.len();
+        Ok(FileDisk::over(file, len))
+    }
+
+    // A disk over a locked file of this length.
+    fn over(file: File, len: u64) -> FileDisk
+        ensures { result ≡ silent len 0 }
+    {
+        FileDisk {
+            file,
+            size: len,
+            faults: 0,
+            last_error: None,
+            sync_error: None,
+        }
+    }
+
+    /// Why the last call that failed did; None is where none has failed.
+    pub fn last_error(&self) -> Option<io::Error>
+        ensures { IsSome result ↔ (0 < self.now.faults) }
+    {
+        self.last_error
+    }
+
+    // Counts a call that failed, and keeps why.
+    fn judge(&mut self, outcome: io::Result<()>) -> Result<(), Failed>
+        ensures same { is_ok result ≡ is_ok outcome }
+        ensures size { self.new ≡ silent self.old.size self.new.faults }
+        ensures count { Counts (is_err outcome) self.old.faults self.new.faults }
+    {
+        match outcome {
+            Ok(()) => Ok(()),
+            Err(error) => {
+                self.faults = self.faults.saturating_add(1);
+                self.last_error = Some(error);
+                Err(Failed)
+            }
+        }
+    }
+}
+
+impl Disk for FileDisk {
+    ghost state = { λ d. d };
+
+    fn len(&self) -> u64 {
+        self.size
+    }
+
+    fn read(&mut self, at: u64, buf: &mut [u8]) -> Result<(), Failed> {
+        let outcome = self.file.read_exact_at(buf, at);
+        self.judge(outcome)
+    }
+
+    fn write(&mut self, at: u64, piece: &[u8]) -> Result<(), Failed> {
+        let outcome = self.file.write_all_at(piece, at);
+        self.judge(outcome)
+    }
+
+    fn sync(&mut self) -> Result<(), Failed> {
+        let outcome = sync_unless(&self.file, &mut self.sync_error);
+        self.judge(outcome)
+    }
+
+    fn faults(&self) -> u64 {
+        self.faults
+    }
+}
+
+// Syncs a file's bytes, unless an earlier sync failed; then this one fails as that one did.
+fn sync_unless(file: &File, failed: &mut Option<io::Error>) -> io::Result<()>
+    ensures given_up { IsSome failed.old → IsErr result }
+    ensures noted { IsSome failed.new ↔ IsErr result }
+{
+    if let Some(error) = *failed {
+        return Err(error);
+    }
+    let outcome = file.sync_data();
+    *failed = outcome.err();
+    outcome
+}
+
+// Opens a regular file to read and to write, and locks it. Where it is absent it is made, if it is to be.
+fn open_locked(rt: &HostRuntime, path: &str, make: bool) -> Result<File, FileError> {
+    let file = OpenOptions::new()
+        .read(true)
+        .write(true)
+        .create(make)
+        .open(rt, path)?;
+    if !file.metadata()?.is_file() {
+        return Err(io::Error::new(ErrorKind::InvalidInput, "not a regular file").into());
+    }
+    let file = above_standard_streams(file)?;
+    file.try_lock()?;
+    Ok(file)
+}
+
+// The same file, under a number that no standard stream has: where one was closed, what is meant for it must not be written
+// to the file.
+fn above_standard_streams(file: File) -> io::Result<File> {
+    if file.as_raw_fd() <= 2 {
+        return file.try_clone();
+    }
+    Ok(file)
+}
+
+// How many zeros are written at a time.
+const PIECE: u64 = 1 << 20;
+
+// Makes a file of `len` zeros, each of which is written once, and syncs it.
+fn fill_with_zeros(alloc: Global, file: &File, len: u64) -> Result<(), FileError> {
+    file.set_len(0)?;
+    let zeros = vec![in alloc; 0; len.min(PIECE) as usize]?;
+    let mut at = 0;
+    while at < len {
+        let count = (len - at).min(PIECE);
+        file.write_all_at(&zeros[..count as usize], at)?;
+        at += count;
+    }
+    file.sync_all()?;
+    Ok(())
+}
+
+// Syncs the directory that has the name of a file, wherever links lead to it.
+fn sync_directory_of(rt: &HostRuntime, path: &str) -> io::Result<()> {
+    let mut directory = fs::canonicalize(rt, path)?;
+    directory.pop();
+    File::open(rt, directory)?.sync_all()
+}
+
+#[cfg(test)]
+mod tests {
+    use super::*;
+    use std::test::Fail;
+
+    const PATH: &str = "file_of_a_test";
+
+    // Whether the error is the system's or this program's of a kind.
+    fn is_of_kind(outcome: Result<FileDisk, FileError>, kind: ErrorKind) -> bool {
+        match outcome {
+            Err(FileError::System(error)) => error.kind() == kind,
+            _ => false,
+        }
+    }
+
+    // The four bytes from a place on, where they are inside the disk and can be read.
+    fn four_bytes(disk: &mut FileDisk, at: u64) -> Option<[u8; 4]> {
+        let size = disk.len();
+        if size < 4 || size - 4 < at {
+            return None;
+        }
+        let mut part = [0xff; 4];
+        disk.read(at, &mut part).ok()?;
+        Some(part)
+    }
+
+    // Writes four bytes at a place.
+    fn write_four(disk: &mut FileDisk, at: u64, piece: &[u8; 4]) -> Result<(), Fail> {
+        let size = disk.len();
+        if size < 4 || size - 4 < at {
+            return Err("past the end")?;
+        }
+        Ok(disk.write(at, piece)?)
+    }
+
+    #[test]
+    fn a_file_keeps_what_was_written(rt: HostRuntime) -> Result<(), Fail> {
+        // What an earlier run left is removed.
+        let _ = fs::remove_file(&rt, PATH);
+        assert!(rt; is_of_kind(FileDisk::open(&rt, PATH), ErrorKind::NotFound));
+        assert!(rt; is_of_kind(FileDisk::create(&rt, ".", 8), ErrorKind::IsADirectory));
+        fs::write(&rt, PATH, b"what stood there before".as_slice())?;
+
+        // Two whole pieces of zeros, and a part of one.
+        let len = 2 * PIECE + 5;
+        let mut disk = FileDisk::create(&rt, PATH, len)?;
+        assert_eq!(rt; (disk.len(), fs::metadata(&rt, PATH)?.len()), (len, len));
+        for at in [0, 4, 20, PIECE - 2, 2 * PIECE - 1, len - 4] {
+            assert_eq!(rt; four_bytes(&mut disk, at), Some([0; 4]), "{at}");
+        }
+        write_four(&mut disk, PIECE - 2, b"abcd")?;
+        write_four(&mut disk, len - 4, b"wxyz")?;
+        disk.sync()?;
+        assert!(rt; matches!(FileDisk::open(&rt, PATH), Err(FileError::InUse)));
+        assert!(rt; matches!(FileDisk::create(&rt, PATH, 1), Err(FileError::InUse)));
+        drop(disk);
+
+        let mut disk = FileDisk::open(&rt, PATH)?;
+        assert_eq!(rt; disk.len(), len);
+        assert_eq!(rt; four_bytes(&mut disk, PIECE - 1), Some(*b"bcd\0"));
+        assert_eq!(rt; four_bytes(&mut disk, len - 4), Some(*b"wxyz"));
+        assert!(rt; disk.faults() == 0 && disk.last_error().is_none());
+
+        // The file ends before its disk does, after someone else cut it.
+        let other = OpenOptions::new().write(true).open(&rt, PATH)?;
+        other.set_len(PIECE)?;
+        assert_eq!(rt; four_bytes(&mut disk, PIECE - 2), None);
+        assert_eq!(rt; four_bytes(&mut disk, PIECE - 4), Some(*b"\0\0ab"));
+        assert_eq!(rt; disk.faults(), 1);
+        let error = disk.last_error().ok_or("no error")?;
+        assert!(rt; error.kind() == ErrorKind::UnexpectedEof);
+        drop(disk);
+
+        let mut disk = FileDisk::create(&rt, PATH, 8)?;
+        assert_eq!(rt; four_bytes(&mut disk, 4), Some([0; 4]));
+        assert_eq!(rt; fs::metadata(&rt, PATH)?.len(), 8);
+        fs::remove_file(&rt, PATH)?;
+        Ok(())
+    }
+
+    #[test]
+    fn each_call_asks_the_system(rt: HostRuntime) -> Result<(), Fail> {
+        // There is no byte to read here, and nothing to sync.
+        let file = OpenOptions::new()
+            .read(true)
+            .write(true)
+            .open(&rt, "/dev/null")?;
+        let mut disk = FileDisk::over(file, 4);
+        assert_eq!(rt; four_bytes(&mut disk, 0), None);
+        write_four(&mut disk, 0, b"abcd")?;
+        assert_eq!(rt; disk.faults(), 1);
+        assert!(rt; disk.sync().is_err());
+        let error = disk.last_error().ok_or("no error")?;
+        assert!(rt; error.kind() == ErrorKind::InvalidInput);
+        assert_eq!(rt; disk.faults(), 2);
+        Ok(())
+    }
+}
