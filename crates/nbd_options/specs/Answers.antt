@@ -1,8 +1,8 @@
 -- Contract: what is answered to an option, as the NBD protocol document has it for the fixed newstyle.
-use Rattle.std.specs.Prelude.{ℕ, ◌≡◌, ◌⊎◌, ◌↔◌, IsTrue, Bool, true, false, List, []}
+use Rattle.std.specs.Prelude.{ℕ, ◌≡◌, ◌⊎◌, ◌↔◌, ◌<◌, ◌≤◌, IsTrue, Bool, true, false, List, [], length}
 use Rattle.nbd_options.specs.declared.export.Export.{Export}
 use Rattle.nbd_options.specs.declared.answer.Answer.{Answer}
-use Rattle.nbd_options.specs.declared.answer.Answer.TheVariants.{Exported, Closed, Aborted, Listed, Described, Unknown, Invalid, Unsupported}
+use Rattle.nbd_options.specs.declared.answer.Answer.TheVariants.{Exported, Closed, Aborted, Listed, Described, Unknown, Invalid, Unsupported, TooBig}
 use Rattle.nbd_options.specs.Export.{IsNameOf}
 use Rattle.nbd_options.specs.Info.{AsksFor, AsksForNothing, HasType}
 
@@ -36,3 +36,21 @@ IsAnswer export option content Unknown =
 IsAnswer export option content Invalid =
     ((option ≡ 3) × (content ≡ [] → ⊥)) ⊎ (IsInfoOption option × AsksForNothing content)
 IsAnswer export option content Unsupported = IsOther option
+IsAnswer export option content TooBig = ⊥
+
+-- the option has this answer where its data are too long to be read, whatever they are
+abbrev pub IsAnswerUnread : ℕ → Answer → Type 0
+IsAnswerUnread option Exported = ⊥
+IsAnswerUnread option Closed = option ≡ 1
+IsAnswerUnread option Aborted = ⊥
+IsAnswerUnread option Listed = ⊥
+IsAnswerUnread option (Described enters blocks) = ⊥
+IsAnswerUnread option Unknown = ⊥
+IsAnswerUnread option Invalid = ⊥
+IsAnswerUnread option Unsupported = ⊥
+IsAnswerUnread option TooBig = option ≡ 1 → ⊥
+
+-- the option has this answer, whatever the length of its data
+abbrev pub IsAnswerTo : Export → ℕ → List ℕ → Answer → Type 0
+IsAnswerTo export option content answer =
+    ((length content ≤ 65536) × IsAnswer export option content answer) ⊎ ((65536 < length content) × IsAnswerUnread option answer)

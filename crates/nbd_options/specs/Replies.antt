@@ -4,7 +4,7 @@ use Rattle.std.specs.Int.{w16, w32, w64, to_be_bytes}
 use Rattle.nbd_wire.specs.Messages.{option_reply_bytes, export_bytes}
 use Rattle.nbd_options.specs.declared.export.Export.{Export}
 use Rattle.nbd_options.specs.declared.answer.Answer.{Answer}
-use Rattle.nbd_options.specs.declared.answer.Answer.TheVariants.{Exported, Closed, Aborted, Listed, Described, Unknown, Invalid, Unsupported}
+use Rattle.nbd_options.specs.declared.answer.Answer.TheVariants.{Exported, Closed, Aborted, Listed, Described, Unknown, Invalid, Unsupported, TooBig}
 use Rattle.nbd_options.specs.Export.{uuid_text}
 
 -- the flags of transmission: that there are flags (bit 0), and flushes (2), the flag to flush (3), trims (5) and writes of
@@ -44,3 +44,4 @@ answer_bytes export option zeroes (Described enters blocks) =
 answer_bytes export option zeroes Unknown = option_reply_bytes option 0x80000006 []
 answer_bytes export option zeroes Invalid = option_reply_bytes option 0x80000003 []
 answer_bytes export option zeroes Unsupported = option_reply_bytes option 0x80000001 []
+answer_bytes export option zeroes TooBig = option_reply_bytes option 0x80000009 []

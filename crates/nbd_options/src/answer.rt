@@ -1,4 +1,4 @@
-ghost use Rattle.nbd_options.specs.Answers.{IsAnswer, info_option};
+ghost use Rattle.nbd_options.specs.Answers.{IsAnswer, IsAnswerUnread, info_option};
 
 use crate::export::{Export, has_name};
 use crate::info::{has_type, parts_of};
@@ -41,11 +41,14 @@ pub enum Answer {
     Invalid,
     /// The option is not known.
     Unsupported,
+    /// The data of the option are too long to be read.
+    TooBig,
 }
 
-/// What is answered to the option with this number and these data, for this export. Any number and any data may come. The
-/// rules are those of the NBD protocol document for the fixed newstyle; an option that it does not know, or that this server
-/// does not take, as the one for TLS, is not supported.
+/// What is answered to the option with this number and these data, for this export. Any number and any data may come, but
+/// longer data than `nbd_wire::MAX_OPTION_DATA` bytes are for `answer_unread`. The rules are those of the NBD protocol document
+/// for the fixed newstyle; an option that it does not know, or that this server does not take, as the one for TLS, is not
+/// supported.
 pub fn answer_of(export: &Export, option: u32, content: &[u8]) -> Answer
     ensures { IsAnswer export.now option content.now result }
 {
@@ -58,6 +61,18 @@ pub fn answer_of(export: &Export, option: u32, content: &[u8]) -> Answer
         INFO => info_answer(export, false, content),
         GO => info_answer(export, true, content),
         _ => Answer::Unsupported,
+    }
+}
+
+/// What is answered to the option with this number where its data have more than `nbd_wire::MAX_OPTION_DATA` bytes, whatever
+/// they are.
+pub fn answer_unread(option: u32) -> Answer
+    ensures { IsAnswerUnread option result }
+{
+    if option == EXPORT_NAME {
+        Answer::Closed
+    } else {
+        Answer::TooBig
     }
 }
 

@@ -24,6 +24,8 @@ const ERR_INVALID: u32 = 0x8000_0003;
 
 const ERR_UNKNOWN: u32 = 0x8000_0006;
 
+const ERR_TOO_BIG: u32 = 0x8000_0009;
+
 // The flags of transmission: there are flags, and flushes, the flag to flush, trims and writes of zeros.
 const TRANSMISSION_FLAGS: u16 = 0x6d;
 
@@ -54,6 +56,7 @@ pub fn write_answer<K: Sink>(
         Answer::Unknown => write_option_reply(link, option, ERR_UNKNOWN, &[]),
         Answer::Invalid => write_option_reply(link, option, ERR_INVALID, &[]),
         Answer::Unsupported => write_option_reply(link, option, ERR_UNSUP, &[]),
+        Answer::TooBig => write_option_reply(link, option, ERR_TOO_BIG, &[]),
     }
 }
 

@@ -8,7 +8,7 @@ use borrow.Rule.Slice.PartMut.{put_mid}
 use Rattle.lsvd_fault.proofs.Streams.{consumes_more}
 use Rattle.nbd_wire.specs.declared.wire_end.WireEnd.{WireEnd}
 use Rattle.nbd_wire.specs.declared.wire_end.WireEnd.TheVariants.{Ended, Closed, LinkFault, OutOfMemory}
-use Rattle.nbd_wire.specs.Reading.{HasMemory, HasFewerThan, ReadsData}
+use Rattle.nbd_wire.specs.Reading.{HasMemory, HasFewerThan, ReadsAtMostOf, ReadsData}
 
 -- ---- filling a buffer
 
@@ -51,13 +51,25 @@ pub record IsPartRead (size left : ℕ) (old new : Option (List ℕ)) : Type 0 w
   pub count : length bytes + left ≡ size
   pub read : Consumes old new bytes
 
+-- and then no more than a part of what is left
+at_most_after : (size left part : ℕ) (bytes : List ℕ) (old mid new : Option (List ℕ)) → length bytes + left ≡ size → part ≤ left
+    → Consumes old mid bytes → ReadsAtMostOf part mid new → ReadsAtMostOf size old new
+at_most_after size left part bytes old mid new count fits read more = (
+  bytes ++ more.0,
+  omega (arith, count, fits, more.1, length-append bytes more.0),
+  consumes_more old mid new bytes more.0 read more.2,
+)
+
 -- the last of them could not be read
 pub data_end_after : {T U : Type 0} (size left part : ℕ) (IsOf : List ℕ → T → Type 0) (IsOf' : List ℕ → U → Type 0)
     (old mid new : Option (List ℕ)) → IsPartRead size left old mid → part ≤ left → (e : WireEnd)
     → ReadsData part IsOf mid new (Err e) → HasMemory {T = T} (Err e) → ReadsData size IsOf' old new (Err e)
 data_end_after size left part IsOf IsOf' old mid new before fits Ended read memory = absurd read
-data_end_after size left part IsOf IsOf' old mid new before fits Closed read memory =
-    (fewer_before size left part before.bytes old mid before.count fits before.read read.0, read.1)
+data_end_after size left part IsOf IsOf' old mid new before fits Closed read memory = (
+  fewer_before size left part before.bytes old mid before.count fits before.read read.0,
+  at_most_after size left part before.bytes old mid new before.count fits before.read read.1,
+  read.2,
+)
   where
     fewer_before : (size left part : ℕ) (bytes : List ℕ) (old mid : Option (List ℕ)) → length bytes + left ≡ size → part ≤ left
         → Consumes old mid bytes → HasFewerThan part mid → HasFewerThan size old
@@ -65,11 +77,8 @@ data_end_after size left part IsOf IsOf' old mid new before fits Closed read mem
     fewer_before size left part bytes (Some xs) None count fits read few = absurd read
     fewer_before size left part bytes (Some xs) (Some ys) count fits read few =
         omega (arith, count, fits, few, ap length read, length-append bytes ys)
-data_end_after size left part IsOf IsOf' old mid new before fits LinkFault read memory = (
-  before.bytes ++ read.0,
-  omega (arith, before.count, fits, read.1, length-append before.bytes read.0),
-  consumes_more old mid new before.bytes read.0 before.read read.2,
-)
+data_end_after size left part IsOf IsOf' old mid new before fits LinkFault read memory =
+    at_most_after size left part before.bytes old mid new before.count fits before.read read
 data_end_after size left part IsOf IsOf' old mid new before fits OutOfMemory read memory = absurd memory
 
 -- one piece more was read

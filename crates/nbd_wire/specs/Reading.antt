@@ -35,7 +35,7 @@ BeginsNoMessage {T} IsMessage (Some left) =
 -- its end before it; or it does not begin with one
 abbrev pub ReadsMessage : {T : Type 0} → ℕ → (List ℕ → T → Type 0) → Option (List ℕ) → Option (List ℕ) → Result T WireEnd → Type 0
 ReadsMessage size IsMessage old new (Ok message) = (bytes : List ℕ) × IsMessage bytes message × Consumes old new bytes
-ReadsMessage size IsMessage old new (Err Ended) = IsAtEnd old × IsAtEnd new
+ReadsMessage size IsMessage old new (Err Ended) = IsAtEnd old × Keeps old new
 ReadsMessage size IsMessage old new (Err Closed) = BeginsNoMessage IsMessage old × ReadsAtMostOf size old new
 ReadsMessage size IsMessage old new (Err LinkFault) = ReadsAtMostOf size old new
 ReadsMessage size IsMessage old new (Err OutOfMemory) = ⊥
@@ -45,10 +45,10 @@ abbrev pub HasFewerThan : ℕ → Option (List ℕ) → Type 0
 HasFewerThan size None = ⊤
 HasFewerThan size (Some left) = length left < size
 
--- this many bytes inside a message were read, and the value is of them; or the input ends before that many
+-- this many bytes inside a message were read, and the value is of them; or the input was read to its end before that many
 abbrev pub ReadsData : {T : Type 0} → ℕ → (List ℕ → T → Type 0) → Option (List ℕ) → Option (List ℕ) → Result T WireEnd → Type 0
 ReadsData size IsOf old new (Ok value) = (bytes : List ℕ) × (length bytes ≡ size) × IsOf bytes value × Consumes old new bytes
 ReadsData size IsOf old new (Err Ended) = ⊥
-ReadsData size IsOf old new (Err Closed) = HasFewerThan size old × IsAtEnd new
+ReadsData size IsOf old new (Err Closed) = HasFewerThan size old × ReadsAtMostOf size old new × IsAtEnd new
 ReadsData size IsOf old new (Err LinkFault) = ReadsAtMostOf size old new
 ReadsData size IsOf old new (Err OutOfMemory) = Keeps old new
