@@ -14,6 +14,7 @@ use Rattle.cache_log.specs.declared.row.Row.{Row}
 use Rattle.cache_log.specs.Rows.{Follow}
 use Rattle.cache_log.specs.Opening.{sectors_between}
 use Rattle.cache_log.proofs.RowLemmas.{between_most}
+use Rattle.stopped_volume.specs.Device.{CacheOwner}
 use Rattle.plain_disk.specs.declared.log.PlainCommit.{PlainCommit}
 use Rattle.plain_disk.specs.declared.log.PlainRecord.{PlainRecord}
 use Rattle.plain_disk.specs.Log.{PlainLog, point, place_of_first, past_pad, held_from, mounted_log}
@@ -140,10 +141,10 @@ same_committed seq log =
 -- ---- what a mount is to make
 
 -- the log that is found is the plain one as its commit left it
-found_held : (uuid : List ℕ) (plain : PlainState) (found : PlainCommit) (count : ℕ) (left : List ℕ) (has : HasCommit uuid plain found count left)
+found_held : (owner : CacheOwner) (plain : PlainState) (found : PlainCommit) (count : ℕ) (left : List ℕ) (has : HasCommit owner plain found count left)
     → plain.cache.log.size ≡ plain.geometry.log
     → log_found plain.geometry.log has.body has.rows ≡ past_first (held_from found plain.cache.log)
-found_held uuid plain found count left has size =
+found_held owner plain found count left has size =
     let held : PlainLog = held_from found plain.cache.log in
     let records = has.placed ∙ ap (λ c. past_pad c.tail.position held.records) has.commit in
     λ i. record {
@@ -155,12 +156,12 @@ found_held uuid plain found count left has size =
     }
 
 pub mounted_is_going_on : MountedIsGoingOn
-mounted_is_going_on uuid plain found number objects left valid has_objects has =
+mounted_is_going_on uuid owner plain found number objects left valid has_objects has =
     let end : ℕ = end_of_object number plain in
     let few : ℕ = end - plain.end in
     let many : ℕ = max end has.body.head.seq - plain.end in
     let log : committed_at end (log_found plain.geometry.log has.body has.rows) ≡ mounted_log found end plain.cache.log =
-    ap (committed_at end) (found_held uuid plain found end left has valid.size) ∙ same_committed end (held_from found plain.cache.log) in
+    ap (committed_at end) (found_held owner plain found end left has valid.size) ∙ same_committed end (held_from found plain.cache.log) in
     let entries : take few plain.entries ++ entries_past plain end has.body.head.seq ≡ take (max end found.head.seq - plain.end) plain.entries =
     ap (λ l. l ++ drop few (take many plain.entries)) (sym (take-take few many plain.entries (omega arith)))
     ∙ take-append-drop few (take many plain.entries)

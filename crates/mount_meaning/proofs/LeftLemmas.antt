@@ -32,6 +32,7 @@ use Rattle.plain_disk.proofs.EndLemmas.{ends_from}
 use Rattle.log_meaning.specs.Shows.{commit_of, records_of_rows, StandsAt}
 use Rattle.log_meaning.specs.Logged.{listed_from}
 use Rattle.log_meaning.proofs.Following.{Reaches}
+use Rattle.stopped_volume.specs.Device.{CacheOwner, owner_of}
 use Rattle.stop_meaning.specs.Stops.{entries_past}
 use Rattle.stop_meaning.specs.Laws.{ShowsStops}
 use Rattle.stop_meaning.proofs.EntryLemmas.{past_count, all_of_commit, entries_past_are, logged_past}
@@ -72,18 +73,18 @@ one_number log bytes body other n m a b =
 -- ---- what a commit has
 
 -- a commit of the volume whose records are among those of a log
-record IsOwn (uuid : List ℕ) (log : LogState) (body : CommitBody) : Type 0 where
-  is_of : body.uuid ≡ uuid
+record IsOwn (owner : CacheOwner) (log : LogState) (body : CommitBody) : Type 0 where
+  is_of : owner_of body ≡ owner
   from : log.commits.body.tail.seq ≤ body.tail.seq
   to : body.tail.seq ≤ log.first
   stands : StandsAt log body
   ends : EndsAtHead log body
 
 -- bytes have this commit, and its number is at most that after the last one made
-abbrev HasYoungCommit : (uuid : List ℕ) → (last : ℕ) → PlainState → PlainCommit → (count : ℕ) → (left : List ℕ) → Type 0
-HasYoungCommit uuid last plain found count left = (has : HasCommit uuid plain found count left) × (has.number ≤ last + 1)
+abbrev HasYoungCommit : (owner : CacheOwner) → (last : ℕ) → PlainState → PlainCommit → (count : ℕ) → (left : List ℕ) → Type 0
+HasYoungCommit owner last plain found count left = (has : HasCommit owner plain found count left) × (has.number ≤ last + 1)
 
-module _ (uuid : List ℕ) (data_at : ℕ → ℕ) (log : LogState) (plain : PlainState) (shows : ShowsStops uuid data_at log plain) where
+module _ (owner : CacheOwner) (data_at : ℕ → ℕ) (log : LogState) (plain : PlainState) (shows : ShowsStops owner data_at log plain) where
   abbrev geometry : Geometry
   geometry = plain.geometry
 
@@ -96,7 +97,7 @@ module _ (uuid : List ℕ) (data_at : ℕ → ℕ) (log : LogState) (plain : Pla
 
   -- ---- its commits
 
-  last_own : IsOwn uuid log log.commits.body
+  last_own : IsOwn owner log log.commits.body
   last_own =
       let counted = shows.log_is.counted in
       let none : 0 ≡ log.commits.body.tail.seq - log.commits.body.tail.seq = omega arith in
@@ -116,20 +117,20 @@ module _ (uuid : List ℕ) (data_at : ℕ → ℕ) (log : LogState) (plain : Pla
       first_none [] = refl
       first_none (r ∷ l) = refl
 
-  more_own : (more : CommitBody) → log.commits.unfinished ≡ Some more → IsOwn uuid log more
+  more_own : (more : CommitBody) → log.commits.unfinished ≡ Some more → IsOwn owner log more
   more_own more is =
       let order = subst (λ u. IfSome u (λ b. (log.commits.body.tail.seq ≤ b.tail.seq) × (b.tail.seq ≤ log.first))) is shows.log_is.order in
       record {
-        is_of = subst (λ u. IfSome u (λ b. b.uuid ≡ uuid)) is shows.committed.unfinished;
+        is_of = subst (λ u. IfSome u (λ b. owner_of b ≡ owner)) is shows.committed.unfinished;
         from = order.0;
         to = order.1;
         stands = subst (λ u. IfSome u (StandsAt log)) is shows.log_is.stands;
         ends = subst (λ u. IfSome u (EndsAtHead log)) is shows.on_disk.ends.1;
       }
 
-  one_own : (n : ℕ) (body : CommitBody) → IsLastOrUnfinished log.commits.number log.commits.body log.commits.unfinished n body → IsOwn uuid log body
-  one_own n body (inl is) = subst (IsOwn uuid log) (sym is.same_body) last_own
-  one_own n body (inr (more, same, is)) = subst (IsOwn uuid log) (sym is.same_body) (more_own more same)
+  one_own : (n : ℕ) (body : CommitBody) → IsLastOrUnfinished log.commits.number log.commits.body log.commits.unfinished n body → IsOwn owner log body
+  one_own n body (inl is) = subst (IsOwn owner log) (sym is.same_body) last_own
+  one_own n body (inr (more, same, is)) = subst (IsOwn owner log) (sym is.same_body) (more_own more same)
 
   -- ---- what is left of a medium
 
@@ -181,7 +182,7 @@ module _ (uuid : List ℕ) (data_at : ℕ → ℕ) (log : LogState) (plain : Pla
           omega (arith, count, synced, size, fits)
 
       -- they have the records of a commit, which are read
-      module _ (number : ℕ) (body : CommitBody) (own : IsOwn uuid log body) (settled : ReadsSettled log.room.log left body number)
+      module _ (number : ℕ) (body : CommitBody) (own : IsOwn owner log body) (settled : ReadsSettled log.room.log left body number)
           (has : HasRecords log.room.log body (entries_between body (all_rows log) entries_now) left) where
         abbrev entries_own : List Entry
         entries_own = entries_between body (all_rows log) entries_now
@@ -241,7 +242,7 @@ module _ (uuid : List ℕ) (data_at : ℕ → ℕ) (log : LogState) (plain : Pla
             ∙ sym (entries_past_are plain count body.head.seq (omega (arith, begins, from)))
 
         has_commit : (found : PlainCommit) (count : ℕ) → commit_of body ≡ found → frontier_end plain ≤ count → number ≤ log.commits.number + 1
-            → HasYoungCommit uuid log.commits.number plain found count left
+            → HasYoungCommit owner log.commits.number plain found count left
         has_commit found count is_found from young =
             let tail = own.to in
             let first = shows.logged.first in (
@@ -269,7 +270,7 @@ module _ (uuid : List ℕ) (data_at : ℕ → ℕ) (log : LogState) (plain : Pla
         inr (ap (λ b. Some (commit_of b)) of.same_body ∙ sym (shows.log_is.unfinished ∙ ap (option_map commit_of) same))
 
     left_has : (left : List ℕ) → MayLeave now left → (count : ℕ) → frontier_end plain ≤ count
-        → (found : PlainCommit) × IsFoundCommit found plain.cache.log × HasCommit uuid plain found count left
+        → (found : PlainCommit) × IsFoundCommit found plain.cache.log × HasCommit owner plain found count left
     left_has left may count from =
         let read = leaves_now left may in
         let which = one_of log.commits.number log.commits.body log.commits.unfinished read.0 read.1 read.2 in
@@ -348,7 +349,7 @@ module _ (uuid : List ℕ) (data_at : ℕ → ℕ) (log : LogState) (plain : Pla
           one reads
 
       fates_have : (end : ℕ) → frontier_end plain ≤ end
-          → HasYoungCommit uuid log.commits.number plain (kept_commit (map is_kept fates) plain.cache) end left_now
+          → HasYoungCommit owner log.commits.number plain (kept_commit (map is_kept fates) plain.cache) end left_now
       fates_have end from =
           let read = leaves_now left_now may in
           let which = one_of log.commits.number log.commits.body log.commits.unfinished read.0 read.1 read.2 in
@@ -359,16 +360,16 @@ module _ (uuid : List ℕ) (data_at : ℕ → ℕ) (log : LogState) (plain : Pla
 -- ---- the laws
 
 pub left_has_commit : LeftHasCommit
-left_has_commit uuid data_at log plain count shows from to = at_most_one log.commits.disk.moments refl
+left_has_commit owner data_at log plain count shows from to = at_most_one log.commits.disk.moments refl
   where
     at_most_one : (moments : List Medium) → log.commits.disk.moments ≡ moments
         → HoldsNow (λ now. (left : List ℕ) → MayLeave now left
-        → (found : PlainCommit) × IsFoundCommit found plain.cache.log × HasCommit uuid plain found count left) moments
+        → (found : PlainCommit) × IsFoundCommit found plain.cache.log × HasCommit owner plain found count left) moments
     at_most_one [] is = tt
-    at_most_one (now ∷ past) is = λ left may. left_has uuid data_at log plain shows now past is left may count from
+    at_most_one (now ∷ past) is = λ left may. left_has owner data_at log plain shows now past is left may count from
 
 pub fates_keep_commit : FatesKeepCommit
-fates_keep_commit uuid data_at log plain fates end shows pending count may from to =
+fates_keep_commit owner data_at log plain fates end shows pending count may from to =
     let newest = newest_of log.commits.disk.moments (length plain.cache.pending) pending.pending in
-    fates_have uuid data_at log plain shows newest.now newest.past newest.is fates pending count
+    fates_have owner data_at log plain shows newest.now newest.past newest.is fates pending count
     (subst (HoldsNow (λ now. MayLeave now (left_in_order fates log.commits.disk.moments))) newest.is may) end from

@@ -14,6 +14,7 @@ use Rattle.cache_log.specs.Log.{AreRowsOf}
 use Rattle.plain_disk.specs.State.{frontier_end}
 use Rattle.plain_disk.specs.Sectors.{AllInRange}
 use Rattle.log_meaning.proofs.Shown.{some_as}
+use Rattle.stopped_volume.specs.Device.{owner_of}
 use Rattle.mount_meaning.specs.Laws.{OpenedHasCommitted, AddedAreLogged}
 
 -- ---- its commits
@@ -26,11 +27,11 @@ all_in_range geometry told are =
     (λ list each. All-from_recursion (λ entry. is_in_range geometry entry ≡ true) list each) are
 
 pub opened_has_committed : OpenedHasCommitted
-opened_has_committed uuid geometry commits log is_of none is =
+opened_has_committed owner geometry commits log is_of none is =
     let same = is.only.same in
     record {
-      last = ap (λ b. b.uuid) same.same_body ∙ is_of;
-      unfinished = subst (λ u. IfSome u (λ body. body.uuid ≡ uuid)) (sym (same.same_unfinished ∙ none)) tt;
+      last = ap owner_of same.same_body ∙ is_of;
+      unfinished = subst (λ u. IfSome u (λ body. owner_of body ≡ owner)) (sym (same.same_unfinished ∙ none)) tt;
       in_range = subst (λ told. IfSome told (AllInRange geometry)) (sym is.all) (all_in_range geometry log.entries is.in_range);
     }
 

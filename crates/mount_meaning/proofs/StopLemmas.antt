@@ -22,7 +22,7 @@ use Rattle.plain_disk.specs.Log.{PlainLog}
 use Rattle.plain_disk.specs.Sectors.{AllInRange}
 use Rattle.plain_disk.specs.State.{PlainState, history_length}
 use Rattle.plain_disk.proofs.EndLemmas.{ends_from}
-use Rattle.stopped_volume.specs.Device.{DeviceStandsFor}
+use Rattle.stopped_volume.specs.Device.{CacheOwner, owner_of, DeviceStandsFor}
 use Rattle.stop_meaning.specs.Stops.{entries_past, KeepsOnDevice, StopKeeps}
 use Rattle.stop_meaning.proofs.EntryLemmas.{past_count, all_of_commit, entries_past_are}
 use Rattle.stop_meaning.proofs.StopLemmas.{with_told}
@@ -58,7 +58,7 @@ mounted_end plain number =
     ap (end_after plain.end) (take-take n n plain.objects (omega arith))
 
 pub found_keeps : FoundKeeps
-found_keeps uuid plain found number objects left valid has_objects has long = λ end from to.
+found_keeps uuid owner plain found number objects left valid has_objects has long = λ end from to.
     let mounted : PlainState = mounted_with found number plain in
     let records = has.records.records in
     let may = has.slots.reads.is_open.sector.may_stand in
@@ -97,8 +97,8 @@ record AreFound (geometry : Geometry) (tail end : ℕ) (rows : List Row) (entrie
   in_range : AllInRange geometry list
 
 -- a commit of a volume from the tail that was found, or one up to the end, on, which has all entries
-record MayBeLeft (uuid : List ℕ) (tail end : ℕ) (rows : List Row) (body : CommitBody) : Type 0 where
-  is_of : body.uuid ≡ uuid
+record MayBeLeft (owner : CacheOwner) (tail end : ℕ) (rows : List Row) (body : CommitBody) : Type 0 where
+  is_of : owner_of body ≡ owner
   from : tail ≤ body.tail.seq
   to : body.tail.seq ≤ end
   whole : tail + length rows ≤ body.head.seq
@@ -118,8 +118,8 @@ told_before : {A : Type 0} (f : A → A) (P : A → Type 0) (told : Option A) �
 told_before f P None holds = tt
 told_before f P (Some x) holds = holds
 
-module _ (uuid : List ℕ) (geometry : Geometry) (checkpoint end : ℕ) (plain : PlainState) (entries : List Entry) (of_log : PlainLog)
-    (commits : CommitsState) (opened trimmed : LogState) (rest : IsAtRest geometry checkpoint end plain) (is_of : commits.body.uuid ≡ uuid)
+module _ (owner : CacheOwner) (geometry : Geometry) (checkpoint end : ℕ) (plain : PlainState) (entries : List Entry) (of_log : PlainLog)
+    (commits : CommitsState) (opened trimmed : LogState) (rest : IsAtRest geometry checkpoint end plain) (is_of : owner_of commits.body ≡ owner)
     (none : commits.unfinished ≡ None) (within : commits.body.tail.seq ≤ end) (is : IsOpenedLog geometry commits opened)
     (cut : IsTrimmed end opened trimmed) where
   abbrev mounted : PlainState
@@ -142,7 +142,7 @@ module _ (uuid : List ℕ) (geometry : Geometry) (checkpoint end : ℕ) (plain :
   own_is : trimmed.commits.body ≡ commits.body
   own_is = ap (λ c. c.body) cut.commits ∙ is.only.same.same_body
 
-  own_may : MayBeLeft uuid commits.body.tail.seq end opened.rows commits.body
+  own_may : MayBeLeft owner commits.body.tail.seq end opened.rows commits.body
   own_may =
       let seqs = is.rows.seqs in
       record { is_of = is_of; from = omega arith; to = within; whole = omega (arith, seqs) }
@@ -152,26 +152,26 @@ module _ (uuid : List ℕ) (geometry : Geometry) (checkpoint end : ℕ) (plain :
       let unfinished = ap (λ c. c.unfinished) cut.commits ∙ is.only.same.same_unfinished ∙ none in
       ap (finished_body trimmed.commits.body) unfinished ∙ own_is
 
-  whole_may : MayBeLeft uuid commits.body.tail.seq end opened.rows (body_of trimmed)
+  whole_may : MayBeLeft owner commits.body.tail.seq end opened.rows (body_of trimmed)
   whole_may =
       let first = cut.first in
       let own = is.first in
       let left : length trimmed.rows ≡ length (drop (end - opened.first) opened.rows) = ap length cut.rows in
       let many = length-drop (end - opened.first) opened.rows in
       record {
-        is_of = ap (λ b. b.uuid) own_is ∙ is_of;
+        is_of = ap owner_of own_is ∙ is_of;
         from = omega (arith, first, own, within);
         to = omega (arith, first, own, within);
         whole = omega (arith, first, own, within, left, many);
       }
 
   commit_may : (number : ℕ) (body : CommitBody) → IsLastOr trimmed.commits (body_of trimmed) number body
-      → MayBeLeft uuid commits.body.tail.seq end opened.rows body
+      → MayBeLeft owner commits.body.tail.seq end opened.rows body
   commit_may number body (inl (inl commit)) =
-      subst (MayBeLeft uuid commits.body.tail.seq end opened.rows) (sym (commit.same_body ∙ own_is)) own_may
+      subst (MayBeLeft owner commits.body.tail.seq end opened.rows) (sym (commit.same_body ∙ own_is)) own_may
   commit_may number body (inl (inr commit)) =
-      subst (MayBeLeft uuid commits.body.tail.seq end opened.rows) (sym (commit.same_body ∙ finished_is)) own_may
-  commit_may number body (inr commit) = subst (MayBeLeft uuid commits.body.tail.seq end opened.rows) (sym commit.same_body) whole_may
+      subst (MayBeLeft owner commits.body.tail.seq end opened.rows) (sym (commit.same_body ∙ finished_is)) own_may
+  commit_may number body (inr commit) = subst (MayBeLeft owner commits.body.tail.seq end opened.rows) (sym commit.same_body) whole_may
 
   -- ---- what a stop leaves
 
@@ -187,7 +187,7 @@ module _ (uuid : List ℕ) (geometry : Geometry) (checkpoint end : ℕ) (plain :
 
   -- past a later count a commit has the entries of the volume
   rest_is : (list : List Entry) (body : CommitBody) (count : ℕ) → AreFound geometry commits.body.tail.seq end opened.rows entries list
-      → MayBeLeft uuid commits.body.tail.seq end opened.rows body → end ≤ count
+      → MayBeLeft owner commits.body.tail.seq end opened.rows body → end ≤ count
       → entries_past mounted count (history_length mounted) ≡ drop (count - body.tail.seq) (entries_between body opened.rows list)
   rest_is list body count are may from =
       let tail : ℕ = commits.body.tail.seq in
@@ -204,9 +204,9 @@ module _ (uuid : List ℕ) (geometry : Geometry) (checkpoint end : ℕ) (plain :
       ∙ sym (past_count trimmed body opened.rows list tail count is.rows.numbered are.count may.from (omega (arith, order, from)))
 
   keeps_on_device : (list : List Entry) (left : List ℕ) (number : ℕ) (body : CommitBody)
-      → AreFound geometry commits.body.tail.seq end opened.rows entries list → MayBeLeft uuid commits.body.tail.seq end opened.rows body
+      → AreFound geometry commits.body.tail.seq end opened.rows entries list → MayBeLeft owner commits.body.tail.seq end opened.rows body
       → ReadsSettled trimmed.room.log left body number → HasRecords trimmed.room.log body (entries_between body (all_rows trimmed) list) left
-      → KeepsOnDevice uuid mounted (history_length mounted) left
+      → KeepsOnDevice owner mounted (history_length mounted) left
   keeps_on_device list left number body are may settled records = λ count from to.
       let ends = rest.frontier in
       let order = may.to in
@@ -214,7 +214,7 @@ module _ (uuid : List ℕ) (geometry : Geometry) (checkpoint end : ℕ) (plain :
       let of_rows : HasRecords geometry.log body (entries_between body opened.rows list) left =
       subst (λ rows. HasRecords geometry.log body (entries_between body rows list) left) rows_are
       (subst (λ n. HasRecords n body (entries_between body (all_rows trimmed) list) left) size_is records) in
-      subst (λ g. DeviceStandsFor uuid g left count (entries_past mounted count (history_length mounted))) (sym rest.geometry_is)
+      subst (λ g. DeviceStandsFor owner g left count (entries_past mounted count (history_length mounted))) (sym rest.geometry_is)
       (record {
         number = number;
         body = body;
@@ -231,7 +231,7 @@ module _ (uuid : List ℕ) (geometry : Geometry) (checkpoint end : ℕ) (plain :
 
   stop_keeps : (list : List Entry) (medium : Medium) → AreFound geometry commits.body.tail.seq end opened.rows entries list
       → LeavesEntries trimmed.room.log (all_rows trimmed) list (IsLastOr trimmed.commits (body_of trimmed)) medium
-      → StopKeeps uuid mounted (λ head. head ≡ history_length mounted) medium
+      → StopKeeps owner mounted (λ head. head ≡ history_length mounted) medium
   stop_keeps list medium are leaves = λ left may.
       let found = leaves left may in (
         history_length mounted,
@@ -240,16 +240,16 @@ module _ (uuid : List ℕ) (geometry : Geometry) (checkpoint end : ℕ) (plain :
       )
 
 pub committing_keeps_mounted : CommittingKeepsMounted
-committing_keeps_mounted uuid geometry checkpoint end plain entries of_log commits opened trimmed new rest is_of none within is cut told _ leaves =
+committing_keeps_mounted owner geometry checkpoint end plain entries of_log commits opened trimmed new rest is_of none within is cut told _ leaves =
     let mounted : PlainState = going_on entries of_log plain in
     let old : List Medium = trimmed.commits.disk.moments in
     let Leaves : List Entry → Medium → Type 0 =
     λ list. LeavesEntries trimmed.room.log (all_rows trimmed) list (IsLastOr trimmed.commits (body_of trimmed)) in
-    let Keeps : Medium → Type 0 = StopKeeps uuid mounted (λ head. head ≡ history_length mounted) in
+    let Keeps : Medium → Type 0 = StopKeeps owner mounted (λ head. head ≡ history_length mounted) in
     with_told (AreFound geometry commits.body.tail.seq end opened.rows entries) (λ list. HoldsSince (Leaves list) old new.moments)
     (HoldsSince Keeps old new.moments) trimmed.all
     (λ list are since.
     passes_as (Leaves list) Keeps old new.moments
-    (λ medium. stop_keeps uuid geometry checkpoint end plain entries of_log commits opened trimmed rest is_of none within is cut list medium are)
+    (λ medium. stop_keeps owner geometry checkpoint end plain entries of_log commits opened trimmed rest is_of none within is cut list medium are)
     since)
-    (told_found uuid geometry checkpoint end plain entries of_log commits opened trimmed rest is_of none within is cut told) leaves
+    (told_found owner geometry checkpoint end plain entries of_log commits opened trimmed rest is_of none within is cut told) leaves

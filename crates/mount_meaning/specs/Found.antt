@@ -7,6 +7,7 @@ use Rattle.commit_slot.specs.Commits.{ReadsSettled}
 use Rattle.cache_log.specs.declared.row.Row.{Row}
 use Rattle.cache_log.specs.Rows.{entry_of}
 use Rattle.cache_log.specs.Opening.{AreRecordsInRange}
+use Rattle.stopped_volume.specs.Device.{CacheOwner, owner_of}
 use Rattle.plain_disk.specs.declared.log.PlainCommit.{PlainCommit}
 use Rattle.plain_disk.specs.Log.{PlainLog, past_pad, held_from}
 use Rattle.plain_disk.specs.State.{PlainState, stream_in}
@@ -23,12 +24,13 @@ IsFoundCommit found log = (found ≡ log.last) ⊎ (Some found ≡ log.unfinishe
 
 -- ---- what is found
 
--- The bytes of a device read as a commit of a plain volume's log. From its tail up to its head they have the plain log's records, each
--- where that has it, and those past the first N entries of the history, among which the tail is, are of the plain volume's entries.
-pub record HasCommit (uuid : List ℕ) (plain : PlainState) (found : PlainCommit) (count : ℕ) (left : List ℕ) : Type 0 where
+-- The bytes of a device read as a commit of a plain volume's log, which names this owner. From its tail up to its head they have the
+-- plain log's records, each where that has it, and those past the first N entries of the history, among which the tail is, are of
+-- the plain volume's entries.
+pub record HasCommit (owner : CacheOwner) (plain : PlainState) (found : PlainCommit) (count : ℕ) (left : List ℕ) : Type 0 where
   pub number : ℕ
   pub body : CommitBody
-  pub is_of : body.uuid ≡ uuid
+  pub is_of : owner_of body ≡ owner
   pub commit : commit_of body ≡ found
   pub slots : ReadsSettled plain.geometry.log left body number
   pub rows : List Row

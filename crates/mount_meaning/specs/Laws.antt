@@ -19,6 +19,7 @@ use Rattle.cache_log.specs.Log.{LogState, AreRowsOf, IsTrimmed}
 use Rattle.cache_log.specs.Opening.{AreRowsOfLog, IsOpenedLog}
 use Rattle.cache_log.specs.Committed.{body_of, LeavesEntriesSince, HasSameList, IsReleased}
 use Rattle.obj_log.specs.State.{ObjLogState}
+use Rattle.stopped_volume.specs.Device.{CacheOwner, owner_of}
 use Rattle.plain_disk.specs.declared.log.PlainCommit.{PlainCommit}
 use Rattle.plain_disk.specs.Log.{PlainLog}
 use Rattle.plain_disk.specs.State.{PlainState, stream_in, history_length, frontier_end}
@@ -107,8 +108,8 @@ ReopenedShowsLog =
 -- the commits of a log that was opened are the volume's own
 abbrev pub OpenedHasCommitted : Type 0
 OpenedHasCommitted =
-    (uuid : List ℕ) (geometry : Geometry) (commits : CommitsState) (log : LogState)
-    → commits.body.uuid ≡ uuid → commits.unfinished ≡ None → IsOpenedLog geometry commits log → HasCommitted uuid geometry log
+    (owner : CacheOwner) (geometry : Geometry) (commits : CommitsState) (log : LogState)
+    → owner_of commits.body ≡ owner → commits.unfinished ≡ None → IsOpenedLog geometry commits log → HasCommitted owner geometry log
 
 -- the list of a log whose entries were added has them past the frontier's end
 abbrev pub AddedAreLogged : Type 0
@@ -130,8 +131,8 @@ MountedIsPlainVolume =
 -- where the bytes of a device read as a commit of a plain volume, that is what a mount is to make of it
 abbrev pub MountedIsGoingOn : Type 0
 MountedIsGoingOn =
-    (uuid : List ℕ) (plain : PlainState) (found : PlainCommit) (number : ℕ) (objects : Objects) (left : List ℕ)
-    → IsPlainVolume plain → HasObjects uuid plain number objects → (has : HasCommit uuid plain found (end_of_object number plain) left)
+    (uuid : List ℕ) (owner : CacheOwner) (plain : PlainState) (found : PlainCommit) (number : ℕ) (objects : Objects) (left : List ℕ)
+    → IsPlainVolume plain → HasObjects uuid plain number objects → (has : HasCommit owner plain found (end_of_object number plain) left)
     → going_on (entries_past plain (end_of_object number plain) has.body.head.seq)
     (committed_at (end_of_object number plain) (log_found plain.geometry.log has.body has.rows)) (mounted_without number plain)
     ≡ mounted_with found number plain
@@ -141,37 +142,37 @@ MountedIsGoingOn =
 -- bytes that a mount finds keep all that it is to make of them
 abbrev pub FoundKeeps : Type 0
 FoundKeeps =
-    (uuid : List ℕ) (plain : PlainState) (found : PlainCommit) (number : ℕ) (objects : Objects) (left : List ℕ)
-    → IsPlainVolume plain → HasObjects uuid plain number objects → HasCommit uuid plain found (end_of_object number plain) left
+    (uuid : List ℕ) (owner : CacheOwner) (plain : PlainState) (found : PlainCommit) (number : ℕ) (objects : Objects) (left : List ℕ)
+    → IsPlainVolume plain → HasObjects uuid plain number objects → HasCommit owner plain found (end_of_object number plain) left
     → byte_of plain.geometry.log ≤ length left
-    → KeepsOnDevice uuid (mounted_with found number plain) (history_length (mounted_with found number plain)) left
+    → KeepsOnDevice owner (mounted_with found number plain) (history_length (mounted_with found number plain)) left
 
 -- and so does whatever a stop leaves at each moment while the log is committed again
 abbrev pub CommittingKeepsMounted : Type 0
 CommittingKeepsMounted =
-    (uuid : List ℕ) (geometry : Geometry) (checkpoint end : ℕ) (plain : PlainState) (entries : List Entry) (of_log : PlainLog)
+    (owner : CacheOwner) (geometry : Geometry) (checkpoint end : ℕ) (plain : PlainState) (entries : List Entry) (of_log : PlainLog)
     (commits : CommitsState) (opened trimmed : LogState) (new : DiskState)
-    → IsAtRest geometry checkpoint end plain → commits.body.uuid ≡ uuid → commits.unfinished ≡ None → commits.body.tail.seq ≤ end
+    → IsAtRest geometry checkpoint end plain → owner_of commits.body ≡ owner → commits.unfinished ≡ None → commits.body.tail.seq ≤ end
     → IsOpenedLog geometry commits opened → IsTrimmed end opened trimmed → IfSome trimmed.entries (λ list. list ≡ entries)
     → end + length entries ≡ max end commits.body.head.seq
     → LeavesEntriesSince trimmed (IsLastOr trimmed.commits (body_of trimmed)) new
-    → StopKeepsSince uuid trimmed (going_on entries of_log plain) (λ head. head ≡ history_length (going_on entries of_log plain)) new
+    → StopKeepsSince owner trimmed (going_on entries of_log plain) (λ head. head ≡ history_length (going_on entries of_log plain)) new
 
 -- whatever a stop leaves reads as the last commit or as the unfinished one
 abbrev pub LeftHasCommit : Type 0
 LeftHasCommit =
-    (uuid : List ℕ) (data_at : ℕ → ℕ) (log : LogState) (plain : PlainState) (count : ℕ)
-    → ShowsStops uuid data_at log plain → frontier_end plain ≤ count → count ≤ history_length plain
+    (owner : CacheOwner) (data_at : ℕ → ℕ) (log : LogState) (plain : PlainState) (count : ℕ)
+    → ShowsStops owner data_at log plain → frontier_end plain ≤ count → count ≤ history_length plain
     → HoldsNow (λ now. (left : List ℕ) → MayLeave now left
-    → (found : PlainCommit) × IsFoundCommit found plain.cache.log × HasCommit uuid plain found count left) log.commits.disk.moments
+    → (found : PlainCommit) × IsFoundCommit found plain.cache.log × HasCommit owner plain found count left) log.commits.disk.moments
 
 -- whatever fates the pending writes meet, what they leave reads as the commit that the plain cache keeps then
 abbrev pub FatesKeepCommit : Type 0
 FatesKeepCommit =
-    (uuid : List ℕ) (data_at : ℕ → ℕ) (log : LogState) (plain : PlainState) (fates : List Fate) (count : ℕ)
-    → ShowsStops uuid data_at log plain → ShowsPending log plain.cache
+    (owner : CacheOwner) (data_at : ℕ → ℕ) (log : LogState) (plain : PlainState) (fates : List Fate) (count : ℕ)
+    → ShowsStops owner data_at log plain → ShowsPending log plain.cache
     → length fates ≡ length plain.cache.pending
     → HoldsNow (λ now. MayLeave now (left_in_order fates log.commits.disk.moments)) log.commits.disk.moments
     → frontier_end plain ≤ count → count ≤ history_length plain
-    → (has : HasCommit uuid plain (kept_commit (map is_kept fates) plain.cache) count (left_in_order fates log.commits.disk.moments))
+    → (has : HasCommit owner plain (kept_commit (map is_kept fates) plain.cache) count (left_in_order fates log.commits.disk.moments))
     × (has.number ≤ log.commits.number + 1)

@@ -1,5 +1,5 @@
 -- An object of the store that is adopted.
-use Rattle.std.proofs.Common.{◌≡◌, ℕ, ◌<◌, ◌≤◌, ◌^◌, ◌&&◌, nat_le, inl, inr, Option, Some, None, List, length, sym, subst, arith}
+use Rattle.std.proofs.Common.{◌≡◌, ℕ, ◌+◌, ◌-◌, ◌<◌, ◌≤◌, ◌^◌, ◌&&◌, nat_le, Option, Some, None, List, length, refl, sym, subst, arith}
 use Rattle.std.specs.Prelude.{IsTrue, IfSome}
 use Rattle.std.specs.Option.{IsSome}
 use Rattle.std.specs.Global.{Vec}
@@ -9,17 +9,27 @@ use Rattle.lsvd_objstore.specs.Store.{ReceiptState, Finds}
 use Rattle.object_format.specs.declared.data_row.DataRow.{DataRow}
 use Rattle.object_format.specs.declared.expected.Expected.{Expected}
 use Rattle.object_format.specs.declared.header.Header.{Header}
+use Rattle.object_format.specs.declared.kind.Kind.TheVariants as kinds
+use Rattle.object_format.specs.declared.reason.BadObject as reason_type
+use Rattle.object_format.specs.declared.rows.Rows.{Rows}
+use Rattle.object_format.specs.declared.rows.Rows.TheVariants as rows_of
 use Rattle.object_format.specs.declared.rows.Rows.TheVariants.{Data}
 use Rattle.object_format.specs.Layout.{data_front_sectors}
 use Rattle.object_format.specs.Header.{most_rows}
+use Rattle.object_format.specs.Rows.{AreRowsOf}
 use Rattle.object_format.specs.Object.{IsObject}
 use Rattle.object_format.specs.Tests.{IsRefusedAs}
 use Rattle.object_stream.specs.Replay.{name_of}
 use Rattle.volume_maps.proofs.FitLemmas.{rows_fit}
 use Rattle.object_uploads.specs.Queue.{front_of, FitObject}
-use Rattle.object_recovery.specs.declared.error.RecoverError.{RecoverError}
-use Rattle.object_recovery.specs.declared.error.RecoverError.TheVariants as errors
-use Rattle.object_recovery.specs.Recovery.{IsReadAsData, IsWhyNotAdopted, IsStoredAs, IsWhyStopped}
+use Rattle.obj_log.specs.State.{ObjLogState}
+use Rattle.object_recovery.specs.declared.judging.Reached.{Reached}
+use Rattle.object_recovery.specs.declared.judging.Refusal.TheVariants as refusals
+use Rattle.object_recovery.specs.declared.reading.ReadObject.TheVariants as read
+use Rattle.object_recovery.specs.Judging.{IsEndOf}
+use Rattle.object_recovery.specs.Read.{IsReadOf}
+use Rattle.object_recovery.specs.Adoption.{IsReadAsData, IsStoredAs, IsLeft, IsLeftAt, HasNoNext}
+use Rattle.object_recovery.proofs.EndLemmas.{end_of_object}
 use Rattle.object_recovery.proofs.FindLemmas.{of_told}
 
 -- ---- its rows fit the maps
@@ -71,41 +81,12 @@ stored_as (Some objects) expected receipt rows end finds some is = record {
   receipt_is = record { size = finds.2.size; told = finds.2.told };
 }
 
-pub why_stopped : (told : Option Objects) (expected : Expected) (receipt : ReceiptState) (error : RecoverError)
-    → Finds (name_of expected.uuid expected.number) told (Some receipt) → IsSome receipt.told → IsWhyNotAdopted receipt expected error
-    → IfSome told (λ objects. IsWhyStopped objects expected error)
-why_stopped None expected receipt error finds some why = tt
-why_stopped (Some objects) expected receipt errors.NoCheckpoint finds some why = why
-why_stopped (Some objects) expected receipt (errors.BadObject number reason) finds some why = (
-  why.0,
-  finds.0,
-  finds.1,
-  of_told (λ bytes size. IsRefusedAs bytes size expected reason) (name_of expected.uuid expected.number) finds.0 receipt finds.2 some why.1,
-)
-why_stopped (Some objects) expected receipt (errors.NotData number) finds some why = (
-  why.0,
-  finds.0,
-  finds.1,
-  why.1,
-  why.2,
-  of_told (λ bytes size. IsObject bytes size expected why.1 why.2) (name_of expected.uuid expected.number) finds.0 receipt finds.2 some why.3.told,
-  why.4,
-)
-why_stopped (Some objects) expected receipt (errors.Worn number) finds some why = (
-  why.0,
-  finds.0,
-  finds.1,
-  elim why.1 [
-    | inl high ↦ inl high
-    | inr end ↦
-        inr (
-          end.0,
-          end.1,
-          of_told (λ bytes size. IsObject bytes size expected end.0 end.1)
-              (name_of expected.uuid expected.number) finds.0 receipt finds.2 some end.2.told,
-          end.3,
-        )
-  ],
-)
-why_stopped (Some objects) expected receipt errors.StoreFault finds some why = tt
-why_stopped (Some objects) expected receipt errors.OutOfMemory finds some why = tt
+pub left_at : (told : Option Objects) (expected : Expected) (receipt : ReceiptState) (reached : Reached)
+    → Finds (name_of expected.uuid expected.number) told (Some receipt) → IsSome receipt.told
+    → IfSome receipt.told (λ bytes. IsLeft bytes receipt.size expected reached) → IfSome told (λ objects. IsLeftAt objects expected reached)
+left_at None expected receipt reached finds some is = tt
+left_at (Some objects) expected receipt reached finds some is = record {
+  bytes = finds.0;
+  present = finds.1;
+  left = of_told (λ bytes size. IsLeft bytes size expected reached) (name_of expected.uuid expected.number) finds.0 receipt finds.2 some is;
+}

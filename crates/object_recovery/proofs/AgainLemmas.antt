@@ -127,6 +127,11 @@ module _ (volume : Expected) (uuid_at : ℕ → Option (List ℕ)) (old new : Ob
               (subst (λ o. StandsForSector old uuid_at o k sector) none (stored.value k sector at));
           last = stored.last;
           stored = stored_kept stream.number stream.end stream.entries (objects_to stream number) size has.hold_data stored.stored;
+          past = λ other bytes past there.
+              elim (removes.removed (name_of volume.uuid other)) [
+                | inl same ↦ stored.past other bytes past (sym same ∙ there)
+                | inr gone ↦ absurd cc
+              ];
         };
         hold_data = has.hold_data;
         inside = has.inside;

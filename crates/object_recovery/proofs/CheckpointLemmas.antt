@@ -117,7 +117,7 @@ same_uuid : (uuid : List ℕ) → slice_cmp nat_cmp uuid uuid ≡ Equal
 same_uuid uuid = self_reversed (slice_cmp nat_cmp uuid uuid) (nat_list_cmp_total.antisymm uuid uuid)
 
 -- numbered names of a volume are in the order of their numbers
-name_order : (uuid : List ℕ) (a b : ℕ) → name_cmp (name_of uuid a) (name_of uuid b) ≡ Less → a < b
+pub name_order : (uuid : List ℕ) (a b : ℕ) → name_cmp (name_of uuid a) (name_of uuid b) ≡ Less → a < b
 name_order uuid a b less = number_order a b (sym (ap (λ order. ordering_then order (nat_cmp a b)) (same_uuid uuid)) ∙ less)
 
 module _ (uuid : List ℕ) (geometry : Geometry) (objects : Objects) (names : List ObjName) (is_uuid : IsUuid uuid)

@@ -5,6 +5,7 @@ use Rattle.std.specs.Option.{IsSome}
 use Rattle.lsvd_names.specs.declared.name.Kind.{Kind}
 use Rattle.lsvd_names.specs.declared.name.Kind.TheVariants.{Object}
 use Rattle.lsvd_names.specs.declared.name.ObjName.{ObjName}
+use Rattle.lsvd_objstore.specs.Objects.{Objects}
 use Rattle.lsvd_objstore.specs.Store.{StoreState, ReceiptState, IsReceiptOf, OnlyCounts}
 use Rattle.object_stream.specs.Replay.{name_of}
 
@@ -20,6 +21,11 @@ pub of_told : (P : List ℕ → ℕ → Type 0) (name : ObjName) (bytes : List �
 of_told P name bytes receipt is some holds =
     let told = told_bytes receipt.told bytes some is.told in
     subst (P bytes) is.size (subst (λ t. IfSome t (λ b. P b receipt.size)) told holds)
+
+-- what follows from what holds of the objects that a store tells
+pub told_so : (P Q : Objects → Type 0) (told : Option Objects) → ((objects : Objects) → P objects → Q objects) → IfSome told P → IfSome told Q
+told_so P Q None so is = tt
+told_so P Q (Some objects) so is = so objects is
 
 -- the name of a numbered object
 pub numbered : (name : ObjName) → name.kind ≡ Object → name ≡ name_of name.uuid name.number

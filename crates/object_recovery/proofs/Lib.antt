@@ -1,12 +1,17 @@
 pub mod ReadLemmas
+pub mod EndLemmas
 pub mod FindLemmas
 pub mod CheckpointLemmas
 pub mod RemovalLemmas
 pub mod AdoptionLemmas
+pub mod JudgeLemmas
+pub mod PastLemmas
 pub mod StreamLemmas
 pub mod ListLemmas
 pub mod PlaceLemmas
 pub mod RecoverLemmas
 pub mod RefusalLemmas
+pub mod OutcomeLemmas
+pub mod GreatestLemmas
 pub mod AgainLemmas
 pub mod SomeImageLemmas

@@ -1,20 +1,25 @@
 -- The list while objects are adopted.
-use Rattle.std.proofs.Common.{◌≡◌, ℕ, ◌+◌, ◌^◌, ◌<◌, inl, inr, cond, Bool, true, false, Option, Some, None, List, [], ◌∷◌, refl, sym, ◌∙◌, ap, subst, arith}
-use Rattle.std.specs.Prelude.{IfSome, IsTrue, is_some}
-use Rattle.std.proofs.lemmas.Bool.{cases_lt}
+use Rattle.std.proofs.Common.{◌≡◌, ℕ, ◌+◌, ◌^◌, ◌<◌, cond, Bool, true, false, Option, Some, None, List, [], ◌∷◌, length, refl, sym, ◌∙◌, ap, subst, arith}
+use Rattle.std.specs.Prelude.{IfSome}
 use Rattle.lsvd_base.specs.declared.geometry.Geometry.{Geometry}
 use Rattle.extent_map.specs.Extents.{is_within}
 use Rattle.lsvd_objstore.specs.Objects.{Objects, found}
-use Rattle.lsvd_objstore.specs.Store.{ReceiptState, Finds}
+use Rattle.lsvd_objstore.specs.Store.{ReceiptState}
 use Rattle.object_format.specs.declared.data_row.DataRow.{DataRow}
 use Rattle.object_format.specs.declared.expected.Expected.{Expected}
-use Rattle.object_stream.specs.Replay.{name_of}
+use Rattle.object_format.specs.declared.rows.Rows.TheVariants.{Data}
+use Rattle.object_stream.specs.Replay.{name_of, expected_at}
 use Rattle.upload_window.specs.Window.{WindowState}
 use Rattle.volume_maps.specs.Maps.{logged_by}
-use Rattle.stopped_volume.specs.Objects.{landed_in}
 use Rattle.obj_log.specs.State.{ObjLogState}
-use Rattle.obj_log.specs.Changes.{expected_of_volume, HasAdoptedObject}
-use Rattle.object_recovery.specs.Recovery.{IsListUpTo, HasStreamTo, AdoptsNext, KeepsStreams, HaveLanded}
+use Rattle.obj_log.specs.Changes.{expected_of_volume, next_of, HasAdoptedObject}
+use Rattle.object_recovery.specs.declared.judging.Reached.{Reached}
+use Rattle.object_recovery.specs.Judging.{IsEndOf, expected_after}
+use Rattle.object_recovery.specs.Judged.{IsReached}
+use Rattle.object_recovery.specs.Adoption.{IsStoredAs, IsLeftAt, AdoptsNext, reached_by, KeepsGood}
+use Rattle.object_recovery.specs.Recovery.{IsListUpTo, HasStreamTo, KeepsStreams}
+use Rattle.object_recovery.proofs.EndLemmas.{end_of_object}
+use Rattle.object_recovery.proofs.JudgeLemmas.{reached_next, reached_left}
 use Rattle.object_recovery.proofs.StreamLemmas.{missing_at, one_more}
 
 -- ---- the list
@@ -99,26 +104,46 @@ pub told_same : (told : Option Objects) (volume : Expected) (log : ObjLogState) 
 told_same None volume log = tt
 told_same (Some objects) volume log = keeps_same volume objects log
 
--- ---- the numbers that have landed
+-- ---- the objects that are good
 
-pub landed_none : (told : Option Objects) (uuid : List ℕ) (at : ℕ) → IfSome told (λ objects. HaveLanded objects uuid at at)
-landed_none None uuid at = tt
-landed_none (Some objects) uuid at = λ number past to. absurd (omega (arith, past, to))
+module _ (volume : Expected) (log : ObjLogState) (uuid : List ℕ) (geometry : Geometry) (same_volume : expected_of_volume log ≡ volume)
+    (is : IsListUpTo uuid geometry log.uploads.window.last log.uploads.queue.end log) where
+  -- what is expected of the next object, by how far those of the list were judged
+  next_after : next_of log ≡ expected_after volume (log.uploads.window.last + 1) (Some log.uploads.queue.end)
+  next_after =
+      ap (λ (v : Expected). expected_at v (log.uploads.window.last + 1) log.batch.first) same_volume
+      ∙ ap (expected_at volume (log.uploads.window.last + 1)) is.first
 
-pub landed_more : (told : Option Objects) (uuid : List ℕ) (past at next : ℕ) → next ≡ at + 1
-    → IfSome told (λ objects. IsTrue (landed_in objects uuid (at + 1)))
-    → IfSome told (λ objects. HaveLanded objects uuid past at) → IfSome told (λ objects. HaveLanded objects uuid past next)
-landed_more None uuid past at next is there before = tt
-landed_more (Some objects) uuid past at next is there before = λ number from to.
-    elim (cases_lt at number) [
-      | inl last ↦
-          let same : at + 1 ≡ number = omega (arith, is, to, last) in
-          subst (λ n. IsTrue (landed_in objects uuid n)) same there
-      | inr low ↦ before number from low
-    ]
+  pub left_good : (objects : Objects) (base : ℕ) (left : Reached) → IsLeftAt objects (next_of log) left
+      → IsReached volume objects base (reached_by log) → IsReached volume objects base left
+  left_good objects base left there reached =
+      let at = subst (λ e. IsLeftAt objects e left) next_after there in
+      let named : log.uploads.window.last + 1 < 2 ^ 64 = omega (arith, at.left.named, at.left.number) in
+      reached_left volume objects base (reached_by log) reached at.bytes named at.present left refl at.left
 
--- what a search finds has landed
-pub found_landed : (told : Option Objects) (uuid : List ℕ) (number : ℕ) (receipt : ReceiptState) → Finds (name_of uuid number) told (Some receipt)
-    → IfSome told (λ objects. IsTrue (landed_in objects uuid number))
-found_landed None uuid number receipt finds = tt
-found_landed (Some objects) uuid number receipt finds = ap is_some finds.1
+  adopted_good : (objects : Objects) (Tells : Type 0) (new : ObjLogState) → Tells → AdoptsNext Tells (Some objects) log new
+      → KeepsGood volume objects log new
+  adopted_good objects Tells new tells adopts base reached =
+      let last : log.uploads.window.last + 1 ≡ new.uploads.window.last = sym (ap (λ (w : WindowState). w.last) adopts.adopted.uploads.window) in
+      let end : adopts.end ≡ new.uploads.queue.end = sym adopts.adopted.uploads.settled.ends in
+      let there = subst (λ e. IsStoredAs objects e adopts.rows adopts.end adopts.receipt) next_after (adopts.stored tells) in
+      let expected = expected_after volume (log.uploads.window.last + 1) (Some log.uploads.queue.end) in
+      let whole = there.is_object in
+      let own = end_of_object there.bytes (length there.bytes) expected there.header (Data there.list) whole in
+      let ends = subst (λ e. IsEndOf there.bytes (length there.bytes) expected (Some e)) (there.end_is ∙ end) own in
+      let Next : ℕ → Reached = λ n. record { number = n; end = Some new.uploads.queue.end; refused = None } in
+      subst (λ n. IsReached volume objects base (Next n)) last
+      (reached_next volume objects base (reached_by log) reached there.bytes adopts.named there.present (Some new.uploads.queue.end) None ends
+      (there.header, Data there.list, whole))
+
+-- so they are where the store tells its objects
+pub told_good : (told : Option Objects) (volume : Expected) (Tells : Type 0) (uuid : List ℕ) (geometry : Geometry) (begun old new : ObjLogState)
+    → expected_of_volume old ≡ volume → IsListUpTo uuid geometry old.uploads.window.last old.uploads.queue.end old → Tells → AdoptsNext Tells told old new
+    → IfSome told (λ objects. KeepsGood volume objects begun old) → IfSome told (λ objects. KeepsGood volume objects begun new)
+told_good None volume Tells uuid geometry begun old new same_volume is tells adopts keeps = tt
+told_good (Some objects) volume Tells uuid geometry begun old new same_volume is tells adopts keeps = λ base reached.
+    adopted_good volume old uuid geometry same_volume is objects Tells new tells adopts base (keeps base reached)
+
+pub told_still : (told : Option Objects) (volume : Expected) (log : ObjLogState) → IfSome told (λ objects. KeepsGood volume objects log log)
+told_still None volume log = tt
+told_still (Some objects) volume log = λ base reached. reached

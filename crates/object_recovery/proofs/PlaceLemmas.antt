@@ -16,7 +16,7 @@ use Rattle.volume_maps.specs.Maps.{row_place, settled_by_row, settled_by, settle
 use Rattle.object_uploads.specs.State.{QueueState}
 use Rattle.object_uploads.specs.Queue.{front_of, receipt_of, IsNextSettled}
 use Rattle.object_recovery.specs.Places.{IsInsideObject, HasPlacesInside}
-use Rattle.object_recovery.specs.Recovery.{IsReadAsData}
+use Rattle.object_recovery.specs.Adoption.{IsReadAsData}
 
 -- what is so of the thing that there is
 so_some : {X : Type 0} (P : X → Type 0) (option : Option X) → ((x : X) → option ≡ Some x → P x) → IfSome option P

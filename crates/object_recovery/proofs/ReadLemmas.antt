@@ -50,7 +50,7 @@ module _ (all bytes : List ℕ) (first : AreFirstOf (Some all) bytes) where
 -- ---- headers and objects
 
 -- bytes that begin alike have one header
-moved_header : (bytes others : List ℕ) (size : ℕ) (expected : Expected) (header : Header) → take 64 bytes ≡ take 64 others
+pub moved_header : (bytes others : List ℕ) (size : ℕ) (expected : Expected) (header : Header) → take 64 bytes ≡ take 64 others
     → IsHeader bytes size expected header → IsHeader others size expected header
 moved_header bytes others size expected header same is = record {
   head = sym same ∙ is.head;
@@ -186,24 +186,26 @@ longer_header bytes others size expected header few kept is =
     let same : take 64 bytes ≡ take 64 others = take_all 64 bytes (omega arith) ∙ sym kept ∙ ap (λ n. take n others) exact in
     moved_header bytes others size expected header same is
 
--- the first bytes, 64 or all where there are fewer, are refused as the whole is
+-- the first bytes, 64 or all where there are fewer, begin as the whole does
+pub same_head : (all bytes : List ℕ) (size : ℕ) → length bytes ≡ min size 64 → AreFirstOf (Some all) bytes → size ≡ length all
+    → take 64 bytes ≡ take 64 all
+same_head all bytes size count first whole =
+    elim (cases_lt (length bytes) 64) [
+      | inl short ↦ ap (take 64) (first ∙ take_all (length bytes) all (omega arith))
+      | inr long ↦ head_of_all all bytes first long
+    ]
+
+-- they are refused as the whole is
 pub why_no_header : (receipt : ReceiptState) (expected : Expected) (bytes : List ℕ) (reason : reason_type.BadObject) → AreFirstOf receipt.told bytes
     → length bytes ≡ min receipt.size 64 → IfSome receipt.told (λ told. receipt.size ≡ length told)
     → ((header : Header) → IsHeader bytes receipt.size expected header → ⊥)
     → IsRefusedAs bytes receipt.size expected reason → IsWhyNotRead receipt expected (BadObject expected.number reason)
 why_no_header receipt expected bytes reason first count whole none refused = (refl, of_told receipt.told first whole)
   where
-    same_head : (all : List ℕ) → AreFirstOf (Some all) bytes → receipt.size ≡ length all → take 64 bytes ≡ take 64 all
-    same_head all first whole =
-        elim (cases_lt (length bytes) 64) [
-          | inl short ↦ ap (take 64) (first ∙ take_all (length bytes) all (omega arith))
-          | inr long ↦ head_of_all all bytes first long
-        ]
-
     of_told : (told : Option (List ℕ)) → AreFirstOf told bytes → IfSome told (λ all. receipt.size ≡ length all)
         → IfSome told (λ all. IsRefusedAs all receipt.size expected reason)
     of_told None first whole = tt
-    of_told (Some all) first whole = refused_head bytes all receipt.size expected reason (same_head all first whole) none refused
+    of_told (Some all) first whole = refused_head bytes all receipt.size expected reason (same_head all bytes receipt.size count first whole) none refused
 
 -- the header of the first bytes is that of the whole
 pub header_of_all : (all bytes : List ℕ) → AreFirstOf (Some all) bytes → (size : ℕ) (expected : Expected) (header : Header)

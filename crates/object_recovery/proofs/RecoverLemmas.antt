@@ -23,7 +23,8 @@ use Rattle.obj_log.specs.Stream.{IsOfStream}
 use Rattle.obj_log.proofs.StreamLemmas.{new_list_begins_stream}
 use Rattle.obj_log.proofs.ImageLemmas.{new_list_has_blank}
 use Rattle.object_recovery.specs.Checkpoints.{IsNewestWithEnd}
-use Rattle.object_recovery.specs.Recovery.{up_to_object, HasDataUpTo, IsListUpTo, HasStreamTo, KeepsStreams, HaveLanded, IsLastLanded, HasRecovered, IsRecoveredOf}
+use Rattle.object_recovery.specs.Judging.{HaveLanded}
+use Rattle.object_recovery.specs.Recovery.{up_to_object, HasDataUpTo, IsListUpTo, HasStreamTo, KeepsStreams, IsLastLanded, HasRecovered, IsRecoveredOf}
 use Rattle.object_recovery.proofs.StreamLemmas.{reached}
 
 -- ---- where it begins
@@ -62,7 +63,7 @@ module _ (stream : Stream) (none : (k : ℕ) → stream.opening k ≡ None) wher
   no_objects : objects_to stream begin ≡ []
   no_objects = let zero_ : begin - begin ≡ 0 = omega arith in ap (λ n. take n stream.objects) zero_
 
-  begin_end : end_at stream begin ≡ stream.end
+  pub begin_end : end_at stream begin ≡ stream.end
   begin_end = ap (end_after stream.end) no_objects
 
   no_entries : (up_to_object begin stream).entries ≡ []
@@ -170,17 +171,13 @@ module _ (volume : Expected) (objects : Objects) (base base_end : ℕ) (wide : v
 
   pub is_recovered : (uuid : List ℕ) (geometry : Geometry) (begun log : ObjLogState) → IsNewList uuid geometry base base_end begun
       → KeepsStreams volume objects begun log
-      → IsListUpTo uuid geometry log.uploads.window.last log.uploads.queue.end log → begun.uploads.window.last ≤ log.uploads.window.last
-      → HaveLanded objects volume.uuid begun.uploads.window.last log.uploads.window.last
+      → IsListUpTo uuid geometry log.uploads.window.last log.uploads.queue.end log → base ≤ log.uploads.window.last
+      → HaveLanded objects volume.uuid base log.uploads.window.last
       → found objects (name_of volume.uuid (log.uploads.window.last + 1)) ≡ None → IsRecoveredOf volume objects log
-  is_recovered uuid geometry begun log new keeps list from landed absent =
-      let first : begun.uploads.window.last ≡ base = ap (λ (w : WindowState). w.last) new.list.window in
-      record {
-        streams = λ uuid_at stream number has. recovered uuid_at stream number has uuid geometry begun log new keeps list absent;
-        last =
-            last_landed log.uploads.window.last (omega (arith, first, from))
-            (subst (λ n. HaveLanded objects volume.uuid n log.uploads.window.last) first landed) absent;
-      }
+  is_recovered uuid geometry begun log new keeps list from landed absent = record {
+    streams = λ uuid_at stream number has. recovered uuid_at stream number has uuid geometry begun log new keeps list absent;
+    last = last_landed log.uploads.window.last from landed absent;
+  }
 
 -- For the proofs of callers: where the store tells its objects, the last of a recovered list is that before the first missing number.
 pub told_last : (told : Option Objects) (volume : Expected) (log : ObjLogState) → IfSome told (λ objects. IsRecoveredOf volume objects log)

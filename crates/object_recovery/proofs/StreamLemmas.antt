@@ -40,7 +40,8 @@ use Rattle.obj_log.specs.Stream.{IsOfStream}
 use Rattle.obj_log.proofs.ImageLemmas.{adopting_keeps_stream, adopting_makes_image}
 use Rattle.object_uploads.specs.Order.{IsUploads}
 use Rattle.object_uploads.specs.Image.{HasImage, HasOwnReceipts}
-use Rattle.object_recovery.specs.Recovery.{up_to_object, HasDataUpTo, HasStreamTo, IsStoredAs}
+use Rattle.object_recovery.specs.Adoption.{IsStoredAs}
+use Rattle.object_recovery.specs.Recovery.{up_to_object, HasDataUpTo, HasStreamTo}
 
 -- ---- the objects of a stream one by one
 
@@ -178,7 +179,7 @@ module _ (volume : Expected) (uuid_at : ℕ → Option (List ℕ)) (objects : Ob
     order : stream.end ≤ end_before
     order = end_no_earlier stream.end (take i all) (follow_first stream.end i all has.valid.ends)
 
-    next_end : end_at stream (at + 1) ≡ object.end
+    pub next_end : end_at stream (at + 1) ≡ object.end
     next_end =
         let more : at + 1 - stream.number ≡ i + 1 = omega arith in
         ap (λ n. end_after stream.end (take n all)) more ∙ end_next stream.end all i d inside

@@ -3,6 +3,8 @@ use Rattle.std.specs.Prelude.{Bool, true, false, Result, Ok, Err, IsSome}
 use Rattle.lsvd_objstore.specs.declared.error.StoreError.{StoreError}
 use Rattle.lsvd_objstore.specs.declared.error.StoreError.TheVariants as store
 use Rattle.lsvd_objstore.specs.Store.{ReceiptState}
+use Rattle.object_recovery.specs.declared.judging.Refusal.{Refusal}
+use Rattle.object_recovery.specs.declared.judging.Refusal.TheVariants.{Bad, NotData}
 use Rattle.object_recovery.specs.declared.error.RecoverError.{RecoverError}
 use Rattle.object_recovery.specs.declared.error.RecoverError.TheVariants as errors
 
@@ -11,12 +13,16 @@ abbrev pub of_store : StoreError → RecoverError
 of_store store.Failed = errors.StoreFault
 of_store store.OutOfMemory = errors.OutOfMemory
 
+-- what a refusal is to the caller
+abbrev pub of_refusal : Refusal → RecoverError
+of_refusal (Bad number reason) = errors.BadObject number reason
+of_refusal (NotData number) = errors.NotData number
+
 -- a call of the store failed
 abbrev pub is_store_fault : RecoverError → Bool
 is_store_fault errors.NoCheckpoint = false
 is_store_fault (errors.BadObject number reason) = false
 is_store_fault (errors.NotData number) = false
-is_store_fault (errors.Worn number) = false
 is_store_fault errors.StoreFault = true
 is_store_fault errors.OutOfMemory = false
 
@@ -29,7 +35,6 @@ abbrev pub IsNoAnswer : RecoverError → Type 0
 IsNoAnswer errors.NoCheckpoint = ⊥
 IsNoAnswer (errors.BadObject number reason) = ⊥
 IsNoAnswer (errors.NotData number) = ⊥
-IsNoAnswer (errors.Worn number) = ⊥
 IsNoAnswer errors.StoreFault = Unit {0}
 IsNoAnswer errors.OutOfMemory = Unit {0}
 

@@ -3,9 +3,11 @@ use Rattle.std.specs.Prelude.{◌≡◌, ℕ, Option, List, length}
 use Rattle.lsvd_base.specs.Image.{Image}
 use Rattle.lsvd_objstore.specs.Objects.{Objects}
 use Rattle.object_format.specs.declared.expected.Expected.{Expected}
+use Rattle.object_format.specs.declared.reason.BadObject.{BadObject}
 use Rattle.object_stream.specs.Stream.{Stream}
 use Rattle.object_uploads.specs.Image.{HasImage}
 use Rattle.obj_log.specs.State.{ObjLogState}
+use Rattle.object_recovery.specs.Judging.{IsGoodObject, IsBadObject}
 use Rattle.object_recovery.specs.Places.{HasPlacesInside}
 use Rattle.object_recovery.specs.Removal.{Removes}
 use Rattle.object_recovery.specs.Recovery.{HasDataUpTo, IsPastOf}
@@ -22,3 +24,9 @@ abbrev pub ListHasSomeImage : Type 0
 ListHasSomeImage =
     (sectors : ℕ) (log : ObjLogState) → HasPlacesInside sectors log.uploads.queue
     → (image : Image) × (length image ≡ sectors) × HasImage image log.uploads.queue
+
+-- An object is not both good and bad, by one last object before the first missing number.
+abbrev pub NoneIsGoodAndBad : Type 0
+NoneIsGoodAndBad =
+    (volume : Expected) (objects : Objects) (last number : ℕ) (reason : BadObject)
+    → IsGoodObject volume objects last number → IsBadObject volume objects last number reason → ⊥

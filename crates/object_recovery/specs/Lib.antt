@@ -1,8 +1,11 @@
 pub mod State
 pub mod Faults
-pub mod Read
 pub mod Checkpoints
+pub mod Judging
+pub mod Judged
+pub mod Read
 pub mod Places
 pub mod Removal
+pub mod Adoption
 pub mod Recovery
 pub mod Laws

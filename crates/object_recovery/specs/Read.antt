@@ -1,12 +1,16 @@
 -- Contract: what is read of an object: its header and its rows, or the first reason for which it is none.
-use Rattle.std.specs.Prelude.{◌≡◌, ℕ, ◌≤◌, Option, Some, None, IfSome, List, length, take}
+use Rattle.std.specs.Prelude.{◌≡◌, ℕ, ◌≤◌, min, Option, Some, None, IfSome, List, length, take}
 use Rattle.object_format.specs.declared.expected.Expected.{Expected}
 use Rattle.object_format.specs.declared.header.Header.{Header}
 use Rattle.object_format.specs.declared.rows.Rows.{Rows}
 use Rattle.object_format.specs.Header.{IsHeader}
 use Rattle.object_format.specs.Object.{IsObject}
 use Rattle.object_format.specs.Tests.{IsRefusedAs}
+use Rattle.object_format.specs.declared.reason.BadObject.{BadObject}
 use Rattle.lsvd_objstore.specs.Store.{ReceiptState}
+use Rattle.object_recovery.specs.declared.reading.ReadObject.{ReadObject}
+use Rattle.object_recovery.specs.declared.reading.ReadObject.TheVariants as read
+use Rattle.object_recovery.specs.Judging.{IsEndOf}
 use Rattle.object_recovery.specs.declared.error.RecoverError.{RecoverError}
 use Rattle.object_recovery.specs.declared.error.RecoverError.TheVariants as errors
 
@@ -14,6 +18,11 @@ use Rattle.object_recovery.specs.declared.error.RecoverError.TheVariants as erro
 abbrev pub AreFirstOf : Option (List ℕ) → (bytes : List ℕ) → Type 0
 AreFirstOf None bytes = Unit {0}
 AreFirstOf (Some told) bytes = bytes ≡ take (length bytes) told
+
+-- and as many as a header has, or all where there are fewer
+pub record HasHead (receipt : ReceiptState) (bytes : List ℕ) : Type 0 where
+  pub count : length bytes ≡ min receipt.size 64
+  pub first : AreFirstOf receipt.told bytes
 
 -- the first bytes of an object, no more than a header has, begin with this header under the expected number
 pub record IsHeaderOf (receipt : ReceiptState) (expected : Expected) (bytes : List ℕ) (header : Header) : Type 0 where
@@ -35,6 +44,17 @@ IsWhyNotRead receipt expected errors.NoCheckpoint = ⊥
 IsWhyNotRead receipt expected (errors.BadObject number reason) =
     (number ≡ expected.number) × IfSome receipt.told (λ told. IsRefusedAs told receipt.size expected reason)
 IsWhyNotRead receipt expected (errors.NotData number) = ⊥
-IsWhyNotRead receipt expected (errors.Worn number) = ⊥
 IsWhyNotRead receipt expected errors.StoreFault = Unit {0}
 IsWhyNotRead receipt expected errors.OutOfMemory = Unit {0}
+
+-- where an object's bytes are told, they are refused for this reason; and this is their end where they are of the grammar by themselves
+abbrev pub IsToldRefused : ReceiptState → Expected → BadObject → Type 0
+IsToldRefused receipt expected reason = IfSome receipt.told (λ told. IsRefusedAs told receipt.size expected reason)
+
+abbrev pub IsToldEnd : ReceiptState → Expected → Option ℕ → Type 0
+IsToldEnd receipt expected end = IfSome receipt.told (λ told. IsEndOf told receipt.size expected end)
+
+-- an object was read so under the expected number
+abbrev pub IsReadOf : ReceiptState → Expected → ReadObject → Type 0
+IsReadOf receipt expected (read.Whole rows end) = (header : Header) × IsReadAs receipt expected header rows × (header.end_seq ≡ end)
+IsReadOf receipt expected (read.Bad reason end) = IsToldRefused receipt expected reason × IsToldEnd receipt expected end

@@ -1,39 +1,29 @@
 -- Contract: what a recovery of the objects of a volume makes of a store.
-use Rattle.std.specs.Prelude.{◌≡◌, ℕ, ◌+◌, ◌-◌, ◌^◌, ◌<◌, ◌≤◌, ◌⊎◌, None, Option, Some, IfSome, IsTrue, List, [], length, take}
+use Rattle.std.specs.Prelude.{◌≡◌, ℕ, ◌+◌, ◌-◌, ◌^◌, ◌<◌, ◌≤◌, ◌⊎◌, None, Option, Some, List, [], length, take}
 use Rattle.std.specs.List.{All}
-use Rattle.std.specs.Global.{Vec}
 use Rattle.lsvd_base.specs.declared.geometry.Geometry.{Geometry}
 use Rattle.lsvd_base.specs.Image.{blank, after}
 use Rattle.lsvd_base.specs.Laws.{EndsBy}
+use Rattle.lsvd_names.specs.Spelling.{IsName}
+use Rattle.lsvd_names.specs.declared.name.ObjName.{ObjName}
 use Rattle.lsvd_objstore.specs.Objects.{Objects, found}
-use Rattle.lsvd_objstore.specs.Store.{ReceiptState}
-use Rattle.object_format.specs.declared.data_row.DataRow.{DataRow}
 use Rattle.object_format.specs.declared.expected.Expected.{Expected}
-use Rattle.object_format.specs.declared.header.Header.{Header}
-use Rattle.object_format.specs.declared.kind.Kind.TheVariants as kinds
-use Rattle.object_format.specs.declared.rows.Rows.{Rows}
-use Rattle.object_format.specs.declared.rows.Rows.TheVariants as rows_of
-use Rattle.object_format.specs.Object.{IsObject}
-use Rattle.object_format.specs.Tests.{IsRefusedAs}
+use Rattle.object_format.specs.declared.reason.BadObject.{BadObject}
 use Rattle.object_stream.specs.declared.object.Content.TheVariants.{Data}
 use Rattle.object_stream.specs.declared.object.StreamObject.{StreamObject}
+use Rattle.object_stream.specs.Landed.{Numbers, IsFirstMissing}
+use Rattle.object_stream.specs.Replay.{name_of}
 use Rattle.object_stream.specs.Stream.{Stream, objects_to, end_at, IsStream}
-use Rattle.object_stream.specs.Replay.{name_of, expected_at}
-use Rattle.stopped_volume.specs.Objects.{landed_in, AreCheckpoints}
+use Rattle.stopped_volume.specs.Objects.{landed_in, expected_alone, AreCheckpoints, IsWhole}
 use Rattle.stopped_volume.specs.Laws.{HasStreamUpTo}
 use Rattle.volume_maps.specs.Maps.{logged_at}
-use Rattle.object_uploads.specs.Image.{HasImage, IsReceiptFor, HasOwnReceipts}
-use Rattle.object_uploads.specs.Order.{IsUploads}
+use Rattle.object_uploads.specs.Image.{HasImage, HasOwnReceipts}
 use Rattle.obj_log.specs.State.{ObjLogState}
-use Rattle.obj_log.specs.Changes.{expected_of_volume, next_of, HasAdoptedObject}
 use Rattle.obj_log.specs.Stream.{IsOfStream}
 use Rattle.object_recovery.specs.declared.error.RecoverError.{RecoverError}
 use Rattle.object_recovery.specs.declared.error.RecoverError.TheVariants as errors
-use Rattle.object_stream.specs.Landed.{Numbers, IsFirstMissing}
-use Rattle.lsvd_names.specs.Spelling.{IsName}
-use Rattle.lsvd_names.specs.declared.name.ObjName.{ObjName}
-use Rattle.object_recovery.specs.Read.{IsReadAs, IsWhyNotRead}
 use Rattle.object_recovery.specs.Checkpoints.{IsNoCheckpoint}
+use Rattle.object_recovery.specs.Judging.{AreGood, IsGreatestBad, IsNotData, IsRun}
 use Rattle.object_recovery.specs.Removal.{Removes, IsPast}
 
 -- ---- streams
@@ -75,72 +65,6 @@ pub record HasStreamTo (sectors : ℕ) (stream : Stream) (number : ℕ) (log : O
   pub image : HasImage (after (blank sectors) (up_to_object number stream).entries) log.uploads.queue
   pub receipts : HasOwnReceipts log.uploads.queue
 
--- ---- the next object
-
--- an object was read as one that holds entries, with these rows and this end, and neither its number nor its end is too great
-pub record IsReadAsData (receipt : ReceiptState) (expected : Expected) (rows : List DataRow) (end : ℕ) : Type 0 where
-  pub header : Header
-  pub list : Vec DataRow
-  pub items : list.items ≡ rows
-  pub read : IsReadAs receipt expected header (rows_of.Data list)
-  pub end_is : header.end_seq ≡ end
-  pub low_end : end < 2 ^ 60
-  pub low_number : expected.number < 2 ^ 60
-
--- why an object is not adopted
-abbrev pub IsWhyNotAdopted : ReceiptState → Expected → RecoverError → Type 0
-IsWhyNotAdopted receipt expected errors.NoCheckpoint = ⊥
-IsWhyNotAdopted receipt expected (errors.BadObject number reason) = IsWhyNotRead receipt expected (errors.BadObject number reason)
-IsWhyNotAdopted receipt expected (errors.NotData number) =
-    (number ≡ expected.number) × (header : Header) × (rows : Rows) × IsReadAs receipt expected header rows × (header.kind ≡ kinds.Data → ⊥)
-IsWhyNotAdopted receipt expected (errors.Worn number) =
-    (number ≡ expected.number)
-    × ((2 ^ 60 ≤ number) ⊎ ((header : Header) × (rows : Rows) × IsReadAs receipt expected header rows × (2 ^ 60 ≤ header.end_seq)))
-IsWhyNotAdopted receipt expected errors.StoreFault = Unit {0}
-IsWhyNotAdopted receipt expected errors.OutOfMemory = Unit {0}
-
--- the store has the expected object, which holds entries, with these rows and this end, and the receipt is for it
-pub record IsStoredAs (objects : Objects) (expected : Expected) (rows : List DataRow) (end : ℕ) (receipt : ReceiptState) : Type 0 where
-  pub bytes : List ℕ
-  pub present : found objects (name_of expected.uuid expected.number) ≡ Some bytes
-  pub header : Header
-  pub list : Vec DataRow
-  pub items : list.items ≡ rows
-  pub is_object : IsObject bytes (length bytes) expected header (rows_of.Data list)
-  pub end_is : header.end_seq ≡ end
-  pub receipt_is : IsReceiptFor bytes receipt
-
--- why the recovery stops at the expected object, which the store has
-abbrev pub IsWhyStopped : Objects → Expected → RecoverError → Type 0
-IsWhyStopped objects expected errors.NoCheckpoint = ⊥
-IsWhyStopped objects expected (errors.BadObject number reason) =
-    (number ≡ expected.number) × (bytes : List ℕ) × (found objects (name_of expected.uuid expected.number) ≡ Some bytes)
-    × IsRefusedAs bytes (length bytes) expected reason
-IsWhyStopped objects expected (errors.NotData number) =
-    (number ≡ expected.number) × (bytes : List ℕ) × (found objects (name_of expected.uuid expected.number) ≡ Some bytes)
-    × (header : Header) × (rows : Rows) × IsObject bytes (length bytes) expected header rows × (header.kind ≡ kinds.Data → ⊥)
-IsWhyStopped objects expected (errors.Worn number) =
-    (number ≡ expected.number) × (bytes : List ℕ) × (found objects (name_of expected.uuid expected.number) ≡ Some bytes)
-    × ((2 ^ 60 ≤ number) ⊎ ((header : Header) × (rows : Rows) × IsObject bytes (length bytes) expected header rows × (2 ^ 60 ≤ header.end_seq)))
-IsWhyStopped objects expected errors.StoreFault = Unit {0}
-IsWhyStopped objects expected errors.OutOfMemory = Unit {0}
-
--- the object of the next number was read and adopted; where receipts tell, it is the one that the store has
-pub record AdoptsNext (Tells : Type 0) (objects : Option Objects) (old new : ObjLogState) : Type 0 where
-  pub rows : List DataRow
-  pub end : ℕ
-  pub receipt : ReceiptState
-  pub order : IsUploads old.uploads.queue old.uploads.window
-  pub read : IsReadAsData receipt (next_of old) rows end
-  pub adopted : HasAdoptedObject rows end receipt old new
-  pub landed : IfSome objects (λ objects. IsTrue (landed_in objects old.uploads.uuid (old.uploads.window.last + 1)))
-  pub stored : Tells → IfSome objects (λ objects. IsStoredAs objects (next_of old) rows end receipt)
-
--- there is none of the next number
-pub record HasNoNext (objects : Option Objects) (old new : ObjLogState) : Type 0 where
-  pub same : new ≡ old
-  pub missing : IfSome objects (λ objects. found objects (name_of old.uploads.uuid (old.uploads.window.last + 1)) ≡ None)
-
 -- ---- all objects up to the first missing number
 
 -- Where a list is that of a stream which the store has, up to the object of its frontier, the other one is so too, and its frontier is no
@@ -151,18 +75,6 @@ KeepsStreams volume objects old new =
     → stream.number ≤ old.uploads.window.last → old.uploads.window.last ≤ number → HasStreamTo volume.sectors stream old.uploads.window.last old
     → (old.uploads.window.last ≤ new.uploads.window.last) × (new.uploads.window.last ≤ number)
     × HasStreamTo volume.sectors stream new.uploads.window.last new
-
--- the objects of these numbers have landed: past one, up to another
-abbrev pub HaveLanded : Objects → (uuid : List ℕ) → (past to : ℕ) → Type 0
-HaveLanded objects uuid past to = (number : ℕ) → past < number → number ≤ to → IsTrue (landed_in objects uuid number)
-
--- the recovery stops at the object past some that were adopted
-pub record StopsPast (volume : Expected) (objects : Objects) (old : ObjLogState) (error : RecoverError) : Type 0 where
-  pub before : ObjLogState
-  pub keeps : KeepsStreams volume objects old before
-  pub same_volume : expected_of_volume before ≡ volume
-  pub list : IsListUpTo before.uploads.uuid before.batch.geometry before.uploads.window.last before.uploads.queue.end before
-  pub why : IsWhyStopped objects (next_of before) error
 
 -- ---- the whole
 
@@ -187,6 +99,11 @@ pub record IsRecoveredOf (volume : Expected) (objects : Objects) (log : ObjLogSt
   pub streams : RecoversStreams volume objects log
   pub last : IsLastLanded volume objects log.uploads.window.last
 
+-- no stream that the store has ends before the object of this number
+abbrev pub IsNoLonger : (volume : Expected) → Objects → (last : ℕ) → Type 0
+IsNoLonger volume objects last =
+    (uuid_at : ℕ → Option (List ℕ)) (stream : Stream) (number : ℕ) → HasDataUpTo volume uuid_at objects stream number → last ≤ number
+
 -- an object of a volume past a number
 abbrev pub IsPastOf : (uuid : List ℕ) → (number : ℕ) → ObjName → Type 0
 IsPastOf uuid number name = (name.uuid ≡ uuid) × IsPast number name
@@ -201,21 +118,32 @@ abbrev pub MayRemovePast : (Tells : Type 0) → (volume : Expected) → (old new
 MayRemovePast Tells volume old new =
     (new ≡ old) ⊎ ((number : ℕ) × (Tells → IsLastLanded volume old number) × Removes (IsPastOf volume.uuid number) old new)
 
--- the store has an object of this number, and the number, or the end of the object, is 2^60 or more
-pub record IsWorn (volume : Expected) (objects : Objects) (number : ℕ) : Type 0 where
-  pub bytes : List ℕ
-  pub present : found objects (name_of volume.uuid number) ≡ Some bytes
-  pub high :
-      (2 ^ 60 ≤ number)
-      ⊎ ((expected : Expected) × (header : Header) × (rows : Rows) × IsObject bytes (length bytes) expected header rows × (2 ^ 60 ≤ header.end_seq))
+-- each object past the newest checkpoint, which has this number, is good
+abbrev pub AreAllGood : (volume : Expected) → Objects → (base : ℕ) → Type 0
+AreAllGood volume objects base = (last : ℕ) × IsRun volume objects base last × AreGood volume objects last (λ number. base < number)
+
+-- each object past one of a number is of the grammar, wherever it begins; names have numbers below 2^64
+abbrev pub AreNamedWholePast : (volume : Expected) → Objects → (number : ℕ) → Type 0
+AreNamedWholePast volume objects number =
+    (other : ℕ) (bytes : List ℕ) → number < other → other < 2 ^ 64 → found objects (name_of volume.uuid other) ≡ Some bytes
+    → IsWhole (expected_alone volume other) bytes
+
+-- this one is bad, and none that is greater
+abbrev pub IsBadThere : (volume : Expected) → Objects → (number : ℕ) → BadObject → Type 0
+IsBadThere volume objects number reason =
+    (base : ℕ) × (last : ℕ) × IsRun volume objects base last × IsGreatestBad volume objects last base number reason
+
+-- all are good, and this one, before the first missing number, holds no entries
+abbrev pub IsNotDataThere : (volume : Expected) → Objects → (number : ℕ) → Type 0
+IsNotDataThere volume objects number =
+    (base : ℕ) × (last : ℕ) × IsRun volume objects base last × (base < number) × IsNotData volume objects last number
+    × AreGood volume objects last (λ other. base < other)
 
 -- why the objects of a store are refused
 abbrev pub IsWhyRefused : (volume : Expected) → Objects → RecoverError → Type 0
 IsWhyRefused volume objects errors.NoCheckpoint = (number : ℕ) → IsNoCheckpoint volume objects number
-IsWhyRefused volume objects (errors.BadObject number reason) =
-    (end : ℕ) × IsWhyStopped objects (expected_at volume number end) (errors.BadObject number reason)
-IsWhyRefused volume objects (errors.NotData number) = (end : ℕ) × IsWhyStopped objects (expected_at volume number end) (errors.NotData number)
-IsWhyRefused volume objects (errors.Worn number) = IsWorn volume objects number
+IsWhyRefused volume objects (errors.BadObject number reason) = IsBadThere volume objects number reason
+IsWhyRefused volume objects (errors.NotData number) = IsNotDataThere volume objects number
 IsWhyRefused volume objects errors.StoreFault = Unit {0}
 IsWhyRefused volume objects errors.OutOfMemory = Unit {0}
 
@@ -224,7 +152,6 @@ abbrev pub IsRefusal : RecoverError → Type 0
 IsRefusal errors.NoCheckpoint = Unit {0}
 IsRefusal (errors.BadObject number reason) = Unit {0}
 IsRefusal (errors.NotData number) = Unit {0}
-IsRefusal (errors.Worn number) = ⊥
 IsRefusal errors.StoreFault = ⊥
 IsRefusal errors.OutOfMemory = ⊥
 

@@ -1,6 +1,8 @@
 -- Contract: what is seen of what a recovery found.
-use Rattle.std.specs.Prelude.{ℕ, List, Option, IfSome}
+use Rattle.std.specs.Prelude.{◌≡◌, ℕ, ◌≤◌, ◌⊎◌, List, Option, IfSome}
+use Rattle.std.specs.List.{Contains}
 use Rattle.lsvd_names.specs.declared.name.ObjName.{ObjName}
+use Rattle.lsvd_names.specs.declared.name.Kind.TheVariants.{Object}
 use Rattle.lsvd_objstore.specs.Objects.{Objects, AreNamesOf, Lists}
 use Rattle.obj_log.specs.State.{ObjLogState}
 
@@ -17,3 +19,9 @@ pub record RecoveredState : Type 0 where
 pub record HasAllNames (objects : Option Objects) (recovered : RecoveredState) : Type 0 where
   pub of_volume : AreNamesOf recovered.log.uploads.uuid recovered.names
   pub listed : IfSome objects (λ objects. Lists recovered.log.uploads.uuid objects recovered.names)
+
+-- the greatest number of an object with one of these names; or this one, where none is greater
+pub record IsGreatestNumber (names : List ObjName) (least greatest : ℕ) : Type 0 where
+  pub no_less : least ≤ greatest
+  pub is : (greatest ≡ least) ⊎ ((name : ObjName) × Contains names name × (name.kind ≡ Object) × (name.number ≡ greatest))
+  pub none_greater : (name : ObjName) → Contains names name → name.kind ≡ Object → name.number ≤ greatest

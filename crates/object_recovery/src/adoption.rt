@@ -1,25 +1,42 @@
-ghost use Rattle.std.specs.Prelude.{◌≡◌, ◌+◌, ◌^◌, ◌<◌, ◌≤◌, true, false, IsTrue, IfOk, IfErr, IfSome, OnOk};
+ghost use Rattle.std.specs.Prelude.{◌≡◌, ◌+◌, ◌^◌, ◌<◌, ◌≤◌, IsTrue, IfOk, IfErr, IfSome, OnOk};
 ghost use Rattle.lsvd_base.specs.Limits.{is_within_limits};
-ghost use Rattle.lsvd_objstore.specs.Objects.{found};
 ghost use Rattle.lsvd_objstore.specs.Store.{StoreState, ReceiptState, OnlyCounts};
 ghost use Rattle.lsvd_fault.specs.Faults.{Counts};
-ghost use Rattle.object_stream.specs.Replay.{name_of};
 ghost use Rattle.obj_log.specs.State.{ObjLogState};
 ghost use Rattle.obj_log.specs.Changes.{expected_of_volume, next_of};
-ghost use Rattle.object_recovery.specs.Faults.{ends_by_fault, TellsBytes};
+ghost use Rattle.object_recovery.specs.Faults.{ends_by_fault, IsNoAnswer, TellsBytes};
 ghost use Rattle.object_recovery.specs.Places.{HasPlacesInside};
-ghost use Rattle.object_recovery.specs.Recovery.{IsListUpTo, IsReadAsData, IsWhyNotAdopted, IsWhyStopped, AdoptsNext, HasNoNext, KeepsStreams, HaveLanded, StopsPast};
+ghost use Rattle.object_recovery.specs.Recovery.{IsListUpTo, KeepsStreams};
+ghost use Rattle.object_recovery.specs.Adoption.{IsNextRead, ComesNext, KeepsGood, HasEndedAt};
 
 use crate::error::RecoverError;
+use crate::judging::{Reached, Refusal};
 use crate::naming::name_of;
-use crate::reading::{read_front, read_head};
+use crate::reading::{ReadObject, read_object};
 use lsvd_objstore::{Receipt, Store};
 use obj_log::ObjLog;
 use object_format::{DataRow, Expected, Rows};
 use std::alloc::Global;
 
-/// The least number of an object, and the least end, from which on a volume is worn out.
-pub(crate) const WORN: u64 = 1 << 60;
+// What comes of the next number of a list.
+#[derive(Drop)]
+enum Next {
+    // The store has no object of it, or it is past all numbers.
+    Missing,
+    // Its object was adopted.
+    Adopted,
+    // Its object is not adopted, and was judged.
+    Left(Reached),
+}
+
+// The object of the next number.
+#[derive(Drop)]
+enum NextObject {
+    // It holds entries.
+    Data(DataObject),
+    // It is not adopted, and was judged.
+    Left(Reached),
+}
 
 // A data object that was read.
 #[derive(Drop)]
@@ -28,95 +45,107 @@ struct DataObject {
     end: u64,
 }
 
-/// Adopts the objects after the last of the list, up to the first missing number. The list has all of its objects acknowledged, its
-/// places lie inside these, and its numbers and its end are below 2^60 (conditions). The first object that is not adopted ends it
-/// with an error.
+/// Adopts the objects after the last of the list, up to the first missing number, or up to the first object that is not adopted: how that
+/// one was judged is answered. No list takes the object of the greatest number of all. The list has all of its objects acknowledged, and
+/// its places lie inside these (conditions).
 pub(crate) fn adopt_all<S: Store>(
     alloc: Global,
     store: &mut S,
     log: &mut ObjLog<S::Receipt>,
-) -> Result<(), RecoverError>
+) -> Result<Option<Reached>, RecoverError>
     requires list { IsListUpTo log.old.uploads.uuid log.old.batch.geometry log.old.uploads.window.last log.old.uploads.queue.end log.old }
     requires limits { IsTrue (is_within_limits log.old.batch.geometry) }
-    requires number { log.old.uploads.window.last < 2 ^ 60 }
-    requires end { log.old.uploads.queue.end < 2 ^ 60 }
     requires places { HasPlacesInside log.old.batch.geometry.sectors log.old.uploads.queue }
     ensures list { OnOk result
         (IsListUpTo log.old.uploads.uuid log.old.batch.geometry log.new.uploads.window.last log.new.uploads.queue.end log.new) }
-    ensures number { OnOk result (log.new.uploads.window.last < 2 ^ 60) }
-    ensures end { OnOk result (log.new.uploads.queue.end < 2 ^ 60) }
     ensures places { OnOk result (HasPlacesInside log.old.batch.geometry.sectors log.new.uploads.queue) }
     ensures from { OnOk result (log.old.uploads.window.last ≤ log.new.uploads.window.last) }
     ensures streams { TellsBytes S.Receipt.state → OnOk result (IfSome (S.state store.old).objects (λ objects.
         KeepsStreams (expected_of_volume log.old) objects log.old log.new)) }
-    ensures missing { OnOk result (IfSome (S.state store.old).objects (λ objects.
-        found objects (name_of log.old.uploads.uuid (log.new.uploads.window.last + 1)) ≡ None)) }
-    ensures landed { OnOk result (IfSome (S.state store.old).objects (λ objects.
-        HaveLanded objects log.old.uploads.uuid log.old.uploads.window.last log.new.uploads.window.last)) }
-    ensures why { TellsBytes S.Receipt.state → IfErr result (λ error. IfSome (S.state store.old).objects (λ objects.
-        StopsPast (expected_of_volume log.old) objects log.old error)) }
+    ensures good { TellsBytes S.Receipt.state → OnOk result (IfSome (S.state store.old).objects (λ objects.
+        KeepsGood (expected_of_volume log.old) objects log.old log.new)) }
+    ensures ended { TellsBytes S.Receipt.state → IfOk result (λ left. IfSome (S.state store.old).objects (λ objects.
+        HasEndedAt objects log.new left)) }
+    ensures answer { IfErr result IsNoAnswer }
     ensures unchanged { OnlyCounts (S.state store.old) (S.state store.new) }
     ensures faults { Counts (ends_by_fault result) (S.state store.old).faults (S.state store.new).faults }
 {
-    while adopt_next(alloc, store, log)? {}
-    Ok(())
+    loop {
+        match adopt_next(alloc, store, log)? {
+            Next::Adopted => {}
+            Next::Missing => return Ok(None),
+            Next::Left(reached) => return Ok(Some(reached)),
+        }
+    }
 }
 
-// Adopts the object after the last of the list, if there is one; false is where there is none.
+// Adopts the object after the last of the list, if there is one and it may be.
 fn adopt_next<S: Store>(
     alloc: Global,
     store: &mut S,
     log: &mut ObjLog<S::Receipt>,
-) -> Result<bool, RecoverError>
+) -> Result<Next, RecoverError>
     requires list { IsListUpTo log.old.uploads.uuid log.old.batch.geometry log.old.uploads.window.last log.old.uploads.queue.end log.old }
     requires limits { IsTrue (is_within_limits log.old.batch.geometry) }
-    requires number { log.old.uploads.window.last < 2 ^ 60 }
-    ensures adopted { IfOk result (λ more. more ≡ true → AdoptsNext (TellsBytes S.Receipt.state) (S.state store.old).objects log.old log.new) }
-    ensures missing { IfOk result (λ more. more ≡ false → HasNoNext (S.state store.old).objects log.old log.new) }
-    ensures why { TellsBytes S.Receipt.state → IfErr result (λ error. IfSome (S.state store.old).objects (λ objects.
-        IsWhyStopped objects (next_of log.old) error)) }
+    ensures next { IfOk result (ComesNext (TellsBytes S.Receipt.state) (S.state store.old).objects log.old log.new) }
+    ensures answer { IfErr result IsNoAnswer }
     ensures unchanged { OnlyCounts (S.state store.old) (S.state store.new) }
     ensures faults { Counts (ends_by_fault result) (S.state store.old).faults (S.state store.new).faults }
 {
     log.ordered();
+    if log.last() == u64::MAX {
+        return Ok(Next::Missing);
+    }
     let expected = expected_next(log);
     let Some(receipt) = store.find(alloc, &name_of(expected.uuid, expected.number))? else {
-        return Ok(false);
+        return Ok(Next::Missing);
     };
-    let object = read_data(alloc, store, &receipt, &expected)?;
-    log.adopt(alloc, object.rows.as_slice(), object.end, receipt)?;
-    Ok(true)
+    match read_next(alloc, store, &receipt, &expected)? {
+        NextObject::Left(reached) => Ok(Next::Left(reached)),
+        NextObject::Data(object) => {
+            log.adopt(alloc, object.rows.as_slice(), object.end, receipt)?;
+            Ok(Next::Adopted)
+        }
+    }
 }
 
-// Reads the expected object, which is to hold entries.
-fn read_data<S: Store>(
+// Reads the expected object, which is to hold entries. It is not adopted where it is refused, where it holds none, and where it has the
+// greatest number of all.
+fn read_next<S: Store>(
     alloc: Global,
     store: &mut S,
     receipt: &S::Receipt,
     expected: &Expected,
-) -> Result<DataObject, RecoverError>
-    ensures ok { IfOk result (λ object. IsReadAsData (S.Receipt.state receipt.now) expected.now object.rows.items object.end) }
-    ensures why { IfErr result (IsWhyNotAdopted (S.Receipt.state receipt.now) expected.now) }
+) -> Result<NextObject, RecoverError>
+    ensures next { IfOk result (IsNextRead (S.Receipt.state receipt.now) expected.now) }
+    ensures answer { IfErr result IsNoAnswer }
     ensures unchanged { OnlyCounts (S.state store.old) (S.state store.new) }
     ensures faults { Counts (ends_by_fault result) (S.state store.old).faults (S.state store.new).faults }
 {
     let number = expected.number;
-    if WORN <= number {
-        return Err(RecoverError::Worn { number });
+    match read_object(alloc, store, receipt, expected)? {
+        ReadObject::Bad { reason, end } => Ok(left(
+            number,
+            end,
+            Some(Refusal::Bad { number, reason }),
+        )),
+        ReadObject::Whole { rows, end } => match rows {
+            Rows::Data(rows) if number < u64::MAX => Ok(NextObject::Data(DataObject { rows, end })),
+            Rows::Data(_) => Ok(left(number, Some(end), None)),
+            _ => Ok(left(number, Some(end), Some(Refusal::NotData { number }))),
+        },
     }
-    let mut bytes = Vec::new(alloc);
-    let header = read_head(alloc, store, receipt, expected, &mut bytes)?;
-    let rows = read_front(alloc, store, receipt, expected, &header, &mut bytes)?;
-    if WORN <= header.end_seq {
-        return Err(RecoverError::Worn { number });
-    }
-    match rows {
-        Rows::Data(rows) => Ok(DataObject {
-            rows,
-            end: header.end_seq,
-        }),
-        _ => Err(RecoverError::NotData { number }),
-    }
+}
+
+// An object that is not adopted.
+fn left(number: u64, end: Option<u64>, refused: Option<Refusal>) -> NextObject
+    ensures { result ≡ NextObject.Left (record { number = number; end = end; refused = refused }) }
+{
+    NextObject::Left(Reached {
+        number,
+        end,
+        refused,
+    })
 }
 
 // What is expected of the next object of a list. Its numbers go on (a condition).

@@ -1,7 +1,8 @@
 ghost use Rattle.std.specs.Prelude.{◌≡◌};
 ghost use Rattle.object_recovery.specs.declared.error.RecoverError.TheVariants as errors;
-ghost use Rattle.object_recovery.specs.Faults.{of_store};
+ghost use Rattle.object_recovery.specs.Faults.{of_store, of_refusal};
 
+use crate::judging::Refusal;
 use lsvd_fault::Failed;
 use lsvd_objstore::StoreError;
 use object_format::BadObject;
@@ -14,23 +15,32 @@ pub enum RecoverError {
     /// No object of the volume is a checkpoint.
     #[error("the store has no checkpoint of the volume")]
     NoCheckpoint,
-    /// The object of this number, which is past the newest checkpoint and before the first missing number, is not of the
-    /// grammar, or does not go on where the object before it ends. Those before it are and do.
+    /// The object of this number, past the newest checkpoint, is bad, and none with a greater number is. Up to the first missing
+    /// number an object is bad that is not of the grammar, or does not go on where the object before it ends, where that one is of
+    /// the grammar by itself. Past the first missing number the end before is not known.
     #[error("bad object {number}: {reason}")]
     BadObject { number: u64, reason: BadObject },
-    /// The object of this number, which is past the newest checkpoint and before the first missing number, is of the grammar
-    /// and holds no entries: it is a copy, which is not recovered yet.
+    /// No object is bad, and the one of this number, past the newest checkpoint and before the first missing number, holds no entries:
+    /// it is a copy, which is not recovered yet.
     #[error("object {number} holds no entries")]
     NotData { number: u64 },
-    /// The object of this number has a number or an end of 2^60 or more: the volume is worn out.
-    #[error("object {number}: the volume is worn out")]
-    Worn { number: u64 },
     /// A call of the store failed, and was counted by it.
     #[error("the store failed")]
     StoreFault,
     /// Memory ran out.
     #[error("out of memory")]
     OutOfMemory,
+}
+
+impl From<Refusal> for RecoverError {
+    ghost from_gives = { λ refusal e. e ≡ of_refusal refusal };
+
+    fn from(refusal: Refusal) -> RecoverError {
+        match refusal {
+            Refusal::Bad { number, reason } => RecoverError::BadObject { number, reason },
+            Refusal::NotData { number } => RecoverError::NotData { number },
+        }
+    }
 }
 
 impl From<StoreError> for RecoverError {

@@ -1,7 +1,8 @@
 //! Reading the objects of a volume in a store when it is mounted: from the newest checkpoint on, up to the first missing number.
 //!
 //! Its contract: the list that is recovered is that of the stream whose objects the store has up to there, with the image that the
-//! entries in these make. Recovering changes nothing. After it, objects past the first missing number are removed, and no other is
+//! entries in these make. An object past the newest checkpoint that is not of the grammar is refused, also past the first missing
+//! number; of several the one with the greatest number. Recovering changes nothing. After it, objects past the first missing number are removed, and no other is
 //! changed. A recovery that was stopped anywhere may be made again.
 //! It stands on `lsvd_objstore` for the store, on `object_format` for the bytes of objects, and on `obj_log` for the list.
 #![tactic(auto)]
@@ -9,6 +10,7 @@
 mod adoption;
 mod checkpoint;
 mod error;
+mod judging;
 mod laws;
 mod naming;
 mod reading;
@@ -19,6 +21,6 @@ mod removal;
 mod tests;
 
 pub use error::RecoverError;
-pub use laws::{a_list_has_some_image, a_recovery_may_be_made_again};
+pub use laws::{a_list_has_some_image, a_recovery_may_be_made_again, no_object_is_good_and_bad};
 pub use recovered::Recovered;
 pub use recovery::recover;

@@ -2,12 +2,12 @@ ghost use Rattle.std.specs.Prelude.{◌≡◌, IfErr, OnOk};
 ghost use Rattle.lsvd_objstore.specs.Store.{StoreState, Becomes};
 ghost use Rattle.lsvd_fault.specs.Faults.{Counts};
 ghost use Rattle.object_recovery.specs.Faults.{ends_by_fault, IsNoAnswer};
-ghost use Rattle.object_recovery.specs.State.{RecoveredState, HasAllNames};
+ghost use Rattle.object_recovery.specs.State.{RecoveredState, HasAllNames, IsGreatestNumber};
 ghost use Rattle.object_recovery.specs.Removal.{Removes};
 ghost use Rattle.object_recovery.specs.Recovery.{IsPastOf, RemovesAllPast};
 
 use crate::error::RecoverError;
-use crate::removal::remove_past;
+use crate::removal::{greatest_number, remove_past};
 use lsvd_objstore::{Names, Receipt, Store};
 use obj_log::ObjLog;
 use std::alloc::Global;
@@ -42,6 +42,14 @@ impl<R: Receipt> Recovered<R> {
         ensures { result ≡ self.now.checkpoint }
     {
         self.checkpoint
+    }
+
+    /// The greatest number of an object that the store had of the volume when it was recovered; that of the list's last where none is
+    /// greater.
+    pub fn greatest_number(&self) -> u64
+        ensures { IsGreatestNumber self.now.names self.now.log.uploads.window.last result }
+    {
+        greatest_number(self.names.as_slice(), self.log.last())
     }
 
     /// Removes the objects of the volume past the list's last. The store has the same objects of the volume as when they were

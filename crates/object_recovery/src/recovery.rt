@@ -1,36 +1,43 @@
-ghost use Rattle.std.specs.Prelude.{ℕ, ◌^◌, ◌<◌, ◌≤◌, IsTrue, IfOk, IfErr, IfSome};
+ghost use Rattle.std.specs.Prelude.{◌≡◌, ℕ, ◌+◌, ◌-◌, ◌^◌, ◌<◌, ◌≤◌, None, IsTrue, IfOk, IfErr, IfSome, OnOk};
 ghost use Rattle.lsvd_base.specs.Limits.{is_within_limits};
 ghost use Rattle.lsvd_objstore.specs.Store.{StoreState, ReceiptState, OnlyCounts};
 ghost use Rattle.lsvd_fault.specs.Faults.{Counts};
 ghost use Rattle.obj_log.specs.State.{ObjLogState};
+ghost use Rattle.obj_log.specs.Changes.{expected_of_volume};
 ghost use Rattle.object_recovery.specs.State.{RecoveredState, HasAllNames};
-ghost use Rattle.object_recovery.specs.Faults.{ends_by_fault, TellsBytes};
+ghost use Rattle.object_recovery.specs.Faults.{ends_by_fault, IsNoAnswer, TellsBytes};
 ghost use Rattle.object_recovery.specs.Checkpoints.{expected_of, IsNewestWithEnd};
 ghost use Rattle.object_recovery.specs.Places.{HasPlacesInside};
-ghost use Rattle.object_recovery.specs.Recovery.{IsListUpTo, IsRecoveredOf, IsRefused};
+ghost use Rattle.object_recovery.specs.Recovery.{IsListUpTo, IsNoLonger, IsRecoveredOf, AreAllGood, AreNamedWholePast, IsRefused};
+ghost use Rattle.object_recovery.specs.Judging.{HaveLanded};
+ghost use Rattle.object_recovery.specs.Adoption.{IsBegun, Recovers, reached_by, ReachesGap, JudgesRest, RefusesRest};
 
-use crate::adoption::{WORN, adopt_all};
-use crate::checkpoint::newest_checkpoint;
+use crate::adoption::adopt_all;
+use crate::checkpoint::{NewestCheckpoint, newest_checkpoint};
 use crate::error::RecoverError;
+use crate::judging::{Reached, judge_past, judge_to_gap};
 use crate::naming::is_uuid;
 use crate::recovered::Recovered;
 use lsvd_base::Geometry;
+use lsvd_names::ObjName;
 use lsvd_objstore::{Receipt, Store};
 use obj_log::ObjLog;
+use object_format::Expected;
 use std::alloc::Global;
 use uuid::Uuid;
 
 /// Recovers the list of a volume with this uuid and these sizes, which are within the limits (a condition), from the objects that the store
 /// has of it: from the newest checkpoint on, each object up to the first missing number is counted as acknowledged. The store is only read:
-/// objects past that number are there until `Recovered::remove_past` removes them.
+/// objects past that number are there until `Recovered::remove_past` removes them. No list takes an object of the number 2^64 - 1: where
+/// one goes on there, the list ends before it, and only then not before the first missing number.
 ///
 /// An error comes where:
 ///
 /// - `NoCheckpoint`: no object of the volume is a checkpoint.
-/// - `BadObject`: the object of this number, the first such past the newest checkpoint and before the first missing number, is not of the
-///   grammar, or does not go on where the object before it ends.
-/// - `NotData`: it is of the grammar, and holds no entries.
-/// - `Worn`: a number or an end is 2^60 or more.
+/// - `BadObject`: an object past the newest checkpoint is bad. That of the greatest number is told, with the first reason for it. Up to the
+///   first missing number an object is to go on at the end of the one before it, where that one is of the grammar by itself; past that
+///   number it is to be of the grammar by itself.
+/// - `NotData`: none is bad, and the object of this number, before the first missing number, holds no entries.
 /// - `StoreFault`: a call of the store failed, and was counted by it.
 /// - `OutOfMemory`: memory ran out.
 pub fn recover<S: Store>(
@@ -43,14 +50,20 @@ pub fn recover<S: Store>(
     ensures list { IfOk result (λ recovered.
         IsListUpTo uuid geometry recovered.log.uploads.window.last recovered.log.uploads.queue.end recovered.log) }
     ensures from { IfOk result (λ recovered. recovered.checkpoint ≤ recovered.log.uploads.window.last) }
-    ensures last { IfOk result (λ recovered. recovered.log.uploads.window.last < 2 ^ 60) }
-    ensures end { IfOk result (λ recovered. recovered.log.uploads.queue.end < 2 ^ 60) }
     ensures places { IfOk result (λ recovered. HasPlacesInside geometry.sectors recovered.log.uploads.queue) }
     ensures names { IfOk result (HasAllNames (S.state store.old).objects) }
     ensures checkpoint { TellsBytes S.Receipt.state → IfOk result (λ recovered. IfSome (S.state store.old).objects (λ objects.
         (end : ℕ) × IsNewestWithEnd (expected_of uuid geometry) objects recovered.checkpoint end)) }
     ensures recovered { TellsBytes S.Receipt.state → IfOk result (λ recovered. IfSome (S.state store.old).objects (λ objects.
-        IsRecoveredOf (expected_of uuid geometry) objects recovered.log)) }
+        recovered.log.uploads.window.last + 1 < 2 ^ 64 - 1 → IsRecoveredOf (expected_of uuid geometry) objects recovered.log)) }
+    ensures no_longer { TellsBytes S.Receipt.state → IfOk result (λ recovered. IfSome (S.state store.old).objects (λ objects.
+        IsNoLonger (expected_of uuid geometry) objects recovered.log.uploads.window.last)) }
+    ensures landed { TellsBytes S.Receipt.state → IfOk result (λ recovered. IfSome (S.state store.old).objects (λ objects.
+        HaveLanded objects uuid recovered.checkpoint recovered.log.uploads.window.last)) }
+    ensures good { TellsBytes S.Receipt.state → IfOk result (λ recovered. IfSome (S.state store.old).objects (λ objects.
+        AreAllGood (expected_of uuid geometry) objects recovered.checkpoint)) }
+    ensures past { TellsBytes S.Receipt.state → IfOk result (λ recovered. IfSome (S.state store.old).objects (λ objects.
+        AreNamedWholePast (expected_of uuid geometry) objects recovered.log.uploads.window.last)) }
     ensures refused { TellsBytes S.Receipt.state → IfErr result (λ error. IfSome (S.state store.old).objects (λ objects.
         IsRefused (expected_of uuid geometry) objects error)) }
     ensures unchanged { OnlyCounts (S.state store.old) (S.state store.new) }
@@ -59,15 +72,103 @@ pub fn recover<S: Store>(
     let names = store.list(alloc, uuid)?;
     is_uuid(uuid.into_bytes().as_slice());
     let base = newest_checkpoint(alloc, store, &geometry, names.as_slice())?;
-    let number = base.number;
-    if WORN <= number || WORN <= base.end {
-        return Err(RecoverError::Worn { number });
-    }
-    let mut log = ObjLog::new(alloc, uuid, geometry, number, base.end);
-    adopt_all(alloc, store, &mut log)?;
+    let log = recover_list(alloc, store, uuid, geometry, &base, names.as_slice())?;
     Ok(Recovered {
         log,
-        checkpoint: number,
+        checkpoint: base.number,
         names,
     })
+}
+
+// Recovers the list from this checkpoint on, where it is the newest and these are the names of the objects that there are.
+fn recover_list<S: Store>(
+    alloc: Global,
+    store: &mut S,
+    uuid: Uuid,
+    geometry: Geometry,
+    base: &NewestCheckpoint,
+    names: &[ObjName],
+) -> Result<ObjLog<S::Receipt>, RecoverError>
+    requires { IsTrue (is_within_limits geometry) }
+    ensures list { IfOk result (λ log. IsListUpTo uuid geometry log.uploads.window.last log.uploads.queue.end log) }
+    ensures from { IfOk result (λ log. base.now.number ≤ log.uploads.window.last) }
+    ensures places { IfOk result (λ log. HasPlacesInside geometry.sectors log.uploads.queue) }
+    ensures recovers { TellsBytes S.Receipt.state → IfOk result (λ log. IfSome (S.state store.old).objects (λ objects.
+        IsBegun uuid geometry base.now.number base.now.end names.now objects → Recovers (expected_of uuid geometry) base.now.number objects log)) }
+    ensures refused { TellsBytes S.Receipt.state → IfErr result (λ error. IfSome (S.state store.old).objects (λ objects.
+        IsBegun uuid geometry base.now.number base.now.end names.now objects → IsRefused (expected_of uuid geometry) objects error)) }
+    ensures unchanged { OnlyCounts (S.state store.old) (S.state store.new) }
+    ensures faults { Counts (ends_by_fault result) (S.state store.old).faults (S.state store.new).faults }
+{
+    let mut log = ObjLog::new(alloc, uuid, geometry, base.number, base.end);
+    let left = adopt_all(alloc, store, &mut log)?;
+    judge_rest(alloc, store, &log, names, left)?;
+    Ok(log)
+}
+
+// Judges the objects that were not adopted, from this one on or past the first missing number. The error refuses all, or there is no answer.
+fn judge_rest<S: Store>(
+    alloc: Global,
+    store: &mut S,
+    log: &ObjLog<S::Receipt>,
+    names: &[ObjName],
+    left: Option<Reached>,
+) -> Result<(), RecoverError>
+    ensures judged { TellsBytes S.Receipt.state → OnOk result (IfSome (S.state store.old).objects (λ objects.
+        JudgesRest objects log.now names.now left None)) }
+    ensures refused { TellsBytes S.Receipt.state → IfErr result (λ error. IfSome (S.state store.old).objects (λ objects.
+        RefusesRest objects log.now names.now left error)) }
+    ensures unchanged { OnlyCounts (S.state store.old) (S.state store.new) }
+    ensures faults { Counts (ends_by_fault result) (S.state store.old).faults (S.state store.new).faults }
+{
+    let volume = expected_of_list(log);
+    let gap = reach_gap(alloc, store, log, &volume, left)?;
+    match judge_past(alloc, store, &volume, names, &gap)? {
+        Some(refusal) => Err(refusal.into()),
+        None => Ok(()),
+    }
+}
+
+// Judges the objects that were not adopted, from this one on, up to the first missing number.
+fn reach_gap<S: Store>(
+    alloc: Global,
+    store: &mut S,
+    log: &ObjLog<S::Receipt>,
+    volume: &Expected,
+    left: Option<Reached>,
+) -> Result<Reached, RecoverError>
+    ensures gap { TellsBytes S.Receipt.state → IfOk result (λ gap. IfSome (S.state store.old).objects (λ objects.
+        ReachesGap volume.now objects log.now left gap)) }
+    ensures answer { IfErr result IsNoAnswer }
+    ensures unchanged { OnlyCounts (S.state store.old) (S.state store.new) }
+    ensures faults { Counts (ends_by_fault result) (S.state store.old).faults (S.state store.new).faults }
+{
+    match left {
+        Some(reached) => judge_to_gap(alloc, store, volume, reached),
+        None => Ok(adopted(log)),
+    }
+}
+
+// What is expected of the objects of the volume of a list, but for their numbers and ends.
+fn expected_of_list<R: Receipt>(log: &ObjLog<R>) -> Expected
+    ensures { result ≡ expected_of_volume log.now }
+{
+    Expected {
+        uuid: log.uuid().into_bytes(),
+        number: 0,
+        sectors: log.batch().geometry().sectors,
+        ancestors: 0,
+        end_before: None,
+    }
+}
+
+// How far the objects of a list were judged when all up to the first missing number were adopted.
+fn adopted<R: Receipt>(log: &ObjLog<R>) -> Reached
+    ensures { result ≡ reached_by log.now }
+{
+    Reached {
+        number: log.last(),
+        end: Some(log.end()),
+        refused: None,
+    }
 }

@@ -5,6 +5,7 @@ ghost use Rattle.lsvd_objstore.specs.Store.{StoreState, Becomes};
 ghost use Rattle.lsvd_fault.specs.Faults.{Counts};
 ghost use Rattle.object_recovery.specs.Faults.{ends_by_fault, IsNoAnswer};
 ghost use Rattle.object_recovery.specs.Checkpoints.{AreNames};
+ghost use Rattle.object_recovery.specs.State.{IsGreatestNumber};
 ghost use Rattle.object_recovery.specs.Removal.{Removes, IsPast, IsListedPast, RemovesFirst};
 
 use crate::error::RecoverError;
@@ -33,8 +34,21 @@ pub(crate) fn remove_past<S: Store>(
     Ok(())
 }
 
-// Whether the name is that of a numbered object past a number.
-fn is_past(name: &ObjName, number: u64) -> bool
+/// The greatest number of an object with one of these names; or this one, where none is greater.
+pub(crate) fn greatest_number(names: &[ObjName], least: u64) -> u64
+    ensures { IsGreatestNumber names.now least result }
+{
+    let mut greatest = least;
+    for name in names {
+        if is_past(name, greatest) {
+            greatest = name.number;
+        }
+    }
+    greatest
+}
+
+/// Whether the name is that of a numbered object past a number.
+pub(crate) fn is_past(name: &ObjName, number: u64) -> bool
     ensures { IsTrue result ↔ IsPast number name.now }
 {
     name.kind == Kind::Object && number < name.number

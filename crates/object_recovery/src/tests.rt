@@ -9,6 +9,7 @@ use lsvd_names::{Kind, ObjName};
 use lsvd_objstore::{FaultStore, MemStore, PlannedFault, Store};
 use object_format::{BadObject, DataRow, Expected, ObjectWriter, Rows};
 use std::alloc::Global;
+use std::process::Abort;
 use std::test::Fail;
 use uuid::Uuid;
 
@@ -72,14 +73,36 @@ fn object(
     Ok(writer.finish()?)
 }
 
-// A store with objects of these numbers and these seqs. One without a seq is a checkpoint without entries before it.
-fn store_of(alloc: Global, objects: &[(u64, Option<u64>)]) -> Result<MemStore, Fail> {
+// An object of a store. A number is the seq that it begins with.
+#[derive(Clone, Copy)]
+enum Stored {
+    // A checkpoint.
+    Checkpoint(u64),
+    // A data object with one entry.
+    Data(u64),
+    // A copy without rows.
+    Copy(u64),
+    // A data object that says another number.
+    Misnamed,
+}
+
+use Stored::{Checkpoint, Copy, Data, Misnamed};
+
+// The bytes of the object of a number.
+fn bytes_of(alloc: Global, number: u64, stored: Stored) -> Result<ObjectBytes, Fail> {
+    match stored {
+        Checkpoint(seq) => object(alloc, number, seq, seq, &Rows::Checkpoint),
+        Data(seq) => data_object(alloc, number, seq),
+        Copy(seq) => object(alloc, number, seq, seq, &Rows::Copy(Vec::new(alloc))),
+        Misnamed => data_object(alloc, number / 2, 0),
+    }
+}
+
+// A store with objects of these numbers.
+fn store_of(alloc: Global, objects: &[(u64, Stored)]) -> Result<MemStore, Fail> {
     let mut store = MemStore::new(alloc);
-    for (number, seq) in objects {
-        let bytes = match *seq {
-            Some(seq) => data_object(alloc, *number, seq)?,
-            None => object(alloc, *number, 0, 0, &Rows::Checkpoint)?,
-        };
+    for (number, stored) in objects {
+        let bytes = bytes_of(alloc, *number, *stored)?;
         store.put(alloc, &name_of(*number), &bytes)?;
     }
     Ok(store)
@@ -92,37 +115,167 @@ fn holds(alloc: Global, store: &mut MemStore, number: u64) -> Result<bool, Fail>
 }
 
 // What a recovery finds that then removes the objects past the last: the number of that object and its end, or the error.
-fn found<S: Store>(alloc: Global, store: &mut S) -> Result<(u64, u64), RecoverError> {
+type Found = Result<(u64, u64), RecoverError>;
+
+fn found<S: Store>(alloc: Global, store: &mut S) -> Found {
     let recovered = recover(alloc, store, Uuid::from_bytes(UUID), GEOMETRY)?;
     recovered.remove_past(alloc, store)?;
     let list = recovered.into_log();
     Ok((list.last(), list.end()))
 }
 
-const BAD: RecoverError = RecoverError::BadObject {
-    number: 3,
-    reason: BadObject::Seqs,
-};
+// What is to be found.
+#[derive(Clone, Copy)]
+enum Wanted {
+    // A list up to the object of this number, with this end.
+    List(u64, u64),
+    // The object of this number is bad for this reason.
+    Bad(u64, BadObject),
+    // The object of this number holds no entries.
+    NoData(u64),
+    // There is no checkpoint.
+    Nothing,
+}
+
+use Wanted::{Bad, List, NoData, Nothing};
+
+fn wanted_as_found(wanted: Wanted) -> Found {
+    match wanted {
+        List(last, end) => Ok((last, end)),
+        Bad(number, reason) => Err(RecoverError::BadObject { number, reason }),
+        NoData(number) => Err(RecoverError::NotData { number }),
+        Nothing => Err(RecoverError::NoCheckpoint),
+    }
+}
+
+// Each is found again, whether objects past a gap were removed or not.
+fn check(rt: &impl Abort, alloc: Global, table: &[(&[(u64, Stored)], Wanted)]) -> Result<(), Fail> {
+    for (objects, wanted) in table {
+        let mut store = store_of(alloc, objects)?;
+        assert_eq!(rt; found(alloc, &mut store), wanted_as_found(*wanted));
+        assert_eq!(rt; found(alloc, &mut store), wanted_as_found(*wanted));
+    }
+    Ok(())
+}
+
+const RECOVERED: [(&[(u64, Stored)], Wanted); 6] = [
+    (&[(1, Checkpoint(0))], List(1, 0)),
+    (
+        &[(1, Checkpoint(0)), (2, Data(0)), (3, Data(1))],
+        List(3, 2),
+    ),
+    (
+        &[(1, Checkpoint(0)), (4, Checkpoint(0)), (5, Data(0))],
+        List(5, 1),
+    ),
+    (&[(2, Data(0)), (3, Data(1))], Nothing),
+    // What is before the newest checkpoint is not judged.
+    (&[(1, Misnamed), (2, Checkpoint(3))], List(2, 3)),
+    // Past the gap the end before is not known, and a copy is as good as data.
+    (
+        &[
+            (1, Checkpoint(0)),
+            (2, Data(0)),
+            (4, Data(9)),
+            (5, Data(3)),
+            (6, Copy(7)),
+        ],
+        List(2, 1),
+    ),
+];
 
 #[test]
 fn objects_are_recovered_up_to_the_first_gap(rt: HostRuntime) -> Result<(), Fail> {
+    check(&rt, rt.alloc(), &RECOVERED)
+}
+
+const REFUSED: [(&[(u64, Stored)], Wanted); 9] = [
+    (
+        &[(1, Checkpoint(0)), (2, Data(0)), (3, Data(0))],
+        Bad(3, BadObject::Seqs),
+    ),
+    // One past the gap.
+    (
+        &[(1, Checkpoint(0)), (2, Data(0)), (5, Misnamed)],
+        Bad(5, BadObject::Number),
+    ),
+    // Of two the greater is told.
+    (
+        &[
+            (1, Checkpoint(0)),
+            (2, Misnamed),
+            (4, Misnamed),
+            (6, Data(0)),
+        ],
+        Bad(4, BadObject::Number),
+    ),
+    (
+        &[(1, Checkpoint(0)), (2, Data(7)), (3, Data(9))],
+        Bad(3, BadObject::Seqs),
+    ),
+    // After a bad one that is of the grammar by itself, its end is known.
+    (
+        &[(1, Checkpoint(0)), (2, Data(7)), (3, Data(8))],
+        Bad(2, BadObject::Seqs),
+    ),
+    // And after another one it is not.
+    (
+        &[(1, Checkpoint(0)), (2, Misnamed), (3, Data(9))],
+        Bad(2, BadObject::Number),
+    ),
+    // A copy is refused where none is bad, and the first of them is told.
+    (
+        &[(1, Checkpoint(0)), (2, Copy(0)), (3, Copy(0)), (5, Data(4))],
+        NoData(2),
+    ),
+    (
+        &[(1, Checkpoint(0)), (2, Copy(0)), (3, Data(5))],
+        Bad(3, BadObject::Seqs),
+    ),
+    (
+        &[(1, Checkpoint(0)), (2, Copy(0)), (4, Misnamed)],
+        Bad(4, BadObject::Number),
+    ),
+];
+
+#[test]
+fn the_greatest_bad_object_is_refused(rt: HostRuntime) -> Result<(), Fail> {
+    check(&rt, rt.alloc(), &REFUSED)
+}
+
+const LAST: u64 = u64::MAX;
+
+const GREAT: [(&[(u64, Stored)], Wanted); 4] = [
+    (
+        &[
+            (1 << 60, Checkpoint(1 << 61)),
+            ((1 << 60) + 1, Data(1 << 61)),
+        ],
+        List((1 << 60) + 1, (1 << 61) + 1),
+    ),
+    (&[(LAST, Checkpoint(LAST))], List(LAST, LAST)),
+    // A list takes no object of the last number, which is judged as the others.
+    (
+        &[(LAST - 1, Checkpoint(0)), (LAST, Data(0))],
+        List(LAST - 1, 0),
+    ),
+    (
+        &[(LAST - 1, Checkpoint(0)), (LAST, Data(5))],
+        Bad(LAST, BadObject::Seqs),
+    ),
+];
+
+#[test]
+fn great_numbers_and_ends_are_recovered(rt: HostRuntime) -> Result<(), Fail> {
+    check(&rt, rt.alloc(), &GREAT)
+}
+
+#[test]
+fn the_greatest_number_is_that_of_the_names(rt: HostRuntime) -> Result<(), Fail> {
     let alloc = rt.alloc();
-    let table: [(&[(u64, Option<u64>)], Result<(u64, u64), RecoverError>); 5] = [
-        (&[(1, None)], Ok((1, 0))),
-        (&[(1, None), (2, Some(0)), (3, Some(1))], Ok((3, 2))),
-        (&[(1, None), (4, None), (5, Some(0))], Ok((5, 1))),
-        (
-            &[(2, Some(0)), (3, Some(1))],
-            Err(RecoverError::NoCheckpoint),
-        ),
-        (&[(1, None), (2, Some(0)), (3, Some(0))], Err(BAD)),
-    ];
-    for (objects, wanted) in table {
-        let mut store = store_of(alloc, objects)?;
-        assert_eq!(rt; found(alloc, &mut store), wanted);
-        // Nothing is past a gap, and so all is as it was.
-        assert_eq!(rt; found(alloc, &mut store), wanted);
-    }
+    let mut store = store_of(alloc, &[(1, Checkpoint(0)), (2, Data(0)), (9, Data(2))])?;
+    let recovered = recover(alloc, &mut store, Uuid::from_bytes(UUID), GEOMETRY)?;
+    assert_eq!(rt; recovered.greatest_number(), 9);
     Ok(())
 }
 
@@ -131,7 +284,7 @@ fn an_object_past_a_gap_is_removed(rt: HostRuntime) -> Result<(), Fail> {
     let alloc = rt.alloc();
     let mut store = store_of(
         alloc,
-        &[(1, None), (2, Some(0)), (4, Some(1)), (9, Some(2))],
+        &[(1, Checkpoint(0)), (2, Data(0)), (4, Data(1)), (9, Data(2))],
     )?;
     assert_eq!(rt; found(alloc, &mut store), Ok((2, 1)));
     for (number, wanted) in [(1, true), (2, true), (4, false), (9, false)] {
@@ -144,21 +297,52 @@ fn an_object_past_a_gap_is_removed(rt: HostRuntime) -> Result<(), Fail> {
     Ok(())
 }
 
+// What is found where this call of the store fails.
+fn found_with_fault(
+    alloc: Global,
+    objects: &[(u64, Stored)],
+    call: u64,
+) -> Result<(Found, MemStore), Fail> {
+    let store = store_of(alloc, objects)?;
+    let fault = PlannedFault { call, lands: true };
+    let mut faulty = FaultStore::new(alloc, store, &[fault])?;
+    let found = found(alloc, &mut faulty);
+    Ok((found, faulty.into_store()))
+}
+
 #[test]
 fn a_recovery_is_made_again_after_a_fault(rt: HostRuntime) -> Result<(), Fail> {
     let alloc = rt.alloc();
-    for call in 1..12 {
-        let store = store_of(alloc, &[(1, None), (2, Some(0)), (4, Some(1))])?;
-        let fault = PlannedFault { call, lands: true };
-        let mut faulty = FaultStore::new(alloc, store, &[fault])?;
-        assert_eq!(rt;
-            found(alloc, &mut faulty),
-            Err(RecoverError::StoreFault),
-            "call {call}"
-        );
-        let mut store = faulty.into_store();
+    for call in 1..18 {
+        let (first, mut store) = found_with_fault(
+            alloc,
+            &[(1, Checkpoint(0)), (2, Data(0)), (4, Data(1))],
+            call,
+        )?;
+        assert_eq!(rt; first, Err(RecoverError::StoreFault), "call {call}");
         assert_eq!(rt; found(alloc, &mut store), Ok((2, 1)), "call {call}");
         assert!(rt; !holds(alloc, &mut store, 4)?, "call {call}");
+    }
+    Ok(())
+}
+
+#[test]
+fn a_fault_among_bad_objects_is_told(rt: HostRuntime) -> Result<(), Fail> {
+    let alloc = rt.alloc();
+    let objects = [
+        (1, Checkpoint(0)),
+        (2, Data(7)),
+        (3, Data(8)),
+        (5, Misnamed),
+    ];
+    for call in 1..20 {
+        let (first, mut store) = found_with_fault(alloc, &objects, call)?;
+        assert_eq!(rt; first, Err(RecoverError::StoreFault), "call {call}");
+        assert_eq!(rt;
+            found(alloc, &mut store),
+            wanted_as_found(Bad(5, BadObject::Number)),
+            "call {call}"
+        );
     }
     Ok(())
 }

@@ -1,4 +1,4 @@
--- What a log has committed stays of its volume and in range.
+-- What a log has committed stays of its volume, of its epoch and in range.
 use Rattle.std.proofs.Common.{◌≡◌, ℕ, true, List, [], ◌∷◌, sym, ◌∙◌, ap, subst, inl, inr, refl, if◌then◌else◌}
 use Rattle.std.specs.Prelude.{Option, Some, None, IfSome}
 use Rattle.std.specs.Option.{option_map}
@@ -14,21 +14,22 @@ use Rattle.cache_log.specs.declared.row.Row.{Row}
 use Rattle.cache_log.specs.Rows.{seq_of, entries_since}
 use Rattle.cache_log.specs.Log.{LogState, entries_in, with_appended, all_rows}
 use Rattle.cache_log.specs.Committed.{body_of, first_body, IsReleased}
+use Rattle.stopped_volume.specs.Device.{CacheOwner, owner_of}
 use Rattle.plain_disk.specs.Sectors.{AllInRange}
 use Rattle.stop_meaning.specs.Stops.{HasCommitted}
 use Rattle.stop_meaning.specs.Laws.{FormattedHasCommitted, SameHasCommitted, TrimmedHasCommitted, AppendedHasCommitted, CommitHasCommitted}
 
--- the commit is of the volume with this uuid
-abbrev IsOf : (uuid : List ℕ) → CommitBody → Type 0
-IsOf uuid body = body.uuid ≡ uuid
+-- the commit is of this volume and this epoch
+abbrev IsOf : (owner : CacheOwner) → CommitBody → Type 0
+IsOf owner body = owner_of body ≡ owner
 
 -- a log with these commits, and these entries
-has_committed : (uuid : List ℕ) (geometry : Geometry) (body : CommitBody) (unfinished : Option CommitBody) (all : Option (List Entry))
-    (log : LogState) → log.commits.body ≡ body → log.commits.unfinished ≡ unfinished → log.all ≡ all → IsOf uuid body → IfSome unfinished (IsOf uuid)
-    → IfSome all (AllInRange geometry) → HasCommitted uuid geometry log
-has_committed uuid geometry body unfinished all log last left told is_of are_of in_range = record {
-  last = ap (λ b. b.uuid) last ∙ is_of;
-  unfinished = subst (λ u. IfSome u (IsOf uuid)) (sym left) are_of;
+has_committed : (owner : CacheOwner) (geometry : Geometry) (body : CommitBody) (unfinished : Option CommitBody) (all : Option (List Entry))
+    (log : LogState) → log.commits.body ≡ body → log.commits.unfinished ≡ unfinished → log.all ≡ all → IsOf owner body → IfSome unfinished (IsOf owner)
+    → IfSome all (AllInRange geometry) → HasCommitted owner geometry log
+has_committed owner geometry body unfinished all log last left told is_of are_of in_range = record {
+  last = ap owner_of last ∙ is_of;
+  unfinished = subst (λ u. IfSome u (IsOf owner)) (sym left) are_of;
   in_range = subst (λ a. IfSome a (AllInRange geometry)) (sym told) in_range;
 }
 
@@ -40,18 +41,18 @@ no_entries geometry (now ∷ past) = All-nil (λ entry. is_in_range geometry ent
 
 pub formatted_has_committed : FormattedHasCommitted
 formatted_has_committed uuid epoch first geometry old log is =
-    has_committed uuid geometry (first_body uuid epoch first) None (entries_in [] log.commits.disk.moments) log is.commits.same_body
+    has_committed (record { uuid = uuid; epoch = epoch }) geometry (first_body uuid epoch first) None (entries_in [] log.commits.disk.moments) log is.commits.same_body
     is.commits.same_unfinished
     (is.all ∙ is.entries) refl tt (no_entries geometry log.commits.disk.moments)
 
 pub same_has_committed : SameHasCommitted
-same_has_committed uuid geometry old new is same commits =
-    has_committed uuid geometry old.commits.body old.commits.unfinished old.all new commits.same_body commits.same_unfinished same.all is.last
+same_has_committed owner geometry old new is same commits =
+    has_committed owner geometry old.commits.body old.commits.unfinished old.all new commits.same_body commits.same_unfinished same.all is.last
     is.unfinished is.in_range
 
 pub trimmed_has_committed : TrimmedHasCommitted
-trimmed_has_committed uuid geometry old new seq is trimmed =
-    has_committed uuid geometry old.commits.body old.commits.unfinished old.all new (ap (λ c. c.body) trimmed.commits)
+trimmed_has_committed owner geometry old new seq is trimmed =
+    has_committed owner geometry old.commits.body old.commits.unfinished old.all new (ap (λ c. c.body) trimmed.commits)
     (ap (λ c. c.unfinished) trimmed.commits)
     trimmed.all is.last is.unfinished is.in_range
 
@@ -63,8 +64,8 @@ one_more geometry None entry may are = tt
 one_more geometry (Some list) entry may are = All-push (λ e. is_in_range geometry e ≡ true) list entry are may
 
 pub appended_has_committed : AppendedHasCommitted
-appended_has_committed uuid geometry old new entry at is may appended commits =
-    has_committed uuid geometry old.commits.body old.commits.unfinished (with_appended old.all entry) new commits.same_body
+appended_has_committed owner geometry old new entry at is may appended commits =
+    has_committed owner geometry old.commits.body old.commits.unfinished (with_appended old.all entry) new commits.same_body
     commits.same_unfinished appended.all is.last is.unfinished
     (one_more geometry old.all entry may is.in_range)
 
@@ -91,32 +92,32 @@ released_in_range geometry seq rows None are = tt
 released_in_range geometry seq rows (Some list) are = since_in_range geometry seq rows list are
 
 -- of the volume is also the unfinished commit once it is made
-finished_is_of : (uuid : List ℕ) (body : CommitBody) (unfinished : Option CommitBody) → IsOf uuid body → IfSome unfinished (IsOf uuid)
-    → IsOf uuid (finished_body body unfinished)
-finished_is_of uuid body None is_of are_of = is_of
-finished_is_of uuid body (Some more) is_of are_of = are_of
+finished_is_of : (owner : CacheOwner) (body : CommitBody) (unfinished : Option CommitBody) → IsOf owner body → IfSome unfinished (IsOf owner)
+    → IsOf owner (finished_body body unfinished)
+finished_is_of owner body None is_of are_of = is_of
+finished_is_of owner body (Some more) is_of are_of = are_of
 
-module _ (uuid : List ℕ) (geometry : Geometry) (old new : LogState) (is : HasCommitted uuid geometry old) (released : IsReleased old new) where
+module _ (owner : CacheOwner) (geometry : Geometry) (old new : LogState) (is : HasCommitted owner geometry old) (released : IsReleased old new) where
   -- what a commit leaves, by the commits that it left
   committed_with : (body : CommitBody) (unfinished : Option CommitBody) → new.commits.body ≡ body → new.commits.unfinished ≡ unfinished
-      → IsOf uuid body → IfSome unfinished (IsOf uuid) → HasCommitted uuid geometry new
+      → IsOf owner body → IfSome unfinished (IsOf owner) → HasCommitted owner geometry new
   committed_with body unfinished last left is_of are_of =
       let seq : ℕ = new.commits.body.tail.seq in
-      has_committed uuid geometry body unfinished (option_map (entries_since seq (all_rows old)) old.all) new last left released.all is_of are_of
+      has_committed owner geometry body unfinished (option_map (entries_since seq (all_rows old)) old.all) new last left released.all is_of are_of
       (released_in_range geometry seq (all_rows old) old.all is.in_range)
 
-  finished : IsOf uuid (finished_body old.commits.body old.commits.unfinished)
-  finished = finished_is_of uuid old.commits.body old.commits.unfinished is.last is.unfinished
+  finished : IsOf owner (finished_body old.commits.body old.commits.unfinished)
+  finished = finished_is_of owner old.commits.body old.commits.unfinished is.last is.unfinished
 
 pub commit_has_committed : CommitHasCommitted
-commit_has_committed uuid geometry old new is released (inl made) =
-    committed_with uuid geometry old new is released (body_of old) None made.same_body made.same_unfinished is.last tt
-commit_has_committed uuid geometry old new is released (inr (inl at)) =
-    committed_with uuid geometry old new is released old.commits.body old.commits.unfinished at.same_body at.same_unfinished is.last is.unfinished
-commit_has_committed uuid geometry old new is released (inr (inr (inl at))) =
-    committed_with uuid geometry old new is released (finished_body old.commits.body old.commits.unfinished) None at.same_body at.same_unfinished
-    (finished uuid geometry old new is released) tt
-commit_has_committed uuid geometry old new is released (inr (inr (inr at))) =
-    committed_with uuid geometry old new is released (finished_body old.commits.body old.commits.unfinished) (Some (body_of old)) at.same_body
+commit_has_committed owner geometry old new is released (inl made) =
+    committed_with owner geometry old new is released (body_of old) None made.same_body made.same_unfinished is.last tt
+commit_has_committed owner geometry old new is released (inr (inl at)) =
+    committed_with owner geometry old new is released old.commits.body old.commits.unfinished at.same_body at.same_unfinished is.last is.unfinished
+commit_has_committed owner geometry old new is released (inr (inr (inl at))) =
+    committed_with owner geometry old new is released (finished_body old.commits.body old.commits.unfinished) None at.same_body at.same_unfinished
+    (finished owner geometry old new is released) tt
+commit_has_committed owner geometry old new is released (inr (inr (inr at))) =
+    committed_with owner geometry old new is released (finished_body old.commits.body old.commits.unfinished) (Some (body_of old)) at.same_body
     at.same_unfinished
-    (finished uuid geometry old new is released) is.last
+    (finished owner geometry old new is released) is.last

@@ -18,6 +18,7 @@ use Rattle.plain_disk.specs.State.{PlainState, history_length, frontier_of, fron
 use Rattle.plain_disk.proofs.EndLemmas.{ends_from}
 use Rattle.log_meaning.specs.Shows.{records_of_rows}
 use Rattle.log_meaning.specs.Logged.{listed_from}
+use Rattle.stopped_volume.specs.Device.{CacheOwner, owner_of}
 use Rattle.stop_meaning.specs.Stops.{IsCommittedHead, IsCommittingHead, KeepsOnDevice, StopKeeps, StopKeepsSince}
 use Rattle.stop_meaning.specs.Laws.{ShowsStops, NowKeeps, SinceKeeps, CommittingKeeps}
 use Rattle.stop_meaning.proofs.EntryLemmas.{past_count, all_of_commit, entries_past_are, logged_past}
@@ -29,8 +30,8 @@ record AreOfVolume (log : LogState) (plain : PlainState) (all : List Entry) : Ty
   in_range : AllInRange plain.geometry all
 
 -- a commit of a volume whose tail is among the records of a log, and not past the frontier's end
-pub record MayBeFound (uuid : List ℕ) (log : LogState) (plain : PlainState) (body : CommitBody) : Type 0 where
-  pub is_of : body.uuid ≡ uuid
+pub record MayBeFound (owner : CacheOwner) (log : LogState) (plain : PlainState) (body : CommitBody) : Type 0 where
+  pub is_of : owner_of body ≡ owner
   pub from : log.commits.body.tail.seq ≤ body.tail.seq
   pub to : body.tail.seq ≤ frontier_end plain
 
@@ -55,7 +56,7 @@ records_count : (rows : List Row) (log from : ℕ) → length (records_of_rows l
 records_count [] log from = refl
 records_count (row ∷ rows) log from = ap suc (records_count rows log (next log row))
 
-module _ (uuid : List ℕ) (data_at : ℕ → ℕ) (log : LogState) (plain : PlainState) (shows : ShowsStops uuid data_at log plain) where
+module _ (owner : CacheOwner) (data_at : ℕ → ℕ) (log : LogState) (plain : PlainState) (shows : ShowsStops owner data_at log plain) where
   -- ---- the log's entries
 
   -- where the disk tells what it holds, they are those of the volume
@@ -83,24 +84,24 @@ module _ (uuid : List ℕ) (data_at : ℕ → ℕ) (log : LogState) (plain : Pla
   -- ---- its commits
 
   -- the last one may be found, and the unfinished one
-  last_may : MayBeFound uuid log plain log.commits.body
+  last_may : MayBeFound owner log plain log.commits.body
   last_may =
       let first = shows.logged.first in
       record { is_of = shows.committed.last; from = omega arith; to = omega (arith, first, shows.log_is.counted) }
 
-  finished_in : (unfinished : Option CommitBody) → IfSome unfinished (λ body. body.uuid ≡ uuid)
+  finished_in : (unfinished : Option CommitBody) → IfSome unfinished (λ body. owner_of body ≡ owner)
       → IfSome unfinished (λ body. (log.commits.body.tail.seq ≤ body.tail.seq) × (body.tail.seq ≤ log.first))
-      → MayBeFound uuid log plain (finished_body log.commits.body unfinished)
+      → MayBeFound owner log plain (finished_body log.commits.body unfinished)
   finished_in None are order = last_may
   finished_in (Some body) are order =
       let first = shows.logged.first in
       record { is_of = are; from = order.0; to = omega (arith, order.1, first) }
 
-  finished_may : MayBeFound uuid log plain (finished_body log.commits.body log.commits.unfinished)
+  finished_may : MayBeFound owner log plain (finished_body log.commits.body log.commits.unfinished)
   finished_may = finished_in log.commits.unfinished shows.committed.unfinished shows.log_is.order
 
   -- and a commit of all entries, whose head is the end of the history
-  whole_may : MayBeFound uuid log plain (body_of log)
+  whole_may : MayBeFound owner log plain (body_of log)
   whole_may =
       let counted = shows.log_is.counted in
       record { is_of = shows.committed.last; from = omega (arith, counted); to = shows.logged.first }
@@ -116,15 +117,15 @@ module _ (uuid : List ℕ) (data_at : ℕ → ℕ) (log : LogState) (plain : Pla
       omega (arith, counted, long, count, last, whole)
 
   pub last_found : (number : ℕ) (body : CommitBody) → IsLast log.commits number body
-      → MayBeFound uuid log plain body × IsCommittedHead log body.head.seq
-  last_found number body (inl is) = (subst (MayBeFound uuid log plain) (sym is.same_body) last_may, inl (ap (λ b. b.head.seq) is.same_body))
-  last_found number body (inr is) = (subst (MayBeFound uuid log plain) (sym is.same_body) finished_may, inr (ap (λ b. b.head.seq) is.same_body))
+      → MayBeFound owner log plain body × IsCommittedHead log body.head.seq
+  last_found number body (inl is) = (subst (MayBeFound owner log plain) (sym is.same_body) last_may, inl (ap (λ b. b.head.seq) is.same_body))
+  last_found number body (inr is) = (subst (MayBeFound owner log plain) (sym is.same_body) finished_may, inr (ap (λ b. b.head.seq) is.same_body))
 
   committing_found : (number : ℕ) (body : CommitBody) → IsLastOr log.commits (body_of log) number body
-      → MayBeFound uuid log plain body × IsCommittingHead log plain body.head.seq
+      → MayBeFound owner log plain body × IsCommittingHead log plain body.head.seq
   committing_found number body (inl last) = (let found = last_found number body last in (found.0, inl found.1))
   committing_found number body (inr is) =
-      (subst (MayBeFound uuid log plain) (sym is.same_body) whole_may, inr (ap (λ b. b.head.seq) is.same_body ∙ whole_head))
+      (subst (MayBeFound owner log plain) (sym is.same_body) whole_may, inr (ap (λ b. b.head.seq) is.same_body ∙ whole_head))
 
   -- ---- what a stop leaves
 
@@ -133,9 +134,9 @@ module _ (uuid : List ℕ) (data_at : ℕ → ℕ) (log : LogState) (plain : Pla
   size_is = sym (ap (λ room. room.log) shows.log_is.room) ∙ shows.valid.size
 
   -- bytes that have the entries of a commit that may be found
-  keeps_on_device : (all : List Entry) (left : List ℕ) (number : ℕ) (body : CommitBody) → AreOfVolume log plain all → MayBeFound uuid log plain body
+  keeps_on_device : (all : List Entry) (left : List ℕ) (number : ℕ) (body : CommitBody) → AreOfVolume log plain all → MayBeFound owner log plain body
       → ReadsSettled log.room.log left body number → HasRecords log.room.log body (entries_between body (all_rows log) all) left
-      → KeepsOnDevice uuid plain body.head.seq left
+      → KeepsOnDevice owner plain body.head.seq left
   keeps_on_device all left number body are found settled records = λ end from to.
       let list : List Entry = entries_between body (all_rows log) all in
       let first : ℕ = log.commits.body.tail.seq in
@@ -161,38 +162,38 @@ module _ (uuid : List ℕ) (data_at : ℕ → ℕ) (log : LogState) (plain : Pla
 
   -- where each commit with P may be found, and has such a head
   module _ (P : ℕ → CommitBody → Type 0) (IsHead : ℕ → Type 0)
-      (found : (number : ℕ) (body : CommitBody) → P number body → MayBeFound uuid log plain body × IsHead body.head.seq) where
+      (found : (number : ℕ) (body : CommitBody) → P number body → MayBeFound owner log plain body × IsHead body.head.seq) where
     stop_keeps : (all : List Entry) (medium : Medium) → AreOfVolume log plain all → LeavesEntries log.room.log (all_rows log) all P medium
-        → StopKeeps uuid plain IsHead medium
+        → StopKeeps owner plain IsHead medium
     stop_keeps all medium are leaves = λ left may.
         let is = leaves left may in
         let commit = found is.0 is.1 is.2 in
         (is.1.head.seq, commit.1, keeps_on_device all left is.0 is.1 are commit.0 is.3 is.4)
 
-    pub keeps_since : (new : DiskState) → LeavesEntriesSince log P new → StopKeepsSince uuid log plain IsHead new
+    pub keeps_since : (new : DiskState) → LeavesEntriesSince log P new → StopKeepsSince owner log plain IsHead new
     keeps_since new leaves =
         let old : List Medium = log.commits.disk.moments in
         let Leaves : List Entry → Medium → Type 0 = λ list. LeavesEntries log.room.log (all_rows log) list P in
         with_told (AreOfVolume log plain) (λ list. HoldsSince (Leaves list) old new.moments)
-        (HoldsSince (StopKeeps uuid plain IsHead) old new.moments) log.all
+        (HoldsSince (StopKeeps owner plain IsHead) old new.moments) log.all
         (λ list are since.
-        passes_as (Leaves list) (StopKeeps uuid plain IsHead) old new.moments (λ medium left. stop_keeps list medium are left) since)
+        passes_as (Leaves list) (StopKeeps owner plain IsHead) old new.moments (λ medium left. stop_keeps list medium are left) since)
         are_of_volume leaves
 
 pub now_keeps : NowKeeps
-now_keeps uuid data_at log plain shows =
+now_keeps owner data_at log plain shows =
     let P : ℕ → CommitBody → Type 0 = IsLast log.commits in
     with_told_now (AreOfVolume log plain) (λ list. LeavesEntries log.room.log (all_rows log) list P)
-    (StopKeeps uuid plain (IsCommittedHead log)) (all_rows log) log.commits.disk.moments log.all shows.on_disk.all
+    (StopKeeps owner plain (IsCommittedHead log)) (all_rows log) log.commits.disk.moments log.all shows.on_disk.all
     (λ list now are leaves.
-    stop_keeps uuid data_at log plain shows P (IsCommittedHead log) (last_found uuid data_at log plain shows) list now are leaves)
-    (are_of_volume uuid data_at log plain shows) shows.on_disk.stands
+    stop_keeps owner data_at log plain shows P (IsCommittedHead log) (last_found owner data_at log plain shows) list now are leaves)
+    (are_of_volume owner data_at log plain shows) shows.on_disk.stands
 
 pub since_keeps : SinceKeeps
-since_keeps uuid data_at log plain new shows leaves =
-    keeps_since uuid data_at log plain shows (IsLast log.commits) (IsCommittedHead log) (last_found uuid data_at log plain shows) new leaves
+since_keeps owner data_at log plain new shows leaves =
+    keeps_since owner data_at log plain shows (IsLast log.commits) (IsCommittedHead log) (last_found owner data_at log plain shows) new leaves
 
 pub committing_keeps : CommittingKeeps
-committing_keeps uuid data_at log plain new shows leaves =
-    keeps_since uuid data_at log plain shows (IsLastOr log.commits (body_of log)) (IsCommittingHead log plain)
-    (committing_found uuid data_at log plain shows) new leaves
+committing_keeps owner data_at log plain new shows leaves =
+    keeps_since owner data_at log plain shows (IsLastOr log.commits (body_of log)) (IsCommittingHead log plain)
+    (committing_found owner data_at log plain shows) new leaves

@@ -11,66 +11,67 @@ use Rattle.plain_disk.specs.State.{PlainState}
 use Rattle.plain_disk.specs.Valid.{IsPlainVolume}
 use Rattle.log_meaning.specs.Shows.{ShowsLog}
 use Rattle.log_meaning.specs.Logged.{HasLoggedEntries}
+use Rattle.stopped_volume.specs.Device.{CacheOwner}
 use Rattle.stop_meaning.specs.Stops.{HasCommitted, IsCommittedHead, IsCommittingHead, StopKeepsNow, StopKeepsSince}
 
 -- ---- stops
 
 -- what the log on the cache has of a plain volume that it shows, for stops of its device
-pub record ShowsStops (uuid : List ℕ) (data_at : ℕ → ℕ) (log : LogState) (plain : PlainState) : Type 0 where
+pub record ShowsStops (owner : CacheOwner) (data_at : ℕ → ℕ) (log : LogState) (plain : PlainState) : Type 0 where
   pub valid : IsPlainVolume plain
   pub log_is : ShowsLog log plain.cache.log
   pub logged : HasLoggedEntries data_at log plain
-  pub committed : HasCommitted uuid plain.geometry log
+  pub committed : HasCommitted owner plain.geometry log
   pub on_disk : IsOnDisk log
 
 -- a stop now keeps the entries up to the head of the last commit or of the unfinished one
 abbrev pub NowKeeps : Type 0
 NowKeeps =
-    (uuid : List ℕ) (data_at : ℕ → ℕ) (log : LogState) (plain : PlainState) → ShowsStops uuid data_at log plain
-    → StopKeepsNow uuid log plain (IsCommittedHead log)
+    (owner : CacheOwner) (data_at : ℕ → ℕ) (log : LogState) (plain : PlainState) → ShowsStops owner data_at log plain
+    → StopKeepsNow owner log plain (IsCommittedHead log)
 
 -- and so does one at each moment since, while a stop leaves these commits
 abbrev pub SinceKeeps : Type 0
 SinceKeeps =
-    (uuid : List ℕ) (data_at : ℕ → ℕ) (log : LogState) (plain : PlainState) (new : DiskState) → ShowsStops uuid data_at log plain
-    → LeavesEntriesSince log (IsLast log.commits) new → StopKeepsSince uuid log plain (IsCommittedHead log) new
+    (owner : CacheOwner) (data_at : ℕ → ℕ) (log : LogState) (plain : PlainState) (new : DiskState) → ShowsStops owner data_at log plain
+    → LeavesEntriesSince log (IsLast log.commits) new → StopKeepsSince owner log plain (IsCommittedHead log) new
 
 -- While all entries are committed, a stop keeps those up to one of these heads, or all entries.
 abbrev pub CommittingKeeps : Type 0
 CommittingKeeps =
-    (uuid : List ℕ) (data_at : ℕ → ℕ) (log : LogState) (plain : PlainState) (new : DiskState) → ShowsStops uuid data_at log plain
-    → LeavesEntriesSince log (IsLastOr log.commits (body_of log)) new → StopKeepsSince uuid log plain (IsCommittingHead log plain) new
+    (owner : CacheOwner) (data_at : ℕ → ℕ) (log : LogState) (plain : PlainState) (new : DiskState) → ShowsStops owner data_at log plain
+    → LeavesEntriesSince log (IsLastOr log.commits (body_of log)) new → StopKeepsSince owner log plain (IsCommittingHead log plain) new
 
 -- ---- calls of the log
 
--- a log that was just formatted has commits of its volume alone, and no entry
+-- a log that was just formatted has commits of its volume and its epoch alone, and no entry
 abbrev pub FormattedHasCommitted : Type 0
 FormattedHasCommitted =
     (uuid : List ℕ) (epoch first : ℕ) (geometry : Geometry) (old : DiskState) (log : LogState)
-    → IsFormattedLog uuid epoch first old log → HasCommitted uuid geometry log
+    → IsFormattedLog uuid epoch first old log → HasCommitted (record { uuid = uuid; epoch = epoch }) geometry log
 
 -- so it stays while calls fail, and while entries are dropped from its list
 abbrev pub SameHasCommitted : Type 0
 SameHasCommitted =
-    (uuid : List ℕ) (geometry : Geometry) (old new : LogState)
-    → HasCommitted uuid geometry old → HasSameEntries old new → IsAsBefore old.commits new.commits → HasCommitted uuid geometry new
+    (owner : CacheOwner) (geometry : Geometry) (old new : LogState)
+    → HasCommitted owner geometry old → HasSameEntries old new → IsAsBefore old.commits new.commits → HasCommitted owner geometry new
 
 abbrev pub TrimmedHasCommitted : Type 0
 TrimmedHasCommitted =
-    (uuid : List ℕ) (geometry : Geometry) (old new : LogState) (seq : ℕ)
-    → HasCommitted uuid geometry old → IsTrimmed seq old new → HasCommitted uuid geometry new
+    (owner : CacheOwner) (geometry : Geometry) (old new : LogState) (seq : ℕ)
+    → HasCommitted owner geometry old → IsTrimmed seq old new → HasCommitted owner geometry new
 
 -- when an entry in range is appended
 abbrev pub AppendedHasCommitted : Type 0
 AppendedHasCommitted =
-    (uuid : List ℕ) (geometry : Geometry) (old new : LogState) (entry : Entry) (at : ℕ)
-    → HasCommitted uuid geometry old → is_in_range geometry entry ≡ true → IsAppended entry at old new → IsAsBefore old.commits new.commits
-    → HasCommitted uuid geometry new
+    (owner : CacheOwner) (geometry : Geometry) (old new : LogState) (entry : Entry) (at : ℕ)
+    → HasCommitted owner geometry old → is_in_range geometry entry ≡ true → IsAppended entry at old new → IsAsBefore old.commits new.commits
+    → HasCommitted owner geometry new
 
 -- and when all entries are committed, or that fails
 abbrev pub CommitHasCommitted : Type 0
 CommitHasCommitted =
-    (uuid : List ℕ) (geometry : Geometry) (old new : LogState)
-    → HasCommitted uuid geometry old → IsReleased old new
+    (owner : CacheOwner) (geometry : Geometry) (old new : LogState)
+    → HasCommitted owner geometry old → IsReleased old new
     → IsMade (body_of old) old.commits new.commits ⊎ IsMadeInPart (body_of old) old.commits new.commits
-    → HasCommitted uuid geometry new
+    → HasCommitted owner geometry new

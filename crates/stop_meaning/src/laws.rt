@@ -8,7 +8,7 @@ pub fn stops_keep_committed_entries()
     ensures committing { CommittingKeeps }
 {}
 
-/// A law: a log that was just formatted has commits of its volume alone, with entries in range, and each call keeps it so.
+/// A law: a log that was just formatted has commits of its volume and its epoch alone, with entries in range, and each call keeps it so.
 pub fn calls_keep_what_has_committed()
     ensures formatted { FormattedHasCommitted }
     ensures same { SameHasCommitted }

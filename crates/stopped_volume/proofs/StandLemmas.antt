@@ -1,5 +1,5 @@
 -- What objects of a store stand for is one.
-use Rattle.std.proofs.Common.{rules, ◌≡◌, ℕ, ◌+◌, ◌-◌, ◌^◌, ◌<◌, ◌≤◌, inl, inr, Option, None, false, List, length, take, refl, sym, ◌∙◌, ap, subst, arith}
+use Rattle.std.proofs.Common.{rules, ◌≡◌, ℕ, ◌+◌, ◌-◌, ◌^◌, ◌<◌, ◌≤◌, inl, inr, false, length, refl, sym, ◌∙◌, ap, subst, arith}
 use Rattle.std.specs.Prelude.{IsTrue}
 use Rattle.std.proofs.lemmas.Bool.{cases_lt}
 use Rattle.std.proofs.lemmas.List.{length-take}
@@ -8,12 +8,11 @@ use Rattle.object_format.specs.declared.expected.Expected.{Expected}
 use Rattle.object_stream.specs.Stream.{Owners, Stream, owners, objects_to, end_at, last_number}
 use Rattle.object_stream.specs.Landed.{Numbers, IsFirstMissing}
 use Rattle.object_stream.specs.Replay.{Replays}
-use Rattle.object_stream.specs.Value.{IsValue}
 use Rattle.object_stream.proofs.ReplayLemmas.{stored_are_replayed}
 use Rattle.object_stream.proofs.StreamLemmas.{follow_first}
 use Rattle.object_stream.proofs.ValueLemmas.{value_is_image_after}
 use Rattle.object_stream.proofs.OneLemmas.{same_parts, replays_as_one, has_one_value}
-use Rattle.stopped_volume.specs.Objects.{IsCheckpointOf, AreCheckpoints, ObjectsStandFor}
+use Rattle.stopped_volume.specs.Objects.{IsCheckpointOf, AreCheckpoints}
 use Rattle.stopped_volume.specs.Laws.{StandForOneVolume, StandForHistory}
 
 -- what has landed is not missing
@@ -89,4 +88,5 @@ stand_for_history volume uuid_at objects stream opening number own wide ends val
       value =
           value_is_image_after objects uuid_at volume stream.number stream.end stream.entries stream.opening opening list own wide ends
           (follow_first stream.end (number - stream.number) stream.objects valid.ends) landed.stored landed.value;
+      past = landed.past;
     }

@@ -1,5 +1,5 @@
 -- Contract: when the bytes of a cache device, with the objects of a store, stand for a volume: what a mount with the cache finds.
-use Rattle.std.specs.Prelude.{◌≡◌, ℕ, ◌-◌, ◌≤◌, Option, IsTrue, Bool, true, List, length, take, drop}
+use Rattle.std.specs.Prelude.{◌≡◌, ℕ, ◌-◌, ◌≤◌, Option, IsTrue, true, List, length, take, drop}
 use Rattle.std.specs.List.{All}
 use Rattle.lsvd_base.specs.declared.entry.Entry.{Entry}
 use Rattle.lsvd_base.specs.declared.geometry.Geometry.{Geometry}
@@ -12,14 +12,28 @@ use Rattle.commit_slot.specs.Commits.{ReadsSettled}
 use Rattle.cache_log.specs.Committed.{HasRecords}
 use Rattle.object_format.specs.declared.expected.Expected.{Expected}
 use Rattle.stopped_volume.specs.Objects.{ObjectsStandFor}
+use Rattle.stopped_volume.specs.Super.{HasVolume}
+
+-- ---- whose cache a device is
+
+-- the volume with this uuid, in this epoch
+pub record CacheOwner : Type 0 where
+  pub uuid : List ℕ
+  pub epoch : ℕ
+
+-- the owner that a commit names
+abbrev pub owner_of : CommitBody → CacheOwner
+owner_of body = record { uuid = body.uuid; epoch = body.epoch }
+
+-- ---- what it stands for
 
 -- The bytes of a device have the entries of a volume's log from a seq on: some slot is open, and the newest that is has a commit of
--- this volume whose tail is not past that seq; the other slots are as between two commits; and the log has records from that
--- tail up to the head, each of an entry in range. Those of entries before the seq are in objects.
-pub record DeviceStandsFor (uuid : List ℕ) (geometry : Geometry) (left : List ℕ) (seq : ℕ) (entries : List Entry) : Type 0 where
+-- this volume and this epoch whose tail is not past that seq; the other slots are as between two commits; and the log has records from
+-- that tail up to the head, each of an entry in range. Those of entries before the seq are in objects.
+pub record DeviceStandsFor (owner : CacheOwner) (geometry : Geometry) (left : List ℕ) (seq : ℕ) (entries : List Entry) : Type 0 where
   pub number : ℕ
   pub body : CommitBody
-  pub is_of : body.uuid ≡ uuid
+  pub is_of : owner_of body ≡ owner
   pub slots : ReadsSettled geometry.log left body number
   pub tail : body.tail.seq ≤ seq
   pub list : List Entry
@@ -27,18 +41,20 @@ pub record DeviceStandsFor (uuid : List ℕ) (geometry : Geometry) (left : List 
   pub in_range : All (λ entry. is_in_range geometry entry ≡ true) list
   pub rest : entries ≡ drop (seq - body.tail.seq) list
 
--- device and store stand for an image up to the end of the object before the first missing one, and for the entries from there on
-pub record StandFor (volume : Expected) (geometry : Geometry) (uuid_at : ℕ → Option (List ℕ)) (left : List ℕ) (objects : Objects)
+-- Device and store stand for an image up to the end of the object before the first missing one, and for the entries from there on. The
+-- store has the volume, and the device is its cache in the newest epoch.
+pub record StandFor (volume : Expected) (geometry : Geometry) (epoch : ℕ) (uuid_at : ℕ → Option (List ℕ)) (left : List ℕ) (objects : Objects)
     (image : Image) (number end : ℕ) (entries : List Entry) : Type 0 where
   pub limits : IsTrue (is_within_limits geometry)
   pub sectors : volume.sectors ≡ geometry.sectors
+  pub described : HasVolume volume.uuid geometry epoch objects
   pub store : ObjectsStandFor volume uuid_at objects image number end
-  pub device : DeviceStandsFor volume.uuid geometry left end entries
+  pub device : DeviceStandsFor (record { uuid = volume.uuid; epoch = epoch }) geometry left end entries
 
 -- They stand for the first K entries of a history over an opening image: the objects have those up to their end, and the log has
 -- the others.
-pub record StandForFirst (volume : Expected) (geometry : Geometry) (uuid_at : ℕ → Option (List ℕ)) (left : List ℕ) (objects : Objects)
+pub record StandForFirst (volume : Expected) (geometry : Geometry) (epoch : ℕ) (uuid_at : ℕ → Option (List ℕ)) (left : List ℕ) (objects : Objects)
     (opening : Image) (history : List Entry) (number end kept : ℕ) : Type 0 where
   pub ends : end ≤ kept
   pub taken : kept ≤ length history
-  pub stands : StandFor volume geometry uuid_at left objects (after opening (take end history)) number end (drop end (take kept history))
+  pub stands : StandFor volume geometry epoch uuid_at left objects (after opening (take end history)) number end (drop end (take kept history))

@@ -9,7 +9,7 @@ use Rattle.object_stream.specs.Stream.{Stream, objects_to, end_at, last_number, 
 use Rattle.object_stream.specs.Landed.{Numbers, IsFirstMissing}
 use Rattle.object_stream.specs.Stored.{AreStored}
 use Rattle.object_stream.specs.Value.{IsValue}
-use Rattle.stopped_volume.specs.Objects.{landed_in, IsCheckpointOf, AreCheckpoints, ObjectsStandFor}
+use Rattle.stopped_volume.specs.Objects.{landed_in, IsCheckpointOf, AreCheckpoints, AreWholePast, ObjectsStandFor}
 
 -- objects stand for one image of a length, with one number and one end
 abbrev pub StandForOneVolume : Type 0
@@ -19,7 +19,8 @@ StandForOneVolume =
     → ObjectsStandFor volume uuid_at objects image number end → ObjectsStandFor volume uuid_at objects other other_number other_end
     → (number ≡ other_number) × (end ≡ other_end) × (image ≡ other)
 
--- a store has a stream that begins at its newest checkpoint, up to the object of a number: that before the first missing one
+-- A store has a stream that begins at its newest checkpoint, up to the object of a number: that before the first missing one. The objects
+-- past it are whole.
 pub record HasStreamUpTo (volume : Expected) (uuid_at : ℕ → Option (List ℕ)) (objects : Objects) (stream : Stream) (opening : Image)
     (number : ℕ) : Type 0 where
   pub checkpoint : Numbers
@@ -30,6 +31,7 @@ pub record HasStreamUpTo (volume : Expected) (uuid_at : ℕ → Option (List ℕ
   pub value : IsValue objects uuid_at stream.opening opening
   pub last : number ≤ last_number stream
   pub stored : AreStored objects uuid_at volume stream.number stream.end stream.entries (objects_to stream number)
+  pub past : AreWholePast volume objects number
 
 -- then its objects stand for the image that the history makes up to the end of the last of them, and no further
 abbrev pub StandForHistory : Type 0

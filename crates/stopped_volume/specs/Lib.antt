@@ -1,4 +1,5 @@
 pub mod Objects
+pub mod Super
 pub mod Device
 pub mod Needed
 pub mod Store

@@ -1,6 +1,8 @@
--- Contract: what a store may hold after a stop, by the puts that were acknowledged and those that were ever begun.
-use Rattle.std.specs.Prelude.{◌≡◌, ℕ, ◌<◌, ◌⊎◌, Option, Some, None, List}
+-- Contract: what a store may hold after a stop, by the puts that were acknowledged and those that were ever begun; and when receipts tell
+-- what they stand for.
+use Rattle.std.specs.Prelude.{◌≡◌, ℕ, ◌<◌, ◌⊎◌, Option, Some, None, IsSome, List}
 use Rattle.lsvd_objstore.specs.Objects.{Objects, found}
+use Rattle.lsvd_objstore.specs.Store.{ReceiptState}
 use Rattle.object_stream.specs.Replay.{name_of}
 
 -- the puts of a volume: the object of each number, as far as it was sealed, and how far its put has come
@@ -22,3 +24,7 @@ MayHoldPut NotBegun bytes held = held ≡ None
 pub record MayHoldPuts (uuid : List ℕ) (puts : ℕ → Option (PutState × List ℕ)) (after : ℕ) (objects : Objects) : Type 0 where
   pub puts_are : (number : ℕ) (state : PutState) (bytes : List ℕ) → after < number → puts number ≡ Some (state, bytes) → MayHoldPut state bytes (found objects (name_of uuid number))
   pub none_else : (number : ℕ) → after < number → puts number ≡ None → found objects (name_of uuid number) ≡ None
+
+-- receipts tell the bytes that they stand for
+abbrev pub TellsBytes : {R : Type 0} → (R → ReceiptState) → Type 0
+TellsBytes {R} state = (receipt : R) → IsSome (state receipt).told

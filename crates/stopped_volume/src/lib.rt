@@ -2,7 +2,8 @@
 //! its history.
 //!
 //! Its contract: these definitions, on which the volume, its mounts and its replay rest, and the laws that join them.
-//! It stands on `object_stream` for the objects, and on `cache_log` and `commit_slot` for the device.
+//! It stands on `object_stream` for the objects, on `super_format` for the super object and epochs, and on `cache_log` and
+//! `commit_slot` for the device.
 #![tactic(auto)]
 
 mod laws;

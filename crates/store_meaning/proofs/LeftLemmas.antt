@@ -26,10 +26,11 @@ use Rattle.object_stream.specs.Value.{StandsForSector, IsValue}
 use Rattle.object_stream.proofs.OneLemmas.{same_parts}
 use Rattle.upload_window.specs.declared.object.OpenObject.{OpenObject}
 use Rattle.upload_window.specs.Window.{WindowState, has_number, was_started, IsAcknowledged}
-use Rattle.stopped_volume.specs.Objects.{landed_in, expected_alone, IsCheckpointOf, AreCheckpoints}
+use Rattle.stopped_volume.specs.Objects.{landed_in, expected_alone, IsCheckpointOf, AreCheckpoints, IsWhole, AreWholePast}
 use Rattle.stopped_volume.specs.Store.{PutState, MayHoldPut}
 use Rattle.stopped_volume.specs.Store.PutState.{Acknowledged, Begun, NotBegun}
 use Rattle.stopped_volume.specs.Laws.{HasStreamUpTo}
+use Rattle.stopped_volume.proofs.WholeLemmas.{is_whole}
 use Rattle.object_recovery.specs.Checkpoints.{expected_of}
 use Rattle.plain_disk.specs.State.{PlainState, stream_in}
 use Rattle.plain_disk.specs.Stops.{recovered_number}
@@ -132,8 +133,8 @@ blank_at (suc sectors) (suc k) sector at = blank_at sectors k sector at
 
 -- ---- what is left
 
-module _ (uuid : List ℕ) (plain : PlainState) (puts : ℕ → Option (PutState × List ℕ)) (objects : Objects) (valid : IsPlainVolume plain)
-    (are : ArePuts (expected_of uuid plain.geometry) plain puts) (left : MayBeLeft uuid plain puts objects) where
+module _ (uuid : List ℕ) (epoch : ℕ) (plain : PlainState) (puts : ℕ → Option (PutState × List ℕ)) (objects : Objects) (valid : IsPlainVolume plain)
+    (are : ArePuts (expected_of uuid plain.geometry) plain puts) (left : MayBeLeft uuid epoch plain puts objects) where
   abbrev volume : Expected
   volume = expected_of uuid plain.geometry
 
@@ -308,6 +309,15 @@ module _ (uuid : List ℕ) (plain : PlainState) (puts : ℕ → Option (PutState
   value k sector at =
       subst (λ owner. StandsForSector objects uuid_at owner k sector) (sym (left.first.none k)) (blank_at plain.geometry.sectors k sector at)
 
+  -- each object past it is the plain volume's too, so it is whole
+  past : AreWholePast volume objects number
+  past other bytes after there =
+      let object = landed_object other (omega (arith, missing.above, base_is, after)) (ap is_some there) in
+      let is = object.2 in
+      let same : object.0 ≡ bytes = let e = object.1 in cc in
+      subst (IsWhole (expected_alone volume other)) same
+      (is_whole volume other (end_at stream (other - 1)) object.0 is.header (rows_of.Data is.rows) is.payload is.parts)
+
   stored : HasStreamUpTo volume uuid_at objects stream (blank plain.geometry.sectors) number
   stored = record {
     checkpoint = is_first;
@@ -318,6 +328,7 @@ module _ (uuid : List ℕ) (plain : PlainState) (puts : ℕ → Option (PutState
     value = value;
     last = recovers_sealed plain landed valid;
     stored = stored_by_each objects uuid_at volume count plain.number plain.end plain.entries plain.objects valid.stream.ends is_stored;
+    past = past;
   }
 
   has_objects : HasObjects uuid plain number objects
@@ -329,5 +340,5 @@ module _ (uuid : List ℕ) (plain : PlainState) (puts : ℕ → Option (PutState
   }
 
 pub left_has_objects : LeftHasObjects
-left_has_objects uuid plain puts objects valid are left =
-    (has_objects uuid plain puts objects valid are left, may_land uuid plain puts objects valid are left)
+left_has_objects uuid epoch plain puts objects valid are left =
+    (has_objects uuid epoch plain puts objects valid are left, may_land uuid epoch plain puts objects valid are left)

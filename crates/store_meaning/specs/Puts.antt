@@ -15,6 +15,7 @@ use Rattle.object_stream.specs.Stream.{Stream, end_at}
 use Rattle.object_stream.specs.Replay.{name_of, HasParts, expected_at}
 use Rattle.upload_window.specs.Window.{WindowState, has_number, was_started}
 use Rattle.stopped_volume.specs.Objects.{IsCheckpointOf}
+use Rattle.stopped_volume.specs.Super.{HasVolume}
 use Rattle.stopped_volume.specs.Store.{PutState, MayHoldPuts}
 use Rattle.stopped_volume.specs.Store.PutState.{Acknowledged, Begun, NotBegun}
 use Rattle.plain_disk.specs.State.{PlainState, stream_in}
@@ -61,9 +62,11 @@ pub record ArePuts (volume : Expected) (plain : PlainState) (puts : ℕ → Opti
 
 -- ---- a stop
 
--- What a stop may leave of the store of a plain volume, which opens blank at its newest checkpoint: that checkpoint, and of each later
--- object what its put allows. Each volume opens at object 1, and none of its objects has a lower number.
-pub record MayBeLeft (uuid : List ℕ) (plain : PlainState) (puts : ℕ → Option (PutState × List ℕ)) (objects : Objects) : Type 0 where
+-- What a stop may leave of the store of a plain volume, which opens blank at its newest checkpoint: its super object and its epochs,
+-- of which this is the newest, that checkpoint, and of each later object what its put allows. Each volume opens at object 1, and none
+-- of its objects has a lower number.
+pub record MayBeLeft (uuid : List ℕ) (epoch : ℕ) (plain : PlainState) (puts : ℕ → Option (PutState × List ℕ)) (objects : Objects) : Type 0 where
+  pub described : HasVolume uuid plain.geometry epoch objects
   pub opened : plain.checkpoint ≡ plain.number
   pub opened_first : plain.number ≡ 1
   pub blank_is : plain.opening ≡ blank plain.geometry.sectors

@@ -1,5 +1,5 @@
 -- An object that is on its way to the store keeps its bytes in each step.
-use Rattle.std.proofs.Common.{◌≡◌, ℕ, zero, suc, ◌+◌, ◌-◌, ◌≤◌, ◌||◌, Bool, true, false, not, Option, Some, None, List, [], ◌∷◌, ◌++◌, drop, refl, sym, ◌∙◌, ap, subst, arith}
+use Rattle.std.proofs.Common.{◌≡◌, ℕ, zero, suc, ◌+◌, ◌-◌, ◌≤◌, ◌||◌, Bool, true, false, Option, Some, None, List, [], ◌∷◌, ◌++◌, drop, refl, sym, ◌∙◌, ap, subst, arith}
 use Rattle.std.specs.List.{list_any}
 use Rattle.std.proofs.lemmas.Bool.Decides.{nat_tests}
 use Rattle.lsvd_base.specs.declared.entry.Entry.{Entry}
@@ -12,14 +12,14 @@ use Rattle.object_uploads.specs.Queue.{HasBytesAt, with_at, with_spare, with_rec
 use Rattle.object_uploads.specs.Order.{IsOpenFirst, AreOpen, IsUploads}
 use Rattle.object_uploads.specs.Changes.{IsPutDone}
 use Rattle.obj_log.specs.State.{ObjLogState}
-use Rattle.obj_log.specs.Changes.{IsSame, IsAdded}
+use Rattle.obj_log.specs.Changes.{IsSame}
 use Rattle.vol_core.specs.declared.reply.Refusal.{Refusal}
 use Rattle.vol_core.specs.declared.reply.Refusal.TheVariants as refusals
 use Rattle.vol_core.specs.declared.reply.Reply.{Reply}
 use Rattle.vol_core.specs.declared.reply.Reply.TheVariants as told
 use Rattle.vol_core.specs.Volume.{VolumeState, SteppedVolume}
-use Rattle.vol_core.specs.Step.{IsOnItsWay, HasBytesOf, KeepsBytes}
-use Rattle.vol_core.specs.Calls.{Seals, Takes, Finishes, Returns, ComesToLog, IsRefusedEntry, Enters}
+use Rattle.vol_core.specs.Step.{KeepsBytes}
+use Rattle.vol_core.specs.Calls.{Seals, Takes, Finishes, Returns, IsRefusedEntry, Enters}
 use Rattle.vol_core.proofs.StepLemmas.{with_objects}
 use Rattle.vol_core.proofs.EnterSteps.{with_both}
 

@@ -22,6 +22,7 @@ use Rattle.plain_disk.specs.State.{PlainState, history_length, frontier_end}
 use Rattle.plain_disk.specs.Entries.{after_flush}
 use Rattle.plain_disk.proofs.EndLemmas.{frontier_ends}
 use Rattle.plain_disk.proofs.EventLemmas.{flush_keeps}
+use Rattle.stopped_volume.specs.Device.{CacheOwner, owner_of}
 use Rattle.stop_meaning.specs.Stops.{HasCommitted, IsCommittedHead, IsCommittingHead, StopKeeps, StopKeepsSince}
 use Rattle.stop_meaning.specs.Laws.{ShowsStops}
 use Rattle.stop_meaning.proofs.StopLemmas.{MayBeFound, last_found, keeps_since, since_keeps}
@@ -33,34 +34,34 @@ use Rattle.vol_core.proofs.StepLemmas.{passing_keeps}
 
 -- ---- the commits stay the volume's own
 
-module _ (uuid : List ℕ) (geometry : Geometry) where
+module _ (owner : CacheOwner) (geometry : Geometry) where
   -- also after a commit, or one that failed
-  pub commit_owns : (seq : ℕ) (is_made : Bool) (old new : LogState) → HasCommitted uuid geometry old → CommitsFrom seq is_made old new
-      → HasCommitted uuid geometry new
+  pub commit_owns : (seq : ℕ) (is_made : Bool) (old new : LogState) → HasCommitted owner geometry old → CommitsFrom seq is_made old new
+      → HasCommitted owner geometry new
   commit_owns seq true old new own commit =
-      commit_has_committed uuid geometry commit.middle new (trimmed_has_committed uuid geometry old commit.middle seq own commit.trimmed)
+      commit_has_committed owner geometry commit.middle new (trimmed_has_committed owner geometry old commit.middle seq own commit.trimmed)
       commit.released (inl (commit.made refl).commits.made)
   commit_owns seq false old new own commit =
-      commit_has_committed uuid geometry commit.middle new (trimmed_has_committed uuid geometry old commit.middle seq own commit.trimmed)
+      commit_has_committed owner geometry commit.middle new (trimmed_has_committed owner geometry old commit.middle seq own commit.trimmed)
       commit.released (inr (commit.failed refl).made)
 
   append_owns : (entry : Entry) (result : Result ℕ AppendError) (old new : LogState) → is_in_range geometry entry ≡ true
-      → HasCommitted uuid geometry old → Appends entry result old new → HasCommitted uuid geometry new
+      → HasCommitted owner geometry old → Appends entry result old new → HasCommitted owner geometry new
   append_owns entry (Ok at) old new may own appends =
-      appended_has_committed uuid geometry old new entry at own may appends.ok appends.keeps.commits
+      appended_has_committed owner geometry old new entry at own may appends.ok appends.keeps.commits
   append_owns entry (Err (errors.NoRoom needed left)) old new may own appends =
-      subst (HasCommitted uuid geometry) (sym appends.err.untouched) own
+      subst (HasCommitted owner geometry) (sym appends.err.untouched) own
   append_owns entry (Err errors.DeviceFault) old new may own appends =
-      same_has_committed uuid geometry old new own appends.err.same appends.keeps.commits
+      same_has_committed owner geometry old new own appends.err.same appends.keeps.commits
 
   -- and after an entry came to the log
   pub enter_owns : (entry : Entry) (end : ℕ) (result : Result ℕ AppendError) (old new : LogState) → is_in_range geometry entry ≡ true
-      → HasCommitted uuid geometry old → EntersLog entry end result old new → HasCommitted uuid geometry new
+      → HasCommitted owner geometry old → EntersLog entry end result old new → HasCommitted owner geometry new
   enter_owns entry end result old new may own (inl at_once) = append_owns entry result old new may own at_once.appends
   enter_owns entry end result old new may own (inr after) = owns_after after.then
     where
       owns_after : (CommitsFrom end false old new × (result ≡ Err errors.DeviceFault))
-          ⊎ ((middle : LogState) × CommitsFrom end true old middle × Appends entry result middle new) → HasCommitted uuid geometry new
+          ⊎ ((middle : LogState) × CommitsFrom end true old middle × Appends entry result middle new) → HasCommitted owner geometry new
       owns_after (inl failed) = commit_owns end false old new own failed.0
       owns_after (inr (middle, commit, appends)) =
           append_owns entry result middle new may (commit_owns end true old middle own commit) appends
@@ -90,20 +91,20 @@ abbrev Leaving : (body : CommitBody) (new : List Medium) (log : ℕ) (rows : Lis
 Leaving body new log rows all commits =
     IfSome all (λ list. HoldsSince (LeavesEntries log rows list (IsLastOr commits body)) commits.disk.moments new)
 
-module _ (uuid : List ℕ) (data_at : ℕ → ℕ) (old : LogState) (plain : PlainState) (shows : ShowsStops uuid data_at old plain) where
+module _ (owner : CacheOwner) (data_at : ℕ → ℕ) (old : LogState) (plain : PlainState) (shows : ShowsStops owner data_at old plain) where
   count : next_seq old ≡ history_length plain
   count = shown_next old plain shows.log_is shows.valid
 
   -- ---- a commit of all entries, whose tail is at the frontier's end
 
   module _ (seq : ℕ) (is_made : Bool) (new : LogState) (end : seq ≡ frontier_end plain) (commit : CommitsFrom seq is_made old new) where
-    whole_found : MayBeFound uuid old plain (body_of commit.middle)
+    whole_found : MayBeFound owner old plain (body_of commit.middle)
     whole_found =
         let first = commit.trimmed.first in
         let counted = shows.log_is.counted in
         let most = shows.logged.first in
         record {
-          is_of = ap (λ c. c.body.uuid) commit.trimmed.commits ∙ shows.committed.last;
+          is_of = ap (λ c. owner_of c.body) commit.trimmed.commits ∙ shows.committed.last;
           from = omega (arith, first, counted);
           to = omega (arith, first, most, end);
         }
@@ -114,10 +115,10 @@ module _ (uuid : List ℕ) (data_at : ℕ → ℕ) (old : LogState) (plain : Pla
         trimmed_next seq old commit.middle (omega (arith, end, ends, count)) commit.trimmed ∙ count
 
     found : (number : ℕ) (body : CommitBody) → IsLastOr old.commits (body_of commit.middle) number body
-        → MayBeFound uuid old plain body × IsCommittingHead old plain body.head.seq
-    found number body (inl last) = (let is = last_found uuid data_at old plain shows number body last in (is.0, inl is.1))
+        → MayBeFound owner old plain body × IsCommittingHead old plain body.head.seq
+    found number body (inl last) = (let is = last_found owner data_at old plain shows number body last in (is.0, inl is.1))
     found number body (inr is) =
-        (subst (MayBeFound uuid old plain) (sym is.same_body) whole_found, inr (ap (λ b. b.head.seq) is.same_body ∙ whole_head))
+        (subst (MayBeFound owner old plain) (sym is.same_body) whole_found, inr (ap (λ b. b.head.seq) is.same_body ∙ whole_head))
 
     leaves : LeavesEntriesSince old (IsLastOr old.commits (body_of commit.middle)) new.commits.disk
     leaves =
@@ -129,23 +130,23 @@ module _ (uuid : List ℕ) (data_at : ℕ → ℕ) (old : LogState) (plain : Pla
         (subst₂ (λ (room : Room) all. Leaving body moments room.log (all_rows old) all middle.commits) trimmed.room trimmed.all
         (subst (λ rows. Leaving body moments middle.room.log rows middle.all middle.commits) (trimmed_rows seq old middle trimmed) commit.stands))
 
-    pub commit_keeps_stops : StopKeepsSince uuid old plain (IsCommittingHead old plain) new.commits.disk
+    pub commit_keeps_stops : StopKeepsSince owner old plain (IsCommittingHead old plain) new.commits.disk
     commit_keeps_stops =
-        keeps_since uuid data_at old plain shows (IsLastOr old.commits (body_of commit.middle)) (IsCommittingHead old plain) found new.commits.disk
+        keeps_since owner data_at old plain shows (IsLastOr old.commits (body_of commit.middle)) (IsCommittingHead old plain) found new.commits.disk
         leaves
 
   -- ---- an entry
 
   -- while the commits are as before
-  same_keep_stops : (new : DiskState) → LeavesEntriesSince old (IsLast old.commits) new → StopKeepsSince uuid old plain (IsCommittingHead old plain) new
+  same_keep_stops : (new : DiskState) → LeavesEntriesSince old (IsLast old.commits) new → StopKeepsSince owner old plain (IsCommittingHead old plain) new
   same_keep_stops new leaves =
-      let P : Medium → Type 0 = StopKeeps uuid plain (IsCommittedHead old) in
-      let Q : Medium → Type 0 = StopKeeps uuid plain (IsCommittingHead old plain) in
+      let P : Medium → Type 0 = StopKeeps owner plain (IsCommittedHead old) in
+      let Q : Medium → Type 0 = StopKeeps owner plain (IsCommittingHead old plain) in
       let moments : List Medium = old.commits.disk.moments in
       as_told (HoldsSince P moments new.moments) (HoldsSince Q moments new.moments) old.all
       (passes_as P Q moments new.moments
       (λ medium keeps left may. (let is = keeps left may in (is.0, inl is.1, is.2))))
-      (since_keeps uuid data_at old plain new shows leaves)
+      (since_keeps owner data_at old plain new shows leaves)
 
   -- after a commit that was made, which has all entries
   module _ (seq : ℕ) (middle : LogState) (end : seq ≡ frontier_end plain) (commit : CommitsFrom seq true old middle) where
@@ -157,14 +158,14 @@ module _ (uuid : List ℕ) (data_at : ℕ → ℕ) (old : LogState) (plain : Pla
         commit_with None true data_at old middle plain shows.log_is shows.valid shows.logged
         (subst (λ n. CommitsFrom n true old middle) end commit) refl
 
-    flushed_stops : ShowsStops uuid data_at middle flushed
+    flushed_stops : ShowsStops owner data_at middle flushed
     flushed_stops =
         let logged = commits_as.logged in
         record {
           valid = flush_keeps (passing None plain) (passing_keeps None plain shows.valid);
           log_is = commits_as.log;
           logged = record { first = logged.first; rows = logged.rows; entries = logged.entries; placed = logged.placed };
-          committed = commit_owns uuid plain.geometry seq true old middle shows.committed commit;
+          committed = commit_owns owner plain.geometry seq true old middle shows.committed commit;
           on_disk = commit.on_disk;
         }
 
@@ -178,10 +179,10 @@ module _ (uuid : List ℕ) (data_at : ℕ → ℕ) (old : LogState) (plain : Pla
         inr (is ∙ ap (λ u. (finished_body middle.commits.body u).head.seq) none ∙ made_head)
 
     then_keep_stops : (new : DiskState) → LeavesEntriesSince middle (IsLast middle.commits) new
-        → StopKeepsSince uuid old plain (IsCommittingHead old plain) new
+        → StopKeepsSince owner old plain (IsCommittingHead old plain) new
     then_keep_stops new leaves =
-        let P : Medium → Type 0 = StopKeeps uuid flushed (IsCommittedHead middle) in
-        let Q : Medium → Type 0 = StopKeeps uuid plain (IsCommittingHead old plain) in
+        let P : Medium → Type 0 = StopKeeps owner flushed (IsCommittedHead middle) in
+        let Q : Medium → Type 0 = StopKeeps owner plain (IsCommittingHead old plain) in
         let first : List Medium = old.commits.disk.moments in
         let second : List Medium = middle.commits.disk.moments in
         let kept : List Entry → List Entry = entries_since middle.commits.body.tail.seq (all_rows commit.middle) in
@@ -191,18 +192,18 @@ module _ (uuid : List ℕ) (data_at : ℕ → ℕ) (old : LogState) (plain : Pla
         passes_on Q first second new.moments before
         (passes_as P Q second new.moments
         (λ medium keeps left may. (let is = keeps left may in (is.0, head_then is.0 is.1, is.2))) after))
-        (commit_keeps_stops seq true middle end commit) (since_keeps uuid data_at middle flushed new flushed_stops leaves)
+        (commit_keeps_stops seq true middle end commit) (since_keeps owner data_at middle flushed new flushed_stops leaves)
 
   after_keep_stops : (entry : Entry) (seq : ℕ) (result : Result ℕ AppendError) (new : LogState) → seq ≡ frontier_end plain
       → (CommitsFrom seq false old new × (result ≡ Err errors.DeviceFault))
       ⊎ ((middle : LogState) × CommitsFrom seq true old middle × Appends entry result middle new)
-      → StopKeepsSince uuid old plain (IsCommittingHead old plain) new.commits.disk
+      → StopKeepsSince owner old plain (IsCommittingHead old plain) new.commits.disk
   after_keep_stops entry seq result new end (inl failed) = commit_keeps_stops seq false new end failed.0
   after_keep_stops entry seq result new end (inr (middle, commit, appends)) =
       then_keep_stops seq middle end commit new.commits.disk appends.keeps.stands
 
   -- at once, or after a commit
   pub enter_keeps_stops : (entry : Entry) (seq : ℕ) (result : Result ℕ AppendError) (new : LogState) → seq ≡ frontier_end plain
-      → EntersLog entry seq result old new → StopKeepsSince uuid old plain (IsCommittingHead old plain) new.commits.disk
+      → EntersLog entry seq result old new → StopKeepsSince owner old plain (IsCommittingHead old plain) new.commits.disk
   enter_keeps_stops entry seq result new end (inl at_once) = same_keep_stops new.commits.disk at_once.appends.keeps.stands
   enter_keeps_stops entry seq result new end (inr after) = after_keep_stops entry seq result new end after.then

@@ -97,9 +97,9 @@ created_shows objects log uuid epoch geometry old limits sectors formatted batch
 
 -- its commits are its own
 pub created_own : (objects : ObjLogState) (log : LogState) (bytes : List ℕ) (old : DiskState) → bytes ≡ objects.uploads.uuid
-    → IsFormattedLog bytes 0 0 old log → HasCommitted objects.uploads.uuid objects.batch.geometry log
+    → IsFormattedLog bytes 0 0 old log → HasCommitted (record { uuid = objects.uploads.uuid; epoch = 0 }) objects.batch.geometry log
 created_own objects log bytes old same is =
-    subst (λ uuid. HasCommitted uuid objects.batch.geometry log) same
+    subst (λ uuid. HasCommitted (record { uuid = uuid; epoch = 0 }) objects.batch.geometry log) same
     (formatted_has_committed bytes 0 0 objects.batch.geometry old log is)
 
 -- ---- what is pending

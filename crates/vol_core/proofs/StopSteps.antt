@@ -20,6 +20,7 @@ use Rattle.obj_log.specs.Changes.{IsSame}
 use Rattle.vol_core.specs.declared.reply.Refusal.{Refusal}
 use Rattle.vol_core.specs.declared.reply.Refusal.TheVariants as refusals
 use Rattle.plain_disk.specs.State.{PlainState}
+use Rattle.stopped_volume.specs.Device.{CacheOwner}
 use Rattle.stop_meaning.specs.Stops.{HasCommitted, IsCommittingHead, StopKeepsSince}
 use Rattle.stop_meaning.specs.Laws.{ShowsStops}
 use Rattle.stop_meaning.proofs.StopLemmas.{now_keeps}
@@ -27,7 +28,7 @@ use Rattle.stop_meaning.proofs.CommittedLemmas.{same_has_committed}
 use Rattle.vol_core.specs.declared.reply.Reply.{Reply}
 use Rattle.vol_core.specs.declared.reply.Reply.TheVariants as told
 use Rattle.vol_core.specs.Volume.{VolumeState, SteppedVolume}
-use Rattle.vol_core.specs.Stops.{HasOwnCommits, KeepsNow, StepKeeps}
+use Rattle.vol_core.specs.Stops.{owner_in, HasOwnCommits, KeepsNow, StepKeeps}
 use Rattle.vol_core.specs.Shows.{Shows}
 use Rattle.vol_core.specs.Calls.{Seals, Takes, Finishes, Returns, CommitsFrom, ComesToLog, IsRefusedEntry, Enters}
 use Rattle.vol_core.proofs.StepLemmas.{with_objects}
@@ -48,20 +49,19 @@ keeps_seen new inside seen same keeps = subst (λ (s : SteppedVolume). StepKeeps
 -- ---- a volume that shows a plain one
 
 -- what its log has of the plain volume
-pub shows_stops : (volume : VolumeState) (plain : PlainState) → IsOnDisk volume.log → HasOwnCommits volume → (shows : Shows volume plain)
-    → ShowsStops volume.objects.uploads.uuid shows.data_at volume.log plain
-shows_stops volume plain on_disk own shows = record {
+pub shows_stops : (epoch : ℕ) (volume : VolumeState) (plain : PlainState) → IsOnDisk volume.log → HasOwnCommits epoch volume
+    → (shows : Shows volume plain) → ShowsStops (owner_in epoch volume) shows.data_at volume.log plain
+shows_stops epoch volume plain on_disk own shows = record {
   valid = shows.valid;
   log_is = shows.log;
   logged = shows.logged;
-  committed =
-      subst (λ geometry. HasCommitted volume.objects.uploads.uuid geometry volume.log) shows.objects.geometry own;
+  committed = subst (λ geometry. HasCommitted (owner_in epoch volume) geometry volume.log) shows.objects.geometry own;
   on_disk = on_disk;
 }
 
-pub stands_now : (volume : VolumeState) → IsOnDisk volume.log → HasOwnCommits volume → KeepsNow volume
-stands_now volume on_disk own plain shows =
-    now_keeps volume.objects.uploads.uuid shows.data_at volume.log plain (shows_stops volume plain on_disk own shows)
+pub stands_now : (volume : VolumeState) → IsOnDisk volume.log → (epoch : ℕ) → HasOwnCommits epoch volume → KeepsNow epoch volume
+stands_now volume on_disk epoch own plain shows =
+    now_keeps (owner_in epoch volume) shows.data_at volume.log plain (shows_stops epoch volume plain on_disk own shows)
 
 -- ---- nothing is written
 
@@ -83,21 +83,22 @@ pub record IsOfSameVolume (old new : ObjLogState) : Type 0 where
   pub uuid : new.uploads.uuid ≡ old.uploads.uuid
   pub geometry : new.batch.geometry ≡ old.batch.geometry
 
-pub own_after : (old new : VolumeState) → IsOfSameVolume old.objects new.objects
-    → HasCommitted old.objects.uploads.uuid old.objects.batch.geometry new.log → HasOwnCommits new
-own_after old new same own = subst₂ (λ uuid geometry. HasCommitted uuid geometry new.log) (sym same.uuid) (sym same.geometry) own
+pub own_after : (epoch : ℕ) (old new : VolumeState) → IsOfSameVolume old.objects new.objects
+    → HasCommitted (owner_in epoch old) old.objects.batch.geometry new.log → HasOwnCommits epoch new
+own_after epoch old new same own =
+    subst₂ (λ uuid geometry. HasCommitted (record { uuid = uuid; epoch = epoch }) geometry new.log) (sym same.uuid) (sym same.geometry) own
 
 -- no moment comes after it
-none_since : (uuid : List ℕ) (old new : LogState) (plain : PlainState) → new.commits.disk.moments ≡ old.commits.disk.moments
-    → StopKeepsSince uuid old plain (IsCommittingHead old plain) new.commits.disk
-none_since uuid old new plain moments = on_some _ old.all (record { since = []; moments = moments; each = tt })
+none_since : (owner : CacheOwner) (old new : LogState) (plain : PlainState) → new.commits.disk.moments ≡ old.commits.disk.moments
+    → StopKeepsSince owner old plain (IsCommittingHead old plain) new.commits.disk
+none_since owner old new plain moments = on_some _ old.all (record { since = []; moments = moments; each = tt })
 
 pub still_keeps : (old new : VolumeState) → IsOfSameVolume old.objects new.objects → IsStill old.log new.log → StepKeeps old new
-still_keeps old new same is own = record {
+still_keeps old new same is epoch own = record {
   own =
-      own_after old new same
-      (same_has_committed old.objects.uploads.uuid old.objects.batch.geometry old.log new.log own is.same is.commits);
-  since = λ plain shows. none_since old.objects.uploads.uuid old.log new.log plain is.moments;
+      own_after epoch old new same
+      (same_has_committed (owner_in epoch old) old.objects.batch.geometry old.log new.log own is.same is.commits);
+  since = λ plain shows. none_since (owner_in epoch old) old.log new.log plain is.moments;
 }
 
 -- the log of a look was read, or nothing was done
@@ -147,30 +148,30 @@ module _ (old : VolumeState) (objects : ObjLogState) where
 
 pub flushing_keeps : (old : VolumeState) (log : LogState) (is_made : Bool) (end : ℕ) → IsUploads old.objects.uploads.queue old.objects.uploads.window
     → IsOnDisk old.log → end ≡ old.objects.uploads.queue.end → CommitsFrom end is_made old.log log → StepKeeps old (with_log log old)
-flushing_keeps old log is_made end uploads on_disk end_is commits own = record {
-  own = commit_owns old.objects.uploads.uuid old.objects.batch.geometry end is_made old.log log own commits;
+flushing_keeps old log is_made end uploads on_disk end_is commits epoch own = record {
+  own = commit_owns (owner_in epoch old) old.objects.batch.geometry end is_made old.log log own commits;
   since = λ plain shows.
       let counts = shown_have_counts shows.data_at old.objects plain uploads shows.valid shows.objects in
-      commit_keeps_stops old.objects.uploads.uuid shows.data_at old.log plain (shows_stops old plain on_disk own shows) end is_made log
+      commit_keeps_stops (owner_in epoch old) shows.data_at old.log plain (shows_stops epoch old plain on_disk own shows) end is_made log
       (end_is ∙ counts.end) commits;
 }
 
 -- ---- an entry
 
 -- memory for a record changes nothing of it
-reserved_owns : (uuid : List ℕ) (geometry : Geometry) (log : LogState) (reserved : ℕ) → HasCommitted uuid geometry log
-    → HasCommitted uuid geometry (taken_for log reserved)
-reserved_owns uuid geometry log reserved own = record { last = own.last; unfinished = own.unfinished; in_range = own.in_range }
+reserved_owns : (owner : CacheOwner) (geometry : Geometry) (log : LogState) (reserved : ℕ) → HasCommitted owner geometry log
+    → HasCommitted owner geometry (taken_for log reserved)
+reserved_owns owner geometry log reserved own = record { last = own.last; unfinished = own.unfinished; in_range = own.in_range }
 
-reserved_stops : (uuid : List ℕ) (data_at : ℕ → ℕ) (log : LogState) (plain : PlainState) (reserved : ℕ) → ShowsStops uuid data_at log plain
-    → ShowsStops uuid data_at (taken_for log reserved) plain
-reserved_stops uuid data_at log plain reserved is =
+reserved_stops : (owner : CacheOwner) (data_at : ℕ → ℕ) (log : LogState) (plain : PlainState) (reserved : ℕ) → ShowsStops owner data_at log plain
+    → ShowsStops owner data_at (taken_for log reserved) plain
+reserved_stops owner data_at log plain reserved is =
     let disk = is.on_disk in
     record {
       valid = is.valid;
       log_is = reserved_shows log reserved plain.cache.log is.log_is;
       logged = logged_alike data_at log (taken_for log reserved) plain refl refl refl is.logged;
-      committed = reserved_owns uuid plain.geometry log reserved is.committed;
+      committed = reserved_owns owner plain.geometry log reserved is.committed;
       on_disk = record {
         commits = disk.commits;
         sectors = disk.sectors;
@@ -208,19 +209,19 @@ module _ (entry : Entry) (old : VolumeState) (uploads : IsUploads old.objects.up
   -- it came to the log
   came_keeps : (result : Result ℕ AppendError) (ready objects : ObjLogState) (log : LogState) → IsOfSameVolume old.objects objects
       → ComesToLog entry result old.objects ready old.log log → StepKeeps old (with_both objects log old)
-  came_keeps result ready objects log same comes own =
-      let uuid : List ℕ = old.objects.uploads.uuid in
+  came_keeps result ready objects log same comes epoch own =
+      let owner : CacheOwner = owner_in epoch old in
       let geometry : Geometry = old.objects.batch.geometry in
       let end : ℕ = old.objects.uploads.queue.end in
       let before : LogState = taken_for old.log comes.reserved in
       record {
         own =
-            own_after old (with_both objects log old) same
-            (enter_owns uuid geometry entry end result before log comes.in_range (reserved_owns uuid geometry old.log comes.reserved own) comes.log);
+            own_after epoch old (with_both objects log old) same
+            (enter_owns owner geometry entry end result before log comes.in_range (reserved_owns owner geometry old.log comes.reserved own) comes.log);
         since = λ plain shows.
             let counts = shown_have_counts shows.data_at old.objects plain uploads shows.valid shows.objects in
-            enter_keeps_stops uuid shows.data_at before plain
-            (reserved_stops uuid shows.data_at old.log plain comes.reserved (shows_stops old plain on_disk own shows)) entry end result log
+            enter_keeps_stops owner shows.data_at before plain
+            (reserved_stops owner shows.data_at old.log plain comes.reserved (shows_stops epoch old plain on_disk own shows)) entry end result log
             counts.end comes.log;
       }
 

@@ -15,12 +15,12 @@ use Rattle.vol_core.specs.Step.{passing}
 use Rattle.vol_core.specs.Stops.{HasOwnCommits}
 
 -- It shows the plain volume that was just created, whose device passes the calls that its own does, has made no step, and its last commit
--- has the number 0.
+-- has the number 0 and is of epoch 0.
 pub record IsCreated (uuid : List ℕ) (geometry : Geometry) (stepped : SteppedVolume) : Type 0 where
   pub steps : stepped.steps ≡ 0
   pub uuid_is : stepped.volume.objects.uploads.uuid ≡ uuid
   pub number : stepped.volume.log.commits.number ≡ 0
-  pub own : HasOwnCommits stepped.volume
+  pub own : HasOwnCommits 0 stepped.volume
   pub shows : Shows stepped.volume (passing (fuse_in stepped.volume.log.commits.disk.budget) (created_volume geometry))
 
 -- the device is formatted, and asked for nothing else

@@ -1,5 +1,6 @@
-ghost use Rattle.std.specs.Prelude.{◌≡◌, ◌+◌, ◌<◌, [], false};
+ghost use Rattle.std.specs.Prelude.{◌≡◌, ℕ, ◌+◌, ◌<◌, [], false};
 ghost use Rattle.std.specs.Fn.{FnOnceReturnsAtMut};
+ghost use Rattle.lsvd_device.specs.Device.{IsDisk};
 ghost use Rattle.commit_slot.specs.Lending.{ChangesBudgetAlone};
 ghost use Rattle.cache_log.specs.Committed.{IsOnDisk};
 ghost use Rattle.object_uploads.specs.Order.{IsUploads};
@@ -130,7 +131,7 @@ impl<D: Disk, R: Receipt> Volume<D, R> {
     /// What is so of every volume whose commits are its own, as a fact for the proofs of callers: whatever a stop leaves of the device
     /// now keeps the entries up to the head of the last commit, or of the unfinished one. Nothing is done.
     pub fn stands(&self)
-        ensures { HasOwnCommits self.now.volume → KeepsNow self.now.volume }
+        ensures { (epoch : ℕ) → HasOwnCommits epoch self.now.volume → KeepsNow epoch self.now.volume }
     {
         self.log.on_disk();
     }
@@ -149,6 +150,14 @@ impl<D: Disk, R: Receipt> Volume<D, R> {
         ensures { D.state result.now ≡ self.now.volume.log.commits.disk }
     {
         self.log.disk()
+    }
+
+    /// The device, which is a disk. What is not on it or in the store is let go.
+    pub fn into_disk(self) -> D
+        ensures same { D.state result ≡ self.volume.log.commits.disk }
+        ensures is_disk { IsDisk (D.state result) }
+    {
+        self.log.into_disk()
     }
 
     /// Lends the device to a closure, which may be called, and changes no more of it than the calls that it still passes and its room

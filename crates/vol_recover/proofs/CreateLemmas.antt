@@ -1,6 +1,6 @@
--- For `create`: the first object of a volume, and what a put of it leaves.
-use Rattle.std.proofs.Common.{◌≡◌, ℕ, List, [], length, refl, sym, ap, subst, inl, inr, rules, tests}
-use Rattle.std.specs.Prelude.{Option, Some, None, Ok, Err, Result, IfOk}
+-- For `create`: the first object of a volume, and what its puts leave of a store.
+use Rattle.std.proofs.Common.{◌≡◌, ℕ, List, [], length, refl, sym, subst, inl, inr, rules, tests}
+use Rattle.std.specs.Prelude.{Option}
 use Rattle.std.proofs.lemmas.List.{append-nil}
 use Rattle.lsvd_base.specs.declared.geometry.Geometry.{Geometry}
 use Rattle.lsvd_objstore.specs.declared.error.StoreError.{StoreError}
@@ -17,9 +17,15 @@ use Rattle.object_format.specs.Writing.{header_of, MayBeWritten, front_bytes}
 use Rattle.object_stream.specs.Replay.{name_of}
 use Rattle.stopped_volume.specs.Objects.{expected_alone}
 use Rattle.object_recovery.specs.Checkpoints.{expected_of}
-use Rattle.vol_recover.specs.declared.creating.CreateError.TheVariants.{StoreFault, OutOfMemory}
-use Rattle.vol_recover.specs.Creating.{IsFirstObject, PutsFirst, MayPutFirst, of_put}
-use Rattle.object_recovery.proofs.RemovalLemmas.{becomes_so}
+use Rattle.super_recovery.specs.declared.error.SuperError.{SuperError}
+use Rattle.super_recovery.specs.declared.error.SuperError.TheVariants as super_errors
+use Rattle.super_recovery.specs.Faults.{IsNoAnswer}
+use Rattle.super_recovery.specs.Put.{PutsSuper, PutsEpoch, MayBecome}
+use Rattle.vol_recover.specs.declared.creating.CreateError.{CreateError}
+use Rattle.vol_recover.specs.declared.creating.CreateError.TheVariants.{Exists, StoreFault, DeviceFault, OutOfMemory}
+use Rattle.vol_recover.specs.Creating.{IsFirstObject, PutsFirst, PutsEpochToo, PutsNoSuper, PutsSome, PutsVolume, MayPut, IsOfStore, super_of, of_super}
+use Rattle.object_recovery.proofs.RemovalLemmas.{becomes_so, becomes_both}
+use Rattle.vol_recover.proofs.Results.{same_objects, none_changed}
 
 -- ---- the first object
 
@@ -48,15 +54,11 @@ first_object_is uuid geometry bytes law size is =
       ends = refl;
     }
 
-pub ok_if : {T E : Type 0} (P : T → Type 0) (outcome : Result T E) (value : T) → IfOk outcome (λ v. v ≡ value) → P value → IfOk outcome P
-ok_if P (Ok v) value is so = subst P (sym is) so
-ok_if P (Err e) value is so = tt
-
 -- ---- its put
 
-put_first_is : (uuid : List ℕ) (geometry : Geometry) (bytes : List ℕ) (old new : Objects) → IsFirstObject uuid geometry bytes
+put_first_is : (uuid : List ℕ) (geometry : Geometry) (bytes : List ℕ) → IsFirstObject uuid geometry bytes → (old new : Objects)
     → IsPut (name_of uuid 1) bytes old new → PutsFirst uuid geometry old new
-put_first_is uuid geometry bytes old new first put = (
+put_first_is uuid geometry bytes first old new put = (
   bytes,
   put,
   record {
@@ -73,25 +75,83 @@ put_first_is uuid geometry bytes old new first put = (
 pub puts_first : (uuid : List ℕ) (geometry : Geometry) (bytes : List ℕ) (old new : Option Objects) → IsFirstObject uuid geometry bytes
     → Becomes (IsPut (name_of uuid 1) bytes) old new → Becomes (PutsFirst uuid geometry) old new
 puts_first uuid geometry bytes old new first put =
-    becomes_so (IsPut (name_of uuid 1) bytes) (PutsFirst uuid geometry) old new (λ a b is. put_first_is uuid geometry bytes a b first is) put
+    becomes_so (IsPut (name_of uuid 1) bytes) (PutsFirst uuid geometry) old new (put_first_is uuid geometry bytes first) put
 
-may_put_first : (uuid : List ℕ) (geometry : Geometry) (bytes : List ℕ) (old new : Objects) → IsFirstObject uuid geometry bytes
-    → MayBePut (name_of uuid 1) bytes old new → MayPutFirst uuid geometry StoreFault old new
-may_put_first uuid geometry bytes old new first (inl same) = inl same
-may_put_first uuid geometry bytes old new first (inr put) = inr (put_first_is uuid geometry bytes old new first put)
+may_put_first : (uuid : List ℕ) (geometry : Geometry) (bytes : List ℕ) → IsFirstObject uuid geometry bytes → (old new : Objects)
+    → MayBePut (name_of uuid 1) bytes old new → MayBecome (PutsFirst uuid geometry) old new
+may_put_first uuid geometry bytes first old new (inl same) = inl same
+may_put_first uuid geometry bytes first old new (inr put) = inr (put_first_is uuid geometry bytes first old new put)
 
-pub as_before : (uuid : List ℕ) (geometry : Geometry) (old new : Option Objects) → new ≡ old
-    → Becomes (MayPutFirst uuid geometry OutOfMemory) old new
-as_before uuid geometry None new same = same
-as_before uuid geometry (Some old) new same = (old, same, refl)
+-- ---- calls that did nothing, or that failed
 
--- what an error of the put leaves
+-- what an error of the put of the first object leaves
 pub after_error : (uuid : List ℕ) (geometry : Geometry) (bytes : List ℕ) (error : StoreError) (old new : StoreState)
     → IsFirstObject uuid geometry bytes
     → (error ≡ store_errors.Failed → Becomes (MayBePut (name_of uuid 1) bytes) old.objects new.objects)
-    → (error ≡ store_errors.OutOfMemory → new ≡ old) → Becomes (MayPutFirst uuid geometry (of_put error)) old.objects new.objects
+    → (error ≡ store_errors.OutOfMemory → new ≡ old) → Becomes (MayBecome (PutsFirst uuid geometry)) old.objects new.objects
 after_error uuid geometry bytes store_errors.Failed old new first failed lacks =
-    becomes_so (MayBePut (name_of uuid 1) bytes) (MayPutFirst uuid geometry StoreFault) old.objects new.objects
-    (λ a b may. may_put_first uuid geometry bytes a b first may) (failed refl)
+    becomes_so (MayBePut (name_of uuid 1) bytes) (MayBecome (PutsFirst uuid geometry)) old.objects new.objects
+    (may_put_first uuid geometry bytes first) (failed refl)
 after_error uuid geometry bytes store_errors.OutOfMemory old new first failed lacks =
-    as_before uuid geometry old.objects new.objects (ap (λ (s : StoreState). s.objects) (lacks refl))
+    none_changed (MayBecome (PutsFirst uuid geometry)) old.objects new.objects (λ objects. inl refl) (same_objects old new (lacks refl))
+
+-- and one of the put of a super object or of an epoch
+pub after_super_error : (Change : Objects → Objects → Type 0) (error : SuperError) (old new : StoreState) → IsNoAnswer error
+    → (error ≡ super_errors.StoreFault → Becomes (MayBecome Change) old.objects new.objects)
+    → (error ≡ super_errors.OutOfMemory → new ≡ old) → Becomes (MayBecome Change) old.objects new.objects
+after_super_error Change super_errors.NoVolume old new answer failed lacks = absurd answer
+after_super_error Change (super_errors.BadSuper reason) old new answer failed lacks = absurd answer
+after_super_error Change super_errors.StoreFault old new answer failed lacks = failed refl
+after_super_error Change super_errors.OutOfMemory old new answer failed lacks =
+    none_changed (MayBecome Change) old.objects new.objects (λ objects. inl refl) (same_objects old new (lacks refl))
+
+pub of_super_is_of_store : (error : SuperError) → IsOfStore (of_super error)
+of_super_is_of_store super_errors.NoVolume = tt
+of_super_is_of_store (super_errors.BadSuper reason) = tt
+of_super_is_of_store super_errors.StoreFault = tt
+of_super_is_of_store super_errors.OutOfMemory = tt
+
+-- ---- the puts in their order
+
+may_put : (uuid : List ℕ) (geometry : Geometry) (error : CreateError) (old new : Objects) → IsOfStore error
+    → PutsSome uuid geometry old new → MayPut uuid geometry error old new
+may_put uuid geometry Exists old new of_store some = absurd of_store
+may_put uuid geometry StoreFault old new of_store some = some
+may_put uuid geometry DeviceFault old new of_store some = absurd of_store
+may_put uuid geometry OutOfMemory old new of_store some = some
+
+-- the put of the epoch was not acknowledged
+epoch_failed : (uuid : List ℕ) (geometry : Geometry) (old middle new : Objects) → PutsFirst uuid geometry old middle
+    → MayBecome (PutsEpoch uuid 0) middle new → PutsNoSuper uuid geometry old new
+epoch_failed uuid geometry old middle new first (inl same) = inr (inl (subst (PutsFirst uuid geometry old) (sym same) first))
+epoch_failed uuid geometry old middle new first (inr epoch) = inr (inr (middle, first, epoch))
+
+pub after_epoch_error : (uuid : List ℕ) (geometry : Geometry) (old before first new : Option Objects) → before ≡ old
+    → Becomes (PutsFirst uuid geometry) before first → Becomes (MayBecome (PutsEpoch uuid 0)) first new
+    → Becomes (PutsNoSuper uuid geometry) old new
+after_epoch_error uuid geometry old before first new same put may =
+    becomes_both (PutsFirst uuid geometry) (MayBecome (PutsEpoch uuid 0)) (PutsNoSuper uuid geometry) old first new (epoch_failed uuid geometry)
+    (subst (λ objects. Becomes (PutsFirst uuid geometry) objects first) same put) may
+
+-- that of the super object after these
+super_failed : (uuid : List ℕ) (geometry : Geometry) (old middle new : Objects) → PutsEpochToo uuid geometry old middle
+    → MayBecome (PutsSuper (super_of uuid geometry)) middle new → PutsSome uuid geometry old new
+super_failed uuid geometry old middle new puts (inl same) = inl (inr (inr (subst (PutsEpochToo uuid geometry old) (sym same) puts)))
+super_failed uuid geometry old middle new puts (inr super) = inr (middle, puts, super)
+
+pub some_put : (uuid : List ℕ) (geometry : Geometry) (old middle new : Option Objects) → Becomes (PutsEpochToo uuid geometry) old middle
+    → Becomes (MayBecome (PutsSuper (super_of uuid geometry))) middle new → Becomes (PutsSome uuid geometry) old new
+some_put uuid geometry old middle new puts may =
+    becomes_both (PutsEpochToo uuid geometry) (MayBecome (PutsSuper (super_of uuid geometry))) (PutsSome uuid geometry) old middle new
+    (super_failed uuid geometry) puts may
+
+pub all_put : (uuid : List ℕ) (geometry : Geometry) (old middle new : Option Objects) → Becomes (PutsEpochToo uuid geometry) old middle
+    → Becomes (PutsSuper (super_of uuid geometry)) middle new → Becomes (PutsVolume uuid geometry) old new
+all_put uuid geometry old middle new puts super =
+    becomes_both (PutsEpochToo uuid geometry) (PutsSuper (super_of uuid geometry)) (PutsVolume uuid geometry) old middle new
+    (λ a b c first last. (b, first, last)) puts super
+
+pub becomes_may_put : (uuid : List ℕ) (geometry : Geometry) (error : CreateError) (old new : Option Objects) → IsOfStore error
+    → Becomes (PutsSome uuid geometry) old new → Becomes (MayPut uuid geometry error) old new
+becomes_may_put uuid geometry error old new of_store some =
+    becomes_so (PutsSome uuid geometry) (MayPut uuid geometry error) old new (λ a b so. may_put uuid geometry error a b of_store so) some

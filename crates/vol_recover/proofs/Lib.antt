@@ -1,15 +1,4 @@
-mod Moments
-mod RecordLemmas
-mod StoreLemmas
-mod RecoveryLemmas
-mod OutcomeLemmas
-mod CostLemmas
-mod ShownLemmas
-mod AddLemmas
-mod LostLemmas
-mod OpenLemmas
-mod CompleteLemmas
-mod FoundLemmas
-mod LeftLemmas
-mod KeptLemmas
-mod CreateLemmas
+pub mod Results
+pub mod MountLemmas
+pub mod CreateLemmas
+pub mod NewLemmas

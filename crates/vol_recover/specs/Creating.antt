@@ -1,18 +1,26 @@
 -- Contract: what a volume is that was created with its store.
-use Rattle.std.specs.Prelude.{◌≡◌, ℕ, ◌⊎◌, None, Bool, true, false, Result, Ok, Err, List}
+use Rattle.std.specs.Prelude.{◌≡◌, ◌≢◌, ℕ, ◌⊎◌, None, Bool, true, false, Result, Ok, Err, List, []}
 use Rattle.lsvd_base.specs.declared.geometry.Geometry.{Geometry}
 use Rattle.lsvd_device.specs.Device.{DiskState}
-use Rattle.lsvd_objstore.specs.Objects.{Objects, IsPut}
+use Rattle.lsvd_names.specs.declared.name.ObjName.{ObjName}
+use Rattle.lsvd_objstore.specs.Objects.{Objects, found, IsPut}
 use Rattle.lsvd_objstore.specs.declared.error.StoreError.{StoreError}
 use Rattle.lsvd_objstore.specs.declared.error.StoreError.TheVariants as store_errors
 use Rattle.object_format.specs.declared.header.Header.{Header}
 use Rattle.object_format.specs.declared.rows.Rows.TheVariants.{Checkpoint}
 use Rattle.object_stream.specs.Replay.{name_of, HasParts}
+use Rattle.super_format.specs.declared.super_object.Super.{Super}
 use Rattle.stopped_volume.specs.Objects.{expected_alone, IsCheckpointOf}
+use Rattle.stopped_volume.specs.Super.{super_name, epoch_name, HasVolume}
+use Rattle.plain_disk.specs.State.{created_volume}
 use Rattle.object_recovery.specs.Checkpoints.{expected_of}
+use Rattle.super_recovery.specs.declared.error.SuperError.{SuperError}
+use Rattle.super_recovery.specs.declared.error.SuperError.TheVariants as super_errors
+use Rattle.super_recovery.specs.Put.{PutsSuper, PutsEpoch}
+use Rattle.mount_meaning.specs.Found.{HasObjects}
 use Rattle.vol_core.specs.Creating.{CostsFormat}
 use Rattle.vol_recover.specs.declared.creating.CreateError.{CreateError}
-use Rattle.vol_recover.specs.declared.creating.CreateError.TheVariants.{StoreFault, DeviceFault, OutOfMemory}
+use Rattle.vol_recover.specs.declared.creating.CreateError.TheVariants.{Exists, StoreFault, DeviceFault, OutOfMemory}
 
 -- ---- errors
 
@@ -21,7 +29,12 @@ abbrev pub of_put : StoreError → CreateError
 of_put store_errors.Failed = StoreFault
 of_put store_errors.OutOfMemory = OutOfMemory
 
--- ---- the store
+-- and of the super object or an epoch, where none is read
+abbrev pub of_super : SuperError → CreateError
+of_super super_errors.OutOfMemory = OutOfMemory
+of_super error = StoreFault
+
+-- ---- the puts
 
 -- bytes are those of the first object of a volume: a checkpoint without rows, and without entries before it
 pub record IsFirstObject (uuid : List ℕ) (geometry : Geometry) (bytes : List ℕ) : Type 0 where
@@ -35,27 +48,70 @@ abbrev pub PutsFirst : (uuid : List ℕ) → Geometry → (old new : Objects) �
 PutsFirst uuid geometry old new =
     (bytes : List ℕ) × IsPut (name_of uuid 1) bytes old new × IsCheckpointOf (expected_of uuid geometry) new 1 0 (λ k. None)
 
--- what an error leaves of a store: where the device failed it has the first object, and where the store did it may have it
-abbrev pub MayPutFirst : (uuid : List ℕ) → Geometry → CreateError → (old new : Objects) → Type 0
-MayPutFirst uuid geometry StoreFault old new = (new ≡ old) ⊎ PutsFirst uuid geometry old new
-MayPutFirst uuid geometry DeviceFault old new = PutsFirst uuid geometry old new
-MayPutFirst uuid geometry OutOfMemory old new = new ≡ old
+-- and then its first epoch
+abbrev pub PutsEpochToo : (uuid : List ℕ) → Geometry → (old new : Objects) → Type 0
+PutsEpochToo uuid geometry old new = (middle : Objects) × PutsFirst uuid geometry old middle × PutsEpoch uuid 0 middle new
+
+-- what the super object of a volume without ancestors says
+abbrev pub super_of : (uuid : List ℕ) → Geometry → Super
+super_of uuid geometry =
+    record { uuid = uuid; sectors = geometry.sectors; max_write = geometry.max_write; batch = geometry.batch; chain = [] }
+
+-- and last its super object: the whole volume
+abbrev pub PutsVolume : (uuid : List ℕ) → Geometry → (old new : Objects) → Type 0
+PutsVolume uuid geometry old new =
+    (middle : Objects) × PutsEpochToo uuid geometry old middle × PutsSuper (super_of uuid geometry) middle new
+
+-- some of these were put, in this order, but not the super object
+abbrev pub PutsNoSuper : (uuid : List ℕ) → Geometry → (old new : Objects) → Type 0
+PutsNoSuper uuid geometry old new = (new ≡ old) ⊎ (PutsFirst uuid geometry old new ⊎ PutsEpochToo uuid geometry old new)
+
+-- or this too
+abbrev pub PutsSome : (uuid : List ℕ) → Geometry → (old new : Objects) → Type 0
+PutsSome uuid geometry old new = PutsNoSuper uuid geometry old new ⊎ PutsVolume uuid geometry old new
+
+-- what an error leaves of a store: nothing was put of a volume that there is, and where the device failed all but the super object was
+abbrev pub MayPut : (uuid : List ℕ) → Geometry → CreateError → (old new : Objects) → Type 0
+MayPut uuid geometry Exists old new = new ≡ old
+MayPut uuid geometry StoreFault old new = PutsSome uuid geometry old new
+MayPut uuid geometry DeviceFault old new = PutsEpochToo uuid geometry old new
+MayPut uuid geometry OutOfMemory old new = PutsSome uuid geometry old new
+
+-- ---- what stands
+
+-- a store has no more of a volume than its first object and its first epoch, as a creation may leave it that was stopped
+abbrev pub IsNewTo : (uuid : List ℕ) → Objects → Type 0
+IsNewTo uuid objects =
+    (name : ObjName) → name.uuid ≡ uuid → found objects name ≢ None → (name ≡ name_of uuid 1) ⊎ (name ≡ epoch_name uuid 0)
+
+-- the store has the volume, with no entries
+abbrev pub HasNewVolume : (uuid : List ℕ) → Geometry → Objects → Type 0
+HasNewVolume uuid geometry objects = HasVolume uuid geometry 0 objects × HasObjects uuid (created_volume geometry) 1 objects
+
+-- the store has no volume, or has it so
+abbrev pub HasNoneOrNew : (uuid : List ℕ) → Geometry → Objects → Type 0
+HasNoneOrNew uuid geometry objects = (found objects (super_name uuid) ≡ None) ⊎ HasNewVolume uuid geometry objects
 
 -- ---- the device
 
--- what an error leaves of a device: as it was, but where a call of its format failed
+-- what an error leaves of a device: as it was, or formatted; or a call of its format failed
 abbrev pub MayFormat : (uuid : List ℕ) → CreateError → (old new : DiskState) → Type 0
-MayFormat uuid StoreFault old new = new ≡ old
+MayFormat uuid Exists old new = new ≡ old
 MayFormat uuid DeviceFault old new = CostsFormat uuid false old new
-MayFormat uuid OutOfMemory old new = new ≡ old
+MayFormat uuid error old new = (new ≡ old) ⊎ CostsFormat uuid true old new
 
 -- ---- faults
 
--- the put of the first object failed, which ended a creation
+-- the error is that a call of the store failed, or that memory ran out
+abbrev pub IsOfStore : CreateError → Type 0
+IsOfStore StoreFault = Unit {0}
+IsOfStore OutOfMemory = Unit {0}
+IsOfStore error = ⊥
+
+-- a call of the store failed, which ended a creation
 abbrev pub is_put_fault : CreateError → Bool
 is_put_fault StoreFault = true
-is_put_fault DeviceFault = false
-is_put_fault OutOfMemory = false
+is_put_fault error = false
 
 abbrev pub ends_by_put : {T : Type 0} → Result T CreateError → Bool
 ends_by_put (Ok value) = false

@@ -1,6 +1,3 @@
-pub mod Mounted
+pub mod Describing
 pub mod Mounting
-pub mod Refusals
-pub mod Costs
-pub mod Steps
 pub mod Creating

@@ -1,63 +1,29 @@
--- Contract: what a mount makes of a plain volume that device and store have, and what a stop leaves meanwhile.
-use Rattle.std.specs.Prelude.{◌≡◌, ℕ, false, Option, IsSomeAnd, List}
+-- Contract: what is seen of a volume that was mounted, wherever it was found.
+use Rattle.std.specs.Prelude.{◌≡◌, ℕ, ◌⊎◌, Bool, IsTrue, List}
 use Rattle.lsvd_base.specs.declared.geometry.Geometry.{Geometry}
-use Rattle.lsvd_device.specs.Device.{DiskState, HoldsNow, HoldsSince}
-use Rattle.lsvd_device.specs.Memory.{IsSynced}
-use Rattle.lsvd_device.specs.Stop.{HasNow}
+use Rattle.lsvd_base.specs.Limits.{is_within_limits}
+use Rattle.lsvd_device.specs.Device.{DiskState}
 use Rattle.lsvd_objstore.specs.Objects.{Objects}
-use Rattle.plain_disk.specs.declared.log.PlainCommit.{PlainCommit}
-use Rattle.plain_disk.specs.State.{PlainState, history_length}
-use Rattle.plain_disk.specs.Valid.{IsPlainVolume}
-use Rattle.stop_meaning.specs.Stops.{StopKeeps}
-use Rattle.mount_meaning.specs.Found.{HasCommit, HasObjects}
-use Rattle.mount_meaning.specs.Mounted.{end_of_object, mounted_with, mounted_without}
-use Rattle.vol_recover.specs.declared.error.MountError.{MountError}
-use Rattle.vol_recover.specs.Mounted.{MountedState, IsMountOf}
-use Rattle.vol_recover.specs.Refusals.{refuses}
+use Rattle.object_recovery.specs.Removal.{Removes}
+use Rattle.object_recovery.specs.Recovery.{IsPastOf}
+use Rattle.super_recovery.specs.Put.{PutsEpoch}
+use Rattle.vol_mount.specs.Costs.{FailsToFormat}
+use Rattle.vol_mount.specs.Mounted.{MountedState, IsOfVolume}
 
--- ---- without the cache
+-- it is the volume that was asked for, of some sizes within the limits and the log of the device, in some epoch
+abbrev pub IsOfSomeVolume : (uuid : List ℕ) → (log : ℕ) → MountedState → Type 0
+IsOfSomeVolume uuid log mounted =
+    (geometry : Geometry) × (epoch : ℕ) × (geometry.log ≡ log) × IsTrue (is_within_limits geometry) × IsOfVolume uuid geometry epoch mounted
 
--- a store has a plain volume, with its objects up to a number: that before the first missing one
-pub record IsStored (uuid : List ℕ) (geometry : Geometry) (plain : PlainState) (number : ℕ) (objects : Option Objects) : Type 0 where
-  pub valid : IsPlainVolume plain
-  pub geometry_is : plain.geometry ≡ geometry
-  pub objects_are : IsSomeAnd objects (HasObjects uuid plain number)
+-- objects of a volume past some number were removed, or none, and nothing else changed
+abbrev pub RemovesSome : (uuid : List ℕ) → (old new : Objects) → Type 0
+RemovesSome uuid old new = (number : ℕ) × Removes (IsPastOf uuid number) old new
 
--- whichever plain volume the store has, the mount makes of it what one without the cache is to make
-abbrev pub MountsStored : (uuid : List ℕ) → Geometry → Option Objects → MountedState → Type 0
-MountsStored uuid geometry objects mounted =
-    (plain : PlainState) (number : ℕ) → IsStored uuid geometry plain number objects → IsMountOf (mounted_without number plain) number mounted
+-- and then an epoch was put, or not
+abbrev pub RemovesAndBegins : (uuid : List ℕ) → (old new : Objects) → Type 0
+RemovesAndBegins uuid old new =
+    (middle : Objects) × RemovesSome uuid old middle × ((new ≡ middle) ⊎ ((epoch : ℕ) × PutsEpoch uuid epoch middle new))
 
--- ---- with the cache
-
--- Device and store have a plain volume: the store its objects up to a number, and the device reads as this commit of its log.
-pub record IsLeft (uuid : List ℕ) (geometry : Geometry) (plain : PlainState) (found : PlainCommit) (number : ℕ) (objects : Option Objects)
-    (disk : DiskState) : Type 0 where
-  pub stored : IsStored uuid geometry plain number objects
-  pub device : HasNow (λ now. HasCommit uuid plain found (end_of_object number plain) now.bytes) disk.moments
-
--- whichever plain volume they have, the mount makes of it what one with the cache is to make
-abbrev pub MountsLeft : (uuid : List ℕ) → Geometry → Option Objects → DiskState → MountedState → Type 0
-MountsLeft uuid geometry objects disk mounted =
-    (plain : PlainState) (found : PlainCommit) (number : ℕ) → IsLeft uuid geometry plain found number objects disk
-    → IsMountOf (mounted_with found number plain) number mounted
-
--- ---- stops
-
--- Where nothing was pending on the device, whatever a stop leaves of it at each moment of the mount keeps all entries of what is made.
-abbrev pub KeepsLeft : (uuid : List ℕ) → Geometry → Option Objects → (old new : DiskState) → Type 0
-KeepsLeft uuid geometry objects old new =
-    (plain : PlainState) (found : PlainCommit) (number : ℕ) → IsLeft uuid geometry plain found number objects old → HoldsNow IsSynced old.moments
-    → HoldsSince (StopKeeps uuid (mounted_with found number plain) (λ head. head ≡ history_length (mounted_with found number plain)))
-    old.moments new.moments
-
--- ---- completeness
-
--- an error refuses no plain volume that the store has, and none that device and store have
-abbrev pub RefusesNoneStored : (uuid : List ℕ) → Geometry → Option Objects → MountError → Type 0
-RefusesNoneStored uuid geometry objects error =
-    (plain : PlainState) (number : ℕ) → IsStored uuid geometry plain number objects → refuses error ≡ false
-
-abbrev pub RefusesNoneLeft : (uuid : List ℕ) → Geometry → Option Objects → DiskState → MountError → Type 0
-RefusesNoneLeft uuid geometry objects disk error =
-    (plain : PlainState) (found : PlainCommit) (number : ℕ) → IsLeft uuid geometry plain found number objects disk → refuses error ≡ false
+-- no call was made of the device; or one of its format in some epoch failed
+abbrev pub FailsToFormatIn : (uuid : List ℕ) → (is_fault : Bool) → (old new : DiskState) → Type 0
+FailsToFormatIn uuid is_fault old new = (epoch : ℕ) × FailsToFormat uuid epoch is_fault old new

@@ -1,17 +1,21 @@
-ghost use Rattle.std.specs.Prelude.{◌≡◌, true, IsTrue, IfOk, IfErr, OnOk, length};
+ghost use Rattle.std.specs.Prelude.{◌≡◌, true, None, IsTrue, IsSome, IfSome, IfOk, IfErr, OnOk, OnErr, length};
 ghost use Rattle.lsvd_base.specs.Limits.{is_within_limits};
 ghost use Rattle.lsvd_fault.specs.Faults.{Counts};
 ghost use Rattle.lsvd_device.specs.Device.{IsDisk};
 ghost use Rattle.lsvd_names.specs.Spelling.{IsUuid, IsName};
+ghost use Rattle.lsvd_objstore.specs.Objects.{found};
 ghost use Rattle.lsvd_objstore.specs.Store.{Becomes};
 ghost use Rattle.object_stream.specs.Replay.{name_of};
+ghost use Rattle.stopped_volume.specs.Super.{super_name};
 ghost use Rattle.commit_slot.specs.Slots.{log_of};
 ghost use Rattle.plain_disk.specs.State.{created_volume};
 ghost use Rattle.pending_meaning.specs.Pending.{ShowsPending};
+ghost use Rattle.super_recovery.specs.Put.{PutsSuper, MayBecome};
 ghost use Rattle.vol_core.specs.Creating.{IsCreated, CostsFormat, CanFormat};
 ghost use Rattle.vol_recover.specs.declared.creating.CreateError.TheVariants as create_errors;
-ghost use Rattle.vol_recover.specs.Creating.{IsFirstObject, PutsFirst, MayPutFirst, MayFormat, of_put, ends_by_put, ends_by_put_fault};
+ghost use Rattle.vol_recover.specs.Creating.{IsFirstObject, PutsFirst, PutsEpochToo, PutsVolume, PutsNoSuper, MayPut, IsOfStore, IsNewTo, HasNewVolume, HasNoneOrNew, MayFormat, super_of, of_put, of_super, ends_by_put, ends_by_put_fault};
 
+use clone_chain::Chain;
 use lsvd_base::{Geometry, ObjectBytes};
 use lsvd_device::Disk;
 use lsvd_fault::Failed;
@@ -19,6 +23,9 @@ use lsvd_names::{Kind, ObjName};
 use lsvd_objstore::{Store, StoreError};
 use object_format::{Expected, ObjectWriter, Rows, what_is_written_is_an_object};
 use std::alloc::{AllocError, Global};
+use store_meaning::a_stopped_store_has_the_objects;
+use super_format::Super;
+use super_recovery::{SuperError, a_volume_is_created, has_super, put_epoch, put_super};
 use thiserror::Error;
 use uuid::Uuid;
 use vol_core::{Volume, create as create_cache};
@@ -26,6 +33,9 @@ use vol_core::{Volume, create as create_cache};
 /// Why a volume was not created.
 #[derive(Clone, Copy, Debug, PartialEq, Eq, Error)]
 pub enum CreateError {
+    /// The store has a super object of the volume: there is one.
+    #[error("the volume exists")]
+    Exists,
     /// A call of the store failed, and was counted by it.
     #[error("the store failed")]
     StoreFault,
@@ -48,6 +58,18 @@ impl From<StoreError> for CreateError {
     }
 }
 
+impl From<SuperError> for CreateError {
+    ghost from_gives = { λ error e. e ≡ of_super error };
+
+    // Nothing is read of a volume here, so that none is refused.
+    fn from(error: SuperError) -> CreateError {
+        match error {
+            SuperError::OutOfMemory => CreateError::OutOfMemory,
+            _ => CreateError::StoreFault,
+        }
+    }
+}
+
 impl From<AllocError> for CreateError {
     ghost from_gives = { λ _ e. e ≡ create_errors.OutOfMemory };
 
@@ -64,15 +86,19 @@ impl From<Failed> for CreateError {
     }
 }
 
-/// Creates a volume: puts its first object, a checkpoint without rows, into the store, and formats its cache device.
+/// Creates a volume: puts its first object, a checkpoint without rows, and its epoch 0, formats its cache device, and puts its super object
+/// last.
 ///
 /// The geometry is within the limits, its log has just the sectors of the device past byte 4,096, and the device is a disk (conditions).
-/// The device is asked for the calls of formatting alone, of which those are made that its fuse passes, where it has room for them; and
-/// where it tells what it holds too, nothing is pending then. An error comes with the device, which is a disk still:
+/// Where the store has no more of the volume than a creation leaves that was stopped, it has no volume until the super object is put, and
+/// then the whole one, with no entries. The device is asked for the calls of formatting alone, of which those are made that its fuse passes,
+/// where it has room for them; and where it tells what it holds too, nothing is pending then. An error comes with the device, which is a
+/// disk still:
 ///
-/// - `StoreFault`: the put of the first object failed, which the store counted. What was there stands, or that object too.
-/// - `DeviceFault`: a call of the device failed. The store has the first object.
-/// - `OutOfMemory`: memory ran out. Nothing changed.
+/// - `Exists`: the store has a super object of the volume. Nothing was changed.
+/// - `StoreFault`: a call of the store failed, which the store counted. Some of the puts were made, in their order.
+/// - `DeviceFault`: a call of the device failed. All but the super object was put.
+/// - `OutOfMemory`: memory ran out. Some of the puts were made, in their order.
 pub fn create<D: Disk, S: Store>(
     alloc: Global,
     disk: D,
@@ -84,23 +110,89 @@ pub fn create<D: Disk, S: Store>(
     requires log { geometry.log ≡ log_of (D.state disk).size }
     requires is_disk { IsDisk (D.state disk) }
     ensures ok { IfOk result (IsCreated uuid geometry) }
-    ensures first { OnOk result (Becomes (PutsFirst uuid geometry) (S.state store.old).objects (S.state store.new).objects) }
+    ensures made { OnOk result (Becomes (PutsVolume uuid geometry) (S.state store.old).objects (S.state store.new).objects) }
+    ensures absent { OnOk result (IfSome (S.state store.old).objects (λ objects. found objects (super_name uuid) ≡ None)) }
     ensures calls { IfOk result (λ stepped. CostsFormat uuid true (D.state disk) stepped.volume.log.commits.disk) }
     ensures pending { IfOk result (λ stepped.
         CanFormat (D.state disk) → ShowsPending stepped.volume.log (created_volume geometry).cache) }
+    ensures exists { IfErr result (λ error. error.1 ≡ create_errors.Exists
+        → IfSome (S.state store.old).objects (λ objects. IsSome (found objects (super_name uuid)))) }
+    ensures untouched { IfSome (S.state store.old).objects (λ objects. IsSome (found objects (super_name uuid))
+        → (S.state store.new).objects ≡ (S.state store.old).objects) }
+    ensures stands { OnOk result (IfSome (S.state store.old).objects (λ old. IsNewTo uuid old
+        → IfSome (S.state store.new).objects (HasNewVolume uuid geometry))) }
+    ensures moments { IfSome (S.state store.old).objects (λ old. IsNewTo uuid old
+        → IfSome (S.state store.new).objects (HasNoneOrNew uuid geometry)) }
     ensures err { IfErr result (λ error.
-        Becomes (MayPutFirst uuid geometry error.1) (S.state store.old).objects (S.state store.new).objects) }
+        Becomes (MayPut uuid geometry error.1) (S.state store.old).objects (S.state store.new).objects) }
     ensures err_calls { IfErr result (λ error. MayFormat uuid error.1 (D.state disk) (D.state error.0)) }
     ensures faults { Counts (ends_by_put_fault result) (S.state store.old).faults (S.state store.new).faults }
     ensures is_disk { IfErr result (λ error. IsDisk (D.state error.0)) }
 {
-    if let Err(error) = put_first(alloc, store, uuid, &geometry) {
+    a_volume_is_created();
+    a_stopped_store_has_the_objects();
+    if let Err(error) = prepare(alloc, store, uuid, &geometry) {
         return Err((disk, error));
     }
-    match create_cache(alloc, disk, uuid, geometry) {
-        Ok(volume) => Ok(volume),
-        Err((disk, failed)) => Err((disk, failed.into())),
+    let volume = match create_cache(alloc, disk, uuid, geometry) {
+        Ok(volume) => volume,
+        Err((disk, failed)) => return Err((disk, failed.into())),
+    };
+    match complete(alloc, store, uuid, &geometry) {
+        Ok(()) => Ok(volume),
+        Err(error) => Err((volume.into_disk(), error)),
     }
+}
+
+// Refuses a volume that there is, and else puts all of a new one but its super object.
+fn prepare<S: Store>(
+    alloc: Global,
+    store: &mut S,
+    uuid: Uuid,
+    geometry: &Geometry,
+) -> Result<(), CreateError>
+    ensures ok { OnOk result (Becomes (PutsEpochToo uuid geometry.now) (S.state store.old).objects (S.state store.new).objects) }
+    ensures absent { OnOk result (IfSome (S.state store.old).objects (λ objects. found objects (super_name uuid) ≡ None)) }
+    ensures exists { IfErr result (λ error. error ≡ create_errors.Exists
+        → IfSome (S.state store.old).objects (λ objects. IsSome (found objects (super_name uuid)))) }
+    ensures untouched { IfSome (S.state store.old).objects (λ objects. IsSome (found objects (super_name uuid))
+        → (S.state store.new).objects ≡ (S.state store.old).objects) }
+    ensures err { IfErr result (λ error.
+        Becomes (MayPut uuid geometry.now error) (S.state store.old).objects (S.state store.new).objects) }
+    ensures no_super { OnErr result (Becomes (PutsNoSuper uuid geometry.now) (S.state store.old).objects (S.state store.new).objects) }
+    ensures no_device { IfErr result (λ error. error ≡ create_errors.DeviceFault → ⊥) }
+    ensures faults { Counts (ends_by_put result) (S.state store.old).faults (S.state store.new).faults }
+{
+    if has_super(alloc, store, uuid)? {
+        return Err(CreateError::Exists);
+    }
+    put_first(alloc, store, uuid, geometry)?;
+    put_epoch(alloc, store, uuid, 0)?;
+    Ok(())
+}
+
+// Puts the super object of a volume.
+fn complete<S: Store>(
+    alloc: Global,
+    store: &mut S,
+    uuid: Uuid,
+    geometry: &Geometry,
+) -> Result<(), CreateError>
+    requires { IsTrue (is_within_limits geometry.now) }
+    ensures ok { OnOk result (Becomes (PutsSuper (super_of uuid geometry.now)) (S.state store.old).objects (S.state store.new).objects) }
+    ensures err { OnErr result (Becomes (MayBecome (PutsSuper (super_of uuid geometry.now))) (S.state store.old).objects (S.state store.new).objects) }
+    ensures why { IfErr result IsOfStore }
+    ensures faults { Counts (ends_by_put result) (S.state store.old).faults (S.state store.new).faults }
+{
+    let volume = Super {
+        uuid,
+        sectors: geometry.sectors,
+        max_write: geometry.max_write,
+        batch: geometry.batch,
+        chain: Chain::new(alloc),
+    };
+    put_super(alloc, store, &volume)?;
+    Ok(())
 }
 
 // Puts the first object of a volume.
@@ -111,9 +203,8 @@ fn put_first<S: Store>(
     geometry: &Geometry,
 ) -> Result<(), CreateError>
     ensures ok { OnOk result (Becomes (PutsFirst uuid geometry.now) (S.state store.old).objects (S.state store.new).objects) }
-    ensures err { IfErr result (λ error.
-        Becomes (MayPutFirst uuid geometry.now error) (S.state store.old).objects (S.state store.new).objects) }
-    ensures no_device { IfErr result (λ error. error ≡ create_errors.DeviceFault → ⊥) }
+    ensures err { OnErr result (Becomes (MayBecome (PutsFirst uuid geometry.now)) (S.state store.old).objects (S.state store.new).objects) }
+    ensures why { IfErr result IsOfStore }
     ensures faults { Counts (ends_by_put result) (S.state store.old).faults (S.state store.new).faults }
 {
     let object = first_object(alloc, uuid, geometry)?;

@@ -1,26 +1,19 @@
 //! Creating a volume with its store, and mounting it after a stop: with the cache that it had, or without it on a new device.
 //!
-//! Its contract: a volume that was created has no entries, and its store has its first object. A mount with the cache makes of the plain
-//! volume that device and store have what such a mount is to make: the entries of the objects before the first missing one, or those up to
-//! the head of the commit that the cache reads as, if that are more. One without the cache makes the entries of the objects. Objects past
-//! the first missing number are removed. Whenever the device stops meanwhile, the same is left, and the volume may be mounted again. What
-//! is refused is left as it was.
-//! It stands on `object_recovery` for the objects, on `cache_log` for the log, and on `vol_core` for the volume.
+//! Its contract: a volume that was created has no entries, and its store has its first object, its first epoch and its super object, which
+//! is put last, so that a creation that is stopped leaves no volume or the whole one. A mount makes of the volume that the store has, and of
+//! the plain volume that device and store have, what such a mount is to make. Whenever it is stopped, the same is left, and the volume may be
+//! mounted again. What is refused is left as it was.
+//! It stands on `super_recovery` for the super object and epochs, on `vol_mount` for mounts of a volume whose sizes are known, on
+//! `vol_core` for the volume, and on `store_meaning` for the objects that a new store has.
 #![tactic(auto)]
 
-mod adding;
 mod creating;
-mod error;
-mod kept;
-mod lost;
-mod mounted;
-mod opening;
-mod recovery;
+mod describing;
+mod mounting;
 #[cfg(test)]
 mod tests;
 
 pub use creating::{CreateError, create};
-pub use error::MountError;
-pub use kept::mount_kept;
-pub use lost::mount_lost;
-pub use mounted::Mounted;
+pub use mounting::{mount_kept, mount_lost};
+pub use vol_mount::{MountError, Mounted};

@@ -1,20 +1,11 @@
-ghost use Rattle.std.specs.Prelude.{◌≡◌};
-ghost use Rattle.lsvd_names.specs.Spelling.{IsName};
-ghost use Rattle.lsvd_objstore.specs.Memory.{told_receipt};
-ghost use Rattle.vol_core.specs.Step.{HasItsReceipt};
-
 use super::*;
-use log_record::Reason;
-use lsvd_base::{Body, Geometry, ObjectBytes};
-use lsvd_device::{Disk, Fate, FuseDisk, MemDisk, StoppedDisk};
-use lsvd_names::{Kind, ObjName};
-use lsvd_objstore::{MemReceipt, MemStore, Store};
-use object_format::{BadObject, Expected, ObjectWriter, Rows};
+use lsvd_base::Geometry;
+use lsvd_device::{Disk, MemDisk};
+use lsvd_objstore::{FaultStore, MemStore, PlannedFault, Store};
 use std::alloc::{AllocError, Global};
 use std::process::Abort;
 use std::test::Fail;
 use uuid::Uuid;
-use vol_core::{Event, Reply, Volume, create};
 
 const UUID: [u8; 16] = [7; 16];
 
@@ -29,228 +20,177 @@ const GEOMETRY: Geometry = Geometry {
 // The bytes of its device.
 const SIZE: u64 = 4_096 + 512 * 64;
 
-type TestVolume = Volume<MemDisk, MemReceipt>;
+// The bytes of a device whose log is a sector too short for it.
+const SHORT: u64 = 4_096 + 512 * 17;
 
-// Another volume's.
-const OTHER: [u8; 16] = [8; 16];
-
-// The name of the object of a number.
-fn name_of(number: u64) -> ObjName
-    ensures { IsName result }
-{
-    ObjName {
-        uuid: Uuid::from_bytes(UUID),
-        kind: Kind::Object,
-        number,
-    }
+// A call on the volume.
+#[derive(Clone, Copy, Debug)]
+enum Call {
+    // Creates it on its device.
+    Create,
+    // Mounts it with its device.
+    Kept,
+    // Mounts it without its cache, on a new device of so many bytes, which is let go.
+    Lost(u64),
 }
 
-// The first object of the volume: a checkpoint without entries before it.
-fn checkpoint(alloc: Global) -> Result<ObjectBytes, Fail> {
-    let expected = Expected {
-        uuid: UUID,
-        number: 1,
-        sectors: GEOMETRY.sectors,
-        ancestors: 0,
-        end_before: None,
-    };
-    let header = Rows::Checkpoint.header(&expected, 0, 0);
-    if !expected.may_be_written(&header, &Rows::Checkpoint) {
-        return Err("no object".into());
-    }
-    let writer = ObjectWriter::new(alloc, &expected, 0, 0, &Rows::Checkpoint)?;
-    Ok(writer.finish()?)
+// What a call answers.
+#[derive(Clone, Copy, Debug, PartialEq, Eq)]
+enum Answer {
+    Created,
+    NotCreated(CreateError),
+    // With so many entries, and its objects up to that number.
+    Mounted(u64, u64),
+    NotMounted(MountError),
 }
 
-// A store that has that object alone.
-fn new_store(alloc: Global) -> Result<MemStore, Fail> {
-    let mut store = MemStore::new(alloc);
-    store.put(alloc, &name_of(1), &checkpoint(alloc)?)?;
-    Ok(store)
-}
+// Calls on the volume one after the other, and what they answer.
+const CALLS: [(Call, Answer); 10] = [
+    (Call::Kept, Answer::NotMounted(MountError::NoVolume)),
+    (Call::Lost(SIZE), Answer::NotMounted(MountError::NoVolume)),
+    (Call::Create, Answer::Created),
+    (Call::Kept, Answer::Mounted(0, 1)),
+    (Call::Create, Answer::NotCreated(CreateError::Exists)),
+    (Call::Kept, Answer::Mounted(0, 1)),
+    (
+        Call::Lost(SHORT),
+        Answer::NotMounted(MountError::NoSlot { log: 17 }),
+    ),
+    (Call::Lost(SIZE), Answer::Mounted(0, 1)),
+    (Call::Lost(SIZE), Answer::Mounted(0, 1)),
+    (
+        Call::Kept,
+        Answer::NotMounted(MountError::StaleCache { cache: 0, store: 2 }),
+    ),
+];
 
-// A volume that was just created.
-fn created(alloc: Global, uuid: [u8; 16]) -> Result<TestVolume, Fail> {
-    let disk = MemDisk::new(alloc, SIZE)?;
-    Ok(create(alloc, disk, Uuid::from_bytes(uuid), GEOMETRY).map_err(|(_, failed)| failed)?)
-}
-
-fn step(volume: &mut TestVolume, event: Event<MemReceipt>) -> Result<Reply<MemReceipt>, Fail>
-    requires { HasItsReceipt told_receipt event }
-{
-    if 1_000 < volume.steps() {
-        return Err("too many steps")?;
-    }
-    Ok(volume.step(event))
-}
-
-// Writes a sector.
-fn write(alloc: Global, volume: &mut TestVolume, lba: u64) -> Result<(), Fail> {
-    let body = Body::filled(alloc, 1, 0x41)?;
-    step(volume, Event::Write { lba, body })?;
-    Ok(())
-}
-
-// Seals an object and puts it into the store.
-fn seal_and_put(alloc: Global, volume: &mut TestVolume, store: &mut MemStore) -> Result<(), Fail> {
-    step(volume, Event::Seal)?;
-    let Reply::Taken(job) = step(volume, Event::TakeJob)? else {
-        return Err("no job")?;
-    };
-    let receipt = store.put(alloc, &name_of(job.name().number), job.object())?;
-    step(volume, Event::JobDone { job, receipt })?;
-    Ok(())
-}
-
-// What a stop leaves of a disk of which no write that was not synced stands.
-fn stopped(alloc: Global, disk: &mut MemDisk) -> Result<MemDisk, AllocError>
-    ensures { disk.new ≡ disk.old }
-{
-    let fates = vec![in alloc; Fate::Old; disk.pending()]?;
-    disk.stopped(alloc, fates.as_slice())
-}
-
-// The device of a volume of four writes: two are in object 2 of the store, one more was flushed, and the last one was not.
-fn stopped_device(alloc: Global, store: &mut MemStore) -> Result<MemDisk, Fail> {
-    let mut volume = created(alloc, UUID)?;
-    write(alloc, &mut volume, 3)?;
-    write(alloc, &mut volume, 5)?;
-    seal_and_put(alloc, &mut volume, store)?;
-    write(alloc, &mut volume, 7)?;
-    step(&mut volume, Event::Flush)?;
-    write(alloc, &mut volume, 9)?;
-    Ok(volume.with_disk(|disk| stopped(alloc, disk))?)
-}
-
-// The entries and the number of a mount, or its error with the device.
-type Outcome<D> = Result<(u64, u64), (D, MountError)>;
-
-// Mounts a volume with its cache.
-fn kept<D: Disk + Drop>(
+// Creates the volume. The device is given back.
+fn created<S: Store>(
     rt: &impl Abort,
     alloc: Global,
-    disk: D,
-    store: &mut MemStore,
-) -> Outcome<D> {
+    store: &mut S,
+    disk: MemDisk,
+) -> (MemDisk, Answer) {
     assert!(rt; disk.len() == SIZE && GEOMETRY.is_within_limits());
-    let mounted = mount_kept(alloc, disk, store, Uuid::from_bytes(UUID), GEOMETRY)?;
-    Ok((mounted.entries, mounted.number))
-}
-
-// Mounts the volume without it.
-fn lost(rt: &impl Abort, alloc: Global, store: &mut MemStore) -> Result<(u64, u64), Fail> {
-    let disk = MemDisk::new(alloc, SIZE)?;
-    assert!(rt; disk.len() == SIZE && GEOMETRY.is_within_limits());
-    match mount_lost(alloc, disk, store, Uuid::from_bytes(UUID), GEOMETRY) {
-        Ok(mounted) => Ok((mounted.entries, mounted.number)),
-        Err(_) => Err("not mounted")?,
+    match create(alloc, disk, store, Uuid::from_bytes(UUID), GEOMETRY) {
+        Ok(volume) => (volume.into_disk(), Answer::Created),
+        Err((disk, error)) => (disk, Answer::NotCreated(error)),
     }
 }
 
-#[test]
-fn a_volume_is_mounted_with_and_without_its_cache(rt: HostRuntime) -> Result<(), Fail> {
-    let alloc = rt.alloc();
-    let mut store = new_store(alloc)?;
-    let disk = stopped_device(alloc, &mut store)?;
-    let mounted = kept(&rt, alloc, disk, &mut store);
-    assert!(rt; matches!(mounted, Ok((3, 2))));
-    assert_eq!(rt; lost(&rt, alloc, &mut store)?, (2, 2));
-    Ok(())
-}
-
-#[test]
-fn a_mount_that_a_fault_ended_is_made_again(rt: HostRuntime) -> Result<(), Fail> {
-    let alloc = rt.alloc();
-    for calls in 0..20 {
-        let mut store = new_store(alloc)?;
-        let disk = stopped_device(alloc, &mut store)?;
-        assert!(rt; disk.len() == SIZE);
-        let fused = FuseDisk::new(disk, Some(calls));
-        match kept(&rt, alloc, fused, &mut store) {
-            Ok(mounted) => assert_eq!(rt; mounted, (3, 2)),
-            Err((fused, error)) => {
-                assert_eq!(rt; error, MountError::DeviceFault, "call {calls}");
-                let again = kept(&rt, alloc, fused.into_disk(), &mut store);
-                assert!(rt; matches!(again, Ok((3, 2))), "call {calls}");
-            }
+// Mounts the volume with its cache. The device is given back.
+fn kept<S: Store>(
+    rt: &impl Abort,
+    alloc: Global,
+    store: &mut S,
+    disk: MemDisk,
+) -> (MemDisk, Answer) {
+    assert!(rt; disk.len() == SIZE);
+    match mount_kept(alloc, disk, store, Uuid::from_bytes(UUID)) {
+        Ok(mounted) => {
+            let answer = Answer::Mounted(mounted.entries, mounted.number);
+            (mounted.volume.into_disk(), answer)
         }
+        Err((disk, error)) => (disk, Answer::NotMounted(error)),
+    }
+}
+
+// Mounts the volume without its cache, on a new device of so many bytes.
+fn lost<S: Store>(
+    rt: &impl Abort,
+    alloc: Global,
+    store: &mut S,
+    size: u64,
+) -> Result<Answer, AllocError> {
+    let disk = MemDisk::new(alloc, size)?;
+    assert!(rt; disk.len() == size);
+    match mount_lost(alloc, disk, store, Uuid::from_bytes(UUID)) {
+        Ok(mounted) => Ok(Answer::Mounted(mounted.entries, mounted.number)),
+        Err((_disk, error)) => Ok(Answer::NotMounted(error)),
+    }
+}
+
+// What a call answers, and the volume's device after it.
+fn answered<S: Store>(
+    rt: &impl Abort,
+    alloc: Global,
+    store: &mut S,
+    disk: MemDisk,
+    call: Call,
+) -> Result<(MemDisk, Answer), AllocError> {
+    match call {
+        Call::Create => Ok(created(rt, alloc, store, disk)),
+        Call::Kept => Ok(kept(rt, alloc, store, disk)),
+        Call::Lost(size) => Ok((disk, lost(rt, alloc, store, size)?)),
+    }
+}
+
+#[test]
+fn a_volume_is_created_and_mounted(rt: HostRuntime) -> Result<(), Fail> {
+    let alloc = rt.alloc();
+    let mut store = MemStore::new(alloc);
+    let mut disk = MemDisk::new(alloc, SIZE)?;
+    for (call, wanted) in CALLS {
+        let (left, answer) = answered(&rt, alloc, &mut store, disk, call)?;
+        assert_eq!(rt; answer, wanted, "{call:?}");
+        disk = left;
     }
     Ok(())
 }
 
-// Why a mount gave none.
-fn refusal(outcome: Outcome<MemDisk>) -> Option<MountError> {
-    match outcome {
-        Ok(_) => None,
-        Err((_disk, error)) => Some(error),
+const FAILED: Answer = Answer::NotCreated(CreateError::StoreFault);
+
+const NONE: Answer = Answer::NotMounted(MountError::NoVolume);
+
+const EXISTS: Answer = Answer::NotCreated(CreateError::Exists);
+
+const WHOLE: Answer = Answer::Mounted(0, 1);
+
+// Which call of a creation fails, whether it lands all the same, and what a mount answers then, and a creation after that. The calls are
+// whether there is a super object, and three puts, of which that of the super object is the last.
+const FAULTS: [(u64, bool, Answer, Answer); 6] = [
+    (1, false, NONE, Answer::Created),
+    (2, false, NONE, Answer::Created),
+    (2, true, NONE, Answer::Created),
+    (3, true, NONE, Answer::Created),
+    (4, false, NONE, Answer::Created),
+    (4, true, WHOLE, EXISTS),
+];
+
+// What they answer. The first creation fails, and in the end there is the whole volume.
+fn after_fault(
+    rt: &impl Abort,
+    alloc: Global,
+    fault: PlannedFault,
+) -> Result<(Answer, Answer), AllocError> {
+    let mut store = FaultStore::new(alloc, MemStore::new(alloc), &[fault])?;
+    let disk = MemDisk::new(alloc, SIZE)?;
+    let (disk, failed) = created(rt, alloc, &mut store, disk);
+    assert!(rt; failed == FAILED);
+    let (disk, mounted) = kept(rt, alloc, &mut store, disk);
+    let (disk, again) = created(rt, alloc, &mut store, disk);
+    let (_disk, whole) = kept(rt, alloc, &mut store, disk);
+    assert!(rt; whole == WHOLE);
+    Ok((mounted, again))
+}
+
+#[test]
+fn a_creation_that_failed_left_no_volume_or_the_whole_one(rt: HostRuntime) -> Result<(), Fail> {
+    for (call, lands, wanted, wanted_again) in FAULTS {
+        let fault = PlannedFault { call, lands };
+        let (mounted, again) = after_fault(&rt, rt.alloc(), fault)?;
+        assert_eq!(rt; mounted, wanted, "call {call}");
+        assert_eq!(rt; again, wanted_again, "call {call}");
     }
-}
-
-#[test]
-fn a_device_without_a_slot_is_refused(rt: HostRuntime) -> Result<(), Fail> {
-    let alloc = rt.alloc();
-    let blank = MemDisk::new(alloc, SIZE)?;
-    let error = refusal(kept(&rt, alloc, blank, &mut new_store(alloc)?));
-    assert_eq!(rt; error, Some(MountError::NoSlot { log: 64 }));
     Ok(())
 }
 
-#[test]
-fn the_cache_of_another_volume_is_refused(rt: HostRuntime) -> Result<(), Fail> {
-    let alloc = rt.alloc();
-    let mut other = created(alloc, OTHER)?;
-    let disk = other.with_disk(|disk| stopped(alloc, disk))?;
-    let error = refusal(kept(&rt, alloc, disk, &mut new_store(alloc)?));
-    let found = Uuid::from_bytes(OTHER);
-    assert_eq!(rt; error, Some(MountError::WrongVolume { found }));
-    Ok(())
-}
-
-#[test]
-fn a_log_that_begins_past_the_objects_is_refused(rt: HostRuntime) -> Result<(), Fail> {
-    let alloc = rt.alloc();
-    let disk = stopped_device(alloc, &mut new_store(alloc)?)?;
-    let error = refusal(kept(&rt, alloc, disk, &mut new_store(alloc)?));
-    let reason = Reason::Seq;
-    assert_eq!(rt; error, Some(MountError::BadRecord { seq: 0, reason }));
-    Ok(())
-}
-
-// Errors that name no volume, and their texts.
-const TEXTS: [(MountError, &str); 9] = [
-    (
-        MountError::NoCheckpoint,
-        "the store has no checkpoint of the volume",
-    ),
-    (
-        MountError::BadObject {
-            number: 3,
-            reason: BadObject::Seqs,
-        },
-        "bad object 3: seqs out of order",
-    ),
-    (
-        MountError::NotData { number: 4 },
-        "object 4 holds no entries",
-    ),
-    (
-        MountError::NoSlot { log: 9 },
-        "no slot of the device is open",
-    ),
-    (
-        MountError::BadRecord {
-            seq: 5,
-            reason: Reason::Seq,
-        },
-        "bad record 5: another seq",
-    ),
-    (
-        MountError::Worn { value: 1 << 60 },
-        "1152921504606846976: the volume is worn out",
-    ),
-    (MountError::StoreFault, "the store failed"),
-    (MountError::DeviceFault, "the device failed"),
-    (MountError::OutOfMemory, "out of memory"),
+// Errors of a creation, and their texts.
+const TEXTS: [(CreateError, &str); 4] = [
+    (CreateError::Exists, "the volume exists"),
+    (CreateError::StoreFault, "the store failed"),
+    (CreateError::DeviceFault, "the device failed"),
+    (CreateError::OutOfMemory, "out of memory"),
 ];
 
 #[test]
@@ -259,9 +199,5 @@ fn errors_are_told(rt: HostRuntime) -> Result<(), Fail> {
         let told = format!(in rt.alloc(); "{error}")?;
         assert_eq!(rt; told.as_str(), wanted);
     }
-    let found = Uuid::from_bytes(UUID);
-    let told = format!(in rt.alloc(); "{}", MountError::WrongVolume { found })?;
-    let wanted = "the device is of the volume 07070707-0707-0707-0707-070707070707";
-    assert_eq!(rt; told.as_str(), wanted);
     Ok(())
 }

@@ -1,6 +1,6 @@
 -- What commands are answered, by what the steps of a rig answer; and why the others are not.
-use Rattle.std.proofs.Common.{◌≡◌, ℕ, Bool, true, false, List, [], ◌∷◌, ◌++◌, length, map, refl, sym, ◌∙◌, ap, subst}
-use Rattle.std.specs.Prelude.{Option, Some, None, is_some, IsTrue, Result, Ok, Err, IfOk, IfErr, IsErrAnd, codes, decimal}
+use Rattle.std.proofs.Common.{◌≡◌, ℕ, Bool, true, false, List, [], ◌∷◌, length, map, refl, sym, ◌∙◌, ap, subst}
+use Rattle.std.specs.Prelude.{Option, Some, None, is_some, IsTrue, Result, Ok, Err, IfOk, IfErr, IsErrAnd}
 use Rattle.lsvd_base.specs.declared.geometry.Geometry.{Geometry}
 use Rattle.lsvd_device.specs.declared.fate.Fate.{Fate}
 use Rattle.lsvd_device.specs.declared.fate.Fate.TheVariants as fates
@@ -19,7 +19,7 @@ use Rattle.replay_script.specs.declared.command.Command.TheVariants as commands
 use Rattle.replay_script.specs.RunText.{IsRunText}
 use Rattle.transcript.specs.Letters as letters
 use Rattle.transcript.specs.Letters.{is_dash, fits_writes, fates_of, kept_by, under_way, fits_objects, landed_by}
-use Rattle.transcript.specs.Answers.{State, TellsReply, Steps, released_by, FitKept, FitLost, AnswersOn, IsNew, IsAllowed, text_of_mount}
+use Rattle.transcript.specs.Answers.{State, TellsReply, Steps, released_by, FitKept, FitLost, AnswersOn, IsNew, text_of_mount}
 use Rattle.transcript.specs.declared.reason.Reason.TheVariants.{NotAllowed, Letters}
 use Rattle.vol_replay.specs.declared.answer.Answer.{Answer}
 use Rattle.vol_replay.specs.declared.answer.Answer.TheVariants as answers
@@ -29,7 +29,6 @@ use Rattle.vol_replay.specs.Answers.{TellsAnswer, SaysReply}
 use Rattle.vol_replay.specs.Bench.{AnswersEvent, AnswersRead, FailsPut, StopsAfter, IsMountTold, MountsKeptRig, MountsLostRig}
 use Rattle.vol_replay.specs.Lines.{is_crash, AnswersCommand, IsUnanswered}
 use Rattle.vol_replay.specs.Rig.{RigState, ShowsPlain}
-use Rattle.vol_replay.specs.Written.{ShowsState}
 
 -- a command is not answered where memory ran out
 pub unanswered : {T : Type 0} (result : Result T Refusal) (rig : Option RigState) (command : Command) → IsErrAnd result (λ refusal. refusal ≡ OutOfMemory)

@@ -1,7 +1,9 @@
 -- For `crash`: disks that fail no call, and what is created and mounted on them.
-use Rattle.std.proofs.Common.{◌≡◌, ℕ, zero, suc, ◌+◌, ◌^◌, ◌<◌, ◌≤◌, Bool, true, false, List, [], ◌∷◌, ◌++◌, length, take, min, get_or}
-use Rattle.std.proofs.Common.{refl, sym, ◌∙◌, ap, subst, inl, inr, arith}
-use Rattle.std.specs.Prelude.{Option, Some, None, not, ◌==◌, ◌⊎◌}
+use Rattle.std.proofs.Common.{◌≡◌, ℕ, zero, suc, ◌+◌, ◌<◌, ◌≤◌, Bool, true, false, List, [], ◌∷◌, ◌++◌, length, take, min, get_or}
+use Rattle.std.proofs.Common.{refl, sym, ◌∙◌, ap, subst, inl, inr, arith, rules}
+use Rattle.std.specs.Prelude.{Option, Some, None, IsSome, not, ◌==◌}
+use Rattle.std.proofs.lemmas.List.Elements.{All-from_recursion}
+use Rattle.lsvd_names.specs.Spelling.{IsUuid}
 use Rattle.std.proofs.lemmas.List.{length-take-le, length_push, take_more}
 use Rattle.lsvd_base.specs.declared.geometry.Geometry.{Geometry}
 use Rattle.lsvd_fault.specs.Faults.{Counts, CountsOne}
@@ -16,8 +18,11 @@ use Rattle.lsvd_device.specs.declared.fate.Fate.{Fate}
 use Rattle.lsvd_objstore.specs.Objects.{Objects, found}
 use Rattle.lsvd_objstore.specs.Store.{Becomes}
 use Rattle.object_stream.specs.Replay.{name_of}
-use Rattle.commit_body.specs.declared.body.CommitBody.{CommitBody}
-use Rattle.commit_slot.specs.Slots.{Reads}
+use Rattle.stopped_volume.specs.Objects.{IsCheckpointOf}
+use Rattle.stopped_volume.specs.Super.{super_name, epoch_name, HasVolume}
+use Rattle.super_recovery.proofs.LawLemmas.{says_the_same, next_epoch_is_begun}
+use Rattle.object_recovery.specs.Checkpoints.{expected_of}
+use Rattle.commit_slot.specs.Slots.{log_of}
 use Rattle.commit_slot.specs.Formatting.{format_cost, format_calls}
 use Rattle.commit_slot.specs.Sequence.{Costs}
 use Rattle.cache_log.specs.Committed.{first_body}
@@ -32,16 +37,19 @@ use Rattle.vol_core.specs.Creating.{IsCreated, CostsFormat, CanFormat}
 use Rattle.vol_core.proofs.CreateLemmas.{format_covered}
 use Rattle.vol_recover.specs.declared.creating.CreateError.{CreateError}
 use Rattle.vol_recover.specs.declared.creating.CreateError.TheVariants as create_errors
-use Rattle.vol_recover.specs.declared.error.MountError.{MountError}
-use Rattle.vol_recover.specs.declared.error.MountError.TheVariants.{NoCheckpoint, BadObject, NotData, NoSlot, WrongVolume, BadRecord}
-use Rattle.vol_recover.specs.declared.error.MountError.TheVariants.{Worn, StoreFault, DeviceFault, OutOfMemory}
-use Rattle.vol_recover.specs.Costs.{mount_cost, CostsMount, FailsToFormat}
-use Rattle.vol_recover.specs.Costs as mounts
-use Rattle.vol_recover.specs.Creating.{PutsFirst, MayFormat, is_put_fault}
-use Rattle.vol_recover.specs.Mounted.{MountedState, disk_of, IsOfVolume}
-use Rattle.vol_recover.specs.Mounting.{RefusesNoneStored, RefusesNoneLeft, KeepsLeft}
-use Rattle.vol_recover.specs.Refusals.{IsWhyNotStored, IsWhyNotLeft, refuses, is_device_fault, is_store_fault_of}
-use Rattle.vol_replay.specs.Crash.{FailsNone, IsBlankDisk, IsLeftBy, LandsAs, Lands, IsNewVolume, MayMountStored, MayMountLeft, IsMountedVolume}
+use Rattle.vol_mount.specs.declared.error.MountError.{MountError}
+use Rattle.vol_mount.specs.declared.error.MountError.TheVariants.{NoVolume, BadSuper, HasAncestors, NoCheckpoint, BadObject, NotData, NoSlot}
+use Rattle.vol_mount.specs.declared.error.MountError.TheVariants.{WrongVolume, StaleCache, BadRecord, Worn, StoreFault, DeviceFault, OutOfMemory}
+use Rattle.vol_mount.specs.Costs.{mount_cost, CostsMount}
+use Rattle.vol_mount.specs.Costs as mounts
+use Rattle.vol_mount.specs.Epochs.{BeginsEpoch}
+use Rattle.vol_mount.specs.Mounted.{MountedState, disk_of, IsOfVolume}
+use Rattle.vol_mount.specs.Mounting.{RefusesNoneStored, RefusesNoneLeft, KeepsLeft}
+use Rattle.vol_mount.specs.Refusals.{IsWhyLost, IsWhyNotLeft, refuses, is_device_fault, is_store_fault_of}
+use Rattle.vol_recover.specs.Creating.{PutsVolume, IsNewTo, HasNewVolume, MayFormat, is_put_fault}
+use Rattle.vol_recover.specs.Describing.{OfVolume, IsWhyFor}
+use Rattle.vol_recover.specs.Mounting.{FailsToFormatIn}
+use Rattle.vol_replay.specs.Crash.{FailsNone, IsBlankDisk, IsLeftBy, LandsAs, Lands, IsNewVolume, MayMountStored, MayMountLeft, RemovesNumbers, IsMountedVolume}
 use Rattle.vol_replay.specs.Puts.{PutView}
 use Rattle.vol_replay.specs.Rig.{script_uuid}
 
@@ -81,9 +89,9 @@ most_all most is_made old new fails makes =
     makes.calls.budget
 
 -- the room for a mount is the same whatever entries there are
-mounts_all : (geometry : Geometry) (is_made : Bool) (old new : DiskState) → FailsNone (mount_cost 0) old → CostsMount geometry is_made old new
+mounts_all : (log : ℕ) (is_made : Bool) (old new : DiskState) → FailsNone (mount_cost 0) old → CostsMount log is_made old new
     → (is_made ≡ true) × (fuse_of new.budget ≡ Some None)
-mounts_all geometry is_made old new fails is =
+mounts_all log is_made old new fails is =
     most_all (mount_cost is.count) is_made old new (record { is_disk = fails.is_disk; fuse = fails.fuse; room = fails.room }) is.calls
 
 -- ---- a store in memory
@@ -106,60 +114,93 @@ blank_now len disk blank = subst (HasNow (λ now. Unit {0})) (sym blank.moments)
 other_name : (uuid : List ℕ) (number : ℕ) → (number ≡ 1 → ⊥) → name_of uuid number ≡ name_of uuid 1 → ⊥
 other_name uuid number other same = other (ap (λ (name : ObjName). name.number) same)
 
+-- an empty store has nothing of a volume
+empty_is_new : (objects : Objects) → objects ≡ [] → IsNewTo script_uuid objects
+empty_is_new objects empty = λ name own there. absurd (there (ap (λ (os : Objects). found os name) empty))
+
+-- no other numbered object was put
+no_other : (geometry : Geometry) (old new : Objects) (number : ℕ) → (number ≡ 1 → ⊥) → PutsVolume script_uuid geometry old new
+    → found new (name_of script_uuid number) ≡ found old (name_of script_uuid number)
+no_other geometry old new number other puts =
+    let (middle, (first, put, epoch), whole) = puts in
+    whole.others (name_of script_uuid number) (λ same. (let e = ap (λ (name : ObjName). name.kind) same in cc))
+    ∙ epoch.others (name_of script_uuid number) (λ same. (let e = ap (λ (name : ObjName). name.kind) same in cc))
+    ∙ put.1.others (name_of script_uuid number) (other_name script_uuid number other)
+
+-- the first object stands
+first_there : (geometry : Geometry) (old new : Objects) → PutsVolume script_uuid geometry old new
+    → IsCheckpointOf (expected_of script_uuid geometry) new 1 0 (λ k. None)
+first_there geometry old new puts =
+    let (middle, (first, put, epoch), whole) = puts in
+    let name : ObjName = name_of script_uuid 1 in
+    let there : found new name ≡ found first name =
+    whole.others name (λ same. (let e = ap (λ (n : ObjName). n.kind) same in cc))
+    ∙ epoch.others name (λ same. (let e = ap (λ (n : ObjName). n.kind) same in cc)) in
+    record {
+      bytes = put.2.bytes;
+      present = there ∙ put.2.present;
+      header = put.2.header;
+      payload = put.2.payload;
+      parts = put.2.parts;
+      ends = put.2.ends;
+      none = put.2.none;
+    }
+
 pub new_volume : (geometry : Geometry) (disk : DiskState) (volume : SteppedVolume) (old new : Objects) → FailsNone format_cost disk
     → IsBlankDisk disk.size disk → old ≡ [] → IsCreated script_uuid geometry volume
-    → Becomes (PutsFirst script_uuid geometry) (Some old) (Some new) → CostsFormat script_uuid true disk volume.volume.log.commits.disk
+    → Becomes (PutsVolume script_uuid geometry) (Some old) (Some new) → (IsNewTo script_uuid old → HasNewVolume script_uuid geometry new)
+    → CostsFormat script_uuid true disk volume.volume.log.commits.disk
     → (CanFormat disk → ShowsPending volume.volume.log (created_volume geometry).cache) → IsNewVolume geometry volume new
-new_volume geometry disk volume old new fails blank empty created becomes calls pending =
-    let first = becomes_told (PutsFirst script_uuid geometry) old new becomes in
+new_volume geometry disk volume old new fails blank empty created becomes stands calls pending =
+    let puts = becomes_told (PutsVolume script_uuid geometry) old new becomes in
     record {
       created = created;
       fuse = (makes_all format_cost true disk volume.volume.log.commits.disk fails calls.calls).1;
       pending = pending (record { now = blank_now disk.size disk blank; room = fails.room });
       commits = created.number;
-      first = first.2;
-      none_else = λ number other. first.1.others (name_of script_uuid number) (other_name script_uuid number other)
+      described = (stands (empty_is_new old empty)).0;
+      first = first_there geometry old new puts;
+      none_else = λ number other. no_other geometry old new number other puts
           ∙ ap (λ (objects : Objects). found objects (name_of script_uuid number)) empty;
     }
 
 -- what ends a creation is want of memory alone
-pub only_memory_to_create : (disk left : DiskState) (error : CreateError) → FailsNone format_cost disk → MayFormat script_uuid error disk left
+pub only_memory_to_create : (disk left : DiskState) (error : CreateError) (old : Objects) → FailsNone format_cost disk
+    → MayFormat script_uuid error disk left → old ≡ [] → (error ≡ create_errors.Exists → IsSome (found old (super_name script_uuid)))
     → Counts (is_put_fault error) 0 0 → error ≡ create_errors.OutOfMemory
-only_memory_to_create disk left create_errors.StoreFault fails format counts = absurd (no_fault counts)
-only_memory_to_create disk left create_errors.DeviceFault fails format counts =
+only_memory_to_create disk left create_errors.Exists old fails format empty exists counts =
+    absurd (let e : IsSome (found [] (super_name script_uuid)) = subst (λ (os : Objects). IsSome (found os (super_name script_uuid))) empty (exists refl) in cc)
+only_memory_to_create disk left create_errors.StoreFault old fails format empty exists counts = absurd (no_fault counts)
+only_memory_to_create disk left create_errors.DeviceFault old fails format empty exists counts =
     absurd (let made = (makes_all format_cost false disk left fails format.calls).0 in cc)
-only_memory_to_create disk left create_errors.OutOfMemory fails format counts = refl
+only_memory_to_create disk left create_errors.OutOfMemory old fails format empty exists counts = refl
 
 -- ---- a mount with the cache
-
-no_worn_left : (geometry : Geometry) (value : ℕ) (moments : List Medium)
-    → HoldsNow (λ now. (number : ℕ) (body : CommitBody) → Reads geometry.log now.bytes body number
-    → (number < 2 ^ 60) × (body.head.seq < 2 ^ 60)) moments
-    → HasNow (λ now. Unit {0}) moments → 2 ^ 60 ≤ value
-    → HoldsNow (λ now. (number : ℕ) × (body : CommitBody) × Reads geometry.log now.bytes body number
-    × ((value ≡ number) ⊎ (value ≡ body.head.seq))) moments
-    → ⊥
-no_worn_left geometry value [] young has high reads = has
-no_worn_left geometry value (now ∷ past) young has high reads =
-    let small = young reads.0 reads.1 reads.2 in
-    let number = small.0 in
-    let head = small.1 in
-    elim reads.3 [ inl is ↦ omega (arith, number, high, is) | inr is ↦ omega (arith, head, high, is) ]
 
 has_one : (P : Medium → Type 0) (moments : List Medium) → HasNow P moments → HasNow (λ now. Unit {0}) moments
 has_one P [] has = has
 has_one P (now ∷ past) has = tt
 
 -- what it has is not refused
-no_refusal_left : (geometry : Geometry) (objects : Objects) (disk : DiskState) (error : MountError) → MayMountLeft geometry objects disk
-    → RefusesNoneLeft script_uuid geometry (Some objects) disk error → refuses error ≡ true → ⊥
-no_refusal_left geometry objects disk error may none refused = (let e = none may.plain may.found may.number may.left in cc)
+no_refusal_left : (geometry : Geometry) (objects : Objects) (disk : DiskState) (error : MountError)
+    → (may : MayMountLeft geometry objects disk)
+    → OfVolume script_uuid (log_of disk.size) (Some objects) (λ g epoch. RefusesNoneLeft script_uuid g epoch (Some objects) disk error)
+    → refuses error ≡ true → ⊥
+no_refusal_left geometry objects disk error may none refused =
+    (let e = none geometry may.epoch may.log may.described may.plain may.found may.number may.left in cc)
 
 -- what ends a mount is want of memory alone
 pub only_memory_left : (geometry : Geometry) (objects : Objects) (disk left : DiskState) (error : MountError) → FailsNone (mount_cost 0) disk
-    → MayMountLeft geometry objects disk → IsWhyNotLeft script_uuid geometry (Some objects) disk error
-    → RefusesNoneLeft script_uuid geometry (Some objects) disk error → CostsMount geometry (not (is_device_fault error)) disk left
-    → Counts (is_store_fault_of error) 0 0 → error ≡ OutOfMemory
+    → MayMountLeft geometry objects disk
+    → OfVolume script_uuid (log_of disk.size) (Some objects) (λ g epoch. IsWhyFor (λ h e. IsWhyNotLeft script_uuid h e (Some objects) disk) g epoch error)
+    → OfVolume script_uuid (log_of disk.size) (Some objects) (λ g epoch. RefusesNoneLeft script_uuid g epoch (Some objects) disk error)
+    → CostsMount (log_of disk.size) (not (is_device_fault error)) disk left → Counts (is_store_fault_of error) 0 0 → error ≡ OutOfMemory
+only_memory_left geometry objects disk left NoVolume fails may why none costs counts =
+    absurd (no_refusal_left geometry objects disk NoVolume may none refl)
+only_memory_left geometry objects disk left (BadSuper reason) fails may why none costs counts =
+    absurd (no_refusal_left geometry objects disk (BadSuper reason) may none refl)
+only_memory_left geometry objects disk left (HasAncestors count) fails may why none costs counts =
+    absurd (no_refusal_left geometry objects disk (HasAncestors count) may none refl)
 only_memory_left geometry objects disk left NoCheckpoint fails may why none costs counts =
     absurd (no_refusal_left geometry objects disk NoCheckpoint may none refl)
 only_memory_left geometry objects disk left (BadObject number reason) fails may why none costs counts =
@@ -170,15 +211,15 @@ only_memory_left geometry objects disk left (NoSlot log) fails may why none cost
     absurd (no_refusal_left geometry objects disk (NoSlot log) may none refl)
 only_memory_left geometry objects disk left (WrongVolume uuid) fails may why none costs counts =
     absurd (no_refusal_left geometry objects disk (WrongVolume uuid) may none refl)
+only_memory_left geometry objects disk left (StaleCache cache store) fails may why none costs counts =
+    absurd (no_refusal_left geometry objects disk (StaleCache cache store) may none refl)
 only_memory_left geometry objects disk left (BadRecord seq reason) fails may why none costs counts =
     absurd (no_refusal_left geometry objects disk (BadRecord seq reason) may none refl)
-only_memory_left geometry objects disk left (Worn value) fails may why none costs counts = absurd (elim why [
-  | inl refused ↦ may.low value refused.why
-  | inr worn ↦ no_worn_left geometry value disk.moments may.young (has_one _ disk.moments may.left.device) worn.0 worn.1
-])
+only_memory_left geometry objects disk left (Worn value) fails may why none costs counts =
+    absurd (elim (why geometry may.epoch may.log may.described) [ inl unfit ↦ unfit.1 | inr worn ↦ may.low value worn ])
 only_memory_left geometry objects disk left StoreFault fails may why none costs counts = absurd (no_fault counts)
 only_memory_left geometry objects disk left DeviceFault fails may why none costs counts =
-    absurd (let made = (mounts_all geometry false disk left fails costs).0 in cc)
+    absurd (let made = (mounts_all (log_of disk.size) false disk left fails costs).0 in cc)
 only_memory_left geometry objects disk left OutOfMemory fails may why none costs counts = refl
 
 -- nothing is pending on what a stop leaves
@@ -194,64 +235,127 @@ synced_one : (moments : List Medium) → HoldsNow IsSynced moments → HasNow (�
 synced_one [] synced has = absurd has
 synced_one (now ∷ past) synced has = synced
 
+script_is_uuid : IsUuid script_uuid
+script_is_uuid = record { count = refl; bytes = All-from_recursion (λ b. b < 256) script_uuid (search rules) }
+
+-- what the removal of the objects past a number leaves of those with numbers
+removes_numbers : (number : ℕ) (old new : Objects) → RemovesAllPast script_uuid number old new → RemovesNumbers number old new
+removes_numbers number old new removed = record {
+  stay = λ n low. removed.removes.others (name_of script_uuid n) (λ past. (let above = past.1.1 in omega (arith, above, low)));
+  gone = λ n past fits.
+      removed.gone (name_of script_uuid n) (record { uuid = script_is_uuid; number = tt; fits = fits }) (refl, (refl, past));
+  none = λ n none. elim (removed.removes.removed (name_of script_uuid n)) [
+    | inl same ↦ same ∙ none
+    | inr gone ↦ gone
+  ];
+}
+
+-- what a removal leaves of what the store says of the volume
+removal_keeps_volume : (number : ℕ) (old new : Objects) (geometry : Geometry) (epoch : ℕ) → RemovesAllPast script_uuid number old new
+    → HasVolume script_uuid geometry epoch old → HasVolume script_uuid geometry epoch new
+removal_keeps_volume number old new geometry epoch removed has =
+    (says_the_same script_uuid old new (record {
+      of_super = removed.removes.others (super_name script_uuid) (λ past. (let e = past.1.0 in cc));
+      of_epochs = λ n. removed.removes.others (epoch_name script_uuid n) (λ past. (let e = past.1.0 in cc));
+    })).has geometry epoch has
+
 pub mounted_again : (geometry : Geometry) (disk : DiskState) (mounted : MountedState) (old new : Objects) → FailsNone (mount_cost 0) disk
-    → MayMountLeft geometry old disk → IsOfVolume script_uuid geometry mounted
-    → Becomes (RemovesAllPast script_uuid mounted.number) (Some old) (Some new) → KeepsLeft script_uuid geometry (Some old) disk (disk_of mounted)
-    → CostsMount geometry true disk (disk_of mounted) → HoldsNow IsSynced (disk_of mounted).moments → IsMountedVolume geometry old mounted new
-mounted_again geometry disk mounted old new fails may volume becomes stops costs synced =
-    let since = stops may.plain may.found may.number may.left may.synced in
+    → MayMountLeft geometry old disk
+    → OfVolume script_uuid (log_of disk.size) (Some old) (λ g epoch. IsOfVolume script_uuid g epoch mounted)
+    → Becomes (RemovesAllPast script_uuid mounted.number) (Some old) (Some new)
+    → OfVolume script_uuid (log_of disk.size) (Some old) (λ g epoch. KeepsLeft script_uuid g epoch (Some old) disk (disk_of mounted))
+    → CostsMount (log_of disk.size) true disk (disk_of mounted) → HoldsNow IsSynced (disk_of mounted).moments
+    → OfVolume script_uuid (log_of disk.size) (Some old) (λ g epoch. IsMountedVolume g epoch old mounted new)
+mounted_again geometry disk mounted old new fails may volume becomes stops costs synced = λ g epoch log described.
+    let since = stops geometry may.epoch may.log may.described may.plain may.found may.number may.left may.synced in
     let one = still_one since.since disk.moments (has_one _ disk.moments may.left.device) in
+    let removed = becomes_told (RemovesAllPast script_uuid mounted.number) old new becomes in
     record {
-      volume = volume;
-      removed = becomes_told (RemovesAllPast script_uuid mounted.number) old new becomes;
-      fuse = (mounts_all geometry true disk (disk_of mounted) fails costs).1;
+      volume = volume g epoch log described;
+      described = removal_keeps_volume mounted.number old new g epoch removed described;
+      removed = removes_numbers mounted.number old new removed;
+      fuse = (mounts_all (log_of disk.size) true disk (disk_of mounted) fails costs).1;
       now = synced_one (disk_of mounted).moments synced (subst (HasNow (λ now. Unit {0})) (sym since.moments) one);
     }
 
 -- ---- a mount without it
 
-formatted_one : (end : ℕ) (disk new : DiskState) → FailsNone format_cost disk → IsBlankDisk disk.size disk
-    → Costs format_cost (format_calls (first_body script_uuid 0 end)) true disk new → HasNow (λ now. Unit {0}) new.moments
-formatted_one end disk new fails blank costs =
-    let calls : List Call = format_calls (first_body script_uuid 0 end) in
-    let is = asked format_cost calls true disk new (format_covered (first_body script_uuid 0 end) refl) fails.room costs in
+formatted_one : (epoch end : ℕ) (disk new : DiskState) → FailsNone format_cost disk → IsBlankDisk disk.size disk
+    → Costs format_cost (format_calls (first_body script_uuid epoch end)) true disk new → HasNow (λ now. Unit {0}) new.moments
+formatted_one epoch end disk new fails blank costs =
+    let calls : List Call = format_calls (first_body script_uuid epoch end) in
+    let is = asked format_cost calls true disk new (format_covered (first_body script_uuid epoch end) refl) fails.room costs in
     let passed : List Call = take (passed_of (fuse_in disk.budget) (length calls)) calls in
     subst (HasNow (λ now. Unit {0})) (sym is.moments) (has_now passed disk.moments (blank_now disk.size disk blank))
 
-pub mounted_anew : (geometry : Geometry) (disk : DiskState) (mounted : MountedState) (old new : Objects) → FailsNone format_cost disk
-    → IsBlankDisk disk.size disk → IsOfVolume script_uuid geometry mounted
-    → Becomes (RemovesAllPast script_uuid mounted.number) (Some old) (Some new) → mounts.CostsNewLog script_uuid true disk (disk_of mounted)
-    → HoldsNow IsSynced (disk_of mounted).moments → IsMountedVolume geometry old mounted new
-mounted_anew geometry disk mounted old new fails blank volume becomes costs synced = record {
-  volume = volume;
-  removed = becomes_told (RemovesAllPast script_uuid mounted.number) old new becomes;
-  fuse = (makes_all format_cost true disk (disk_of mounted) fails costs.calls.calls).1;
-  now = synced_one (disk_of mounted).moments synced (formatted_one costs.end disk (disk_of mounted) fails blank costs.calls);
-}
+-- what is so of the numbered objects stays where an epoch is put
+begun_numbers : (number epoch : ℕ) (old new : Objects) → BeginsEpoch script_uuid number epoch old new → RemovesNumbers number old new
+begun_numbers number epoch old new begun =
+    let (middle, removed, put) = begun in
+    let before = removes_numbers number old middle removed in
+    let same = λ (n : ℕ). put.others (name_of script_uuid n) (λ same. (let e = ap (λ (name : ObjName). name.kind) same in cc)) in
+    record {
+      stay = λ n low. same n ∙ before.stay n low;
+      gone = λ n past fits. same n ∙ before.gone n past fits;
+      none = λ n none. same n ∙ before.none n none;
+    }
 
-no_refusal_stored : (geometry : Geometry) (objects : Objects) (error : MountError) → MayMountStored geometry objects
-    → RefusesNoneStored script_uuid geometry (Some objects) error → refuses error ≡ true → ⊥
-no_refusal_stored geometry objects error may none refused = (let e = none may.plain may.number may.stored in cc)
+pub mounted_anew : (disk : DiskState) (mounted : MountedState) (old new : Objects) → FailsNone format_cost disk
+    → IsBlankDisk disk.size disk → OfVolume script_uuid (log_of disk.size) (Some old) (λ g epoch. IsOfVolume script_uuid g (epoch + 1) mounted)
+    → OfVolume script_uuid (log_of disk.size) (Some old) (λ g epoch.
+    Becomes (BeginsEpoch script_uuid mounted.number (epoch + 1)) (Some old) (Some new))
+    → (epoch : ℕ) × mounts.CostsNewLog script_uuid epoch true disk (disk_of mounted) → HoldsNow IsSynced (disk_of mounted).moments
+    → OfVolume script_uuid (log_of disk.size) (Some old) (λ g epoch. IsMountedVolume g (epoch + 1) old mounted new)
+mounted_anew disk mounted old new fails blank volume becomes costs synced = λ g epoch log described.
+    let begun = becomes_told (BeginsEpoch script_uuid mounted.number (epoch + 1)) old new (becomes g epoch log described) in
+    let (middle, removed, put) = begun in
+    record {
+      volume = volume g epoch log described;
+      described =
+          next_epoch_is_begun script_uuid g epoch middle new (removal_keeps_volume mounted.number old middle g epoch removed described) put;
+      removed = begun_numbers mounted.number (epoch + 1) old new begun;
+      fuse = (makes_all format_cost true disk (disk_of mounted) fails costs.1.calls.calls).1;
+      now = synced_one (disk_of mounted).moments synced (formatted_one costs.0 costs.1.end disk (disk_of mounted) fails blank costs.1.calls);
+    }
+
+no_refusal_stored : (geometry : Geometry) (sectors : ℕ) (objects : Objects) (error : MountError) → geometry.log ≡ sectors
+    → MayMountStored geometry objects
+    → OfVolume script_uuid sectors (Some objects) (λ g epoch. RefusesNoneStored script_uuid g (Some objects) error) → refuses error ≡ true → ⊥
+no_refusal_stored geometry sectors objects error log may none refused =
+    (let e = none geometry may.epoch log may.described may.plain may.number may.stored in cc)
 
 -- what ends it is want of memory alone
 pub only_memory_anew : (geometry : Geometry) (objects : Objects) (disk left : DiskState) (error : MountError) → FailsNone format_cost disk
-    → MayMountStored geometry objects → IsWhyNotStored script_uuid geometry (Some objects) error
-    → RefusesNoneStored script_uuid geometry (Some objects) error → FailsToFormat script_uuid (is_device_fault error) disk left
-    → Counts (is_store_fault_of error) 0 0 → error ≡ OutOfMemory
-only_memory_anew geometry objects disk left NoCheckpoint fails may why none format counts =
-    absurd (no_refusal_stored geometry objects NoCheckpoint may none refl)
-only_memory_anew geometry objects disk left (BadObject number reason) fails may why none format counts =
-    absurd (no_refusal_stored geometry objects (BadObject number reason) may none refl)
-only_memory_anew geometry objects disk left (NotData number) fails may why none format counts =
-    absurd (no_refusal_stored geometry objects (NotData number) may none refl)
-only_memory_anew geometry objects disk left (NoSlot log) fails may why none format counts = absurd why
-only_memory_anew geometry objects disk left (WrongVolume uuid) fails may why none format counts = absurd why
-only_memory_anew geometry objects disk left (BadRecord seq reason) fails may why none format counts = absurd why
-only_memory_anew geometry objects disk left (Worn value) fails may why none format counts = absurd (may.low value why.why)
-only_memory_anew geometry objects disk left StoreFault fails may why none format counts = absurd (no_fault counts)
-only_memory_anew geometry objects disk left DeviceFault fails may why none format counts =
-    absurd (let made = (makes_all format_cost false disk left fails format.calls.calls).0 in cc)
-only_memory_anew geometry objects disk left OutOfMemory fails may why none format counts = refl
+    → geometry.log ≡ log_of disk.size → MayMountStored geometry objects
+    → OfVolume script_uuid (log_of disk.size) (Some objects) (λ g epoch. IsWhyFor (λ h e. IsWhyLost script_uuid h e (Some objects)) g epoch error)
+    → OfVolume script_uuid (log_of disk.size) (Some objects) (λ g epoch. RefusesNoneStored script_uuid g (Some objects) error)
+    → FailsToFormatIn script_uuid (is_device_fault error) disk left → Counts (is_store_fault_of error) 0 0 → error ≡ OutOfMemory
+only_memory_anew geometry objects disk left NoVolume fails log_is may why none format counts =
+    absurd (no_refusal_stored geometry (log_of disk.size) objects NoVolume log_is may none refl)
+only_memory_anew geometry objects disk left (BadSuper reason) fails log_is may why none format counts =
+    absurd (no_refusal_stored geometry (log_of disk.size) objects (BadSuper reason) log_is may none refl)
+only_memory_anew geometry objects disk left (HasAncestors count) fails log_is may why none format counts =
+    absurd (no_refusal_stored geometry (log_of disk.size) objects (HasAncestors count) log_is may none refl)
+only_memory_anew geometry objects disk left NoCheckpoint fails log_is may why none format counts =
+    absurd (no_refusal_stored geometry (log_of disk.size) objects NoCheckpoint log_is may none refl)
+only_memory_anew geometry objects disk left (BadObject number reason) fails log_is may why none format counts =
+    absurd (no_refusal_stored geometry (log_of disk.size) objects (BadObject number reason) log_is may none refl)
+only_memory_anew geometry objects disk left (NotData number) fails log_is may why none format counts =
+    absurd (no_refusal_stored geometry (log_of disk.size) objects (NotData number) log_is may none refl)
+only_memory_anew geometry objects disk left (NoSlot log) fails log_is may why none format counts =
+    absurd (no_refusal_stored geometry (log_of disk.size) objects (NoSlot log) log_is may none refl)
+only_memory_anew geometry objects disk left (WrongVolume uuid) fails log_is may why none format counts =
+    absurd (no_refusal_stored geometry (log_of disk.size) objects (WrongVolume uuid) log_is may none refl)
+only_memory_anew geometry objects disk left (StaleCache cache store) fails log_is may why none format counts =
+    absurd (no_refusal_stored geometry (log_of disk.size) objects (StaleCache cache store) log_is may none refl)
+only_memory_anew geometry objects disk left (BadRecord seq reason) fails log_is may why none format counts =
+    absurd (no_refusal_stored geometry (log_of disk.size) objects (BadRecord seq reason) log_is may none refl)
+only_memory_anew geometry objects disk left (Worn value) fails log_is may why none format counts =
+    absurd (elim (why geometry may.epoch log_is may.described) [ inl unfit ↦ unfit.1 | inr worn ↦ may.low value worn ])
+only_memory_anew geometry objects disk left StoreFault fails log_is may why none format counts = absurd (no_fault counts)
+only_memory_anew geometry objects disk left DeviceFault fails log_is may why none format counts =
+    absurd (let made = (makes_all format_cost false disk left fails format.1.calls.calls).0 in cc)
+only_memory_anew geometry objects disk left OutOfMemory fails log_is may why none format counts = refl
 
 -- ---- objects that land
 

@@ -23,6 +23,7 @@ use Rattle.transcript.specs.Letters.{under_way, has_landed, landed_by}
 use Rattle.vol_replay.specs.Crash.{LandsAs, Lands}
 use Rattle.vol_replay.specs.Puts.{PutView}
 use Rattle.vol_replay.specs.Rig.{RigState, script_uuid, expected_of_plain, AreUnderWay, IsFirstUnderWay, HasBytesOfObject, ShowsPlain}
+use Rattle.vol_replay.proofs.Describing.{lands_keep_volume}
 use Rattle.vol_replay.proofs.Stepped.{all_puts}
 use Rattle.vol_replay.proofs.WindowLemmas.{under_way_numbers}
 use Rattle.vol_replay.proofs.Putting.{open_within}
@@ -407,14 +408,15 @@ may_hold plain state known bytes told held is holds =
     let same : ◌≡◌ {A = PutState × List ℕ} (state, bytes) (known, told) = ap (λ (o : Option (PutState × List ℕ)). unwrap_or o (state, bytes)) is in
     subst (λ (p : PutState × List ℕ). MayHoldPut p.0 p.1 held) same holds
 
-pub may_be_left : (rig : RigState) (plain : PlainState) (letters : List ℕ) (new : Objects) → ShowsPlain rig plain
+pub may_be_left : (rig : RigState) (plain : PlainState) (letters : List ℕ) (new : Objects) → (h : ShowsPlain rig plain)
     → Lands rig.puts letters rig.objects new
-    → MayBeLeft script_uuid plain (puts_now plain rig.puts new) new
+    → MayBeLeft script_uuid h.epoch plain (puts_now plain rig.puts new) new
 may_be_left rig plain letters new h lands =
     let opens = h.opens in
     let first = opens.number in
     let stays = checkpoint_stays rig plain letters new h lands in
     record {
+      described = lands_keep_volume rig.puts letters rig.objects new plain.geometry h.epoch lands h.described;
       opened = opens.checkpoint ∙ sym opens.number;
       opened_first = opens.number;
       blank_is = opens.opening;

@@ -96,7 +96,10 @@ stopping_rig calls old volume plain h none rest shows budget =
       pending = subst (λ (v : VolumeState). ShowsPending v.log cache) (sym is)
           (still_shows_pending before.log log plain.cache cache h.pending
           (record { same_number = refl; same_body = refl; same_unfinished = refl }) refl set.1 unspent refl);
-      own = subst HasOwnCommits (sym is) (record { last = h.own.last; unfinished = h.own.unfinished; in_range = h.own.in_range });
+      epoch = h.epoch;
+      own = subst (HasOwnCommits h.epoch) (sym is) (record { last = h.own.last; unfinished = h.own.unfinished; in_range = h.own.in_range });
+      described = h.described;
+      begun = omega (arith, h.begun);
       uuid_is = subst (λ (v : VolumeState). v.objects.uploads.uuid ≡ script_uuid) (sym is) h.uuid_is;
       opens = record {
         number = h.opens.number;

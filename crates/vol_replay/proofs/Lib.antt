@@ -1,6 +1,7 @@
 mod Commands
 mod CrashLemmas
 mod Crashing
+mod Describing
 mod Fates
 mod Halting
 mod Mounts

@@ -1,36 +1,27 @@
 -- The rig of a volume that was stopped and mounted again.
-use Rattle.std.proofs.Common.{◌≡◌, ℕ, zero, suc, ◌+◌, ◌*◌, ◌-◌, ◌%◌, ◌^◌, ◌<◌, ◌≤◌, max, true, false, List, [], length, map, take, refl, sym, ◌∙◌, ap}
+use Rattle.std.proofs.Common.{◌≡◌, ℕ, ◌+◌, ◌*◌, ◌-◌, ◌%◌, ◌^◌, ◌<◌, ◌≤◌, max, true, false, List, [], ◌∷◌, length, map, refl, sym, ◌∙◌, ap}
 use Rattle.std.proofs.Common.{subst, inl, inr, arith}
 use Rattle.std.specs.Prelude.{Option, Some, None, is_some, IsTrue}
+use Rattle.std.specs.List.{AllByRecursion}
 use Rattle.std.specs.Option.{option_map}
 use Rattle.std.proofs.lemmas.Bool.{cases_lt}
 use Rattle.std.proofs.lemmas.List.{length-take}
-use Rattle.std.proofs.lemmas.List.Elements.{All-from_recursion}
-use Rattle.std.proofs.lemmas.Option.{slice_get_within}
 use Rattle.lsvd_base.specs.declared.geometry.Geometry.{Geometry}
-use Rattle.lsvd_base.specs.Limits.{is_within_limits}
-use Rattle.lsvd_names.specs.Spelling.{IsUuid}
 use Rattle.lsvd_device.specs.Calls.{Fuse, Budget, fuse_of}
 use Rattle.lsvd_device.specs.Device.{DiskState, HoldsNow}
 use Rattle.lsvd_device.specs.Stop.{left_in_order, HasNow}
 use Rattle.lsvd_device.specs.declared.fate.Fate.{Fate}
 use Rattle.lsvd_objstore.specs.Objects.{Objects, found}
-use Rattle.object_format.specs.declared.expected.Expected.{Expected}
-use Rattle.object_format.specs.declared.header.Header.{Header}
-use Rattle.object_format.specs.Header.{IsHeader, header_in}
-use Rattle.object_format.proofs.TestLemmas.{header_in-IsHeader}
-use Rattle.object_stream.specs.declared.object.Content.TheVariants.{Data}
-use Rattle.object_stream.specs.declared.object.StreamObject.{StreamObject}
 use Rattle.object_stream.specs.Landed.{Numbers}
-use Rattle.object_stream.specs.Replay.{name_of, expected_at}
-use Rattle.object_stream.specs.Stream.{end_after, end_at}
+use Rattle.object_stream.specs.Replay.{name_of}
 use Rattle.commit_body.specs.declared.body.CommitBody.{CommitBody}
 use Rattle.commit_body.proofs.BodyLemmas.{determines_body}
 use Rattle.commit_slot.specs.Slots.{log_of, Reads, IsOpenSlot}
 use Rattle.log_room.specs.Room.{Room}
 use Rattle.cache_log.specs.Log.{LogState}
 use Rattle.cache_log.specs.Committed.{IsOnDisk}
-use Rattle.stopped_volume.specs.Objects.{landed_in, expected_alone, IsCheckpointOf}
+use Rattle.stopped_volume.specs.Objects.{landed_in, IsCheckpointOf}
+use Rattle.stopped_volume.specs.Super.{HasVolume}
 use Rattle.upload_window.specs.Window.{IsAcknowledged}
 use Rattle.plain_disk.specs.declared.log.PlainCommit.{PlainCommit}
 use Rattle.plain_disk.specs.Log.{PlainLog, mounted_log, empty_from}
@@ -42,103 +33,30 @@ use Rattle.plain_disk.proofs.EndLemmas.{ends_within}
 use Rattle.plain_disk.proofs.StopLemmas.{kept_is_later, recovers_frontier, recovers_sealed}
 use Rattle.log_meaning.specs.Shows.{commit_of}
 use Rattle.pending_meaning.proofs.Shown.{synced_shows_pending}
-use Rattle.object_recovery.specs.Recovery.{RemovesAllPast}
 use Rattle.mount_meaning.specs.Found.{HasCommit, HasObjects}
 use Rattle.mount_meaning.specs.Mounted.{end_of_object, mounted_with, mounted_without}
 use Rattle.mount_meaning.proofs.LeftLemmas.{fates_keep_commit}
 use Rattle.store_meaning.specs.Puts.{IsObjectOf}
 use Rattle.store_meaning.proofs.KeepLemmas.{mounts_keep_object}
 use Rattle.store_meaning.proofs.LeftLemmas.{left_has_objects}
-use Rattle.store_meaning.proofs.ObjectLemmas.{end_up_to}
 use Rattle.vol_core.specs.Shows.{Shows}
 use Rattle.vol_core.specs.Step.{passing}
-use Rattle.vol_recover.specs.Mounted.{MountedState, disk_of, IsMountOf, NumbersNextCommit}
-use Rattle.vol_recover.specs.Mounting.{IsStored, IsLeft, MountsStored, MountsLeft}
+use Rattle.vol_mount.specs.Mounted.{MountedState, disk_of, IsMountOf, NumbersNextCommit}
+use Rattle.vol_recover.specs.Describing.{OfVolume}
+use Rattle.vol_mount.specs.Mounting.{IsStored, IsLeft, MountsStored, MountsLeft}
+use Rattle.vol_mount.specs.Refusals.{IsFirstGreat, IsExtent, IsWornLeft}
 use Rattle.transcript.specs.Letters.{landed_by}
 use Rattle.vol_replay.specs.declared.answer.Answer.{Answer}
 use Rattle.vol_replay.specs.declared.answer.Answer.TheVariants.{Mounted}
 use Rattle.vol_replay.specs.Bench.{IsMountTold}
-use Rattle.vol_replay.specs.Crash.{IsLeftBy, Lands, HasNoWorn, MayMountStored, MayMountLeft, IsMountedVolume}
+use Rattle.vol_replay.specs.Crash.{IsLeftBy, Lands, MayMountStored, MayMountLeft, RemovesNumbers, IsMountedVolume}
 use Rattle.vol_replay.specs.Puts.{PutView}
 use Rattle.vol_replay.specs.Rig.{RigState, rig_of, script_uuid, expected_of_plain, ShowsPlain}
 use Rattle.vol_replay.proofs.CrashLemmas.{left_is_synced}
 use Rattle.vol_replay.proofs.Crashing.{left_object, none_past, none_first, checkpoint_stays, are_puts, may_be_left, puts_now, recovered_same}
 use Rattle.vol_replay.proofs.Opening.{fuse_told}
-use Rattle.vol_replay.proofs.Standing.{rig_stops, ends_past}
-
--- ---- the numbers of what is left
-
--- bytes have one header, whatever is expected of them
-same_header : (bytes : List ℕ) (size : ℕ) (expected another : Expected) (a b : Header) → IsHeader bytes size expected a
-    → IsHeader bytes size another b
-    → a ≡ b
-same_header bytes size expected another a b first second =
-    let e : header_in (take 64 bytes) ≡ Some a = header_in-IsHeader bytes size expected a first in
-    let f : header_in (take 64 bytes) ≡ Some b = header_in-IsHeader bytes size another b second in
-    cc
-
--- an object of a plain volume ends within its entries
-object_ends : (volume : Expected) (plain : PlainState) (n : ℕ) (bytes : List ℕ) → IsPlainVolume plain → (is : IsObjectOf volume plain n bytes)
-    → is.header.end_seq ≤ history_length plain
-object_ends volume plain n bytes valid is =
-    let object : StreamObject = record { content = Data; end = is.header.end_seq } in
-    let index : ℕ = n - (plain.number + 1) in
-    let past = is.past in
-    let inside = slice_get_within plain.objects index object is.object in
-    let count : n - plain.number ≡ suc index = omega (arith, past) in
-    let ends : end_at (stream_in plain) n ≡ is.header.end_seq =
-    ap (λ m. end_after plain.end (take m plain.objects)) count ∙ end_up_to plain.end index plain.objects object is.object in
-    let within = ends_within plain n valid (omega (arith, inside, past)) in
-    omega (arith, ends, within)
-
--- an object that the store has ends within the entries
-record EndsWithin (plain : PlainState) (bytes : List ℕ) : Type 0 where
-  expected : Expected
-  header : Header
-  is : IsHeader bytes (length bytes) expected header
-  within : header.end_seq ≤ history_length plain
-
-left_ends : (rig : RigState) (plain : PlainState) (letters : List ℕ) (new : Objects) (n : ℕ) (bytes : List ℕ) → ShowsPlain rig plain
-    → Lands rig.puts letters rig.objects new → found new (name_of script_uuid n) ≡ Some bytes → EndsWithin plain bytes
-left_ends rig plain letters new zero bytes h lands there =
-    absurd (let e : ◌≡◌ {A = Option (List ℕ)} None (Some bytes) = sym (none_first rig plain letters new h lands) ∙ there in cc)
-left_ends rig plain letters new (suc zero) bytes h lands there =
-    let first = checkpoint_stays rig plain letters new h lands in
-    let same : first.bytes ≡ bytes = (let e = sym first.present ∙ there in cc) in
-    let ends = first.ends in
-    let expected : Expected = expected_alone (expected_of_plain plain) 1 in
-    record {
-      expected = expected;
-      header = first.header;
-      is = subst (λ b. IsHeader b (length b) expected first.header) same first.parts.is_object.head;
-      within = omega (arith, ends);
-    }
-left_ends rig plain letters new (suc (suc n)) bytes h lands there =
-    let is = left_object rig plain letters new (suc (suc n)) bytes h lands (omega arith) there in
-    record {
-      expected = expected_at (expected_of_plain plain) (suc (suc n)) (end_at (stream_in plain) (suc (suc n) - 1));
-      header = is.header;
-      is = is.parts.is_object.head;
-      within = object_ends (expected_of_plain plain) plain (suc (suc n)) bytes h.shows.valid is;
-    }
-
--- so no object has a great number or end
-pub no_worn : (rig : RigState) (plain : PlainState) (letters : List ℕ) (new : Objects) → ShowsPlain rig plain
-    → Lands rig.puts letters rig.objects new → rig.lines < 2 ^ 40 → HasNoWorn plain.geometry new
-no_worn rig plain letters new h lands few = λ n worn. elim (cases_lt plain.window.last n) [
-  | inl late ↦
-      (let e : ◌≡◌ {A = Option (List ℕ)} None (Some worn.bytes) = sym (none_past rig plain letters new n h lands late) ∙ worn.present in cc)
-  | inr low ↦ (let most = h.young.objects in elim worn.high [
-    | inl high ↦ omega (arith, low, most, few, high)
-    | inr (expected, header, rows, is, high) ↦
-        let ends = left_ends rig plain letters new n worn.bytes h lands worn.present in
-        let within = ends.within in
-        let entries = h.young.entries in
-        let same = ap (λ (header : Header). header.end_seq)
-        (same_header worn.bytes (length worn.bytes) expected ends.expected header ends.header is.head ends.is) in
-        omega (arith, within, entries, few, high, same)
-  ])
-]
+use Rattle.vol_replay.proofs.Describing.{lands_keep_volume}
+use Rattle.vol_replay.proofs.Standing.{owner_at, rig_stops, ends_past}
 
 -- ---- what may be mounted
 
@@ -150,21 +68,80 @@ pub has_left : (rig : RigState) (plain : PlainState) (letters : List ℕ) (new :
     → Lands rig.puts letters rig.objects new
     → HasObjects script_uuid plain (number_left new plain) new × MayLand plain (landed_in new script_uuid)
 has_left rig plain letters new h lands =
-    left_has_objects script_uuid plain (puts_now plain rig.puts new) new h.shows.valid (are_puts rig plain letters new h lands)
+    left_has_objects script_uuid h.epoch plain (puts_now plain rig.puts new) new h.shows.valid (are_puts rig plain letters new h lands)
     (may_be_left rig plain letters new h lands)
 
+-- it is at most that of the last object
+pub left_within : (plain : PlainState) (new : Objects) → IsPlainVolume plain → number_left new plain ≤ plain.window.last
+left_within plain new valid =
+    let sealed = recovers_sealed plain (landed_in new script_uuid) valid in
+    let last = valid.last in
+    omega (arith, sealed, last)
+
 pub stored_left : (rig : RigState) (plain : PlainState) (letters : List ℕ) (new : Objects) → ShowsPlain rig plain
-    → Lands rig.puts letters rig.objects new → IsStored script_uuid plain.geometry plain (number_left new plain) (Some new)
-stored_left rig plain letters new h lands =
-    record { valid = h.shows.valid; geometry_is = refl; objects_are = (has_left rig plain letters new h lands).0 }
+    → Lands rig.puts letters rig.objects new → rig.lines < 2 ^ 40 → IsStored script_uuid plain.geometry plain (number_left new plain) (Some new)
+stored_left rig plain letters new h lands few =
+    let most = h.young.objects in
+    let within = left_within plain new h.shows.valid in
+    record {
+      valid = h.shows.valid;
+      geometry_is = refl;
+      low = omega (arith, within, most, few);
+      objects_are = (has_left rig plain letters new h lands).0;
+    }
+
+-- ---- the numbers of what is left
+
+-- numbers that are low are not too great
+no_great : (numbers : List ℕ) (value : ℕ) → AllByRecursion (λ n. n < 2 ^ 60) numbers → IsFirstGreat numbers value → ⊥
+no_great [] value low great = great
+no_great (number ∷ numbers) value low (inl here) = (let most = low.0 in let least = here.0 in omega (arith, most, least))
+no_great (number ∷ numbers) value low (inr later) = no_great numbers value low.1 later.1
+
+some_is : (held : Option (List ℕ)) → held ≡ None → IsTrue (is_some held) → ⊥
+some_is None none is = cc
+some_is (Some bytes) none is = cc
+
+-- the greatest number and the end of what is left are low
+record AreLowLeft (greatest end : ℕ) : Type 0 where
+  of_greatest : greatest < 2 ^ 60
+  of_end : end < 2 ^ 60
+
+low_left : (rig : RigState) (plain : PlainState) (letters : List ℕ) (new : Objects) (greatest end : ℕ) → ShowsPlain rig plain
+    → Lands rig.puts letters rig.objects new → rig.lines < 2 ^ 40 → IsExtent script_uuid plain.geometry new greatest end → AreLowLeft greatest end
+low_left rig plain letters new greatest end h lands few extent =
+    let has = (has_left rig plain letters new h lands).0 in
+    let most = h.young.objects in
+    let low : greatest < 2 ^ 60 = elim (cases_lt plain.window.last greatest) [
+      | inl late ↦ absurd (some_is (found new (name_of script_uuid greatest)) (none_past rig plain letters new greatest h lands late) extent.present)
+      | inr low ↦ omega (arith, low, most, few)
+    ] in
+    let ends = extent.end_is low has.uuid_at (stream_in plain) (number_left new plain) has.stored in
+    let last = h.shows.valid.last in
+    let most_left = left_within plain new h.shows.valid in
+    let within = ends_within plain (number_left new plain) h.shows.valid (omega (arith, most_left, last)) in
+    let entries = h.young.entries in
+    record { of_greatest = low; of_end = omega (arith, ends, within, entries, few) }
+
+low_epoch : (rig : RigState) (plain : PlainState) → (h : ShowsPlain rig plain) → rig.lines < 2 ^ 40 → h.epoch < 2 ^ 60
+low_epoch rig plain h few = (let begun = h.begun in omega (arith, begun, few))
+
+described_left : (rig : RigState) (plain : PlainState) (letters : List ℕ) (new : Objects) → (h : ShowsPlain rig plain)
+    → Lands rig.puts letters rig.objects new → HasVolume script_uuid plain.geometry h.epoch new
+described_left rig plain letters new h lands =
+    lands_keep_volume rig.puts letters rig.objects new plain.geometry h.epoch lands h.described
 
 pub may_mount_stored : (rig : RigState) (plain : PlainState) (letters : List ℕ) (new : Objects) → ShowsPlain rig plain
     → Lands rig.puts letters rig.objects new → rig.lines < 2 ^ 40 → MayMountStored plain.geometry new
 may_mount_stored rig plain letters new h lands few = record {
   plain = plain;
   number = number_left new plain;
-  stored = stored_left rig plain letters new h lands;
-  low = no_worn rig plain letters new h lands few;
+  epoch = h.epoch;
+  described = described_left rig plain letters new h lands;
+  stored = stored_left rig plain letters new h lands few;
+  low = λ value worn.
+      let are = low_left rig plain letters new worn.0 worn.1 h lands few worn.3 in
+      no_great (h.epoch ∷ worn.0 ∷ worn.1 ∷ []) value (low_epoch rig plain h few, (are.of_greatest, (are.of_end, tt))) worn.2;
 }
 
 -- the commit that bytes read as is one
@@ -190,7 +167,7 @@ module _ (rig : RigState) (plain : PlainState) (fates : List Fate) (letters : Li
   abbrev pub end_left : ℕ
   end_left = end_of_object (number_left new plain) plain
 
-  pub has_commit : (has : HasCommit script_uuid plain commit_left end_left bytes_left) × (has.number ≤ rig.volume.volume.log.commits.number + 1)
+  pub has_commit : (has : HasCommit (owner_at h.epoch) plain commit_left end_left bytes_left) × (has.number ≤ rig.volume.volume.log.commits.number + 1)
   has_commit =
       let valid = h.shows.valid in
       let landed : Numbers = landed_in new script_uuid in
@@ -198,14 +175,14 @@ module _ (rig : RigState) (plain : PlainState) (fates : List Fate) (letters : Li
       let sealed = recovers_sealed plain landed valid in
       let last = valid.last in
       let ends = ends_past plain (number_left new plain) valid (recovers_frontier plain landed valid may) (omega (arith, sealed, last)) in
-      fates_keep_commit script_uuid h.shows.data_at rig.volume.volume.log plain fates end_left (rig_stops rig plain h on_disk) h.pending count
+      fates_keep_commit (owner_at h.epoch) h.shows.data_at rig.volume.volume.log plain fates end_left (rig_stops rig plain h on_disk) h.pending count
       is.may_leave ends.0 ends.1
 
-  pub is_left : IsLeft script_uuid plain.geometry plain commit_left (number_left new plain) (Some new) left
-  is_left = record {
-    stored = stored_left rig plain letters new h lands;
+  pub is_left : rig.lines < 2 ^ 40 → IsLeft script_uuid plain.geometry h.epoch plain commit_left (number_left new plain) (Some new) left
+  is_left few = record {
+    stored = stored_left rig plain letters new h lands few;
     device =
-        subst (HasNow (λ now. HasCommit script_uuid plain commit_left end_left now.bytes)) (sym is.stopped.moments)
+        subst (HasNow (λ now. HasCommit (owner_at h.epoch) plain commit_left end_left now.bytes)) (sym is.stopped.moments)
         has_commit.0;
   }
 
@@ -219,29 +196,48 @@ module _ (rig : RigState) (plain : PlainState) (fates : List Fate) (letters : Li
       let same = reads_one plain.geometry.log bytes_left has.number n has.body body has.slots.reads reads in
       subst (P n) same.1 (subst (λ m. P m has.body) same.0 holds))
 
-  pub may_mount_left : rig.lines < 2 ^ 40 → MayMountLeft plain.geometry new left
-  may_mount_left few =
-      let has = has_commit.0 in
+  -- the number of the commit and the entries up to its head are low
+  low_commit : rig.lines < 2 ^ 40 → (has_commit.0.number < 2 ^ 60) × (has_commit.0.body.head.seq < 2 ^ 60)
+  low_commit few =
       let least = has_commit.1 in
       let commits = h.young.commits in
       let entries = h.young.entries in
       let later = kept_is_later (frontier_end plain) (history_length plain) (map is_kept fates) plain.cache h.shows.valid.log in
       let head = later.within.head in
-      let same = ap (λ (c : PlainCommit). c.head.seq) has.commit in
-      record {
-        plain = plain;
-        found = commit_left;
-        number = number_left new plain;
-        left = is_left;
-        synced = left_is_synced fates rig.volume.volume.log.commits.disk left is;
-        low = no_worn rig plain letters new h lands few;
-        young =
-            reads_left (λ n body. (n < 2 ^ 60) × (body.head.seq < 2 ^ 60))
-            (omega (arith, least, commits, few), omega (arith, same, head, entries, few));
-      }
+      let same = ap (λ (c : PlainCommit). c.head.seq) has_commit.0.commit in
+      (omega (arith, least, commits, few), omega (arith, same, head, entries, few))
+
+  none_worn : rig.lines < 2 ^ 40 → (value : ℕ) → IsWornLeft script_uuid plain.geometry h.epoch (Some new) left value → ⊥
+  none_worn few value worn =
+      let has = has_commit.0 in
+      let (greatest, end, reads, extent) = worn in
+      let P : ℕ → CommitBody → Type 0 = λ n body. IsFirstGreat (n ∷ h.epoch ∷ greatest ∷ max end body.head.seq ∷ []) value in
+      let here = subst (HoldsNow (λ now. (n : ℕ) × (body : CommitBody) × Reads plain.geometry.log now.bytes body n × P n body)) is.stopped.moments reads in
+      let same = reads_one plain.geometry.log bytes_left here.0 has.number here.1 has.body here.2 has.slots.reads in
+      let great : P has.number has.body = subst (P has.number) same.1 (subst (λ n. P n here.1) same.0 here.3) in
+      let low = low_commit few in
+      let are = low_left rig plain letters new greatest end h lands few extent in
+      let a = low.1 in
+      let b = are.of_end in
+      no_great (has.number ∷ h.epoch ∷ greatest ∷ max end has.body.head.seq ∷ []) value
+      (low.0, (low_epoch rig plain h few, (are.of_greatest, (omega (arith, a, b), tt)))) great
+
+  pub may_mount_left : rig.lines < 2 ^ 40 → (plain.geometry.log ≡ log_of left.size) × (4096 ≤ left.size) → MayMountLeft plain.geometry new left
+  may_mount_left few sizes = record {
+    log = sizes.0;
+    size = sizes.1;
+    plain = plain;
+    found = commit_left;
+    number = number_left new plain;
+    epoch = h.epoch;
+    described = described_left rig plain letters new h lands;
+    left = is_left few;
+    synced = left_is_synced fates rig.volume.volume.log.commits.disk left is;
+    low = none_worn few;
+  }
 
   -- so the commit that a mount makes has a small number
-  pub next_number : (mounted : MountedState) → NumbersNextCommit plain.geometry left mounted
+  pub next_number : (mounted : MountedState) → NumbersNextCommit plain.geometry.log left mounted
       → mounted.volume.volume.log.commits.number ≤ 4 * (rig.lines + 1)
   next_number mounted numbers =
       let has = has_commit.0 in
@@ -266,61 +262,13 @@ none_of : (body : Option CommitBody) → option_map commit_of body ≡ None → 
 none_of None is = refl
 none_of (Some body) is = cc
 
--- an object that is not past a number stays, and each past it is gone
-object_stays : (number n : ℕ) (new after : Objects) → RemovesAllPast script_uuid number new after → n ≤ number
-    → found after (name_of script_uuid n) ≡ found new (name_of script_uuid n)
-object_stays number n new after removed low =
-    removed.removes.others (name_of script_uuid n) (λ past. (let above = past.1.1 in omega (arith, above, low)))
-
-script_is_uuid : IsUuid script_uuid
-script_is_uuid = record {
-  count = refl;
-  bytes = All-from_recursion (λ b. b < 256) script_uuid (
-    omega arith,
-    (
-      omega arith,
-      (
-        omega arith,
-        (
-          omega arith,
-          (
-            omega arith,
-            (
-              omega arith,
-              (
-                omega arith,
-                (
-                  omega arith,
-                  (omega arith, (omega arith, (omega arith, (omega arith, (omega arith, (omega arith, (omega arith, (omega arith, tt)))))))),
-                ),
-              ),
-            ),
-          ),
-        ),
-      ),
-    ),
-  );
-}
-
-object_gone : (number n : ℕ) (new after : Objects) → RemovesAllPast script_uuid number new after → number < n → n < 2 ^ 64
-    → found after (name_of script_uuid n) ≡ None
-object_gone number n new after removed past fits =
-    removed.gone (name_of script_uuid n) (record { uuid = script_is_uuid; number = tt; fits = fits }) (refl, (refl, past))
-
-none_gone : (number n : ℕ) (new after : Objects) → RemovesAllPast script_uuid number new after → found new (name_of script_uuid n) ≡ None
-    → found after (name_of script_uuid n) ≡ None
-none_gone number n new after removed none = elim (removed.removes.removed (name_of script_uuid n)) [
-  | inl same ↦ same ∙ none
-  | inr gone ↦ gone
-]
-
 some_bytes : (held : Option (List ℕ)) → is_some held ≡ true → (bytes : List ℕ) × (held ≡ Some bytes)
 some_bytes None is = absurd cc
 some_bytes (Some bytes) is = (bytes, refl)
 
 module _ (rig : RigState) (plain : PlainState) (letters : List ℕ) (new after : Objects) (mounted : MountedState) (count : ℕ) (log : PlainLog)
     (h : ShowsPlain rig plain) (lands : Lands rig.puts letters rig.objects new) (few : rig.lines < 2 ^ 40)
-    (was : IsMountedVolume plain.geometry new mounted after)
+    (epoch : ℕ) (begun : epoch ≤ rig.lines + 1) (was : IsMountedVolume plain.geometry epoch new mounted after)
     (is : IsMountOf (mounted_as (number_left new plain) count log plain) (number_left new plain) mounted) (finished : log.unfinished ≡ None)
     (keeps : (n : ℕ) (bytes : List ℕ) → n ≤ number_left new plain → IsObjectOf (expected_of_plain plain) plain n bytes
     → IsObjectOf (expected_of_plain plain) (mounted_as (number_left new plain) count log plain) n bytes)
@@ -331,8 +279,8 @@ module _ (rig : RigState) (plain : PlainState) (letters : List ℕ) (new after :
   abbrev made : PlainState
   made = mounted_as number count log plain
 
-  removed : RemovesAllPast script_uuid number new after
-  removed = subst (λ n. RemovesAllPast script_uuid n new after) is.number_is was.removed
+  removed : RemovesNumbers number new after
+  removed = subst (λ n. RemovesNumbers n new after) is.number_is was.removed
 
   shown : Shows mounted.volume.volume made
   shown = subst (λ f. Shows mounted.volume.volume (passing f made)) (fuse_told (disk_of mounted).budget None was.fuse) is.shows
@@ -347,11 +295,7 @@ module _ (rig : RigState) (plain : PlainState) (letters : List ℕ) (new after :
       omega (arith, from, opened, first)
 
   last_high : number ≤ plain.window.last
-  last_high =
-      let valid = h.shows.valid in
-      let sealed = recovers_sealed plain (landed_in new script_uuid) valid in
-      let last = valid.last in
-      omega (arith, sealed, last)
+  last_high = left_within plain new h.shows.valid
 
   -- ---- the store
 
@@ -360,7 +304,7 @@ module _ (rig : RigState) (plain : PlainState) (letters : List ℕ) (new after :
       let first = checkpoint_stays rig plain letters new h lands in
       record {
         bytes = first.bytes;
-        present = object_stays number 1 new after removed first_low ∙ first.present;
+        present = removed.stay 1 first_low ∙ first.present;
         header = first.header;
         payload = first.payload;
         parts = first.parts;
@@ -376,18 +320,18 @@ module _ (rig : RigState) (plain : PlainState) (letters : List ℕ) (new after :
       let first = h.opens.number in
       let there = stream.missing.least n (omega (arith, base, first, past)) (omega (arith, low)) in
       let had = some_bytes (found new (name_of script_uuid n)) there in
-      (had.0, object_stays number n new after removed low ∙ had.1, keeps n had.0 low (left_object rig plain letters new n had.0 h lands past had.1))
+      (had.0, removed.stay n low ∙ had.1, keeps n had.0 low (left_object rig plain letters new n had.0 h lands past had.1))
 
   none_there : (n : ℕ) → (0 < n → IsAcknowledged made.window n → ⊥) → found after (name_of script_uuid n) ≡ None
   none_there n not_ = elim (cases_lt plain.window.last n) [
-    | inl late ↦ none_gone number n new after removed (none_past rig plain letters new n h lands late)
+    | inl late ↦ removed.none n (none_past rig plain letters new n h lands late)
     | inr low ↦ elim (cases_lt number n) [
-      | inl past ↦ (let most = h.young.objects in object_gone number n new after removed past (omega (arith, low, most, few)))
+      | inl past ↦ (let most = h.young.objects in removed.gone n past (omega (arith, low, most, few)))
       | inr within ↦ elim (cases_lt 0 n) [
         | inl positive ↦ absurd (not_ positive (record { was_entered = within; not_open = refl }))
         | inr none ↦
             let e : n ≡ 0 = omega (arith, none) in
-            none_gone number n new after removed
+            removed.none n
             (ap (λ k. found new (name_of script_uuid k)) e ∙ none_first rig plain letters new h lands)
       ]
     ]
@@ -406,7 +350,10 @@ module _ (rig : RigState) (plain : PlainState) (letters : List ℕ) (new after :
         shows = shown;
         pending =
             synced_shows_pending mounted.volume.volume.log made.cache (has_budget (disk_of mounted).budget None was.fuse) was.now finished_too refl;
+        epoch = epoch;
         own = was.volume.own;
+        described = was.described;
+        begun = begun;
         uuid_is = was.volume.uuid_is;
         opens = record {
           number = h.opens.number;
@@ -430,6 +377,19 @@ module _ (rig : RigState) (plain : PlainState) (letters : List ℕ) (new after :
 
 -- ---- with the cache, and without it
 
+-- what a mount on a device whose log has so many sectors made of the volume that a store has
+abbrev pub MountedAs : (log : ℕ) → (begun : ℕ → ℕ) → Objects → MountedState → Objects → Type 0
+MountedAs log begun new mounted after =
+    OfVolume script_uuid log (Some new) (λ geometry epoch. IsMountedVolume geometry (begun epoch) new mounted after)
+
+abbrev pub MountsLeftOf : (log : ℕ) → Objects → DiskState → MountedState → Type 0
+MountsLeftOf log new left mounted =
+    OfVolume script_uuid log (Some new) (λ geometry epoch. MountsLeft script_uuid geometry epoch (Some new) left mounted)
+
+abbrev pub MountsStoredOf : (log : ℕ) → Objects → MountedState → Type 0
+MountsStoredOf log new mounted =
+    OfVolume script_uuid log (Some new) (λ geometry epoch. MountsStored script_uuid geometry (Some new) mounted)
+
 -- the answer tells of a mount, and the rig shows what it made
 abbrev pub IsMountedRig : (rig : RigState) (letters : List ℕ) → PlainState → (made : PlainState) → MountedState → Objects → Type 0
 IsMountedRig rig letters plain made mounted after =
@@ -450,31 +410,38 @@ pub kept_rig : (rig : RigState) (plain : PlainState) (fates : List Fate) (letter
     (mounted : MountedState)
     → ShowsPlain rig plain → IsOnDisk rig.volume.volume.log → Lands rig.puts letters rig.objects new
     → IsLeftBy fates rig.volume.volume.log.commits.disk left → length fates ≡ length plain.cache.pending → rig.lines < 2 ^ 40
-    → IsMountedVolume plain.geometry new mounted after → MountsLeft script_uuid plain.geometry (Some new) left mounted
-    → NumbersNextCommit plain.geometry left mounted
+    → plain.geometry.log ≡ log_of left.size → MountedAs (log_of left.size) (λ epoch. epoch) new mounted after
+    → MountsLeftOf (log_of left.size) new left mounted → NumbersNextCommit (log_of left.size) left mounted
     → IsMountedRig rig letters plain (mounted_kept (landed_by plain.window letters) (map is_kept fates) plain) mounted after
-kept_rig rig plain fates letters new after left mounted h on_disk lands is_left_by count few was mounts numbers =
+kept_rig rig plain fates letters new after left mounted h on_disk lands is_left_by count few log was mounts numbers =
     let commit : PlainCommit = kept_commit (map is_kept fates) plain.cache in
     let number : ℕ = number_left new plain in
     let end : ℕ = end_of_object number plain in
-    let is = mounts plain commit number (is_left rig plain fates letters new left h on_disk lands is_left_by count) in
+    let described = described_left rig plain letters new h lands in
+    let is = mounts plain.geometry h.epoch log described plain commit number (is_left rig plain fates letters new left h on_disk lands is_left_by count few) in
+    let begun = h.begun in
     let shows =
-    mounted_rig rig plain letters new after mounted (max end commit.head.seq) (mounted_log commit end plain.cache.log) h lands few was is refl
+    mounted_rig rig plain letters new after mounted (max end commit.head.seq) (mounted_log commit end plain.cache.log) h lands few h.epoch
+    (omega (arith, begun)) (was plain.geometry h.epoch log described) is refl
     (λ n bytes low object. (mounts_keep_object (expected_of_plain plain) plain commit number n bytes h.shows.valid low object).0)
-    (next_number rig plain fates letters new left h on_disk lands is_left_by count mounted numbers) in
+    (next_number rig plain fates letters new left h on_disk lands is_left_by count mounted
+    (subst (λ n. NumbersNextCommit n left mounted) (sym log) numbers)) in
     subst (IsMadeBy rig (λ n. mounted_with commit n plain) mounted after) (recovered_same rig plain letters new h lands)
     (told_mount mounted (mounted_with commit number plain) number is, shows)
 
-pub lost_rig : (rig : RigState) (plain : PlainState) (letters : List ℕ) (new after : Objects) (mounted : MountedState)
-    → ShowsPlain rig plain → Lands rig.puts letters rig.objects new → rig.lines < 2 ^ 40 → IsMountedVolume plain.geometry new mounted after
-    → MountsStored script_uuid plain.geometry (Some new) mounted → mounted.volume.volume.log.commits.number ≡ 0
+pub lost_rig : (rig : RigState) (plain : PlainState) (letters : List ℕ) (new after : Objects) (mounted : MountedState) (sectors : ℕ)
+    → ShowsPlain rig plain → Lands rig.puts letters rig.objects new → rig.lines < 2 ^ 40
+    → plain.geometry.log ≡ sectors → MountedAs sectors (λ epoch. epoch + 1) new mounted after → MountsStoredOf sectors new mounted → mounted.volume.volume.log.commits.number ≡ 0
     → IsMountedRig rig letters plain (mounted_lost (landed_by plain.window letters) plain) mounted after
-lost_rig rig plain letters new after mounted h lands few was mounts numbers =
+lost_rig rig plain letters new after mounted sectors h lands few log was mounts numbers =
     let number : ℕ = number_left new plain in
     let end : ℕ = end_of_object number plain in
-    let is = mounts plain number (stored_left rig plain letters new h lands) in
+    let described = described_left rig plain letters new h lands in
+    let is = mounts plain.geometry h.epoch log described plain number (stored_left rig plain letters new h lands few) in
+    let begun = h.begun in
     let shows =
-    mounted_rig rig plain letters new after mounted end (empty_from plain.cache.log.size end) h lands few was is refl
+    mounted_rig rig plain letters new after mounted end (empty_from plain.cache.log.size end) h lands few (h.epoch + 1) (omega (arith, begun))
+    (was plain.geometry h.epoch log described) is refl
     (λ n bytes low object. (mounts_keep_object (expected_of_plain plain) plain plain.cache.log.last number n bytes h.shows.valid low object).1)
     (omega (arith, numbers)) in
     subst (IsMadeBy rig (λ n. mounted_without n plain) mounted after) (recovered_same rig plain letters new h lands)
@@ -484,8 +451,7 @@ lost_rig rig plain letters new after mounted h lands few was mounts numbers =
 
 -- Of a rig that was stopped, and whose objects with some letters landed, these are left: a store, and a device where the pending writes met
 -- some fates.
-pub record WasStopped (rig : RigState) (geometry : Geometry) (fates : List Fate) (letters : List ℕ) (new : Objects) (left : DiskState) : Type 0 where
-  pub geometry_is : geometry ≡ rig.volume.volume.objects.batch.geometry
+pub record WasStopped (rig : RigState) (fates : List Fate) (letters : List ℕ) (new : Objects) (left : DiskState) : Type 0 where
   pub on_disk : IsOnDisk rig.volume.volume.log
   pub few : rig.lines < 2 ^ 40
   pub count : (plain : PlainState) → ShowsPlain rig plain → length fates ≡ length plain.cache.pending
@@ -493,18 +459,16 @@ pub record WasStopped (rig : RigState) (geometry : Geometry) (fates : List Fate)
   pub lands : Lands rig.puts letters rig.objects new
 
 -- the same without its device
-pub record WasLost (rig : RigState) (geometry : Geometry) (letters : List ℕ) (new : Objects) : Type 0 where
-  pub geometry_is : geometry ≡ rig.volume.volume.objects.batch.geometry
+pub record WasLost (rig : RigState) (letters : List ℕ) (new : Objects) : Type 0 where
   pub few : rig.lines < 2 ^ 40
   pub lands : Lands rig.puts letters rig.objects new
 
-pub was_stopped : (rig self : RigState) (geometry : Geometry) (fates : List Fate) (letters : List ℕ) (puts : List PutView) (new : Objects)
+pub was_stopped : (rig self : RigState) (fates : List Fate) (letters : List ℕ) (puts : List PutView) (new : Objects)
     (disk left : DiskState)
-    → rig ≡ self → geometry ≡ rig.volume.volume.objects.batch.geometry → IsOnDisk rig.volume.volume.log → self.lines < 2 ^ 40
+    → rig ≡ self → IsOnDisk rig.volume.volume.log → self.lines < 2 ^ 40
     → ((plain : PlainState) → ShowsPlain self plain → length fates ≡ length plain.cache.pending) → disk ≡ rig.volume.volume.log.commits.disk
-    → IsLeftBy fates disk left → puts ≡ rig.puts → Lands puts letters rig.objects new → WasStopped rig geometry fates letters new left
-was_stopped rig self geometry fates letters puts new disk left same geometry_is on_disk few count is left_by are lands = record {
-  geometry_is = geometry_is;
+    → IsLeftBy fates disk left → puts ≡ rig.puts → Lands puts letters rig.objects new → WasStopped rig fates letters new left
+was_stopped rig self fates letters puts new disk left same on_disk few count is left_by are lands = record {
   on_disk = on_disk;
   few = subst (λ (r : RigState). r.lines < 2 ^ 40) (sym same) few;
   count = λ plain h. count plain (subst (λ r. ShowsPlain r plain) same h);
@@ -512,73 +476,63 @@ was_stopped rig self geometry fates letters puts new disk left same geometry_is 
   lands = subst (λ ps. Lands ps letters rig.objects new) are lands;
 }
 
-pub was_lost : (rig self : RigState) (geometry : Geometry) (letters : List ℕ) (puts : List PutView) (new : Objects)
-    → rig ≡ self → geometry ≡ rig.volume.volume.objects.batch.geometry → self.lines < 2 ^ 40
-    → puts ≡ rig.puts → Lands puts letters rig.objects new → WasLost rig geometry letters new
-was_lost rig self geometry letters puts new same geometry_is few are lands = record {
-  geometry_is = geometry_is;
+pub was_lost : (rig self : RigState) (letters : List ℕ) (puts : List PutView) (new : Objects)
+    → rig ≡ self → self.lines < 2 ^ 40
+    → puts ≡ rig.puts → Lands puts letters rig.objects new → WasLost rig letters new
+was_lost rig self letters puts new same few are lands = record {
   few = subst (λ (r : RigState). r.lines < 2 ^ 40) (sym same) few;
   lands = subst (λ ps. Lands ps letters rig.objects new) are lands;
 }
 
 -- ---- what a mount needs
 
-same_geometry : (rig : RigState) (plain : PlainState) (geometry : Geometry) → ShowsPlain rig plain
-    → geometry ≡ rig.volume.volume.objects.batch.geometry → plain.geometry ≡ geometry
-same_geometry rig plain geometry h is = sym (is ∙ h.shows.objects.geometry)
-
-pub has_limits : (rig : RigState) (plain : PlainState) (geometry : Geometry) → ShowsPlain rig plain
-    → geometry ≡ rig.volume.volume.objects.batch.geometry → IsTrue (is_within_limits geometry)
-has_limits rig plain geometry h is = subst (λ g. IsTrue (is_within_limits g)) (same_geometry rig plain geometry h is) h.shows.valid.limits
+same_geometry : (rig : RigState) (plain : PlainState) → ShowsPlain rig plain → plain.geometry ≡ rig.volume.volume.objects.batch.geometry
+same_geometry rig plain h = sym h.shows.objects.geometry
 
 -- the log has the sectors of the device past its slots
-pub has_log : (rig : RigState) (plain : PlainState) (geometry : Geometry) (fates : List Fate) (left : DiskState) → ShowsPlain rig plain
-    → geometry ≡ rig.volume.volume.objects.batch.geometry → IsOnDisk rig.volume.volume.log
-    → IsLeftBy fates rig.volume.volume.log.commits.disk left → (geometry.log ≡ log_of left.size) × (4096 ≤ left.size)
-has_log rig plain geometry fates left h is on_disk left_by =
+pub has_log : (rig : RigState) (plain : PlainState) (fates : List Fate) (left : DiskState) → ShowsPlain rig plain
+    → IsOnDisk rig.volume.volume.log → IsLeftBy fates rig.volume.volume.log.commits.disk left
+    → (plain.geometry.log ≡ log_of left.size) × (4096 ≤ left.size)
+has_log rig plain fates left h on_disk left_by =
     let log : LogState = rig.volume.volume.log in
-    let geometry_log : plain.geometry.log ≡ geometry.log = ap (λ (g : Geometry). g.log) (same_geometry rig plain geometry h is) in
     let room : plain.cache.log.size ≡ log.room.log = ap (λ (r : Room). r.log) h.shows.log.room in (
-      sym geometry_log ∙ sym h.shows.valid.size ∙ room ∙ on_disk.sectors ∙ ap log_of (sym left_by.size),
+      sym h.shows.valid.size ∙ room ∙ on_disk.sectors ∙ ap log_of (sym left_by.size),
       subst (λ n. 4096 ≤ n) (sym left_by.size) on_disk.commits.size,
     )
 
-pub may_mount_again : (rig : RigState) (plain : PlainState) (geometry : Geometry) (fates : List Fate) (letters : List ℕ) (new : Objects)
-    (left : DiskState) → ShowsPlain rig plain → WasStopped rig geometry fates letters new left → MayMountLeft geometry new left
-may_mount_again rig plain geometry fates letters new left h was =
-    subst (λ g. MayMountLeft g new left) (same_geometry rig plain geometry h was.geometry_is)
-    (may_mount_left rig plain fates letters new left h was.on_disk was.lands was.left_by (was.count plain h) was.few)
+pub may_mount_again : (rig : RigState) (plain : PlainState) (fates : List Fate) (letters : List ℕ) (new : Objects) (left : DiskState)
+    → ShowsPlain rig plain → WasStopped rig fates letters new left → MayMountLeft plain.geometry new left
+may_mount_again rig plain fates letters new left h was =
+    may_mount_left rig plain fates letters new left h was.on_disk was.lands was.left_by (was.count plain h) was.few
+    (has_log rig plain fates left h was.on_disk was.left_by)
 
-pub may_mount_anew : (rig : RigState) (plain : PlainState) (geometry : Geometry) (letters : List ℕ) (new : Objects)
-    → ShowsPlain rig plain → WasLost rig geometry letters new → MayMountStored geometry new
-may_mount_anew rig plain geometry letters new h was =
-    subst (λ g. MayMountStored g new) (same_geometry rig plain geometry h was.geometry_is)
-    (may_mount_stored rig plain letters new h was.lands was.few)
+pub may_mount_anew : (rig : RigState) (plain : PlainState) (letters : List ℕ) (new : Objects)
+    → ShowsPlain rig plain → WasLost rig letters new → MayMountStored plain.geometry new
+may_mount_anew rig plain letters new h was = may_mount_stored rig plain letters new h was.lands was.few
+
+-- the log of a new device is that of the volume
+pub log_anew : (rig : RigState) (plain : PlainState) (geometry : Geometry) (sectors : ℕ) → ShowsPlain rig plain
+    → geometry ≡ rig.volume.volume.objects.batch.geometry → geometry.log ≡ sectors → plain.geometry.log ≡ sectors
+log_anew rig plain geometry sectors h is log = ap (λ (g : Geometry). g.log) (same_geometry rig plain h ∙ sym is) ∙ log
 
 -- ---- what it makes
 
-pub rig_again : (rig : RigState) (plain : PlainState) (geometry : Geometry) (fates : List Fate) (letters : List ℕ) (new after : Objects)
+pub rig_again : (rig : RigState) (plain : PlainState) (fates : List Fate) (letters : List ℕ) (new after : Objects)
     (left : DiskState) (mounted : MountedState)
-    → ShowsPlain rig plain → WasStopped rig geometry fates letters new left → IsMountedVolume geometry new mounted after
-    → MountsLeft script_uuid geometry (Some new) left mounted → NumbersNextCommit geometry left mounted
+    → ShowsPlain rig plain → WasStopped rig fates letters new left → MountedAs (log_of left.size) (λ epoch. epoch) new mounted after
+    → MountsLeftOf (log_of left.size) new left mounted → NumbersNextCommit (log_of left.size) left mounted
     → IsMountedRig rig letters plain (mounted_kept (landed_by plain.window letters) (map is_kept fates) plain) mounted after
-rig_again rig plain geometry fates letters new after left mounted h was volume mounts numbers =
-    let same = sym (same_geometry rig plain geometry h was.geometry_is) in
+rig_again rig plain fates letters new after left mounted h was volume mounts numbers =
     kept_rig rig plain fates letters new after left mounted h was.on_disk was.lands was.left_by (was.count plain h) was.few
-    (subst (λ g. IsMountedVolume g new mounted after) same volume)
-    (subst (λ g. MountsLeft script_uuid g (Some new) left mounted) same mounts)
-    (subst (λ g. NumbersNextCommit g left mounted) same numbers)
+    (has_log rig plain fates left h was.on_disk was.left_by).0 volume mounts numbers
 
-pub rig_anew : (rig : RigState) (plain : PlainState) (geometry : Geometry) (letters : List ℕ) (new after : Objects) (mounted : MountedState)
-    → ShowsPlain rig plain → WasLost rig geometry letters new → IsMountedVolume geometry new mounted after
-    → MountsStored script_uuid geometry (Some new) mounted → mounted.volume.volume.log.commits.number ≡ 0
+pub rig_anew : (rig : RigState) (plain : PlainState) (letters : List ℕ) (new after : Objects) (mounted : MountedState) (sectors : ℕ)
+    → ShowsPlain rig plain → WasLost rig letters new → plain.geometry.log ≡ sectors → MountedAs sectors (λ epoch. epoch + 1) new mounted after
+    → MountsStoredOf sectors new mounted → mounted.volume.volume.log.commits.number ≡ 0
     → IsMountedRig rig letters plain (mounted_lost (landed_by plain.window letters) plain) mounted after
-rig_anew rig plain geometry letters new after mounted h was volume mounts numbers =
-    let same = sym (same_geometry rig plain geometry h was.geometry_is) in
-    lost_rig rig plain letters new after mounted h was.lands was.few (subst (λ g. IsMountedVolume g new mounted after) same volume)
-    (subst (λ g. MountsStored script_uuid g (Some new) mounted) same mounts) numbers
+rig_anew rig plain letters new after mounted sectors h was log volume mounts numbers =
+    lost_rig rig plain letters new after mounted sectors h was.lands was.few log volume mounts numbers
 
--- the answer, and the rig, are those of a mount
 pub told_by : (rig : RigState) (letters : List ℕ) (plain made : PlainState) (mounted : MountedState) (after : Objects) (answer : Answer)
     (bench : RigState)
     → bench ≡ rig_of mounted.volume after [] false (rig.lines + 1) → answer ≡ Mounted mounted.entries mounted.number

@@ -24,7 +24,10 @@ new_rig geometry volume objects new =
     record {
       shows = subst (λ f. Shows volume.volume (passing f plain)) none new.created.shows;
       pending = new.pending;
+      epoch = 0;
       own = new.created.own;
+      described = new.described;
+      begun = omega arith;
       uuid_is = new.created.uuid_is;
       opens = record { number = refl; end = refl; checkpoint = refl; opening = refl; owned = refl };
       stopping = refl;

@@ -1,5 +1,5 @@
 -- What events leave of a plain volume: where it opens, whether its device is told to stop, and how its numbers grow.
-use Rattle.std.proofs.Common.{◌≡◌, ℕ, ◌+◌, ◌≤◌, Bool, true, false, cond, not, ◌&&◌, List, [], ◌∷◌, ◌++◌, length, refl, sym, ◌∙◌, ap, subst, arith, length-append}
+use Rattle.std.proofs.Common.{◌≡◌, ℕ, ◌+◌, ◌≤◌, Bool, true, false, cond, not, ◌&&◌, List, [], ◌∷◌, ◌++◌, length, refl, sym, ◌∙◌, ap, arith, length-append}
 use Rattle.std.specs.Prelude.{Option, Some, None, is_some}
 use Rattle.lsvd_base.specs.declared.entry.Entry.{Entry}
 use Rattle.lsvd_base.specs.declared.entry.Entry.TheVariants as entries
@@ -17,7 +17,7 @@ use Rattle.plain_disk.specs.Log.{with_record}
 use Rattle.plain_disk.specs.Entries.{batch_refusal, commits_for_room, cache_for, comes_to_log, cache_after, after_entering}
 use Rattle.plain_disk.specs.Objects.{has_unsealed, is_busy, end_of_next, window_after_take, window_after_done, window_after_failed}
 use Rattle.plain_disk.specs.Reads.{look_calls, passes_look, objects_read, are_pinned, without_pins}
-use Rattle.plain_disk.specs.State.{PlainState, history_length, frontier_end}
+use Rattle.plain_disk.specs.State.{PlainState, frontier_end}
 use Rattle.plain_disk.specs.Step.{plain_after}
 use Rattle.plain_disk.proofs.CommitLemmas.{either}
 use Rattle.log_meaning.proofs.PlainCommits.{plain_commit_takes_calls}

@@ -1,6 +1,6 @@
 -- How far a replay has come: what is written, what is still to be written, and what is left to run.
 use Rattle.std.proofs.Common.{◌≡◌, ℕ, ◌+◌, ◌≤◌, ◌^◌, List, [], ◌∷◌, ◌++◌, length, take, drop, refl, sym, ◌∙◌, ap, subst, inl, inr, append_assoc, append-nil}
-use Rattle.std.specs.Prelude.{Option, Some, None}
+use Rattle.std.specs.Prelude.{Option, None}
 use Rattle.std.proofs.lemmas.List.{take-append-drop}
 use Rattle.replay_script.specs.Grammar.{lines_of}
 use Rattle.transcript.specs.declared.reason.Reason.{Reason}

@@ -1,9 +1,9 @@
 -- Where an object under way stands, and what is made of the list there.
-use Rattle.std.proofs.Common.{◌≡◌, ℕ, zero, suc, ◌+◌, ◌<◌, ◌≤◌, ◌==◌, Bool, true, false, not, cond, List, [], ◌∷◌, ◌++◌, length, take, drop, refl, sym, ◌∙◌, ap, subst, get_or, arith, nat_lt, nat_le, if◌then◌else◌, ◌&&◌, ◌⊎◌, inl, inr}
+use Rattle.std.proofs.Common.{◌≡◌, ℕ, zero, suc, ◌+◌, ◌<◌, ◌≤◌, ◌==◌, Bool, true, false, not, cond, List, [], ◌∷◌, length, refl, sym, ◌∙◌, ap, subst, get_or, arith, nat_lt, nat_le, ◌&&◌, ◌⊎◌, inl, inr}
 use Rattle.std.specs.Prelude.{Option, Some, None, MatchOption, unwrap_or, Result, Ok, Err, IfOk}
 use Rattle.std.specs.declared.alloc.AllocError.{AllocError}
 use Rattle.object_uploads.specs.State.{JobState}
-use Rattle.std.specs.List.{slice_get, insert, remove, prefix_len, position_or_len}
+use Rattle.std.specs.List.{slice_get, insert, remove, position_or_len}
 use Rattle.std.proofs.lemmas.Bool.{cases_lt, lt-ltb, le-ltb, le-leb, lt-leb, ltb-true, ltb-false, eqb-true}
 use Rattle.vol_replay.specs.Puts.{PutView, put_of, is_put_out, out_put, with_begun, with_failed, without_put, IsPutOut, IsJobTaken}
 use Rattle.vol_replay.specs.Places.{place_of_put, is_of_number, stands_at_place}

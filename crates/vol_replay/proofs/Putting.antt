@@ -21,6 +21,7 @@ use Rattle.object_uploads.proofs.OpenLemmas.{frontier_below}
 use Rattle.obj_log.specs.State.{ObjLogState}
 use Rattle.obj_log.specs.Changes.{expected_of_volume}
 use Rattle.stopped_volume.specs.Objects.{IsCheckpointOf}
+use Rattle.stopped_volume.specs.Super.{HasVolume}
 use Rattle.upload_window.specs.declared.object.OpenObject.{OpenObject}
 use Rattle.upload_window.specs.Window.{WindowState, Ascends, IsAcknowledged, has_number, below_lowest, below_open, is_ready, lowest_ready, is_started, marked, acknowledged}
 use Rattle.batcher.specs.declared.full.Full.TheVariants as full
@@ -50,6 +51,7 @@ use Rattle.vol_replay.specs.Puts.{PutView, put_of, is_put_out, out_put, with_beg
 use Rattle.vol_replay.specs.Rig.{RigState, rig_of, script_uuid, expected_of_plain, AreUnderWay, HasBytesOfObject, HasStored, ShowsPlain}
 use Rattle.vol_replay.proofs.PlainLemmas.{GrowsByOne, event_grows, still_opens}
 use Rattle.vol_replay.proofs.Says.{says_reply, done_counts}
+use Rattle.vol_replay.proofs.Describing.{put_keeps_volume}
 use Rattle.vol_replay.proofs.Stepped.{ShowsVolume, volume_shown, StepsVolume, step_of_plain, bytes_kept, on_its_way, stored_still, put_objects_still, young_still, KeepsUnderWay, same_under_way, goes_on}
 use Rattle.vol_replay.proofs.WindowLemmas.{open_above, started_is_open, ready_is_open, marked_numbers, without_others, without_own, begun_under_way, failed_under_way, done_under_way, out_if_started, all_begun, all_failed, all_without, all_at}
 
@@ -151,11 +153,11 @@ known_bytes plain volume (put ∷ puts) all = (all.0.bytes, known_bytes plain vo
 -- it shows the plain volume after the event, where these objects are under way then, and the store has what it is to have
 puts_go_on : (old : RigState) (volume : SteppedVolume) (objects : Objects) (puts : List PutView) (event : Event Kept) (reply : Reply Kept)
     (asked : PlainEvent) (plain : PlainState)
-    → ShowsPlain old plain → StepsVolume event reply old.volume volume → ShowsVolume volume.volume (plain_after asked plain)
+    → (h : ShowsPlain old plain) → StepsVolume event reply old.volume volume → ShowsVolume h.epoch volume.volume (plain_after asked plain)
     → AreUnderWay (plain_after asked plain).window.objects puts → AllByRecursion (IsKnownPut plain old.volume.volume) puts
-    → HasStored (plain_after asked plain) objects
+    → HasStored (plain_after asked plain) objects → HasVolume script_uuid plain.geometry h.epoch objects
     → ShowsPlain (rig_after old volume objects puts) (plain_after asked plain)
-puts_go_on old volume objects puts event reply asked plain h of now are known stored =
+puts_go_on old volume objects puts event reply asked plain h of now are known stored described =
     let next : PlainState = plain_after asked plain in
     let grows = event_grows plain asked in
     let object_stays = λ (number : ℕ) (bytes : List ℕ) (is : IsObjectOf (expected_of_plain plain) plain number bytes).
@@ -163,7 +165,10 @@ puts_go_on old volume objects puts event reply asked plain h of now are known st
     record {
       shows = now.shows;
       pending = now.pending;
+      epoch = h.epoch;
       own = now.own;
+      described = subst (λ g. HasVolume script_uuid g h.epoch objects) (sym grows.geometry) described;
+      begun = omega (arith, h.begun);
       uuid_is = now.uuid_is;
       opens = still_opens plain next grows h.opens;
       stopping = h.stopping ∙ sym grows.told;
@@ -228,8 +233,9 @@ some_taken (Some number) n is = (let same : number ≡ n = cc in ap Some same)
 
 -- none is ready
 none_begun : (old : RigState) (volume : SteppedVolume) (reply : Reply Kept) (plain : PlainState) → ((job : JobState) → reply ≡ told.Taken job → ⊥)
-    → StepsVolume TakeJob reply old.volume volume → ShowsPlain old plain
-    → Tells told_receipt old.volume.volume reply (plain_reply plain events.TakeJob) → ShowsVolume volume.volume (plain_after events.TakeJob plain)
+    → StepsVolume TakeJob reply old.volume volume → (h : ShowsPlain old plain)
+    → Tells told_receipt old.volume.volume reply (plain_reply plain events.TakeJob)
+    → ShowsVolume h.epoch volume.volume (plain_after events.TakeJob plain)
     → SaysReply (plain_reply plain events.TakeJob) answers.Nothing
     × ShowsPlain (rig_after old volume old.objects old.puts) (plain_after events.TakeJob plain)
 none_begun old volume reply plain not_taken of h tells now =
@@ -245,10 +251,10 @@ pub begun_none : (old : RigState) (volume : SteppedVolume) (reply : Reply Kept) 
     → AnswersEvent events.TakeJob answers.Nothing old (rig_after old volume old.objects list)
 begun_none old volume reply list same not_taken of = λ plain h.
     let room = no_room_asked old.volume.volume.log.commits.disk.budget h.pending.told in
-    elim (step_of_plain TakeJob reply plain old.volume volume (volume_shown old plain h) room of) [
+    elim (step_of_plain h.epoch TakeJob reply plain old.volume volume (volume_shown old plain h) room of) [
       | inl s ↦
           let tells = subst (λ e. Tells told_receipt old.volume.volume reply (plain_reply plain e)) s.asks s.tells in
-          let now = subst (λ e. ShowsVolume volume.volume (plain_after e plain)) s.asks s.now in
+          let now = subst (λ e. ShowsVolume h.epoch volume.volume (plain_after e plain)) s.asks s.now in
           let made = none_begun old volume reply plain not_taken of h tells now in
           (made.0, with_list old volume old.objects list old.puts (plain_after events.TakeJob plain) same made.1)
       | inr none ↦ (let e : false ≡ true = none.may in cc)
@@ -277,9 +283,9 @@ job_of_rig rig plain n job h uploads open_ is_job =
 
 job_begun : (old : RigState) (volume : SteppedVolume) (job : JobState) (plain : PlainState)
     → IsUploads old.volume.volume.objects.uploads.queue old.volume.volume.objects.uploads.window
-    → StepsVolume TakeJob (told.Taken job) old.volume volume → ShowsPlain old plain
+    → StepsVolume TakeJob (told.Taken job) old.volume volume → (h : ShowsPlain old plain)
     → Tells told_receipt old.volume.volume (told.Taken job) (plain_reply plain events.TakeJob)
-    → ShowsVolume volume.volume (plain_after events.TakeJob plain)
+    → ShowsVolume h.epoch volume.volume (plain_after events.TakeJob plain)
     → ShowsPlain (rig_after old volume old.objects (with_begun job.name.number job.bytes old.puts)) (plain_after events.TakeJob plain)
 job_begun old volume job plain uploads of h tells now =
     let n : ℕ = job.name.number in
@@ -293,7 +299,7 @@ job_begun old volume job plain uploads of h tells now =
     (subst (λ (w : WindowState). AreUnderWay w.objects (with_begun n job.bytes old.puts)) (sym window) are)
     (all_begun (IsKnownPut plain old.volume.volume) n job.bytes old.puts (job_of_rig old plain n job h uploads open_ tells.1)
     (known_puts old plain h))
-    (stored_marked n true old plain events.TakeJob h window)
+    (stored_marked n true old plain events.TakeJob h window) h.described
 
 pub begun_some : (old : RigState) (volume : SteppedVolume) (job : JobState) (number : ℕ) (list : List PutView) → number ≡ job.name.number
     → list ≡ with_begun job.name.number job.bytes old.puts
@@ -302,10 +308,10 @@ pub begun_some : (old : RigState) (volume : SteppedVolume) (job : JobState) (num
     → AnswersEvent events.TakeJob (answers.Put number) old (rig_after old volume old.objects list)
 begun_some old volume job number list number_is same uploads of = λ plain h.
     let room = no_room_asked old.volume.volume.log.commits.disk.budget h.pending.told in
-    elim (step_of_plain TakeJob (told.Taken job) plain old.volume volume (volume_shown old plain h) room of) [
+    elim (step_of_plain h.epoch TakeJob (told.Taken job) plain old.volume volume (volume_shown old plain h) room of) [
       | inl s ↦
           let tells = subst (λ e. Tells told_receipt old.volume.volume (told.Taken job) (plain_reply plain e)) s.asks s.tells in
-          let now = subst (λ e. ShowsVolume volume.volume (plain_after e plain)) s.asks s.now in
+          let now = subst (λ e. ShowsVolume h.epoch volume.volume (plain_after e plain)) s.asks s.now in
           let made = job_begun old volume job plain uploads of h tells now in (
             subst (λ reply. SaysReply reply (answers.Put number)) (sym tells.0) (ap answers.Put number_is),
             with_list old volume old.objects list (with_begun job.name.number job.bytes old.puts) (plain_after events.TakeJob plain) same made,
@@ -322,8 +328,8 @@ put_failed volume job n None of number out = absurd (of (subst (λ k. IsOut volu
 put_failed volume job n (Some other) of number out = ap Some (of.0 ∙ number)
 
 job_failed : (n : ℕ) (old : RigState) (volume : SteppedVolume) (job : JobState) (reply : Reply Kept) (plain : PlainState)
-    → is_started n plain.window.objects ≡ true → StepsVolume (JobFailed job) reply old.volume volume → ShowsPlain old plain
-    → ShowsVolume volume.volume (plain_after (events.JobFailed (Some n)) plain)
+    → is_started n plain.window.objects ≡ true → StepsVolume (JobFailed job) reply old.volume volume → (h : ShowsPlain old plain)
+    → ShowsVolume h.epoch volume.volume (plain_after (events.JobFailed (Some n)) plain)
     → ShowsPlain (rig_after old volume old.objects (with_failed n old.puts)) (plain_after (events.JobFailed (Some n)) plain)
 job_failed n old volume job reply plain started of h now =
     let objects : List OpenObject = plain.window.objects in
@@ -335,7 +341,7 @@ job_failed n old volume job reply plain started of h now =
     (subst (λ (w : WindowState). AreUnderWay w.objects (with_failed n old.puts)) (sym window) are)
     (all_failed (IsKnownPut plain old.volume.volume) n old.puts
     (λ put known. record { object = known.object; waits = known.waits; bytes = known.bytes }) (known_puts old plain h))
-    (stored_marked n false old plain (events.JobFailed (Some n)) h window)
+    (stored_marked n false old plain (events.JobFailed (Some n)) h window) h.described
 
 pub failed_answers : (n : ℕ) (old : RigState) (volume : SteppedVolume) (job : JobState) (reply : Reply Kept) (list : List PutView)
     → ((plain : PlainState) → ShowsPlain old plain → IsTrue (is_started n plain.window.objects)) → job.name.number ≡ n → IsPutOut n job.bytes old.puts
@@ -344,12 +350,12 @@ pub failed_answers : (n : ℕ) (old : RigState) (volume : SteppedVolume) (job : 
 failed_answers n old volume job reply list out number is same of = λ plain h.
     let started = out plain h in
     let room = no_room_asked old.volume.volume.log.commits.disk.budget h.pending.told in
-    elim (step_of_plain (JobFailed job) reply plain old.volume volume (volume_shown old plain h) room of) [
+    elim (step_of_plain h.epoch (JobFailed job) reply plain old.volume volume (volume_shown old plain h) room of) [
       | inl s ↦
           let (put, asks, of_put) = s.asks in
           let put_is = put_failed old.volume.volume job n put of_put number (out_of_volume n job.bytes old plain h started is) in
           let asked : s.asked ≡ events.JobFailed (Some n) = asks ∙ ap events.JobFailed put_is in
-          let now = subst (λ e. ShowsVolume volume.volume (plain_after e plain)) asked s.now in
+          let now = subst (λ e. ShowsVolume h.epoch volume.volume (plain_after e plain)) asked s.now in
           let made = job_failed n old volume job reply plain started of h now in (
             refl,
             with_list old volume old.objects list (with_failed n old.puts) (plain_after (events.JobFailed (Some n)) plain) same made,
@@ -446,8 +452,8 @@ stored_done n bytes plain next old new grows window order past most put object k
 job_done : (n : ℕ) (bytes : List ℕ) (old : RigState) (volume : SteppedVolume) (store : Objects) (job : JobState) (receipt : Kept) (reply : Reply Kept)
     (plain : PlainState)
     → is_started n plain.window.objects ≡ true → IsPutOut n bytes old.puts → IsPut (name_of script_uuid n) bytes old.objects store
-    → StepsVolume (JobDone job receipt) reply old.volume volume → ShowsPlain old plain
-    → ShowsVolume volume.volume (plain_after (events.JobDone (Some n)) plain)
+    → StepsVolume (JobDone job receipt) reply old.volume volume → (h : ShowsPlain old plain)
+    → ShowsVolume h.epoch volume.volume (plain_after (events.JobDone (Some n)) plain)
     → ShowsPlain (rig_after old volume store (without_put n old.puts)) (plain_after (events.JobDone (Some n)) plain)
 job_done n bytes old volume store job receipt reply plain started is put of h now =
     let objects : List OpenObject = plain.window.objects in
@@ -464,6 +470,7 @@ job_done n bytes old volume store job receipt reply plain started is put of h no
     (all_at (HasBytesOfObject plain) n old.puts (out_put n bytes) is h.put_objects)
     (λ number more object. events_keep_object (expected_of_plain plain) plain number more (events.JobDone (Some n)) h.shows.valid object)
     h.stored)
+    (put_keeps_volume n bytes old.objects store plain.geometry h.epoch put h.described)
 
 -- the plain volume's put is done, and the rig shows it
 done_on : (n : ℕ) (old : RigState) (volume : SteppedVolume) (store : Objects) (job : JobState) (receipt : Kept) (reply : Reply Kept)
@@ -475,13 +482,13 @@ done_on : (n : ℕ) (old : RigState) (volume : SteppedVolume) (store : Objects) 
 done_on n old volume store job receipt reply list plain made same of h =
     let started = made.out plain h in
     let room = no_room_asked old.volume.volume.log.commits.disk.budget h.pending.told in
-    elim (step_of_plain (JobDone job receipt) reply plain old.volume volume (volume_shown old plain h) room of) [
+    elim (step_of_plain h.epoch (JobDone job receipt) reply plain old.volume volume (volume_shown old plain h) room of) [
       | inl s ↦
           let (put, asks, of_put) = s.asks in
           let out = out_of_volume n job.bytes old plain h started made.job_out in
           let put_is = put_done old.volume.volume job (told_receipt receipt) n put of_put made.number h.uuid_is made.named out in
           let asked : s.asked ≡ events.JobDone (Some n) = asks ∙ ap events.JobDone put_is in
-          let now = subst (λ e. ShowsVolume volume.volume (plain_after e plain)) asked s.now in
+          let now = subst (λ e. ShowsVolume h.epoch volume.volume (plain_after e plain)) asked s.now in
           let done = job_done n made.bytes old volume store job receipt reply plain started made.bytes_out made.put of h now in (
             subst (λ e. Tells told_receipt old.volume.volume reply (plain_reply plain e)) asked s.tells,
             with_list old volume store list (without_put n old.puts) (plain_after (events.JobDone (Some n)) plain) same done,

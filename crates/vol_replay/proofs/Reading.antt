@@ -26,7 +26,6 @@ use Rattle.plain_disk.specs.Reads.{objects_read, look_calls, passes_look, are_pi
 use Rattle.plain_disk.specs.Step.{plain_reply, plain_after}
 use Rattle.transcript.specs.Answers.{released_by}
 use Rattle.read_plan.specs.Plan.{PlanState, Gives, GivesNoOther}
-use Rattle.vol_core.specs.declared.event.Event.{Event}
 use Rattle.vol_core.specs.declared.event.Event.TheVariants.{Look, Release}
 use Rattle.vol_core.specs.declared.reply.Refusal.{Refusal}
 use Rattle.vol_core.specs.declared.reply.Refusal.TheVariants as refusals
@@ -41,7 +40,7 @@ use Rattle.vol_replay.specs.Answers.{SaysReply, SaysCounts}
 use Rattle.vol_replay.specs.Bench.{AnswersRead}
 use Rattle.vol_replay.specs.Rig.{RigState, rig_of, IsYoung, ShowsPlain}
 use Rattle.vol_replay.proofs.Says.{IsCountReply, says_reply, lacks_unsaid}
-use Rattle.vol_replay.proofs.Stepped.{ShowsVolume, volume_shown, HasRoomForEvent, StepsVolume, StepsPlain, step_of_plain, KeepsUnderWay, same_under_way, goes_on, goes_on_with}
+use Rattle.vol_replay.proofs.Stepped.{ShowsVolume, volume_shown, StepsVolume, step_of_plain, KeepsUnderWay, same_under_way, goes_on, goes_on_with}
 use Rattle.vol_replay.proofs.Rooms.{no_step_rig}
 
 -- ---- what a read leaves of the plain volume
@@ -102,8 +101,8 @@ no_room_needed (Some budget) is = (omega arith, omega arith)
 
 -- the rig a line later, where the volume looked as the plain one does
 looked_rig : (lba sectors : ℕ) (old : RigState) (volume : SteppedVolume) (plain : PlainState) (reply : Reply Kept) (asked : PlainEvent)
-    → ShowsPlain old plain → StepsVolume (Look lba sectors) reply old.volume volume → asked ≡ events.Look lba sectors
-    → ShowsVolume volume.volume (plain_after asked plain)
+    → (h : ShowsPlain old plain) → StepsVolume (Look lba sectors) reply old.volume volume → asked ≡ events.Look lba sectors
+    → ShowsVolume h.epoch volume.volume (plain_after asked plain)
     → ShowsPlain (rig_of volume old.objects old.puts old.is_stopping (old.lines + 1)) (plain_after asked plain)
 looked_rig lba sectors old volume plain reply asked h of is now =
     let keeps : KeepsUnderWay plain.window (plain_after asked plain).window =
@@ -115,7 +114,7 @@ pub look_shows : (lba sectors : ℕ) (old : RigState) (volume : SteppedVolume) (
     → StepsVolume (Look lba sectors) reply old.volume volume
     → (now : PlainState) × ShowsPlain (rig_of volume old.objects old.puts old.is_stopping (old.lines + 1)) now
 look_shows lba sectors old volume plain reply h of =
-    elim (step_of_plain (Look lba sectors) reply plain old.volume volume (volume_shown old plain h)
+    elim (step_of_plain h.epoch (Look lba sectors) reply plain old.volume volume (volume_shown old plain h)
     (no_room_needed old.volume.volume.log.commits.disk.budget h.pending.told) of) [
       | inl s ↦ (plain_after s.asked plain, looked_rig lba sectors old volume plain reply s.asked h of s.asks s.now)
       | inr n ↦ (plain, no_step_rig old volume plain (Look lba sectors) reply h of n.now)
@@ -173,7 +172,7 @@ read_refused lba sectors old volume reply (Err error) none of says = tt
 read_refused lba sectors old volume reply (Ok answer) none of says = λ plain h.
     let rig : RigState = rig_of volume old.objects old.puts old.is_stopping (old.lines + 1) in
     let event : PlainEvent = events.Look lba sectors in
-    elim (step_of_plain (Look lba sectors) reply plain old.volume volume (volume_shown old plain h)
+    elim (step_of_plain h.epoch (Look lba sectors) reply plain old.volume volume (volume_shown old plain h)
     (no_room_needed old.volume.volume.log.commits.disk.budget h.pending.told) of) [
       | inl s ↦
           let tells = subst (λ e. Tells told_receipt old.volume.volume reply (plain_reply plain e)) s.asks s.tells in
@@ -200,7 +199,7 @@ is_planned : (lba sectors : ℕ) (old : RigState) (middle : SteppedVolume) (plai
     → StepsVolume (Look lba sectors) (told.Planned plan) old.volume middle → IsPlanned lba sectors plan old middle plain
 is_planned lba sectors old middle plain plan h of =
     let rig : RigState = rig_of middle old.objects old.puts old.is_stopping (old.lines + 1) in
-    elim (step_of_plain (Look lba sectors) (told.Planned plan) plain old.volume middle (volume_shown old plain h)
+    elim (step_of_plain h.epoch (Look lba sectors) (told.Planned plan) plain old.volume middle (volume_shown old plain h)
     (no_room_needed old.volume.volume.log.commits.disk.budget h.pending.told) of) [
       | inl s ↦
           let tells = subst (λ e. Tells told_receipt old.volume.volume (told.Planned plan) (plain_reply plain e)) s.asks s.tells in
@@ -227,11 +226,11 @@ given_back lba sectors old middle volume plain plan reply h of back shown =
     let released = release_reads looked plan.objects in
     let young = young_after_read old volume plain next (then_reads plain looked next (look_reads plain lba sectors) released)
     (omega (arith, of.steps, back.steps)) (omega (arith, of.commits, back.commits)) h.young in
-    elim (step_of_plain (Release plan) reply looked middle volume (volume_shown between looked shown)
+    elim (step_of_plain shown.epoch (Release plan) reply looked middle volume (volume_shown between looked shown)
     (no_room_needed middle.volume.log.commits.disk.budget shown.pending.told) back) [
       | inl s ↦
           goes_on_with between volume (old.lines + 1) (Release plan) reply (events.Release plan.objects) looked shown back
-          (subst (λ e. ShowsVolume volume.volume (plain_after e looked)) s.asks s.now) (windows_stay looked next released) young
+          (subst (λ e. ShowsVolume shown.epoch volume.volume (plain_after e looked)) s.asks s.now) (windows_stay looked next released) (omega arith) young
       | inr n ↦ absurd (let e = n.may in cc)
     ]
 

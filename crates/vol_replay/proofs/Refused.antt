@@ -1,5 +1,5 @@
 -- A line is refused as its command is, and a write out of range as the plain volume refuses it.
-use Rattle.std.proofs.Common.{◌≡◌, ℕ, ◌+◌, ◌*◌, ◌/◌, ◌≤◌, Bool, true, false, cond, not, ◌&&◌, List, [], ◌∷◌, ◌++◌, length, replicate, refl, sym, ◌∙◌, ap, subst, arith}
+use Rattle.std.proofs.Common.{◌≡◌, ℕ, ◌+◌, ◌*◌, ◌/◌, ◌≤◌, Bool, false, cond, not, ◌&&◌, List, [], ◌∷◌, ◌++◌, length, replicate, refl, sym, ◌∙◌, ap, subst, arith}
 use Rattle.std.specs.Prelude.{Option, Some, is_some, option_map, unwrap_or, Result, Ok, Err, IfErr, if◌then◌else◌}
 use Rattle.std.specs.List.{sum_by}
 use Rattle.std.proofs.lemmas.List.{length-replicate}
@@ -12,10 +12,9 @@ use Rattle.batcher.specs.Batch.{data_sectors, fullness}
 use Rattle.plain_disk.specs.declared.event.PlainEvent.TheVariants as events
 use Rattle.plain_disk.specs.declared.event.PlainReply.{PlainReply}
 use Rattle.plain_disk.specs.declared.event.PlainReply.TheVariants as replies
-use Rattle.plain_disk.specs.Cache.{PlainCache, passes_entry, cache_after_entry}
+use Rattle.plain_disk.specs.Cache.{passes_entry, cache_after_entry}
 use Rattle.plain_disk.specs.Entries.{reply_of_full, batch_refusal, has_room_for, cache_for, commits_are_made, room_reply, enter_reply, after_entering}
 use Rattle.plain_disk.specs.State.{PlainState, unsealed_entries}
-use Rattle.plain_disk.specs.Step.{plain_after}
 use Rattle.replay_script.specs.declared.command.Command.{Command}
 use Rattle.replay_script.specs.Grammar.{Spells}
 use Rattle.transcript.specs.Answers.{State}
@@ -31,7 +30,6 @@ use Rattle.vol_replay.specs.Lines.{IsUnfit, IsUnanswered, IsRefused, AnswersComm
 use Rattle.vol_replay.specs.Answers.{TellsAnswer}
 use Rattle.vol_replay.specs.declared.answer.Answer.{Answer}
 use Rattle.vol_replay.specs.Rig.{RigState, rig_of, ShowsPlain}
-use Rattle.vol_replay.specs.Written.{ShowsState}
 use Rattle.vol_replay.proofs.Rooms.{later_rig}
 
 -- ---- out of range

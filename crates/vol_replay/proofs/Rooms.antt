@@ -1,41 +1,35 @@
 -- A volume, on whose device room was made, shows what it showed, and answers an event.
-use Rattle.std.proofs.Common.{◌≡◌, ℕ, ◌+◌, ◌*◌, ◌^◌, ◌<◌, ◌≤◌, ◌⊎◌, Bool, true, false, List, refl, sym, ◌∙◌, ap, subst, inl, inr, arith}
-use Rattle.std.specs.Prelude.{Option, Some, None, is_some, IsTrue, Result, Ok, Err, IfOk, OnOk}
+use Rattle.std.proofs.Common.{◌≡◌, ℕ, ◌+◌, ◌≤◌, ◌⊎◌, true, refl, sym, ◌∙◌, ap, subst, inl, inr, arith}
+use Rattle.std.specs.Prelude.{Result, Ok, Err, IfOk}
 use Rattle.std.specs.List.{AllByRecursion}
 use Rattle.std.specs.declared.alloc.AllocError.{AllocError}
 use Rattle.lsvd_device.specs.Device.{DiskState}
 use Rattle.lsvd_objstore.specs.Memory.{Kept, told_receipt}
-use Rattle.commit_slot.specs.Commits.{with_budget}
 use Rattle.cache_log.specs.Log.{LogState}
 use Rattle.plain_disk.specs.declared.event.PlainEvent.{PlainEvent}
-use Rattle.plain_disk.specs.declared.event.PlainEvent.TheVariants as events
 use Rattle.plain_disk.specs.State.{PlainState}
 use Rattle.plain_disk.specs.Step.{plain_reply, plain_after}
-use Rattle.plain_disk.specs.Objects.{has_unsealed, is_busy}
-use Rattle.log_meaning.specs.Fuses.{fuse_in}
 use Rattle.pending_meaning.specs.Pending.{ShowsPending}
 use Rattle.pending_meaning.proofs.Shown.{still_shows_pending}
 use Rattle.vol_core.specs.declared.event.Event.{Event}
-use Rattle.vol_core.specs.declared.event.Event.TheVariants.{Write, Zero, Flush, Look, Release, Seal, TakeJob, JobDone, JobFailed, Status}
 use Rattle.vol_core.specs.declared.reply.Reply.{Reply}
 use Rattle.vol_core.specs.Volume.{VolumeState, SteppedVolume, with_budget_of}
-use Rattle.vol_core.specs.Shows.{Shows}
 use Rattle.vol_core.specs.Step.{HasBytesOf}
-use Rattle.vol_core.specs.Events.{Asks, Tells}
+use Rattle.vol_core.specs.Events.{Asks}
 use Rattle.vol_core.specs.Stops.{HasOwnCommits}
 use Rattle.vol_replay.specs.declared.answer.Answer.{Answer}
 use Rattle.vol_replay.specs.Answers.{SaysReply, SaysCounts}
 use Rattle.vol_replay.specs.Bench.{is_counted, AnswersEvent, AnswersAsked, IsUntouched}
-use Rattle.vol_replay.specs.Puts.{PutView}
-use Rattle.vol_replay.specs.Rig.{RigState, rig_of, script_uuid, IsYoung, ShowsPlain}
+use Rattle.vol_replay.specs.Rig.{RigState, rig_of, script_uuid, ShowsPlain}
 use Rattle.vol_replay.proofs.Says.{says_reply, lacks_unsaid, counted_asks, counted_reply}
 use Rattle.vol_replay.proofs.Stepped.{ShowsVolume, volume_shown, HasRoomForEvent, StepsVolume, step_of_plain, bytes_kept, on_its_way, goes_on}
 use Rattle.vol_replay.proofs.Windows.{quiet_windows}
 
 -- ---- a volume that only has more room
 
-pub untouched_volume : (old new : SteppedVolume) (plain : PlainState) → ShowsVolume old.volume plain → IsUntouched old new → ShowsVolume new.volume plain
-untouched_volume old new plain h of =
+pub untouched_volume : (epoch : ℕ) (old new : SteppedVolume) (plain : PlainState) → ShowsVolume epoch old.volume plain → IsUntouched old new
+    → ShowsVolume epoch new.volume plain
+untouched_volume epoch old new plain h of =
     let disk : DiskState = new.volume.log.commits.disk in
     let log : LogState = (with_budget_of disk old.volume).log in
     record {
@@ -43,7 +37,7 @@ untouched_volume old new plain h of =
       pending = subst (λ (v : VolumeState). ShowsPending v.log plain.cache) (sym of.volume)
           (still_shows_pending old.volume.log log plain.cache plain.cache h.pending (record { same_number = refl; same_body = refl; same_unfinished = refl }) refl
           (of.told h.pending.told) (λ spent. of.fuse ∙ spent) refl);
-      own = subst HasOwnCommits (sym of.volume) (record { last = h.own.last; unfinished = h.own.unfinished; in_range = h.own.in_range });
+      own = subst (HasOwnCommits epoch) (sym of.volume) (record { last = h.own.last; unfinished = h.own.unfinished; in_range = h.own.in_range });
       uuid_is = subst (λ (v : VolumeState). v.objects.uploads.uuid ≡ script_uuid) (sym of.volume) h.uuid_is;
     }
 
@@ -51,12 +45,15 @@ untouched_volume old new plain h of =
 pub untouched_rig : (old : RigState) (volume : SteppedVolume) (lines : ℕ) (plain : PlainState) → old.lines ≤ lines → ShowsPlain old plain
     → IsUntouched old.volume volume → ShowsPlain (rig_of volume old.objects old.puts old.is_stopping lines) plain
 untouched_rig old volume lines plain later h of =
-    let now = untouched_volume old.volume volume plain (volume_shown old plain h) of in
+    let now = untouched_volume h.epoch old.volume volume plain (volume_shown old plain h) of in
     let commits = ap (λ (v : VolumeState). v.log.commits.number) of.volume in
     record {
       shows = now.shows;
       pending = now.pending;
+      epoch = h.epoch;
       own = now.own;
+      described = h.described;
+      begun = omega (arith, h.begun, later);
       uuid_is = now.uuid_is;
       opens = h.opens;
       stopping = h.stopping;
@@ -78,7 +75,10 @@ pub later_rig : (old : RigState) (lines : ℕ) (plain : PlainState) → old.line
 later_rig old lines plain later h = record {
   shows = h.shows;
   pending = h.pending;
+  epoch = h.epoch;
   own = h.own;
+  described = h.described;
+  begun = omega (arith, h.begun, later);
   uuid_is = h.uuid_is;
   opens = h.opens;
   stopping = h.stopping;
@@ -95,13 +95,16 @@ later_rig old lines plain later h = record {
 }
 
 -- where memory ran out in a step, the rig shows what it showed, a line later
-pub no_step_rig : (old : RigState) (volume : SteppedVolume) (plain : PlainState) (event : Event Kept) (reply : Reply Kept) → ShowsPlain old plain
-    → StepsVolume event reply old.volume volume → ShowsVolume volume.volume plain
+pub no_step_rig : (old : RigState) (volume : SteppedVolume) (plain : PlainState) (event : Event Kept) (reply : Reply Kept) → (h : ShowsPlain old plain)
+    → StepsVolume event reply old.volume volume → ShowsVolume h.epoch volume.volume plain
     → ShowsPlain (rig_of volume old.objects old.puts old.is_stopping (old.lines + 1)) plain
 no_step_rig old volume plain event reply h of now = record {
   shows = now.shows;
   pending = now.pending;
+  epoch = h.epoch;
   own = now.own;
+  described = h.described;
+  begun = omega (arith, h.begun);
   uuid_is = now.uuid_is;
   opens = h.opens;
   stopping = h.stopping;
@@ -135,7 +138,7 @@ pub counts_on : (event : Event Kept) (reply : Reply Kept) (old : RigState) (midd
 counts_on event reply old middle volume plain is of room steps h =
     let ready : RigState = rig_of middle old.objects old.puts old.is_stopping old.lines in
     let before : ShowsPlain ready plain = untouched_rig old middle old.lines plain (omega arith) h of in
-    elim (step_of_plain event reply plain middle volume (volume_shown ready plain before) room steps) [
+    elim (step_of_plain before.epoch event reply plain middle volume (volume_shown ready plain before) room steps) [
       | inl s ↦ inl (record {
         asked = s.asked;
         asks = counted_asks event s.asked middle.volume old.volume.volume is s.asks;

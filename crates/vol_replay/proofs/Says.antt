@@ -1,5 +1,5 @@
 -- What is answered to a reply of a volume says what the plain volume replies.
-use Rattle.std.proofs.Common.{◌≡◌, ℕ, List, refl, sym, subst, length}
+use Rattle.std.proofs.Common.{◌≡◌, ℕ, List, sym, subst, length}
 use Rattle.std.specs.Prelude.{Bool, true, false, not, if◌then◌else◌, Option, Some, None, IfSome, unwrap_or, option_map}
 use Rattle.std.specs.List.{sum_by}
 use Rattle.lsvd_base.specs.declared.entry.Entry.{Entry}

@@ -6,6 +6,7 @@ use Rattle.lsvd_device.specs.Device.{HoldsNow}
 use Rattle.lsvd_device.specs.Medium.{Medium, MayLeave}
 use Rattle.cache_log.specs.Committed.{IsOnDisk}
 use Rattle.stopped_volume.specs.Objects.{landed_in}
+use Rattle.stopped_volume.specs.Device.{CacheOwner}
 use Rattle.plain_disk.specs.declared.log.PlainCommit.{PlainCommit}
 use Rattle.plain_disk.specs.Log.{PlainLog}
 use Rattle.plain_disk.specs.State.{PlainState, stream_in, history_length, frontier_of, frontier_end}
@@ -23,9 +24,13 @@ use Rattle.vol_replay.specs.Rig.{RigState, script_uuid, ShowsPlain, IsKeptByRig}
 
 -- ---- stops of the device
 
+-- the volume of a script as the owner of its cache in an epoch
+abbrev pub owner_at : (epoch : ℕ) → CacheOwner
+owner_at epoch = record { uuid = script_uuid; epoch = epoch }
+
 -- what the log of a rig has of its plain volume, for stops
 pub rig_stops : (rig : RigState) (plain : PlainState) (h : ShowsPlain rig plain) → IsOnDisk rig.volume.volume.log
-    → ShowsStops script_uuid h.shows.data_at rig.volume.volume.log plain
+    → ShowsStops (owner_at h.epoch) h.shows.data_at rig.volume.volume.log plain
 rig_stops rig plain h on_disk =
     let volume : VolumeState = rig.volume.volume in
     record {
@@ -33,8 +38,8 @@ rig_stops rig plain h on_disk =
       log_is = h.shows.log;
       logged = h.shows.logged;
       committed =
-          subst (λ (g : Geometry). HasCommitted script_uuid g volume.log) h.shows.objects.geometry
-          (subst (λ (u : List ℕ). HasCommitted u volume.objects.batch.geometry volume.log) h.uuid_is h.own);
+          subst (λ (g : Geometry). HasCommitted (owner_at h.epoch) g volume.log) h.shows.objects.geometry
+          (subst (λ (u : List ℕ). HasCommitted (record { uuid = u; epoch = h.epoch }) volume.objects.batch.geometry volume.log) h.uuid_is h.own);
       on_disk = on_disk;
     }
 
@@ -66,7 +71,7 @@ now_as : (P Q : Medium → Type 0) (moments : List Medium) → ((medium : Medium
 now_as P Q [] follows holds = tt
 now_as P Q (now ∷ past) follows holds = follows now holds
 
-pub kept_by_rig : (rig : RigState) (plain : PlainState) → ShowsPlain rig plain → IsOnDisk rig.volume.volume.log → IsKeptByRig rig plain
+pub kept_by_rig : (rig : RigState) (plain : PlainState) → (h : ShowsPlain rig plain) → IsOnDisk rig.volume.volume.log → IsKeptByRig h.epoch rig plain
 kept_by_rig rig plain h on_disk =
     let valid = h.shows.valid in
     record {
@@ -75,19 +80,24 @@ kept_by_rig rig plain h on_disk =
           let count : ℕ = end_of_object number plain in
           now_as
           (λ now. (left : List ℕ) → MayLeave now left
-          → (found : PlainCommit) × IsFoundCommit found plain.cache.log × HasCommit script_uuid plain found count left)
+          → (found : PlainCommit) × IsFoundCommit found plain.cache.log × HasCommit (owner_at h.epoch) plain found count left)
           (λ now. (left : List ℕ) → MayLeave now left
           → (found : PlainCommit) × (plain.cache.log.last.head.seq ≤ found.head.seq) × (found.head.seq ≤ history_length plain)
-          × HasCommit script_uuid plain found count left)
+          × HasCommit (owner_at h.epoch) plain found count left)
           rig.volume.volume.log.commits.disk.moments
           (λ now leaves left may.
           let is = leaves left may in
           let within = found_within (frontier_end plain) (history_length plain) plain.cache.log is.0 valid.log is.1 in
           (is.0, within.0, within.1, is.2))
-          (left_has_commit script_uuid h.shows.data_at rig.volume.volume.log plain count (rig_stops rig plain h on_disk) ends.0 ends.1);
+          (left_has_commit (owner_at h.epoch) h.shows.data_at rig.volume.volume.log plain count (rig_stops rig plain h on_disk) ends.0 ends.1);
       store = λ puts objects are left.
-          let has = left_has_objects script_uuid plain puts objects valid are left in
+          let has = left_has_objects script_uuid h.epoch plain puts objects valid are left in
           let sealed = recovers_sealed plain (landed_in objects script_uuid) valid in
           let last = valid.last in
           (has.0, recovers_frontier plain (landed_in objects script_uuid) valid has.1, omega (arith, sealed, last));
     }
+
+-- and so of the same rig
+pub kept_as : (rig seen : RigState) (plain : PlainState) → rig ≡ seen → (h : ShowsPlain seen plain) → IsOnDisk rig.volume.volume.log
+    → IsKeptByRig h.epoch seen plain
+kept_as rig seen plain same h on_disk = kept_by_rig seen plain h (subst (λ (r : RigState). IsOnDisk r.volume.volume.log) same on_disk)

@@ -1,7 +1,7 @@
 -- A step of a volume with room for its calls is one of the plain volume that it shows.
-use Rattle.std.proofs.Common.{◌≡◌, ℕ, ◌+◌, ◌*◌, ◌^◌, ◌<◌, ◌≤◌, ◌⊎◌, Bool, true, false, List, [], ◌∷◌, length, nat_eq, refl, sym, ◌∙◌, ap, subst, inl, inr, arith}
-use Rattle.std.specs.Prelude.{Option, Some, None, is_some, IsTrue}
-use Rattle.std.specs.List.{All, AllByRecursion, list_any}
+use Rattle.std.proofs.Common.{◌≡◌, ℕ, ◌+◌, ◌<◌, ◌≤◌, ◌⊎◌, Bool, true, false, List, [], ◌∷◌, nat_eq, refl, sym, ◌∙◌, ap, subst, inl, inr, arith}
+use Rattle.std.specs.Prelude.{None}
+use Rattle.std.specs.List.{AllByRecursion, list_any}
 use Rattle.std.proofs.Math.Bool.{or-true}
 use Rattle.std.proofs.lemmas.Bool.{eq-eqb}
 use Rattle.lsvd_device.specs.Memory.{HasRoom}
@@ -10,50 +10,49 @@ use Rattle.lsvd_objstore.specs.Objects.{Objects}
 use Rattle.upload_window.specs.declared.object.OpenObject.{OpenObject}
 use Rattle.upload_window.specs.Window.{WindowState, IsAcknowledged, has_number}
 use Rattle.plain_disk.specs.declared.event.PlainEvent.{PlainEvent}
-use Rattle.plain_disk.specs.State.{PlainState, history_length}
+use Rattle.plain_disk.specs.State.{PlainState}
 use Rattle.plain_disk.specs.Step.{plain_reply, plain_after}
-use Rattle.plain_disk.specs.Valid.{IsPlainVolume}
-use Rattle.log_meaning.specs.Fuses.{fuse_in}
 use Rattle.pending_meaning.specs.Pending.{ShowsPending}
 use Rattle.store_meaning.specs.Puts.{IsObjectOf}
 use Rattle.store_meaning.proofs.KeepLemmas.{events_keep_object}
 use Rattle.object_recovery.specs.Checkpoints.{expected_of}
 use Rattle.stopped_volume.specs.Objects.{IsCheckpointOf}
+use Rattle.stopped_volume.specs.Super.{HasVolume}
 use Rattle.vol_core.specs.declared.event.Event.{Event}
 use Rattle.vol_core.specs.declared.reply.Reply.{Reply}
 use Rattle.vol_core.specs.Volume.{VolumeState, SteppedVolume}
 use Rattle.vol_core.specs.Shows.{Shows}
 use Rattle.vol_core.specs.Events.{Asks, Tells}
-use Rattle.vol_core.specs.Step.{most_of_step, may_lack_memory, lacks_memory, passing, StepsAsPlain, IsStep, IsNoStep, HasSameSizes, IsOnItsWay, HasBytesOf, KeepsBytes}
+use Rattle.vol_core.specs.Step.{most_of_step, may_lack_memory, lacks_memory, passing, StepsAsPlain, HasSameSizes, IsOnItsWay, HasBytesOf, KeepsBytes}
 use Rattle.vol_core.specs.Stops.{HasOwnCommits, StepKeeps}
 use Rattle.vol_replay.specs.Puts.{PutView}
-use Rattle.vol_replay.specs.Rig.{RigState, rig_of, script_uuid, expected_of_plain, OpensBlank, AreUnderWay, IsFirstUnderWay, HasBytesOfObject, HasStored, IsYoung, ShowsPlain}
+use Rattle.vol_replay.specs.Rig.{RigState, rig_of, script_uuid, expected_of_plain, AreUnderWay, IsFirstUnderWay, HasBytesOfObject, HasStored, IsYoung, ShowsPlain}
 use Rattle.vol_replay.proofs.PlainLemmas.{GrowsByOne, event_grows, still_opens}
 
 -- ---- one step
 
--- what a volume alone shows of a plain volume
-pub record ShowsVolume (volume : VolumeState) (plain : PlainState) : Type 0 where
+-- what a volume alone shows of a plain volume, in an epoch
+pub record ShowsVolume (epoch : ℕ) (volume : VolumeState) (plain : PlainState) : Type 0 where
   pub shows : Shows volume plain
   pub pending : ShowsPending volume.log plain.cache
-  pub own : HasOwnCommits volume
+  pub own : HasOwnCommits epoch volume
   pub uuid_is : volume.objects.uploads.uuid ≡ script_uuid
 
-pub volume_shown : (rig : RigState) (plain : PlainState) → ShowsPlain rig plain → ShowsVolume rig.volume.volume plain
+pub volume_shown : (rig : RigState) (plain : PlainState) → (h : ShowsPlain rig plain) → ShowsVolume h.epoch rig.volume.volume plain
 volume_shown rig plain h = record { shows = h.shows; pending = h.pending; own = h.own; uuid_is = h.uuid_is }
 
 -- the step is one of the plain volume
-pub record StepsPlain (event : Event Kept) (reply : Reply Kept) (plain : PlainState) (old new : VolumeState) : Type 0 where
+pub record StepsPlain (epoch : ℕ) (event : Event Kept) (reply : Reply Kept) (plain : PlainState) (old new : VolumeState) : Type 0 where
   pub asked : PlainEvent
   pub asks : Asks told_receipt old event asked
   pub tells : Tells told_receipt old reply (plain_reply plain asked)
-  pub now : ShowsVolume new (plain_after asked plain)
+  pub now : ShowsVolume epoch new (plain_after asked plain)
 
 -- memory ran out, and the volume shows what it showed
-pub record StepsNot (event : Event Kept) (reply : Reply Kept) (plain : PlainState) (new : VolumeState) : Type 0 where
+pub record StepsNot (epoch : ℕ) (event : Event Kept) (reply : Reply Kept) (plain : PlainState) (new : VolumeState) : Type 0 where
   pub may : may_lack_memory event ≡ true
   pub lacks : lacks_memory reply ≡ true
-  pub now : ShowsVolume new plain
+  pub now : ShowsVolume epoch new plain
 
 -- there is room on a device for what an event may ask for
 abbrev pub HasRoomForEvent : Event Kept → VolumeState → Type 0
@@ -68,11 +67,12 @@ pub record StepsVolume (event : Event Kept) (reply : Reply Kept) (old new : Step
   pub bytes : KeepsBytes old.volume new.volume
   pub commits : new.volume.log.commits.number ≤ old.volume.log.commits.number + 2
 
-pub step_of_plain : (event : Event Kept) (reply : Reply Kept) (plain : PlainState) (old new : SteppedVolume) → ShowsVolume old.volume plain
+pub step_of_plain : (epoch : ℕ) (event : Event Kept) (reply : Reply Kept) (plain : PlainState) (old new : SteppedVolume)
+    → ShowsVolume epoch old.volume plain
     → HasRoomForEvent event old.volume → StepsVolume event reply old new
-    → StepsPlain event reply plain old.volume new.volume ⊎ StepsNot event reply plain new.volume
-step_of_plain event reply plain old new h room of =
-    let own = (of.stops h.own).own in
+    → StepsPlain epoch event reply plain old.volume new.volume ⊎ StepsNot epoch event reply plain new.volume
+step_of_plain epoch event reply plain old new h room of =
+    let own = (of.stops epoch h.own).own in
     let uuid = of.sizes.uuid ∙ h.uuid_is in
     elim (of.step plain h.shows) [
       | inl s ↦
@@ -191,11 +191,11 @@ same_under_way window = record { under_way = λ puts are. are; back = λ number 
 
 -- The rig shows the plain volume after an event that leaves the puts alone.
 pub goes_on_with : (old : RigState) (volume : SteppedVolume) (lines : ℕ) (event : Event Kept) (reply : Reply Kept) (asked : PlainEvent) (plain : PlainState)
-    → ShowsPlain old plain → StepsVolume event reply old.volume volume → ShowsVolume volume.volume (plain_after asked plain)
-    → KeepsUnderWay plain.window (plain_after asked plain).window
+    → (h : ShowsPlain old plain) → StepsVolume event reply old.volume volume → ShowsVolume h.epoch volume.volume (plain_after asked plain)
+    → KeepsUnderWay plain.window (plain_after asked plain).window → old.lines ≤ lines
     → IsYoung (rig_of volume old.objects old.puts old.is_stopping lines) (plain_after asked plain)
     → ShowsPlain (rig_of volume old.objects old.puts old.is_stopping lines) (plain_after asked plain)
-goes_on_with old volume lines event reply asked plain h of now keeps young =
+goes_on_with old volume lines event reply asked plain h of now keeps later young =
     let next : PlainState = plain_after asked plain in
     let grows = event_grows plain asked in
     let under_way = keeps.under_way old.puts h.puts in
@@ -204,7 +204,10 @@ goes_on_with old volume lines event reply asked plain h of now keeps young =
     record {
       shows = now.shows;
       pending = now.pending;
+      epoch = h.epoch;
       own = now.own;
+      described = subst (λ g. HasVolume script_uuid g h.epoch old.objects) (sym grows.geometry) h.described;
+      begun = omega (arith, h.begun, later);
       uuid_is = now.uuid_is;
       opens = still_opens plain next grows h.opens;
       stopping = h.stopping ∙ sym grows.told;
@@ -218,10 +221,10 @@ goes_on_with old volume lines event reply asked plain h of now keeps young =
 
 -- one line later
 pub goes_on : (old : RigState) (volume : SteppedVolume) (event : Event Kept) (reply : Reply Kept) (asked : PlainEvent) (plain : PlainState)
-    → ShowsPlain old plain → StepsVolume event reply old.volume volume → ShowsVolume volume.volume (plain_after asked plain)
+    → (h : ShowsPlain old plain) → StepsVolume event reply old.volume volume → ShowsVolume h.epoch volume.volume (plain_after asked plain)
     → KeepsUnderWay plain.window (plain_after asked plain).window
     → ShowsPlain (rig_of volume old.objects old.puts old.is_stopping (old.lines + 1)) (plain_after asked plain)
 goes_on old volume event reply asked plain h of now keeps =
-    goes_on_with old volume (old.lines + 1) event reply asked plain h of now keeps
+    goes_on_with old volume (old.lines + 1) event reply asked plain h of now keeps (omega arith)
     (young_still old volume old.objects old.puts old.is_stopping plain (plain_after asked plain) (event_grows plain asked) (omega (arith, of.steps))
     (omega (arith, of.commits)) h.young)

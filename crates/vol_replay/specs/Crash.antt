@@ -1,5 +1,5 @@
 -- For this crate's own clauses: disks before a format and after a stop, and what is mounted on them.
-use Rattle.std.specs.Prelude.{◌≡◌, ℕ, ◌^◌, ◌<◌, Bool, true, false, Some, None, List, [], ◌∷◌, ◌==◌, replicate}
+use Rattle.std.specs.Prelude.{◌≡◌, ℕ, ◌^◌, ◌<◌, ◌≤◌, Bool, true, false, Some, None, List, [], ◌∷◌, ◌==◌, replicate}
 use Rattle.lsvd_base.specs.declared.geometry.Geometry.{Geometry}
 use Rattle.lsvd_device.specs.Calls.{Cost, fuse_of}
 use Rattle.lsvd_device.specs.Device.{DiskState, IsDisk, HoldsNow}
@@ -9,18 +9,18 @@ use Rattle.lsvd_device.specs.Stop.{left_in_order, IsStopped, HasNow}
 use Rattle.lsvd_device.specs.declared.fate.Fate.{Fate}
 use Rattle.lsvd_objstore.specs.Objects.{Objects, found, IsPut}
 use Rattle.object_stream.specs.Replay.{name_of}
-use Rattle.commit_body.specs.declared.body.CommitBody.{CommitBody}
-use Rattle.commit_slot.specs.Slots.{Reads}
+use Rattle.commit_slot.specs.Slots.{log_of}
 use Rattle.stopped_volume.specs.Objects.{IsCheckpointOf}
+use Rattle.stopped_volume.specs.Super.{HasVolume}
 use Rattle.plain_disk.specs.declared.log.PlainCommit.{PlainCommit}
 use Rattle.plain_disk.specs.State.{PlainState, created_volume}
 use Rattle.object_recovery.specs.Checkpoints.{expected_of}
-use Rattle.object_recovery.specs.Recovery.{IsWorn, RemovesAllPast}
 use Rattle.pending_meaning.specs.Pending.{ShowsPending}
 use Rattle.vol_core.specs.Volume.{SteppedVolume}
 use Rattle.vol_core.specs.Creating.{IsCreated}
-use Rattle.vol_recover.specs.Mounted.{MountedState, disk_of, IsOfVolume}
-use Rattle.vol_recover.specs.Mounting.{IsStored, IsLeft}
+use Rattle.vol_mount.specs.Mounted.{MountedState, disk_of, IsOfVolume}
+use Rattle.vol_mount.specs.Mounting.{IsStored, IsLeft}
+use Rattle.vol_mount.specs.Refusals.{IsWornStored, IsWornLeft}
 use Rattle.vol_replay.specs.Puts.{PutView}
 use Rattle.vol_replay.specs.Rig.{script_uuid}
 
@@ -58,42 +58,49 @@ Lands (put ∷ puts) (letter ∷ letters) old new = (middle : Objects) × LandsA
 
 -- ---- volumes
 
--- the volume of a script that was just created, and the store with its first object
+-- the volume of a script that was just created, and the store with its first object, its epoch 0 and its super object
 pub record IsNewVolume (geometry : Geometry) (volume : SteppedVolume) (objects : Objects) : Type 0 where
   pub created : IsCreated script_uuid geometry volume
   pub fuse : fuse_of volume.volume.log.commits.disk.budget ≡ Some None
   pub pending : ShowsPending volume.volume.log (created_volume geometry).cache
   pub commits : volume.volume.log.commits.number ≡ 0
+  pub described : HasVolume script_uuid geometry 0 objects
   pub first : IsCheckpointOf (expected_of script_uuid geometry) objects 1 0 (λ k. None)
   pub none_else : (number : ℕ) → (number ≡ 1 → ⊥) → found objects (name_of script_uuid number) ≡ None
 
--- no object of the volume of a script in a store has a great number or end
-abbrev pub HasNoWorn : Geometry → Objects → Type 0
-HasNoWorn geometry objects = (number : ℕ) → IsWorn (expected_of script_uuid geometry) objects number → ⊥
-
--- a store may be mounted: it has a plain volume
+-- a store may be mounted: it has a plain volume in an epoch, and no number of it is too great
 pub record MayMountStored (geometry : Geometry) (objects : Objects) : Type 0 where
   pub plain : PlainState
   pub number : ℕ
+  pub epoch : ℕ
+  pub described : HasVolume script_uuid geometry epoch objects
   pub stored : IsStored script_uuid geometry plain number (Some objects)
-  pub low : HasNoWorn geometry objects
+  pub low : (value : ℕ) → IsWornStored script_uuid geometry epoch (Some objects) value → ⊥
 
--- A device and a store may be mounted: they have a plain volume, nothing is pending on the device, and the number of its commit and the
--- entries up to its head are few.
+-- A device and a store may be mounted: they have a plain volume in an epoch, nothing is pending on the device, and no number is too great.
 pub record MayMountLeft (geometry : Geometry) (objects : Objects) (disk : DiskState) : Type 0 where
   pub plain : PlainState
   pub found : PlainCommit
   pub number : ℕ
-  pub left : IsLeft script_uuid geometry plain found number (Some objects) disk
+  pub epoch : ℕ
+  pub log : geometry.log ≡ log_of disk.size
+  pub size : 4096 ≤ disk.size
+  pub described : HasVolume script_uuid geometry epoch objects
+  pub left : IsLeft script_uuid geometry epoch plain found number (Some objects) disk
   pub synced : HoldsNow IsSynced disk.moments
-  pub low : HasNoWorn geometry objects
-  pub young : HoldsNow (λ now. (number : ℕ) (body : CommitBody) → Reads geometry.log now.bytes body number
-      → (number < 2 ^ 60) × (body.head.seq < 2 ^ 60)) disk.moments
+  pub low : (value : ℕ) → IsWornLeft script_uuid geometry epoch (Some objects) disk value → ⊥
 
--- a volume of a script was mounted, on a device that fails no call and has nothing pending, and the objects past the first missing number
--- were removed
-pub record IsMountedVolume (geometry : Geometry) (objects : Objects) (mounted : MountedState) (after : Objects) : Type 0 where
-  pub volume : IsOfVolume script_uuid geometry mounted
-  pub removed : RemovesAllPast script_uuid mounted.number objects after
+-- the numbered objects past a number were removed, and the others stay
+pub record RemovesNumbers (number : ℕ) (old new : Objects) : Type 0 where
+  pub stay : (n : ℕ) → n ≤ number → found new (name_of script_uuid n) ≡ found old (name_of script_uuid n)
+  pub gone : (n : ℕ) → number < n → n < 2 ^ 64 → found new (name_of script_uuid n) ≡ None
+  pub none : (n : ℕ) → found old (name_of script_uuid n) ≡ None → found new (name_of script_uuid n) ≡ None
+
+-- a volume of a script was mounted in an epoch, on a device that fails no call and has nothing pending, and the objects past the first missing
+-- number were removed
+pub record IsMountedVolume (geometry : Geometry) (epoch : ℕ) (objects : Objects) (mounted : MountedState) (after : Objects) : Type 0 where
+  pub volume : IsOfVolume script_uuid geometry epoch mounted
+  pub described : HasVolume script_uuid geometry epoch after
+  pub removed : RemovesNumbers mounted.number objects after
   pub fuse : fuse_of (disk_of mounted).budget ≡ Some None
   pub now : HasNow IsSynced (disk_of mounted).moments

@@ -1,5 +1,5 @@
 -- Contract: what a script ran on, and the plain volume that it shows.
-use Rattle.std.specs.Prelude.{◌≡◌, ℕ, ◌+◌, ◌*◌, ◌<◌, ◌≤◌, Bool, true, false, is_some, Option, Some, None, List, [], ◌∷◌, length}
+use Rattle.std.specs.Prelude.{◌≡◌, ℕ, ◌+◌, ◌*◌, ◌<◌, ◌≤◌, Bool, true, false, is_some, Option, Some, None, List, [], ◌∷◌}
 use Rattle.std.specs.List.{AllByRecursion}
 use Rattle.lsvd_base.specs.Image.{blank}
 use Rattle.lsvd_device.specs.Device.{HoldsNow}
@@ -8,7 +8,8 @@ use Rattle.lsvd_objstore.specs.Objects.{Objects, found}
 use Rattle.object_format.specs.declared.expected.Expected.{Expected}
 use Rattle.object_stream.specs.Replay.{name_of}
 use Rattle.stopped_volume.specs.Objects.{landed_in, IsCheckpointOf}
-use Rattle.stopped_volume.specs.Store.{PutState, MayHoldPuts}
+use Rattle.stopped_volume.specs.Store.{PutState}
+use Rattle.stopped_volume.specs.Super.{HasVolume}
 use Rattle.upload_window.specs.declared.object.OpenObject.{OpenObject}
 use Rattle.upload_window.specs.Window.{IsAcknowledged}
 use Rattle.plain_disk.specs.declared.log.PlainCommit.{PlainCommit}
@@ -88,12 +89,15 @@ pub record IsYoung (rig : RigState) (plain : PlainState) : Type 0 where
   pub commits : rig.volume.volume.log.commits.number ≤ 4 * rig.lines
   pub steps : rig.volume.steps ≤ 2 * rig.lines
 
--- The rig shows a plain volume: its volume does, with the pending writes of the plain cache; the objects under way are the plain volume's,
--- and the store has those that are acknowledged.
+-- The rig shows a plain volume: its volume does, with the pending writes of the plain cache, and commits in the epoch that the store has as
+-- the newest of the volume; the objects under way are the plain volume's, and the store has those that are acknowledged.
 pub record ShowsPlain (rig : RigState) (plain : PlainState) : Type 0 where
   pub shows : Shows rig.volume.volume plain
   pub pending : ShowsPending rig.volume.volume.log plain.cache
-  pub own : HasOwnCommits rig.volume.volume
+  pub epoch : ℕ
+  pub own : HasOwnCommits epoch rig.volume.volume
+  pub described : HasVolume script_uuid plain.geometry epoch rig.objects
+  pub begun : epoch ≤ rig.lines
   pub uuid_is : rig.volume.volume.objects.uploads.uuid ≡ script_uuid
   pub opens : OpensBlank plain
   pub stopping : rig.is_stopping ≡ is_some plain.cache.left
@@ -105,16 +109,16 @@ pub record ShowsPlain (rig : RigState) (plain : PlainState) : Type 0 where
 
 -- ---- stops
 
--- Whatever a stop leaves of the device reads as a commit of the plain volume, wherever the objects end that a mount finds, from the
--- frontier on; and whatever it leaves of the store has the plain volume's objects up to the one before the first missing number, from the
+-- Whatever a stop leaves of the device reads as a commit of the plain volume in this epoch, wherever the objects end that a mount finds, from
+-- the frontier on; and whatever it leaves of the store has the plain volume's objects up to the one before the first missing number, from the
 -- frontier on.
-pub record IsKeptByRig (rig : RigState) (plain : PlainState) : Type 0 where
+pub record IsKeptByRig (epoch : ℕ) (rig : RigState) (plain : PlainState) : Type 0 where
   pub device : (number : ℕ) → frontier_of plain ≤ number → number ≤ plain.window.last
       → HoldsNow (λ now. (left : List ℕ) → MayLeave now left
       → (found : PlainCommit) × (plain.cache.log.last.head.seq ≤ found.head.seq) × (found.head.seq ≤ history_length plain)
-      × HasCommit script_uuid plain found (end_of_object number plain) left) rig.volume.volume.log.commits.disk.moments
+      × HasCommit (record { uuid = script_uuid; epoch = epoch }) plain found (end_of_object number plain) left) rig.volume.volume.log.commits.disk.moments
   pub store : (puts : ℕ → Option (PutState × List ℕ)) (objects : Objects) → ArePuts (expected_of_plain plain) plain puts
-      → MayBeLeft script_uuid plain puts objects
+      → MayBeLeft script_uuid epoch plain puts objects
       → HasObjects script_uuid plain (recovered_number (landed_in objects script_uuid) plain) objects
       × (frontier_of plain ≤ recovered_number (landed_in objects script_uuid) plain)
       × (recovered_number (landed_in objects script_uuid) plain ≤ plain.window.last)

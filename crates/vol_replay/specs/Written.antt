@@ -1,6 +1,5 @@
 -- Contract: what a replay wrote when it ended.
-use Rattle.std.specs.Prelude.{◌≡◌, ℕ, Option, Some, None, Bool, true, false, List}
-use Rattle.plain_disk.specs.State.{PlainState}
+use Rattle.std.specs.Prelude.{ℕ, Option, Some, None, Bool, true, false, List}
 use Rattle.transcript.specs.Answers.{State}
 use Rattle.transcript.specs.Transcript.{AllAnswered, Stopped, IsTranscript, IsFrontOfTranscript}
 use Rattle.vol_replay.specs.declared.outcome.Outcome.{Outcome}

@@ -271,10 +271,9 @@ impl Bench {
         ensures lines { IfOk result (λ made. made.0.lines ≤ self.lines + 1) }
     {
         self.volume.is_ordered();
-        let geometry = self.volume.geometry();
         let disk = stopped_disk(alloc, self.volume.disk(), fates)?;
         land(alloc, &mut self.store, self.puts.as_slice(), letters)?;
-        let mounted = mount_again(alloc, disk, &mut self.store, geometry)?;
+        let mounted = mount_again(alloc, disk, &mut self.store)?;
         Ok(go_on(alloc, mounted, self.store, self.lines))
     }
 
@@ -288,16 +287,16 @@ impl Bench {
         ensures ok { IfOk result (λ made. MountsLostRig letters.now made.1 self made.0) }
         ensures lines { IfOk result (λ made. made.0.lines ≤ self.lines + 1) }
     {
-        let geometry = self.volume.geometry();
-        let disk = blank_disk(alloc, LOG_START + SECTOR_BYTES * geometry.log)?;
+        let log = self.volume.geometry().log;
+        let disk = blank_disk(alloc, LOG_START + SECTOR_BYTES * log)?;
         land(alloc, &mut self.store, self.puts.as_slice(), letters)?;
-        let mounted = mount_anew(alloc, disk, &mut self.store, geometry)?;
+        let mounted = mount_anew(alloc, disk, &mut self.store)?;
         Ok(go_on(alloc, mounted, self.store, self.lines))
     }
 
     /// What is so of every volume with its store, as a fact for the proofs of callers. Nothing is done.
     pub(crate) fn stands(&self)
-        ensures { (plain : PlainState) → ShowsPlain self.now plain → IsKeptByRig self.now plain }
+        ensures { (plain : PlainState) → (shows : ShowsPlain self.now plain) → IsKeptByRig shows.epoch self.now plain }
     {
         self.volume.is_ordered();
     }

@@ -1,13 +1,14 @@
-ghost use Rattle.std.specs.Prelude.{◌≡◌, ◌≤◌, ◌==◌, [], IsTrue, IfOk, OnOk, OnErr, Some, length};
+ghost use Rattle.std.specs.Prelude.{◌≡◌, ◌+◌, ◌==◌, [], IsTrue, IfOk, OnOk, OnErr, Some, length};
 ghost use Rattle.lsvd_base.specs.Limits.{is_within_limits};
 ghost use Rattle.lsvd_device.specs.Device.{IsDisk, HoldsNow};
 ghost use Rattle.lsvd_objstore.specs.Objects.{IsPut};
 ghost use Rattle.object_stream.specs.Replay.{name_of};
 ghost use Rattle.commit_slot.specs.Slots.{log_of};
 ghost use Rattle.commit_slot.specs.Formatting.{format_cost};
-ghost use Rattle.vol_recover.specs.Costs.{mount_cost};
-ghost use Rattle.vol_recover.specs.Mounted.{NumbersNextCommit};
-ghost use Rattle.vol_recover.specs.Mounting.{MountsStored, MountsLeft};
+ghost use Rattle.vol_mount.specs.Costs.{mount_cost};
+ghost use Rattle.vol_mount.specs.Mounted.{NumbersNextCommit};
+ghost use Rattle.vol_mount.specs.Mounting.{MountsStored, MountsLeft};
+ghost use Rattle.vol_recover.specs.Describing.{OfVolume};
 ghost use Rattle.vol_replay.specs.Crash.{FailsNone, IsBlankDisk, IsLeftBy, LandsAs, Lands};
 ghost use Rattle.vol_replay.specs.Crash.{IsNewVolume, MayMountStored, MayMountLeft, IsMountedVolume};
 ghost use Rattle.vol_replay.specs.Rig.{script_uuid};
@@ -73,7 +74,7 @@ pub(crate) fn stopped_disk(
     Ok(left)
 }
 
-/// The volume of a script that is just created, on a blank disk (a condition), and its first object in an empty store (a condition). The
+/// The volume of a script that is just created, on a blank disk (a condition), in an empty store (a condition). The
 /// geometry is within the limits, and its log is the disk's (conditions). The one error is out of memory.
 pub(crate) fn create_volume(
     alloc: Global,
@@ -105,18 +106,16 @@ pub(crate) fn mount_again(
     alloc: Global,
     disk: FuseDisk<MemDisk>,
     store: &mut MemStore,
-    geometry: Geometry,
 ) -> Result<MountedVolume, AllocError>
-    requires limits { IsTrue (is_within_limits geometry) }
-    requires log { geometry.log ≡ log_of disk.size }
-    requires size { 4096 ≤ disk.size }
     requires fails_none { FailsNone (mount_cost 0) disk }
-    requires may { MayMountLeft geometry store.old disk }
-    ensures ok { IfOk result (λ mounted. IsMountedVolume geometry store.old mounted store.new) }
-    ensures mounts { IfOk result (MountsLeft script_uuid geometry (Some store.old) disk) }
-    ensures number { IfOk result (NumbersNextCommit geometry disk) }
+    requires may { (geometry : Geometry) × MayMountLeft geometry store.old disk }
+    ensures ok { IfOk result (λ mounted. OfVolume script_uuid (log_of disk.size) (Some store.old) (λ geometry epoch.
+        IsMountedVolume geometry epoch store.old mounted store.new)) }
+    ensures mounts { IfOk result (λ mounted. OfVolume script_uuid (log_of disk.size) (Some store.old) (λ geometry epoch.
+        MountsLeft script_uuid geometry epoch (Some store.old) disk mounted)) }
+    ensures number { IfOk result (NumbersNextCommit (log_of disk.size) disk) }
 {
-    match mount_kept(alloc, disk, store, Uuid::from_bytes(UUID), geometry) {
+    match mount_kept(alloc, disk, store, Uuid::from_bytes(UUID)) {
         Ok(mounted) => Ok(mounted),
         Err(failed) => {
             // What a stop leaves of a volume is not refused.
@@ -127,24 +126,23 @@ pub(crate) fn mount_again(
     }
 }
 
-/// Mounts the volume of a script without its cache, which the store has (a condition), on a blank disk (a condition). The one error is out
-/// of memory.
+/// Mounts the volume of a script without its cache, which the store has (a condition), on a blank disk whose log is the volume's
+/// (conditions). The one error is out of memory.
 pub(crate) fn mount_anew(
     alloc: Global,
     disk: FuseDisk<MemDisk>,
     store: &mut MemStore,
-    geometry: Geometry,
 ) -> Result<MountedVolume, AllocError>
-    requires limits { IsTrue (is_within_limits geometry) }
-    requires log { geometry.log ≡ log_of disk.size }
     requires blank { IsBlankDisk disk.size disk }
     requires fails_none { FailsNone format_cost disk }
-    requires may { MayMountStored geometry store.old }
-    ensures ok { IfOk result (λ mounted. IsMountedVolume geometry store.old mounted store.new) }
-    ensures mounts { IfOk result (MountsStored script_uuid geometry (Some store.old)) }
+    requires may { (geometry : Geometry) × (geometry.log ≡ log_of disk.size) × MayMountStored geometry store.old }
+    ensures ok { IfOk result (λ mounted. OfVolume script_uuid (log_of disk.size) (Some store.old) (λ geometry epoch.
+        IsMountedVolume geometry (epoch + 1) store.old mounted store.new)) }
+    ensures mounts { IfOk result (λ mounted. OfVolume script_uuid (log_of disk.size) (Some store.old) (λ geometry epoch.
+        MountsStored script_uuid geometry (Some store.old) mounted)) }
     ensures number { IfOk result (λ mounted. mounted.volume.volume.log.commits.number ≡ 0) }
 {
-    match mount_lost(alloc, disk, store, Uuid::from_bytes(UUID), geometry) {
+    match mount_lost(alloc, disk, store, Uuid::from_bytes(UUID)) {
         Ok(mounted) => Ok(mounted),
         Err(failed) => {
             let lacks = matches!(failed.1, MountError::OutOfMemory);

@@ -91,10 +91,11 @@ fn crash_keep(
     ensures refused { IfErr result (IsUnanswered (Some bench) (Command.CrashKeep device.now objects.now)) }
     ensures lines { IfOk result (λ made. made.0.lines ≤ bench.lines + 1) }
 {
-    if !fits_writes(bench.pending(), device) || !fits_objects(bench.under_way(), objects) {
+    let pending = bench.pending();
+    if !fits_writes(pending, device) || !fits_objects(bench.under_way(), objects) {
         return Err(Refusal::Bad(Reason::Letters));
     }
-    let fates = fates_of(alloc, device, bench.pending())?;
+    let fates = fates_of(alloc, device, pending)?;
     Ok(bench.crash_keep(alloc, &fates, objects)?)
 }
 

@@ -1,23 +1,23 @@
-use Rattle.std.proofs.Common.{◌≡◌, ◌-◌, ◌^◌, ◌<◌, ◌≤◌}
+use Rattle.std.proofs.Common.{◌≡◌, ◌-◌, ◌^◌, ◌≤◌}
 use Rattle.std.specs.Prelude.{IfSome}
 use Rattle.obj_log.specs.Changes.{expected_of_volume}
 use Rattle.object_recovery.specs.Faults.{TellsBytes}
 use Rattle.object_recovery.specs.Places.{HasPlacesInside}
-use Rattle.object_recovery.specs.Recovery.{IsListUpTo, KeepsStreams, HaveLanded}
+use Rattle.object_recovery.specs.Adoption.{KeepsGood}
+use Rattle.object_recovery.specs.Recovery.{IsListUpTo, KeepsStreams}
 use Rattle.object_recovery.proofs.adoption.adopt_all.Given as goal
 
-abbrev pub invariant-loop : goal.invariant-loop
-invariant-loop g l = record {
+abbrev pub invariant-loop-reached : goal.invariant-loop-reached
+invariant-loop-reached g l = record {
   list : IsListUpTo l.initial.log.uploads.uuid l.initial.log.batch.geometry l.log.uploads.window.last l.log.uploads.queue.end l.log;
-  number : l.log.uploads.window.last < 2 ^ 60;
-  end : l.log.uploads.queue.end < 2 ^ 60;
   places : HasPlacesInside l.initial.log.batch.geometry.sectors l.log.uploads.queue;
   from : l.initial.log.uploads.window.last ≤ l.log.uploads.window.last;
   same : g.S.Store.state l.store ≡ g.S.Store.state l.initial.store;
-  landed : IfSome (g.S.Store.state l.initial.store).objects (λ objects. HaveLanded objects l.initial.log.uploads.uuid l.initial.log.uploads.window.last l.log.uploads.window.last);
   streams : TellsBytes g.S.Receipt.Receipt.state
       → IfSome (g.S.Store.state l.initial.store).objects (λ objects. KeepsStreams (expected_of_volume l.initial.log) objects l.initial.log l.log);
+  good : TellsBytes g.S.Receipt.Receipt.state
+      → IfSome (g.S.Store.state l.initial.store).objects (λ objects. KeepsGood (expected_of_volume l.initial.log) objects l.initial.log l.log);
 }
 
-abbrev pub decreases-loop : goal.decreases-loop
-decreases-loop g l = 2 ^ 60 - l.log.uploads.window.last
+abbrev pub decreases-loop-reached : goal.decreases-loop-reached
+decreases-loop-reached g l = 2 ^ 64 - l.log.uploads.window.last

@@ -18,7 +18,7 @@ shows g c =
     created_shows c.new-objects.result c.in_ok-log.log _ 0 c.args.geometry _ c.requires.limits c.requires.log c.in_ok-log.ensures.ok
     e.batch e.window e.frontier e.end e.sealed e.settled e.log
 
-own : (g : given.Over) (c : After-new-objects g) → HasOwnCommits (volume_of c.new-objects.result c.in_ok-log.log [] 1)
+own : (g : given.Over) (c : After-new-objects g) → HasOwnCommits 0 (volume_of c.new-objects.result c.in_ok-log.log [] 1)
 own g c =
     let e = c.new-objects.ensures in
     created_own c.new-objects.result c.in_ok-log.log c.into_bytes.result (g.D.Disk.state c.args.disk) (c.into_bytes.ensures ∙ sym e.uuid)

@@ -2,7 +2,8 @@ use Rattle.std.proofs.Common.{◌≡◌, ◌∙◌, None, length, ap, subst, rul
 use Rattle.object_format.specs.declared.rows.Rows.TheVariants.{Checkpoint}
 use Rattle.object_format.specs.Writing.{header_of, front_bytes}
 use Rattle.vol_recover.specs.Creating.{IsFirstObject}
-use Rattle.vol_recover.proofs.CreateLemmas.{first_object_is, ok_if}
+use Rattle.vol_recover.proofs.CreateLemmas.{first_object_is}
+use Rattle.vol_recover.proofs.Results.{ok_if}
 use Rattle.vol_recover.proofs.creating.first_object.Goals as goal
 
 pub returns : goal.returns

@@ -3,9 +3,11 @@ use Rattle.lsvd_objstore.specs.Objects.{IsPut, MayBePut}
 use Rattle.lsvd_objstore.specs.Store.{Becomes}
 use Rattle.lsvd_objstore.specs.declared.error.StoreError.TheVariants as store_errors
 use Rattle.object_stream.specs.Replay.{name_of}
-use Rattle.object_recovery.proofs.FindLemmas.{passed_on, error_of}
-use Rattle.vol_recover.specs.Creating.{MayPutFirst, of_put}
+use Rattle.super_recovery.specs.Put.{MayBecome}
+use Rattle.object_recovery.proofs.FindLemmas.{error_of}
+use Rattle.vol_recover.specs.Creating.{PutsFirst}
 use Rattle.vol_recover.proofs.CreateLemmas.{puts_first, after_error}
+use Rattle.vol_recover.proofs.Results.{on_error}
 use Rattle.vol_recover.proofs.creating.put_first.Goals as goal
 
 pub returns-in_err-put-clause-err : goal.returns-in_err-put-clause-err
@@ -15,8 +17,7 @@ returns-in_err-put-clause-err g c =
     let name : c.first_name.result ≡ name_of c.args.uuid 1 = c.first_name.ensures.is ∙ ap (λ (u : List ℕ). name_of u 1) c.into_bytes.ensures in
     let error = c.in_err-put.field-0.0 in
     let e = c.in_err-put.ensures in
-    passed_on (λ e. Becomes (MayPutFirst c.args.uuid c.args.geometry.now e) old.objects new.objects) c.from_residual-in_err-put.result (of_put error)
-    c.from_residual-in_err-put.ensures.1
+    on_error (Becomes (MayBecome (PutsFirst c.args.uuid c.args.geometry.now)) old.objects new.objects) c.from_residual-in_err-put.result
     (after_error c.args.uuid c.args.geometry.now c.in_ok-object.object error old new c.in_ok-object.ensures
     (λ same. subst (λ n. Becomes (MayBePut n c.in_ok-object.object) old.objects new.objects) name
     (e.failed (error_of error store_errors.Failed same)))

@@ -1,4 +1,4 @@
-use Rattle.std.proofs.Common.{◌≡◌, sym, ◌∙◌, ap, length}
+use Rattle.std.proofs.Common.{sym, ◌∙◌, ap, length}
 use Rattle.std.specs.Prelude.{Some, IsTrue}
 use Rattle.replay_script.specs.declared.command.Command.TheVariants as commands
 use Rattle.transcript.specs.Letters.{fits_writes, fits_objects}
@@ -12,7 +12,7 @@ returns-then-not-fits_writes-clause-refused c =
     let objects = c.args.objects.now in
     elim c.then-not-fits_writes.branch [
       | then-not-fits_writes-via-then-not-fits_writes w ↦
-          unfit_writes device objects c.pending.result c.args.bench (sym c.fits_writes.ensures ∙ w.if-not-fits_writes.true) c.pending.ensures
+          unfit_writes device objects c.pending-pending.result c.args.bench (sym c.fits_writes.ensures ∙ w.if-not-fits_writes.true) c.pending-pending.ensures
       | then-not-fits_writes-via-else-not-fits_writes+then-not-fits_objects w ↦
           unfit_kept device objects w.under_way.result c.args.bench (sym w.fits_objects.ensures ∙ w.if-not-fits_objects.true) w.under_way.ensures
     ]
@@ -21,15 +21,18 @@ pub returns-in_err-fates-clause-refused : goal.returns-in_err-fates-clause-refus
 returns-in_err-fates-clause-refused c =
     unanswered c.from_residual.result (Some c.args.bench) (commands.CrashKeep c.args.device.now c.args.objects.now) c.from_residual.ensures.1
 
+pub fates_of-requires : goal.fates_of-requires
+fates_of-requires c = sym c.fits_writes.ensures ∙ c.if-not-fits_writes.false
+
 pub crash_keep-requires-clause-fates : goal.crash_keep-requires-clause-fates
-crash_keep-requires-clause-fates c = λ plain shown. ap length c.deref.ensures.value ∙ c.in_ok-fates.ensures.count ∙ c.pending-2.ensures plain shown
+crash_keep-requires-clause-fates c = λ plain shown. ap length c.deref.ensures.value ∙ c.in_ok-fates.ensures.count ∙ c.pending-pending.ensures plain shown
 
 pub returns-clause-ok : goal.returns-clause-ok
 returns-clause-ok c =
     let device = c.args.device.now in
     let objects = c.args.objects.now in
-    let writes : IsTrue (fits_writes c.pending.result device) = sym c.fits_writes.ensures ∙ c.if-not-fits_writes.false in
+    let writes : IsTrue (fits_writes c.pending-pending.result device) = sym c.fits_writes.ensures ∙ c.if-not-fits_writes.false in
     let puts : IsTrue (fits_objects c.under_way.result objects) = sym c.fits_objects.ensures ∙ c.if-not-fits_objects.false in
-    let fit = fit_kept device objects c.pending.result c.under_way.result c.args.bench writes puts c.pending.ensures c.under_way.ensures in
-    keep_command device objects c.deref.result.now c.pending-2.result c.in_ok-crash_keep.field-0.1 c.args.bench c.in_ok-crash_keep.field-0.0
-    fit c.pending-2.ensures (c.deref.ensures.value ∙ c.in_ok-fates.ensures.fates) c.in_ok-crash_keep.ensures.ok
+    let fit = fit_kept device objects c.pending-pending.result c.under_way.result c.args.bench writes puts c.pending-pending.ensures c.under_way.ensures in
+    keep_command device objects c.deref.result.now c.pending-pending.result c.in_ok-crash_keep.field-0.1 c.args.bench c.in_ok-crash_keep.field-0.0
+    fit c.pending-pending.ensures (c.deref.ensures.value ∙ c.in_ok-fates.ensures.fates) c.in_ok-crash_keep.ensures.ok

@@ -1,4 +1,4 @@
-use Rattle.std.proofs.Common.{◌≡◌, sym, ◌∙◌}
+use Rattle.std.proofs.Common.{sym, ◌∙◌}
 use Rattle.std.specs.Prelude.{IsTrue}
 use Rattle.transcript.specs.Letters.{is_dash, fits_objects}
 use Rattle.vol_replay.proofs.Commands.{fit_lost, unfit_word, unfit_lost, lost_command}

@@ -1,4 +1,4 @@
-use Rattle.std.proofs.Common.{arith, refl, sym, ◌∙◌, subst}
+use Rattle.std.proofs.Common.{arith, sym, ◌∙◌, subst}
 use Rattle.lsvd_fault.specs.Faults.{CountsOne}
 use Rattle.vol_replay.proofs.Progress.{run_more, written_stopped, written_so_far, written_broken, written_done}
 use Rattle.vol_replay.proofs.Results.{at_error, at_success, is_nothing, not_counted, one_counted, bad_line_is_told}

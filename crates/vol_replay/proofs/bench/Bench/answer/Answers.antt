@@ -1,9 +1,7 @@
-use Rattle.std.proofs.Common.{◌≡◌, ℕ, ◌+◌, ap, subst, arith}
+use Rattle.std.proofs.Common.{◌+◌, subst, arith}
 use Rattle.std.specs.Prelude.{IfOk}
-use Rattle.plain_disk.specs.State.{PlainState}
 use Rattle.vol_replay.specs.Bench.{AnswersAsked}
 use Rattle.vol_replay.specs.Rig.{RigState, rig_of}
-use Rattle.vol_replay.proofs.Says.{counted_receipt}
 use Rattle.vol_replay.proofs.Stepped.{StepsVolume}
 use Rattle.vol_replay.proofs.Rooms.{untouched_rig, counted_shows, counted_answers}
 use Rattle.vol_replay.proofs.bench.Bench.answer.Goals as goal

@@ -1,7 +1,6 @@
-use Rattle.std.proofs.Common.{◌≡◌, ℕ, ◌+◌, List, sym, ◌∙◌, ap, subst, arith}
+use Rattle.std.proofs.Common.{◌+◌, ◌∙◌, ap, subst, arith}
 use Rattle.lsvd_names.specs.declared.name.ObjName.{ObjName}
 use Rattle.plain_disk.specs.declared.event.PlainEvent.TheVariants as events
-use Rattle.plain_disk.specs.State.{PlainState}
 use Rattle.plain_disk.specs.Step.{plain_after}
 use Rattle.vol_core.specs.declared.event.Event.TheVariants.{TakeJob}
 use Rattle.vol_core.specs.declared.reply.Reply.TheVariants as told

@@ -1,9 +1,9 @@
 use Rattle.std.proofs.Common.{length, sym, ◌∙◌, ap, subst}
-use Rattle.vol_replay.specs.Crash.{IsLeftBy}
 use Rattle.vol_replay.specs.Rig.{RigState, rig_of, ShowsPlain}
 use Rattle.vol_replay.proofs.Halting.{fates_pending}
-use Rattle.vol_replay.proofs.Mounts.{was_stopped, has_limits, has_log, may_mount_again, rig_again, told_by}
+use Rattle.vol_replay.proofs.Mounts.{WasStopped, was_stopped, may_mount_again, rig_again, told_by}
 use Rattle.vol_replay.proofs.bench.Bench.crash_keep.Goals as goal
+use Rattle.vol_replay.proofs.bench.Bench.crash_keep.Goals.{In_ok-land}
 
 pub stopped_disk-requires : goal.stopped_disk-requires
 stopped_disk-requires c =
@@ -12,61 +12,39 @@ stopped_disk-requires c =
     fates_pending c.args.self known.0 c.disk.result.now (length c.args.fates.now) shown
     (c.disk.ensures ∙ ap (λ (r : RigState). r.volume.volume.log.commits.disk) c.self.view_is) (c.requires.fates known.0 shown)
 
-pub mount_again-requires-clause-limits : goal.mount_again-requires-clause-limits
-mount_again-requires-clause-limits c =
-    let inside = c.self.inside in
-    let rig : RigState = rig_of inside.volume inside.store inside.puts.list inside.is_stopping inside.lines in
-    has_limits rig c.self.invariant.0 c.geometry-geometry.result c.self.invariant.1 c.geometry-geometry.ensures
+-- the rig that was stopped
+abbrev inside : (c : In_ok-land) → RigState
+inside c = rig_of c.self.inside.volume c.self.inside.store c.self.inside.puts.list c.self.inside.is_stopping c.self.inside.lines
 
-pub mount_again-requires-clause-log : goal.mount_again-requires-clause-log
-mount_again-requires-clause-log c =
-    let inside = c.self.inside in
-    let rig : RigState = rig_of inside.volume inside.store inside.puts.list inside.is_stopping inside.lines in
-    (has_log rig c.self.invariant.0 c.geometry-geometry.result c.args.fates.now c.in_ok-disk.disk c.self.invariant.1 c.geometry-geometry.ensures
-    c.is_ordered.ensures.on_disk (subst (λ d. IsLeftBy c.args.fates.now d c.in_ok-disk.disk) c.disk.ensures c.in_ok-disk.ensures.left)).0
-
-pub mount_again-requires-clause-size : goal.mount_again-requires-clause-size
-mount_again-requires-clause-size c =
-    let inside = c.self.inside in
-    let rig : RigState = rig_of inside.volume inside.store inside.puts.list inside.is_stopping inside.lines in
-    (has_log rig c.self.invariant.0 c.geometry-geometry.result c.args.fates.now c.in_ok-disk.disk c.self.invariant.1 c.geometry-geometry.ensures
-    c.is_ordered.ensures.on_disk (subst (λ d. IsLeftBy c.args.fates.now d c.in_ok-disk.disk) c.disk.ensures c.in_ok-disk.ensures.left)).1
+was : (c : In_ok-land) → WasStopped (inside c) c.args.fates.now c.args.letters.now c.land.new.store c.in_ok-disk.disk
+was c =
+    was_stopped (inside c) c.args.self c.args.fates.now c.args.letters.now c.as_slice.result.now c.land.new.store
+    c.disk.result.now c.in_ok-disk.disk c.self.view_is c.is_ordered.ensures.on_disk c.requires.lines c.requires.fates
+    c.disk.ensures c.in_ok-disk.ensures.left c.as_slice.ensures c.in_ok-land.ensures
 
 pub mount_again-requires-clause-may : goal.mount_again-requires-clause-may
 mount_again-requires-clause-may c =
-    let inside = c.self.inside in
-    let rig : RigState = rig_of inside.volume inside.store inside.puts.list inside.is_stopping inside.lines in
-    let known = c.self.invariant in
-    may_mount_again rig known.0 c.geometry-geometry.result c.args.fates.now c.args.letters.now c.land.new.store c.in_ok-disk.disk known.1
-    (was_stopped rig c.args.self c.geometry-geometry.result c.args.fates.now c.args.letters.now c.as_slice.result.now c.land.new.store
-    c.disk.result.now c.in_ok-disk.disk c.self.view_is c.geometry-geometry.ensures c.is_ordered.ensures.on_disk c.requires.lines c.requires.fates
-    c.disk.ensures c.in_ok-disk.ensures.left c.as_slice.ensures c.in_ok-land.ensures)
+    let before = (goal.at.mount_again-requires-clause-may c).In_ok-land in
+    let known = c.self.invariant in (
+      known.0.geometry,
+      may_mount_again (inside before) known.0 c.args.fates.now c.args.letters.now c.land.new.store c.in_ok-disk.disk known.1 (was before),
+    )
 
 pub go_on-requires-clause-shows : goal.go_on-requires-clause-shows
 go_on-requires-clause-shows c =
-    let inside = c.self.inside in
-    let rig : RigState = rig_of inside.volume inside.store inside.puts.list inside.is_stopping inside.lines in
+    let before = (goal.at.go_on-requires-clause-shows c).In_ok-land in
     let known = c.self.invariant in
-    let was =
-    was_stopped rig c.args.self c.geometry-geometry.result c.args.fates.now c.args.letters.now c.as_slice.result.now c.land.new.store
-    c.disk.result.now c.in_ok-disk.disk c.self.view_is c.geometry-geometry.ensures c.is_ordered.ensures.on_disk c.requires.lines c.requires.fates
-    c.disk.ensures c.in_ok-disk.ensures.left c.as_slice.ensures c.in_ok-land.ensures in
     let e = c.in_ok-mounted.ensures in (
       _,
-      (rig_again rig known.0 c.geometry-geometry.result c.args.fates.now c.args.letters.now c.land.new.store c.mount_again.new.store
-          c.in_ok-disk.disk c.in_ok-mounted.mounted known.1 was e.ok e.mounts e.number).1,
+      (rig_again (inside before) known.0 c.args.fates.now c.args.letters.now c.land.new.store c.mount_again.new.store c.in_ok-disk.disk
+          c.in_ok-mounted.mounted known.1 (was before) e.ok e.mounts e.number).1,
     )
 
 pub returns-clause-ok : goal.returns-clause-ok
 returns-clause-ok c = λ plain h.
-    let inside = c.self.inside in
-    let rig : RigState = rig_of inside.volume inside.store inside.puts.list inside.is_stopping inside.lines in
-    let was =
-    was_stopped rig c.args.self c.geometry-geometry.result c.args.fates.now c.args.letters.now c.as_slice.result.now c.land.new.store
-    c.disk.result.now c.in_ok-disk.disk c.self.view_is c.geometry-geometry.ensures c.is_ordered.ensures.on_disk c.requires.lines c.requires.fates
-    c.disk.ensures c.in_ok-disk.ensures.left c.as_slice.ensures c.in_ok-land.ensures in
+    let before = (goal.at.returns-clause-ok c).In_ok-land in
     let e = c.in_ok-mounted.ensures in
-    told_by rig c.args.letters.now plain _ c.in_ok-mounted.mounted c.mount_again.new.store c.go_on.result.1 c.go_on.result.0 c.go_on.ensures.bench
-    c.go_on.ensures.answer
-    (rig_again rig plain c.geometry-geometry.result c.args.fates.now c.args.letters.now c.land.new.store c.mount_again.new.store c.in_ok-disk.disk
-    c.in_ok-mounted.mounted (subst (λ (r : RigState). ShowsPlain r plain) (sym c.self.view_is) h) was e.ok e.mounts e.number)
+    told_by (inside before) c.args.letters.now plain _ c.in_ok-mounted.mounted c.mount_again.new.store c.go_on.result.1 c.go_on.result.0
+    c.go_on.ensures.bench c.go_on.ensures.answer
+    (rig_again (inside before) plain c.args.fates.now c.args.letters.now c.land.new.store c.mount_again.new.store c.in_ok-disk.disk
+    c.in_ok-mounted.mounted (subst (λ (r : RigState). ShowsPlain r plain) (sym c.self.view_is) h) (was before) e.ok e.mounts e.number)

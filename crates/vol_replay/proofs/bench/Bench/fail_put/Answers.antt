@@ -1,9 +1,7 @@
-use Rattle.std.proofs.Common.{◌≡◌, ℕ, ◌+◌, ◌∙◌, sym, ap, subst, arith}
-use Rattle.std.specs.Prelude.{Some, IsTrue}
+use Rattle.std.proofs.Common.{◌≡◌, ℕ, ◌+◌, sym, subst, arith}
+use Rattle.std.specs.Prelude.{Some}
 use Rattle.plain_disk.specs.declared.event.PlainEvent.TheVariants as events
-use Rattle.plain_disk.specs.State.{PlainState}
 use Rattle.plain_disk.specs.Step.{plain_after}
-use Rattle.upload_window.specs.Window.{is_started}
 use Rattle.vol_core.specs.declared.event.Event.TheVariants.{JobFailed}
 use Rattle.vol_replay.specs.declared.answer.Answer.TheVariants as answers
 use Rattle.vol_replay.specs.Bench.{FailsPut}

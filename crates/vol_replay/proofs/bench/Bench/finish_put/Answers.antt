@@ -1,7 +1,6 @@
-use Rattle.std.proofs.Common.{◌≡◌, ℕ, ◌+◌, ◌∙◌, sym, ap, subst}
+use Rattle.std.proofs.Common.{ℕ, ◌+◌, subst}
 use Rattle.std.specs.Prelude.{Some, IfOk}
 use Rattle.plain_disk.specs.declared.event.PlainEvent.TheVariants as events
-use Rattle.plain_disk.specs.State.{PlainState}
 use Rattle.vol_core.specs.declared.event.Event.TheVariants.{JobDone}
 use Rattle.vol_replay.specs.Bench.{AnswersEvent}
 use Rattle.vol_replay.specs.Rig.{RigState, rig_of, ShowsPlain}

@@ -1,4 +1,4 @@
-use Rattle.std.proofs.Common.{◌≡◌, ◌∙◌, ap}
+use Rattle.std.proofs.Common.{◌∙◌, ap}
 use Rattle.vol_replay.specs.Puts.{put_of, is_put_out}
 use Rattle.vol_replay.specs.Rig.{RigState}
 use Rattle.vol_replay.proofs.Putting.{out_listed}

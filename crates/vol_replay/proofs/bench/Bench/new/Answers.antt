@@ -1,7 +1,6 @@
-use Rattle.std.proofs.Common.{◌≡◌, sym, subst, []}
+use Rattle.std.proofs.Common.{sym, subst}
 use Rattle.std.specs.Prelude.{false}
-use Rattle.plain_disk.specs.State.{PlainState, created_volume}
-use Rattle.vol_replay.specs.Puts.{PutView}
+use Rattle.plain_disk.specs.State.{created_volume}
 use Rattle.vol_replay.specs.Rig.{rig_of, ShowsPlain}
 use Rattle.vol_replay.proofs.Opening.{new_rig}
 use Rattle.vol_replay.proofs.bench.Bench.new.Goals as goal

@@ -1,5 +1,4 @@
-use Rattle.std.proofs.Common.{◌≡◌, ◌∙◌, ap, subst, length}
-use Rattle.lsvd_device.specs.Device.{DiskState, HoldsNow}
+use Rattle.std.proofs.Common.{◌∙◌, ap}
 use Rattle.vol_replay.specs.Rig.{RigState}
 use Rattle.vol_replay.proofs.Halting.{count_pending}
 use Rattle.vol_replay.proofs.bench.Bench.pending.Goals as goal

@@ -1,5 +1,5 @@
-use Rattle.std.proofs.Common.{◌≡◌, ◌+◌, sym, subst, rules}
-use Rattle.std.specs.Prelude.{Some, None}
+use Rattle.std.proofs.Common.{◌≡◌, sym, subst, rules}
+use Rattle.std.specs.Prelude.{Some}
 use Rattle.lsvd_device.specs.Fuse.{with_new_fuse}
 use Rattle.plain_disk.specs.State.{PlainState}
 use Rattle.plain_disk.specs.Stops.{stopping_after_calls}

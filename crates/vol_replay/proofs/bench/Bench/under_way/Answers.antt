@@ -1,6 +1,5 @@
-use Rattle.std.proofs.Common.{◌≡◌, ◌∙◌, ap, length}
-use Rattle.plain_disk.specs.State.{PlainState}
-use Rattle.vol_replay.specs.Rig.{RigState, ShowsPlain}
+use Rattle.std.proofs.Common.{◌∙◌, ap, length}
+use Rattle.vol_replay.specs.Rig.{RigState}
 use Rattle.vol_replay.proofs.Halting.{count_under_way}
 use Rattle.vol_replay.proofs.bench.Bench.under_way.Goals as goal
 

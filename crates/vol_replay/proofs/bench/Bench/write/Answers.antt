@@ -1,5 +1,4 @@
-use Rattle.std.proofs.Common.{◌≡◌, ℕ, ◌+◌, ◌*◌, replicate, sym, ◌∙◌, ap, subst}
-use Rattle.std.specs.Prelude.{IfOk}
+use Rattle.std.proofs.Common.{◌+◌, ◌*◌, replicate, sym, ◌∙◌, ap, subst}
 use Rattle.plain_disk.specs.declared.event.PlainEvent.TheVariants as events
 use Rattle.vol_core.specs.declared.event.Event.TheVariants.{Write}
 use Rattle.vol_replay.specs.declared.answer.Answer.TheVariants as answers

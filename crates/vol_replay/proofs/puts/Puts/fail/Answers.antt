@@ -1,7 +1,6 @@
-use Rattle.std.proofs.Common.{◌≡◌, ℕ, sym, ◌∙◌, ap, List}
+use Rattle.std.proofs.Common.{ℕ, ◌∙◌, ap, List}
 use Rattle.std.specs.List.{insert, remove}
 use Rattle.vol_replay.specs.Puts.{PutView}
-use Rattle.vol_replay.specs.Places.{place_of_put}
 use Rattle.vol_replay.proofs.PutLemmas.{stands_out, failed_there, job_taken}
 use Rattle.vol_replay.proofs.puts.Puts.fail.Goals as goal
 

@@ -1,4 +1,4 @@
-use Rattle.std.proofs.Common.{◌≡◌, sym, ◌∙◌, List}
+use Rattle.std.proofs.Common.{◌∙◌, List}
 use Rattle.vol_replay.specs.Puts.{PutView}
 use Rattle.vol_replay.proofs.PutLemmas.{stands_out, finished_there, job_taken}
 use Rattle.vol_replay.proofs.puts.Puts.finish.Goals as goal

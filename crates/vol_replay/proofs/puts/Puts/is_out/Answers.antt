@@ -1,4 +1,4 @@
-use Rattle.std.proofs.Common.{◌≡◌, ℕ, List, sym, ◌∙◌, ap, true, false, ◌&&◌, ◌==◌}
+use Rattle.std.proofs.Common.{◌≡◌, List, sym, ◌∙◌, ap, true, false, ◌&&◌, ◌==◌}
 use Rattle.std.proofs.lemmas.Bool.{eq-eqb, ne_eqb}
 use Rattle.vol_replay.specs.Puts.{PutView, PutsState}
 use Rattle.vol_replay.proofs.PutLemmas.{out_read, out_unread}

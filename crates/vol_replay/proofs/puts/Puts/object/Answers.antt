@@ -1,4 +1,4 @@
-use Rattle.std.proofs.Common.{◌≡◌, arith, sym, ◌∙◌, ap, subst, List, ◌<◌, length, get_or}
+use Rattle.std.proofs.Common.{◌≡◌, arith, ◌∙◌, ap, List, length, get_or}
 use Rattle.vol_replay.specs.Puts.{PutView, PutsState}
 use Rattle.vol_replay.specs.Places.{place_of_put}
 use Rattle.vol_replay.proofs.PutLemmas.{stands_out, shared_out}

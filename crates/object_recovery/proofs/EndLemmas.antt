@@ -1,0 +1,211 @@
+-- The end before an object, and what is refused for it.
+use Rattle.std.proofs.Common.{◌≡◌, ℕ, ◌+◌, ◌-◌, ◌<◌, ◌≤◌, ◌&&◌, inl, inr, Bool, true, false, Option, Some, None, List, length, take, refl, sym, ◌∙◌, ap, subst, arith}
+use Rattle.std.specs.Prelude.{IsTrue, IfSome}
+use Rattle.std.specs.Option.{IsSomeAnd}
+use Rattle.std.proofs.lemmas.Bool.{cases_lt}
+use Rattle.lsvd_objstore.specs.Objects.{Objects, found}
+use Rattle.lsvd_objstore.specs.Store.{ReceiptState}
+use Rattle.object_format.specs.declared.header.Header.{Header}
+use Rattle.object_format.specs.declared.expected.Expected.{Expected}
+use Rattle.object_format.specs.declared.reason.BadObject as reason_type
+use Rattle.object_format.specs.declared.reason.BadObject.TheVariants as reasons
+use Rattle.object_format.specs.declared.rows.Rows.{Rows}
+use Rattle.object_format.specs.Header.{has_due_seqs, begins_at, has_seqs_of_kind, IsHeader}
+use Rattle.object_format.specs.Object.{IsObject}
+use Rattle.object_format.specs.Tests.{PassesObjectTest, IsRefusedAs}
+use Rattle.object_format.proofs.ObjectLemmas.{same_header}
+use Rattle.object_format.proofs.TestLemmas.{header_in-IsHeader, header_passes}
+use Rattle.object_stream.specs.Replay.{name_of}
+use Rattle.stopped_volume.specs.Objects.{expected_alone}
+use Rattle.object_recovery.specs.Judging.{IsEndOf, HasEnd, IsEndBefore, IsGoodObject, IsBadObject}
+use Rattle.object_recovery.specs.declared.error.RecoverError.TheVariants as errors
+use Rattle.object_recovery.specs.declared.reading.ReadObject.TheVariants as read
+use Rattle.object_recovery.specs.Read.{AreFirstOf, HasHead, IsHeaderOf, IsWhyNotRead, IsToldRefused, IsToldEnd, IsReadOf}
+use Rattle.object_recovery.proofs.ReadLemmas.{same_head, moved_header, header_of_all, refused_is_none}
+
+-- ---- by itself
+
+seqs_alone : (of_kind begins : Bool) → IsTrue (of_kind && begins) → IsTrue (of_kind && true)
+seqs_alone true begins is = refl
+seqs_alone false begins is = is
+
+alone_header : (bytes : List ℕ) (size : ℕ) (expected : Expected) (header : Header) → IsHeader bytes size expected header
+    → IsHeader bytes size (expected_alone expected expected.number) header
+alone_header bytes size expected header is = record {
+  head = is.head;
+  has_size = is.has_size;
+  uuid = is.uuid;
+  number = is.number;
+  seqs = seqs_alone (has_seqs_of_kind header header.kind) (begins_at header.first_seq expected.end_before) is.seqs;
+  limits = is.limits;
+  widths = is.widths;
+}
+
+-- what is of the grammar after some end is so by itself
+pub alone_object : (bytes : List ℕ) (size : ℕ) (expected : Expected) (header : Header) (rows : Rows) → IsObject bytes size expected header rows
+    → IsObject bytes size (expected_alone expected expected.number) header rows
+alone_object bytes size expected header rows is = record {
+  head = alone_header bytes size expected header is.head;
+  whole_front = is.whole_front;
+  rows_are = is.rows_are;
+  row_bytes = is.row_bytes;
+  zeros = is.zeros;
+}
+
+-- so its end is that of the bytes
+pub end_of_object : (bytes : List ℕ) (size : ℕ) (expected : Expected) (header : Header) (rows : Rows) → IsObject bytes size expected header rows
+    → IsEndOf bytes size expected (Some header.end_seq)
+end_of_object bytes size expected header rows is = (header, rows, alone_object bytes size expected header rows is, refl)
+
+-- what is refused for another reason than its seqs is none by itself
+pub refused_alone : (bytes : List ℕ) (size : ℕ) (expected : Expected) (reason : reason_type.BadObject) → (reason ≡ reasons.Seqs → ⊥)
+    → IsRefusedAs bytes size expected reason → IsEndOf bytes size expected None
+refused_alone bytes size expected reasons.Length other refused header rows is =
+    refused.failed (header_passes bytes size (expected_alone expected expected.number) header reasons.Length (omega arith) is.head)
+refused_alone bytes size expected reasons.Magic other refused header rows is =
+    refused.failed (header_passes bytes size (expected_alone expected expected.number) header reasons.Magic (omega arith) is.head)
+refused_alone bytes size expected reasons.Kind other refused header rows is =
+    refused.failed (header_passes bytes size (expected_alone expected expected.number) header reasons.Kind (omega arith) is.head)
+refused_alone bytes size expected reasons.Uuid other refused header rows is =
+    refused.failed (header_passes bytes size (expected_alone expected expected.number) header reasons.Uuid (omega arith) is.head)
+refused_alone bytes size expected reasons.Number other refused header rows is =
+    refused.failed (header_passes bytes size (expected_alone expected expected.number) header reasons.Number (omega arith) is.head)
+refused_alone bytes size expected reasons.Seqs other refused header rows is = other refl
+refused_alone bytes size expected reasons.Counts other refused header rows is =
+    refused.failed (header_passes bytes size (expected_alone expected expected.number) header reasons.Counts (omega arith) is.head)
+refused_alone bytes size expected reasons.Rows other refused header rows is =
+    let there = header_in-IsHeader bytes size (expected_alone expected expected.number) header is.head in
+    let P : Option Header → Type 0 = λ o. IsSomeAnd o (λ x. IsTrue (has_due_seqs expected x)) in
+    let head : IsHeader bytes size expected header = record {
+      head = is.head.head;
+      has_size = is.head.has_size;
+      uuid = is.head.uuid;
+      number = is.head.number;
+      seqs = subst P there (refused.earlier reasons.Seqs (omega arith));
+      limits = is.head.limits;
+      widths = is.head.widths;
+    } in
+    refused.failed (
+      header,
+      rows,
+      record {
+        head = head;
+        whole_front = is.whole_front;
+        rows_are = is.rows_are;
+        row_bytes = is.row_bytes;
+        zeros = is.zeros;
+      },
+    )
+
+-- what is refused by itself is none
+pub refused_none : (bytes : List ℕ) (size : ℕ) (expected : Expected) (reason : reason_type.BadObject)
+    → IsRefusedAs bytes size (expected_alone expected expected.number) reason → IsEndOf bytes size expected None
+refused_none bytes size expected reason refused header rows is =
+    refused_is_none bytes size (expected_alone expected expected.number) reason refused header rows is
+
+-- ---- what the reads say of it
+
+-- what is refused after its header was read is none
+pub front_refused : (receipt : ReceiptState) (expected : Expected) (bytes : List ℕ) (header : Header) (number : ℕ) (reason : reason_type.BadObject)
+    → IsHeaderOf receipt expected bytes header → IsWhyNotRead receipt expected (errors.BadObject number reason)
+    → IsReadOf receipt expected (read.Bad reason None)
+front_refused receipt expected bytes header number reason is why = (why.1, of_told receipt.told is.first why.1)
+  where
+    of_told : (told : Option (List ℕ)) → AreFirstOf told bytes → IfSome told (λ all. IsRefusedAs all receipt.size expected reason)
+        → IfSome told (λ all. IsEndOf all receipt.size expected None)
+    of_told None first refused = tt
+    of_told (Some all) first refused =
+        let head = header_of_all all bytes first receipt.size expected header is.header_is in
+        refused_alone all receipt.size expected reason
+        (λ same. refused.failed (subst (PassesObjectTest all receipt.size expected) (sym same)
+        (header_passes all receipt.size expected header reasons.Seqs (omega arith) head))) refused
+
+pub other_reason : (receipt : ReceiptState) (expected : Expected) (reason : reason_type.BadObject) → (reason ≡ reasons.Seqs → ⊥)
+    → IsToldRefused receipt expected reason → IsToldEnd receipt expected None
+other_reason receipt expected reason other refused = of_told receipt.told refused
+  where
+    of_told : (told : Option (List ℕ)) → IfSome told (λ all. IsRefusedAs all receipt.size expected reason)
+        → IfSome told (λ all. IsEndOf all receipt.size expected None)
+    of_told None refused = tt
+    of_told (Some all) refused = refused_alone all receipt.size expected reason other refused
+
+pub head_read : (receipt : ReceiptState) (bytes others : List ℕ) → bytes ≡ others → HasHead receipt bytes → HasHead receipt others
+head_read receipt bytes others same head = subst (HasHead receipt) same head
+
+-- where the first bytes have no header, it is none
+pub headless : (receipt : ReceiptState) (expected : Expected) (bytes : List ℕ) → HasHead receipt bytes
+    → IfSome receipt.told (λ told. receipt.size ≡ length told)
+    → ((header : Header) → IsHeader bytes receipt.size (expected_alone expected expected.number) header → ⊥) → IsToldEnd receipt expected None
+headless receipt expected bytes head whole none = of_told receipt.told head.first whole
+  where
+    of_told : (told : Option (List ℕ)) → AreFirstOf told bytes → IfSome told (λ all. receipt.size ≡ length all)
+        → IfSome told (λ all. IsEndOf all receipt.size expected None)
+    of_told None first whole = tt
+    of_told (Some all) first whole = λ header rows is.
+        none header (moved_header all bytes receipt.size (expected_alone expected expected.number) header
+        (sym (same_head all bytes receipt.size head.count first whole)) is.head)
+
+-- what is read by itself
+pub end_alone : (receipt : ReceiptState) (expected : Expected) (rows : Rows) (end : ℕ)
+    → IsReadOf receipt (expected_alone expected expected.number) (read.Whole rows end) → IsToldEnd receipt expected (Some end)
+end_alone receipt expected rows end is = of_told receipt.told is.1.told
+  where
+    of_told : (told : Option (List ℕ)) → IfSome told (λ all. IsObject all receipt.size (expected_alone expected expected.number) is.0 rows)
+        → IfSome told (λ all. IsEndOf all receipt.size expected (Some end))
+    of_told None object = tt
+    of_told (Some all) object = (is.0, rows, object, is.2)
+
+pub bad_alone : (receipt : ReceiptState) (expected : Expected) (reason : reason_type.BadObject) (end : Option ℕ)
+    → IsReadOf receipt (expected_alone expected expected.number) (read.Bad reason end) → IsToldEnd receipt expected None
+bad_alone receipt expected reason end is = of_told receipt.told is.0
+  where
+    of_told : (told : Option (List ℕ)) → IfSome told (λ all. IsRefusedAs all receipt.size (expected_alone expected expected.number) reason)
+        → IfSome told (λ all. IsEndOf all receipt.size expected None)
+    of_told None refused = tt
+    of_told (Some all) refused = refused_none all receipt.size expected reason refused
+
+-- ---- one end
+
+pub one_end_of : (bytes : List ℕ) (size : ℕ) (expected : Expected) (a b : Option ℕ) → IsEndOf bytes size expected a → IsEndOf bytes size expected b → a ≡ b
+one_end_of bytes size expected None None is_a is_b = refl
+one_end_of bytes size expected None (Some b) is_a is_b = absurd (is_a is_b.0 is_b.1 is_b.2)
+one_end_of bytes size expected (Some a) None is_a is_b = absurd (is_b is_a.0 is_a.1 is_a.2)
+one_end_of bytes size expected (Some a) (Some b) is_a is_b =
+    let same = same_header bytes size (expected_alone expected expected.number) is_a.0 is_b.0 is_a.2.head is_b.2.head in
+    ap Some (sym is_a.3 ∙ ap (λ (h : Header). h.end_seq) same ∙ is_b.3)
+
+module _ (volume : Expected) (objects : Objects) where
+  pub one_end_at : (number : ℕ) (a b : Option ℕ) → HasEnd volume objects number a → HasEnd volume objects number b → a ≡ b
+  one_end_at number a b has_a has_b =
+      let same : has_b.bytes ≡ has_a.bytes = let e = has_a.present in let f = has_b.present in cc in
+      let there = subst (λ bytes. IsEndOf bytes (length bytes) (expected_alone volume number) b) same has_b.is_end in
+      one_end_of has_a.bytes (length has_a.bytes) (expected_alone volume number) a b has_a.is_end there
+
+  pub one_end_before : (last number : ℕ) (a b : Option ℕ) → IsEndBefore volume objects last number a → IsEndBefore volume objects last number b → a ≡ b
+  one_end_before last number a b is_a is_b =
+      elim (cases_lt last number) [
+        | inl past ↦ is_a.unknown past ∙ sym (is_b.unknown past)
+        | inr to ↦ one_end_at (number - 1) a b (is_a.known to) (is_b.known to)
+      ]
+
+  -- the end of an object is that before the next one
+  pub before_next : (number last : ℕ) (end : Option ℕ) → number + 1 ≤ last → HasEnd volume objects number end → IsEndBefore volume objects last (number + 1) end
+  before_next number last end to has = record {
+    known = λ _. let at : number ≡ number + 1 - 1 = omega arith in subst (λ n. HasEnd volume objects n end) at has;
+    unknown = λ past. absurd (omega (arith, past, to));
+  }
+
+  pub before_past : (last number : ℕ) → last < number → IsEndBefore volume objects last number None
+  before_past last number past = record { known = λ to. absurd (omega (arith, past, to)); unknown = λ _. refl }
+
+  -- no object is good and bad
+  pub good_or_bad : (last number : ℕ) (reason : reason_type.BadObject) → IsGoodObject volume objects last number
+      → IsBadObject volume objects last number reason → ⊥
+  good_or_bad last number reason good bad =
+      let same : bad.bytes ≡ good.bytes = let e = good.present in let f = bad.present in cc in
+      let end = one_end_before last number good.end_before bad.end_before good.is_before bad.is_before in
+      let expected : Option ℕ → Expected = λ e. record volume { number = number; end_before = e } in
+      let is = good.holds in
+      let moved = subst (λ e. IsObject good.bytes (length good.bytes) (expected e) is.0 is.1) end is.2 in
+      refused_is_none good.bytes (length good.bytes) (expected bad.end_before) reason
+      (subst (λ bytes. IsRefusedAs bytes (length bytes) (expected bad.end_before) reason) same bad.holds) is.0 is.1 moved

@@ -1,0 +1,150 @@
+-- For this crate's own clauses: how the objects of a store are adopted, and the others judged.
+use Rattle.std.specs.Prelude.{◌≡◌, ℕ, ◌+◌, ◌-◌, ◌^◌, ◌<◌, ◌≤◌, ◌⊎◌, Option, Some, None, IfSome, IsTrue, List, length}
+use Rattle.std.specs.Global.{Vec}
+use Rattle.lsvd_names.specs.declared.name.ObjName.{ObjName}
+use Rattle.lsvd_base.specs.declared.geometry.Geometry.{Geometry}
+use Rattle.lsvd_objstore.specs.Objects.{Objects, found, Lists}
+use Rattle.lsvd_objstore.specs.Store.{ReceiptState}
+use Rattle.object_format.specs.declared.data_row.DataRow.{DataRow}
+use Rattle.object_format.specs.declared.expected.Expected.{Expected}
+use Rattle.object_format.specs.declared.header.Header.{Header}
+use Rattle.object_format.specs.declared.kind.Kind.TheVariants as kinds
+use Rattle.object_format.specs.declared.rows.Rows.{Rows}
+use Rattle.object_format.specs.declared.rows.Rows.TheVariants as rows_of
+use Rattle.object_format.specs.Object.{IsObject}
+use Rattle.object_format.specs.Tests.{IsRefusedAs}
+use Rattle.object_stream.specs.Replay.{name_of}
+use Rattle.object_uploads.specs.Image.{IsReceiptFor}
+use Rattle.object_uploads.specs.Order.{IsUploads}
+use Rattle.obj_log.specs.State.{ObjLogState}
+use Rattle.obj_log.specs.Changes.{expected_of_volume, next_of, HasAdoptedObject}
+use Rattle.object_recovery.specs.declared.adoption.Next.{Next}
+use Rattle.object_recovery.specs.declared.adoption.Next.TheVariants as next
+use Rattle.object_recovery.specs.declared.adoption.NextObject.{NextObject}
+use Rattle.object_recovery.specs.declared.adoption.NextObject.TheVariants as next_object
+use Rattle.object_recovery.specs.declared.judging.Reached.{Reached}
+use Rattle.object_recovery.specs.declared.judging.Refusal.{Refusal}
+use Rattle.object_recovery.specs.declared.judging.Refusal.TheVariants as refusals
+use Rattle.object_recovery.specs.declared.error.RecoverError.{RecoverError}
+use Rattle.object_recovery.specs.Checkpoints.{expected_of, IsNewestWithEnd}
+use Rattle.object_recovery.specs.Faults.{IsNoAnswer, of_refusal}
+use Rattle.object_recovery.specs.Judging.{IsEndOf, HaveLanded}
+use Rattle.object_recovery.specs.Judged.{IsReached, GoesToGap, JudgesPast, StaysRefused}
+use Rattle.object_recovery.specs.Read.{IsReadAs}
+use Rattle.object_recovery.specs.Recovery.{IsRecoveredOf, IsNoLonger, AreAllGood, AreNamedWholePast}
+
+-- ---- the next object
+
+-- an object was read as one that holds entries, with these rows and this end
+pub record IsReadAsData (receipt : ReceiptState) (expected : Expected) (rows : List DataRow) (end : ℕ) : Type 0 where
+  pub header : Header
+  pub list : Vec DataRow
+  pub items : list.items ≡ rows
+  pub read : IsReadAs receipt expected header (rows_of.Data list)
+  pub end_is : header.end_seq ≡ end
+
+-- why the object with these bytes is not adopted: the list takes none of this number, or it is bad, or it holds no entries
+abbrev pub IsWhyLeft : (bytes : List ℕ) (size : ℕ) → Expected → Option Refusal → Type 0
+IsWhyLeft bytes size expected None = (2 ^ 64 - 1 ≤ expected.number) × (header : Header) × (rows : Rows) × IsObject bytes size expected header rows
+IsWhyLeft bytes size expected (Some (refusals.Bad number reason)) = (number ≡ expected.number) × IsRefusedAs bytes size expected reason
+IsWhyLeft bytes size expected (Some (refusals.NotData number)) =
+    (number ≡ expected.number) × (header : Header) × (rows : Rows) × IsObject bytes size expected header rows × (header.kind ≡ kinds.Data → ⊥)
+
+-- it is not, and was judged so
+pub record IsLeft (bytes : List ℕ) (size : ℕ) (expected : Expected) (reached : Reached) : Type 0 where
+  pub number : reached.number ≡ expected.number
+  pub named : reached.number < 2 ^ 64
+  pub is_end : IsEndOf bytes size expected reached.end
+  pub why : IsWhyLeft bytes size expected reached.refused
+
+-- the expected object was read
+abbrev pub IsNextRead : ReceiptState → Expected → NextObject → Type 0
+IsNextRead receipt expected (next_object.Data object) = IsReadAsData receipt expected object.rows.items object.end × (expected.number < 2 ^ 64 - 1)
+IsNextRead receipt expected (next_object.Left reached) = IfSome receipt.told (λ told. IsLeft told receipt.size expected reached)
+
+-- ---- in the store
+
+-- the store has the expected object, which holds entries, with these rows and this end, and the receipt is for it
+pub record IsStoredAs (objects : Objects) (expected : Expected) (rows : List DataRow) (end : ℕ) (receipt : ReceiptState) : Type 0 where
+  pub bytes : List ℕ
+  pub present : found objects (name_of expected.uuid expected.number) ≡ Some bytes
+  pub header : Header
+  pub list : Vec DataRow
+  pub items : list.items ≡ rows
+  pub is_object : IsObject bytes (length bytes) expected header (rows_of.Data list)
+  pub end_is : header.end_seq ≡ end
+  pub receipt_is : IsReceiptFor bytes receipt
+
+-- the store has the expected object, which is not adopted
+pub record IsLeftAt (objects : Objects) (expected : Expected) (reached : Reached) : Type 0 where
+  pub bytes : List ℕ
+  pub present : found objects (name_of expected.uuid expected.number) ≡ Some bytes
+  pub left : IsLeft bytes (length bytes) expected reached
+
+-- the store has none of the next number, or it is past all numbers
+abbrev pub HasNoNext : Objects → ObjLogState → Type 0
+HasNoNext objects log = log.uploads.window.last + 1 < 2 ^ 64 → found objects (name_of log.uploads.uuid (log.uploads.window.last + 1)) ≡ None
+
+-- the object of the next number was read and adopted; where receipts tell, it is the one that the store has
+pub record AdoptsNext (Tells : Type 0) (objects : Option Objects) (old new : ObjLogState) : Type 0 where
+  pub rows : List DataRow
+  pub end : ℕ
+  pub receipt : ReceiptState
+  pub order : IsUploads old.uploads.queue old.uploads.window
+  pub named : old.uploads.window.last + 1 < 2 ^ 64
+  pub read : IsReadAsData receipt (next_of old) rows end
+  pub adopted : HasAdoptedObject rows end receipt old new
+  pub stored : Tells → IfSome objects (λ objects. IsStoredAs objects (next_of old) rows end receipt)
+
+abbrev pub ComesNext : (Tells : Type 0) → Option Objects → (old new : ObjLogState) → Next → Type 0
+ComesNext Tells objects old new next.Missing = (new ≡ old) × (Tells → IfSome objects (λ objects. HasNoNext objects old))
+ComesNext Tells objects old new next.Adopted = AdoptsNext Tells objects old new
+ComesNext Tells objects old new (next.Left reached) = (new ≡ old) × (Tells → IfSome objects (λ objects. IsLeftAt objects (next_of old) reached))
+
+-- ---- up to the first missing number
+
+-- how far the objects of a list were judged where all are adopted
+abbrev pub reached_by : ObjLogState → Reached
+reached_by log = record { number = log.uploads.window.last; end = Some log.uploads.queue.end; refused = None }
+
+-- where those of one list were judged good, those of the other one are
+abbrev pub KeepsGood : Expected → Objects → (old new : ObjLogState) → Type 0
+KeepsGood volume objects old new = (base : ℕ) → IsReached volume objects base (reached_by old) → IsReached volume objects base (reached_by new)
+
+-- the list ends before the first missing number, or before this object
+abbrev pub HasEndedAt : Objects → ObjLogState → Option Reached → Type 0
+HasEndedAt objects log None = HasNoNext objects log
+HasEndedAt objects log (Some reached) = IsLeftAt objects (next_of log) reached
+
+-- ---- the others
+
+abbrev pub ReachesGap : Expected → Objects → ObjLogState → (left : Option Reached) → (gap : Reached) → Type 0
+ReachesGap volume objects log None gap = gap ≡ reached_by log
+ReachesGap volume objects log (Some reached) gap = GoesToGap volume objects reached gap
+
+-- All past this one, or where it is none past the list, were judged by the names of the objects that there are.
+pub record JudgesRest (objects : Objects) (log : ObjLogState) (names : List ObjName) (left : Option Reached) (refused : Option Refusal) : Type 0 where
+  pub gap : Reached
+  pub reaches : ReachesGap (expected_of_volume log) objects log left gap
+  pub past : JudgesPast (expected_of_volume log) objects names gap refused
+  pub stays : StaysRefused gap.refused refused
+
+-- and the error refuses all so; or it is no answer
+abbrev pub RefusesRest : Objects → ObjLogState → List ObjName → Option Reached → RecoverError → Type 0
+RefusesRest objects log names left error =
+    IsNoAnswer error ⊎ ((refusal : Refusal) × (error ≡ of_refusal refusal) × JudgesRest objects log names left (Some refusal))
+
+-- ---- the whole
+
+-- a recovery begins at the newest checkpoint of a volume, with the names of all its objects
+pub record IsBegun (uuid : List ℕ) (geometry : Geometry) (base end : ℕ) (names : List ObjName) (objects : Objects) : Type 0 where
+  pub newest : IsNewestWithEnd (expected_of uuid geometry) objects base end
+  pub listed : Lists uuid objects names
+
+-- the list is recovered, and all objects are good
+pub record Recovers (volume : Expected) (base : ℕ) (objects : Objects) (log : ObjLogState) : Type 0 where
+  pub recovered : log.uploads.window.last + 1 < 2 ^ 64 - 1 → IsRecoveredOf volume objects log
+  pub no_longer : IsNoLonger volume objects log.uploads.window.last
+  pub landed : HaveLanded objects volume.uuid base log.uploads.window.last
+  pub good : AreAllGood volume objects base
+  pub past : AreNamedWholePast volume objects log.uploads.window.last

@@ -1,0 +1,4 @@
+pub mod Results
+pub mod LawLemmas
+pub mod FindLemmas
+pub mod PutLemmas

@@ -1,0 +1,111 @@
+-- Contract: what is found of a volume as a whole in a store, or why it is refused.
+use Rattle.std.specs.Prelude.{◌≡◌, ℕ, ◌^◌, ◌<◌, ◌≤◌, Option, Some, None, IsSome, List, []}
+use Rattle.std.specs.List.{Contains}
+use Rattle.std.specs.Global.{Vec}
+use Rattle.lsvd_base.specs.declared.geometry.Geometry.{Geometry}
+use Rattle.lsvd_names.specs.declared.name.Kind.TheVariants as kinds
+use Rattle.lsvd_names.specs.declared.name.ObjName.{ObjName}
+use Rattle.lsvd_objstore.specs.Objects.{Objects, found}
+use Rattle.super_format.specs.declared.epoch.Epoch.{Epoch}
+use Rattle.super_format.specs.declared.super_object.Super.{Super}
+use Rattle.super_format.specs.Epoch.{IsEpoch}
+use Rattle.super_format.specs.Super.{geometry_with}
+use Rattle.super_format.specs.Tests as super_tests
+use Rattle.super_format.specs.Tests.{IsRefusedAs}
+use Rattle.stopped_volume.specs.Super.{super_name, epoch_name, HasSuper, HasNewestEpoch, HasVolume}
+use Rattle.super_recovery.specs.declared.error.BadSuper.{BadSuper}
+use Rattle.super_recovery.specs.declared.error.BadSuper.TheVariants as reasons
+use Rattle.super_recovery.specs.declared.error.SuperError.{SuperError}
+use Rattle.super_recovery.specs.declared.error.SuperError.TheVariants as errors
+use Rattle.super_recovery.specs.declared.finding.FoundVolume.{FoundVolume}
+use Rattle.super_recovery.specs.Faults.{IsNoAnswer}
+
+-- ---- objects and names
+
+-- what was read of the object with a name: all its bytes, or none where no object has the name
+abbrev pub IsReadOf : Option Objects → ObjName → Option (Vec ℕ) → Type 0
+IsReadOf None name bytes = Unit {0}
+IsReadOf (Some objects) name None = found objects name ≡ None
+IsReadOf (Some objects) name (Some bytes) = found objects name ≡ Some bytes.items
+
+-- the greatest number among names of epochs
+pub record IsGreatestEpoch (names : List ObjName) (number : ℕ) : Type 0 where
+  pub name : ObjName
+  pub listed : Contains names name
+  pub of_epoch : name.kind ≡ kinds.Epoch
+  pub number_is : name.number ≡ number
+  pub greatest : (other : ObjName) → Contains names other → other.kind ≡ kinds.Epoch → other.number ≤ number
+
+-- and none where no name is that of an epoch
+abbrev pub IsGreatestIn : List ObjName → Option ℕ → Type 0
+IsGreatestIn names None = (name : ObjName) → Contains names name → name.kind ≡ kinds.Epoch → ⊥
+IsGreatestIn names (Some number) = IsGreatestEpoch names number
+
+-- ---- supers and epochs
+
+-- the store has a super object of the volume, of the grammar
+abbrev pub HasSomeSuper : (uuid : List ℕ) → Objects → Type 0
+HasSomeSuper uuid objects = (volume : Super) × HasSuper uuid volume objects
+
+-- the store has the epoch of this number, of the grammar
+pub record HasEpoch (uuid : List ℕ) (number : ℕ) (objects : Objects) : Type 0 where
+  pub bytes : List ℕ
+  pub present : found objects (epoch_name uuid number) ≡ Some bytes
+  pub epoch : Epoch
+  pub is_epoch : IsEpoch bytes uuid number epoch
+
+-- it has none of the volume
+abbrev pub HasNoEpoch : (uuid : List ℕ) → Objects → Type 0
+HasNoEpoch uuid objects = (number : ℕ) → number < 2 ^ 64 → found objects (epoch_name uuid number) ≡ None
+
+-- that with the greatest number has this one, and is none of the grammar
+pub record HasBadEpoch (uuid : List ℕ) (number : ℕ) (objects : Objects) : Type 0 where
+  pub present : IsSome (found objects (epoch_name uuid number))
+  pub bad : HasEpoch uuid number objects → ⊥
+  pub newest : (other : ℕ) → number < other → other < 2 ^ 64 → found objects (epoch_name uuid other) ≡ None
+
+-- ---- reasons
+
+-- the number of a reason, in the order of the tests
+abbrev pub code_of : BadSuper → ℕ
+code_of (reasons.Super reason) = super_tests.code_of reason
+code_of reasons.NoEpoch = 7
+code_of (reasons.BadEpoch number) = 8
+
+-- why no newest epoch was read
+abbrev pub IsWhyNoEpoch : (uuid : List ℕ) → Objects → SuperError → Type 0
+IsWhyNoEpoch uuid objects errors.NoVolume = ⊥
+IsWhyNoEpoch uuid objects (errors.BadSuper (reasons.Super reason)) = ⊥
+IsWhyNoEpoch uuid objects (errors.BadSuper reasons.NoEpoch) = HasNoEpoch uuid objects
+IsWhyNoEpoch uuid objects (errors.BadSuper (reasons.BadEpoch number)) = HasBadEpoch uuid number objects
+IsWhyNoEpoch uuid objects errors.StoreFault = Unit {0}
+IsWhyNoEpoch uuid objects errors.OutOfMemory = Unit {0}
+
+-- why the volume is refused; for its epochs only where it has a super object of the grammar
+abbrev pub IsWhyRefused : (uuid : List ℕ) → Objects → SuperError → Type 0
+IsWhyRefused uuid objects errors.NoVolume = found objects (super_name uuid) ≡ None
+IsWhyRefused uuid objects (errors.BadSuper (reasons.Super reason)) =
+    (bytes : List ℕ) × (found objects (super_name uuid) ≡ Some bytes) × IsRefusedAs bytes uuid reason
+IsWhyRefused uuid objects (errors.BadSuper reasons.NoEpoch) = HasSomeSuper uuid objects × HasNoEpoch uuid objects
+IsWhyRefused uuid objects (errors.BadSuper (reasons.BadEpoch number)) = HasSomeSuper uuid objects × HasBadEpoch uuid number objects
+IsWhyRefused uuid objects errors.StoreFault = Unit {0}
+IsWhyRefused uuid objects errors.OutOfMemory = Unit {0}
+
+-- ---- the whole
+
+-- what was found is a volume of these sizes, without ancestors, in this epoch
+pub record IsVolume (geometry : Geometry) (epoch : ℕ) (it : FoundVolume) : Type 0 where
+  pub sizes : geometry ≡ geometry_with it.volume geometry.log
+  pub alone : it.volume.chain ≡ []
+  pub epoch_is : it.epoch ≡ epoch
+
+-- the volume that was found is what the store says of it, and so the one that the store has, if it has one
+pub record IsFound (uuid : List ℕ) (objects : Objects) (it : FoundVolume) : Type 0 where
+  pub says : HasSuper uuid it.volume objects
+  pub newest : HasNewestEpoch uuid it.epoch objects
+  pub only : (geometry : Geometry) (epoch : ℕ) → HasVolume uuid geometry epoch objects → IsVolume geometry epoch it
+
+-- an error with its reason, which refuses no volume that the store has
+pub record IsRefused (uuid : List ℕ) (objects : Objects) (error : SuperError) : Type 0 where
+  pub why : IsWhyRefused uuid objects error
+  pub no_volume : (geometry : Geometry) (epoch : ℕ) → HasVolume uuid geometry epoch objects → IsNoAnswer error

@@ -1,0 +1,151 @@
+ghost use Rattle.std.specs.Prelude.{◌≡◌, ◌↔◌, IsTrue, IsSome, IfOk, IfErr, IfSome, List, [], ◌∷◌, ◌++◌};
+ghost use Rattle.lsvd_fault.specs.Faults.{Counts};
+ghost use Rattle.lsvd_names.specs.declared.name.ObjName.{ObjName};
+ghost use Rattle.lsvd_objstore.specs.Objects.{found};
+ghost use Rattle.lsvd_objstore.specs.Store.{StoreState, ReceiptState, OnlyCounts, has_failed};
+ghost use Rattle.super_format.specs.Super.{MayStand};
+ghost use Rattle.stopped_volume.specs.Super.{super_name, HasSuper, HasNewestEpoch};
+ghost use Rattle.stopped_volume.specs.Store.{TellsBytes};
+ghost use Rattle.super_recovery.specs.Faults.{ends_by_fault, IsNoAnswer};
+ghost use Rattle.super_recovery.specs.Found.{HasEpoch, IsGreatestIn, IsFound, IsRefused, IsWhyNoEpoch, IsWhyRefused};
+
+use crate::error::{BadSuper, SuperError};
+use crate::naming::{epoch_name, is_uuid, super_name};
+use crate::reading::read_whole;
+use lsvd_names::{Kind, ObjName};
+use lsvd_objstore::{Receipt, Store, StoreError};
+use std::alloc::Global;
+use super_format::{Epoch, Super};
+use uuid::Uuid;
+
+/// What a store says of a volume as a whole.
+#[derive(Debug, Drop)]
+pub struct FoundVolume {
+    /// What its super object says.
+    pub volume: Super,
+    /// The number of its newest epoch.
+    pub epoch: u64,
+}
+
+/// Finds the volume with this uuid in a store: its super object, and the greatest number of its epochs. The store is only read.
+///
+/// An error comes where, in the order of the tests:
+///
+/// - `NoVolume`: the store has no super object of the volume.
+/// - `BadSuper` with `Super`: the super object is none of the volume; the reason is the first.
+/// - `BadSuper` with `NoEpoch`: the store has no epoch of the volume.
+/// - `BadSuper` with `BadEpoch`: the epoch with the greatest number, which is told, has bytes that are no epoch of that number.
+/// - `StoreFault`: a call of the store failed, and was counted by it.
+/// - `OutOfMemory`: memory ran out.
+pub fn find_volume<S: Store>(
+    alloc: Global,
+    store: &mut S,
+    uuid: Uuid,
+) -> Result<FoundVolume, SuperError>
+    ensures stands { IfOk result (λ found. MayStand found.volume) }
+    ensures uuid { IfOk result (λ found. found.volume.uuid ≡ uuid) }
+    ensures found { TellsBytes S.Receipt.state → IfOk result (λ found. IfSome (S.state store.old).objects (λ objects.
+        IsFound uuid objects found)) }
+    ensures refused { TellsBytes S.Receipt.state → IfErr result (λ error. IfSome (S.state store.old).objects (λ objects.
+        IsRefused uuid objects error)) }
+    ensures unchanged { OnlyCounts (S.state store.old) (S.state store.new) }
+    ensures faults { Counts (ends_by_fault result) (S.state store.old).faults (S.state store.new).faults }
+{
+    let volume = find_super(alloc, store, uuid)?;
+    let epoch = newest_epoch(alloc, store, uuid)?;
+    Ok(FoundVolume { volume, epoch })
+}
+
+/// Whether a store has a super object of the volume with this uuid, whatever its bytes are. The store is only read. The errors are
+/// `StoreFault`, where a call of the store failed, which the store counted, and `OutOfMemory`.
+pub fn has_super<S: Store>(alloc: Global, store: &mut S, uuid: Uuid) -> Result<bool, SuperError>
+    ensures has { IfOk result (λ has. IfSome (S.state store.old).objects (λ objects. IsTrue has ↔ IsSome (found objects (super_name uuid)))) }
+    ensures answer { IfErr result IsNoAnswer }
+    ensures unchanged { OnlyCounts (S.state store.old) (S.state store.new) }
+    ensures faults { Counts (ends_by_fault result) (S.state store.old).faults (S.state store.new).faults }
+{
+    let receipt = store.find(alloc, &super_name(uuid))?;
+    Ok(receipt.is_some())
+}
+
+// What the super object of a volume says.
+fn find_super<S: Store>(alloc: Global, store: &mut S, uuid: Uuid) -> Result<Super, SuperError>
+    ensures stands { IfOk result MayStand }
+    ensures uuid { IfOk result (λ volume. volume.uuid ≡ uuid) }
+    ensures says { TellsBytes S.Receipt.state → IfOk result (λ volume. IfSome (S.state store.old).objects (HasSuper uuid volume)) }
+    ensures why { TellsBytes S.Receipt.state → IfErr result (λ error. IfSome (S.state store.old).objects (λ objects.
+        IsWhyRefused uuid objects error)) }
+    ensures unchanged { OnlyCounts (S.state store.old) (S.state store.new) }
+    ensures faults { Counts (ends_by_fault result) (S.state store.old).faults (S.state store.new).faults }
+{
+    let Some(bytes) = read_whole(alloc, store, &super_name(uuid))? else {
+        return Err(SuperError::NoVolume);
+    };
+    let volume = Super::read(alloc, bytes.as_slice(), uuid)?;
+    Ok(volume)
+}
+
+// The greatest number of an epoch of a volume.
+fn newest_epoch<S: Store>(alloc: Global, store: &mut S, uuid: Uuid) -> Result<u64, SuperError>
+    ensures newest { TellsBytes S.Receipt.state → IfOk result (λ number. IfSome (S.state store.old).objects (HasNewestEpoch uuid number)) }
+    ensures why { TellsBytes S.Receipt.state → IfErr result (λ error. IfSome (S.state store.old).objects (λ objects.
+        IsWhyNoEpoch uuid objects error)) }
+    ensures unchanged { OnlyCounts (S.state store.old) (S.state store.new) }
+    ensures faults { Counts (ends_by_fault result) (S.state store.old).faults (S.state store.new).faults }
+{
+    is_uuid(uuid);
+    let names = store.list(alloc, uuid)?;
+    let Some(number) = greatest_epoch(names.as_slice()) else {
+        return Err(SuperError::BadSuper {
+            reason: BadSuper::NoEpoch,
+        });
+    };
+    if !has_epoch(alloc, store, uuid, number)? {
+        return Err(SuperError::BadSuper {
+            reason: BadSuper::BadEpoch { number },
+        });
+    }
+    Ok(number)
+}
+
+// The greatest number of an epoch among names. None is where no name is that of an epoch.
+fn greatest_epoch(names: &[ObjName]) -> Option<u64>
+    ensures { IsGreatestIn names.now result }
+{
+    let mut greatest = None;
+    for name in names {
+        greatest = greatest_with(greatest, name);
+    }
+    greatest
+}
+
+// The greatest number of an epoch among names, with a further name.
+fn greatest_with(greatest: Option<u64>, name: &ObjName) -> Option<u64>
+    ensures { (names : List ObjName) → IsGreatestIn names greatest → IsGreatestIn (names ++ name.now ∷ []) result }
+{
+    if name.kind != Kind::Epoch {
+        return greatest;
+    }
+    match greatest {
+        Some(number) if name.number <= number => greatest,
+        _ => Some(name.number),
+    }
+}
+
+// Whether a store has the epoch of this number, with the bytes of one. A store that lists a name and then does not find it has none.
+fn has_epoch<S: Store>(
+    alloc: Global,
+    store: &mut S,
+    uuid: Uuid,
+    number: u64,
+) -> Result<bool, StoreError>
+    ensures has { TellsBytes S.Receipt.state → IfOk result (λ has. IfSome (S.state store.old).objects (λ objects.
+        IsTrue has ↔ HasEpoch uuid number objects)) }
+    ensures unchanged { OnlyCounts (S.state store.old) (S.state store.new) }
+    ensures faults { Counts (has_failed result) (S.state store.old).faults (S.state store.new).faults }
+{
+    let Some(bytes) = read_whole(alloc, store, &epoch_name(uuid, number))? else {
+        return Ok(false);
+    };
+    Ok(Epoch::read(bytes.as_slice(), uuid, number).is_ok())
+}

@@ -1,0 +1,67 @@
+-- The greatest number of a volume's objects, and the end of those before the first missing one.
+use Rattle.std.proofs.Common.{◌≡◌, ℕ, ◌<◌, ◌≤◌, inl, inr, Option, Some, None, List, refl, sym, ◌∙◌, ap, subst, arith}
+use Rattle.std.specs.Prelude.{IfSome, IsTrue}
+use Rattle.std.specs.Option.{IsSome, is_some}
+use Rattle.std.specs.List.{Contains}
+use Rattle.std.proofs.lemmas.Bool.{cases_lt}
+use Rattle.lsvd_base.specs.declared.geometry.Geometry.{Geometry}
+use Rattle.lsvd_names.specs.declared.name.Kind.{Kind}
+use Rattle.lsvd_names.specs.declared.name.Kind.TheVariants.{Object}
+use Rattle.lsvd_names.specs.declared.name.ObjName.{ObjName}
+use Rattle.lsvd_objstore.specs.Objects.{Objects, found, Lists}
+use Rattle.object_stream.specs.Replay.{name_of}
+use Rattle.obj_log.specs.State.{ObjLogState}
+use Rattle.stopped_volume.specs.Objects.{landed_in}
+use Rattle.object_recovery.specs.State.{RecoveredState, HasAllNames, IsGreatestNumber}
+use Rattle.vol_mount.specs.Refusals.{IsExtent, HasExtent}
+use Rattle.vol_mount.specs.Steps.{IsRecovered, IsRecoveredFrom}
+
+none_unless : (held : Option (List ℕ)) → (IsSome held → ⊥) → held ≡ None
+none_unless None not = refl
+none_unless (Some bytes) not = absurd (not refl)
+
+named_so : (uuid : List ℕ) (name : ObjName) (number : ℕ) → name.uuid ≡ uuid → name.kind ≡ Object → name.number ≡ number → name ≡ name_of uuid number
+named_so uuid name number same kind is =
+    ap (λ (u : List ℕ). let other : ObjName = record { uuid = u; kind = name.kind; number = name.number } in other) same
+    ∙ ap (λ (k : Kind). let other : ObjName = record { uuid = uuid; kind = k; number = name.number } in other) kind
+    ∙ ap (λ (n : ℕ). name_of uuid n) is
+
+module _ (uuid : List ℕ) (geometry : Geometry) (objects : Objects) (list : ObjLogState) (checkpoint : ℕ) (names : List ObjName) (greatest : ℕ)
+    (from_checkpoint : checkpoint ≤ list.uploads.window.last)
+    (from : IsRecoveredFrom uuid geometry objects list checkpoint) (lists : Lists uuid objects names)
+    (is : IsGreatestNumber names list.uploads.window.last greatest) where
+  last_present : IsTrue (landed_in objects uuid list.uploads.window.last)
+  last_present =
+      elim (cases_lt checkpoint list.uploads.window.last) [
+        | inl past ↦ from.landed list.uploads.window.last past (omega arith)
+        | inr none ↦
+            (let same : checkpoint ≡ list.uploads.window.last = omega (arith, none, from_checkpoint) in
+            subst (λ n. IsTrue (landed_in objects uuid n)) same (ap is_some from.newest.is.present))
+      ]
+
+  extent_told : IsExtent uuid geometry objects greatest list.uploads.queue.end
+  extent_told = record {
+    none_greater = λ name named past.
+        none_unless (found objects name) (λ some.
+        let low = is.none_greater name (lists.complete name named past.0 some) past.1.0 in
+        let high = past.1.1 in
+        absurd (omega (arith, low, high)));
+    present = elim is.is [
+      | inl same ↦ subst (λ n. IsTrue (landed_in objects uuid n)) (sym same) last_present
+      | inr it ↦
+          (let listed = lists.present it.0 it.1 in
+          subst (λ (name : ObjName). IsTrue (is_some (found objects name))) (named_so uuid it.0 greatest listed.1 it.2 it.3) listed.2)
+    ];
+    end_is = λ low uuid_at stream number has.
+        (let least = is.no_less in
+        ((from.recovered (omega (arith, low, least))).streams uuid_at stream number has).end_is);
+  }
+
+pub extent_of : (uuid : List ℕ) (geometry : Geometry) (told : Option Objects) (recovered : RecoveredState) (greatest : ℕ)
+    → IsRecovered uuid geometry recovered.log recovered.checkpoint
+    → IfSome told (λ o. IsRecoveredFrom uuid geometry o recovered.log recovered.checkpoint) → HasAllNames told recovered
+    → IsGreatestNumber recovered.names recovered.log.uploads.window.last greatest → HasExtent uuid geometry told greatest recovered.log.uploads.queue.end
+extent_of uuid geometry None recovered greatest list from names is = tt
+extent_of uuid geometry (Some objects) recovered greatest list from names is =
+    extent_told uuid geometry objects recovered.log recovered.checkpoint recovered.names greatest list.from from
+    (subst (λ u. Lists u objects recovered.names) list.list.uuid_is names.listed) is

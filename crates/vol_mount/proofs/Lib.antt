@@ -1,0 +1,17 @@
+mod Moments
+mod WornLemmas
+mod RecordLemmas
+mod StoreLemmas
+mod RecoveryLemmas
+mod ExtentLemmas
+mod OutcomeLemmas
+mod EpochLemmas
+mod CostLemmas
+mod ShownLemmas
+mod AddLemmas
+mod LostLemmas
+mod OpenLemmas
+mod CompleteLemmas
+mod FoundLemmas
+mod LeftLemmas
+mod KeptLemmas

@@ -1,0 +1,122 @@
+-- For `mount_without_cache`: what is shown of a list that was recovered and a log that was just formatted.
+use Rattle.std.proofs.Common.{◌≡◌, ℕ, ◌<◌, ◌≤◌, List, [], ◌∷◌, length, refl, sym, ◌∙◌, ap, subst, arith}
+use Rattle.std.specs.Prelude.{Option, IfSome, IsTrue}
+use Rattle.std.proofs.lemmas.Bool.Decides.{nat_tests}
+use Rattle.std.proofs.lemmas.List.{append-nil}
+use Rattle.lsvd_base.specs.declared.entry.Entry.{Entry}
+use Rattle.lsvd_base.specs.declared.geometry.Geometry.{Geometry}
+use Rattle.lsvd_base.specs.Limits.{is_within_limits}
+use Rattle.lsvd_device.specs.Medium.{Medium}
+use Rattle.lsvd_device.specs.Device.{DiskState}
+use Rattle.lsvd_objstore.specs.Objects.{Objects}
+use Rattle.log_room.specs.Room.{Room, max_log}
+use Rattle.commit_slot.specs.Slots.{log_of}
+use Rattle.cache_log.specs.Rows.{AreNumbered}
+use Rattle.cache_log.specs.Log.{LogState, AreRowsOf, entries_in}
+use Rattle.cache_log.specs.Committed.{IsFormattedLog}
+use Rattle.obj_log.specs.State.{ObjLogState}
+use Rattle.plain_disk.specs.Log.{empty_from}
+use Rattle.plain_disk.specs.Cache.{PlainCache, cache_with}
+use Rattle.plain_disk.specs.State.{PlainState}
+use Rattle.log_meaning.specs.Shows.{ShowsLog}
+use Rattle.log_meaning.specs.Fuses.{fuse_in}
+use Rattle.log_meaning.specs.Logged.{HasLoggedEntries}
+use Rattle.log_meaning.proofs.Shown.{formatted_shows_empty}
+use Rattle.objects_meaning.specs.Shows.{ShowsObjects}
+use Rattle.stop_meaning.specs.Stops.{HasCommitted}
+use Rattle.stop_meaning.proofs.CommittedLemmas.{formatted_has_committed}
+use Rattle.mount_meaning.specs.Mounted.{data_in, going_on, mounted_without}
+use Rattle.mount_meaning.specs.Rest.{IsAtRest}
+use Rattle.mount_meaning.proofs.ListLemmas.{list_shows_some}
+use Rattle.mount_meaning.proofs.OpenedLemmas.{added_are_logged}
+use Rattle.vol_core.specs.Volume.{volume_of}
+use Rattle.vol_core.specs.Shows.{Shows, IsSmall}
+use Rattle.vol_core.specs.Step.{passing}
+use Rattle.vol_mount.specs.Mounted.{IsOfVolume}
+use Rattle.vol_mount.specs.Mounting.{MountsStored}
+use Rattle.vol_mount.specs.Steps.{AreLow, IsRecovered, IsRecoveredFrom, mounted_of}
+use Rattle.vol_mount.proofs.RecoveryLemmas.{list_of}
+use Rattle.vol_mount.proofs.ShownLemmas.{shown}
+use Rattle.vol_mount.proofs.AddLemmas.{a_row}
+
+no_entries : (moments : List Medium) → IfSome (entries_in [] moments) (λ list. list ≡ [])
+no_entries [] = tt
+no_entries (now ∷ past) = refl
+
+-- a volume at rest that goes on with no entry is as it was
+goes_nowhere : (geometry : Geometry) (checkpoint end : ℕ) (plain : PlainState) → IsAtRest geometry checkpoint end plain
+    → going_on [] (empty_from geometry.log end) plain ≡ plain
+goes_nowhere geometry checkpoint end plain rest =
+    ap (λ (list : List Entry). record plain { entries = list; cache = cache_with (empty_from geometry.log end) }) (append-nil plain.entries)
+    ∙ ap (λ (cache : PlainCache). record plain { cache = cache }) (sym rest.cache)
+
+module _ (uuid : List ℕ) (geometry : Geometry) (epoch : ℕ) (list : ObjLogState) (checkpoint : ℕ) (old : DiskState) (log : LogState)
+    (limits : IsTrue (is_within_limits geometry)) (sectors : geometry.log ≡ log_of old.size) (is : IsRecovered uuid geometry list checkpoint)
+    (formatted : IsFormattedLog uuid epoch list.uploads.queue.end old log) where
+  abbrev end : ℕ
+  end = list.uploads.queue.end
+
+  size : log.room.log ≡ geometry.log
+  size = ap (λ (r : Room). r.log) formatted.room ∙ sym sectors
+
+  shows_empty : ShowsLog log (empty_from geometry.log end)
+  shows_empty =
+      let some : 0 < log.room.log = grind (arith, nat_tests, limits, size) in
+      let most : log.room.log ≤ max_log = grind (arith, nat_tests, limits, size) in
+      subst (λ n. ShowsLog log (empty_from n end)) size (formatted_shows_empty uuid epoch end old log some most formatted)
+
+  logs_none : (plain : PlainState) → IsAtRest geometry checkpoint end plain → HasLoggedEntries (data_in log a_row) log plain
+  logs_none plain rest =
+      let rows : AreRowsOf log.rows [] = subst (λ rows. AreRowsOf rows []) (sym formatted.rows) tt in
+      let numbered : AreNumbered log.first log.rows = subst (AreNumbered log.first) (sym formatted.rows) tt in
+      let none : IfSome log.entries (λ l. l ≡ []) =
+      subst (λ told. IfSome told (λ l. l ≡ [])) (sym formatted.entries) (no_entries log.commits.disk.moments) in
+      subst (HasLoggedEntries (data_in log a_row) log) (goes_nowhere geometry checkpoint end plain rest)
+      (added_are_logged geometry checkpoint end plain [] (empty_from geometry.log end) log a_row rest formatted.first rows none numbered)
+
+  lost_shows : (plain : PlainState) → IsAtRest geometry checkpoint end plain → ((data_at : ℕ → ℕ) → ShowsObjects data_at list plain)
+      → Shows (volume_of list log [] checkpoint) (passing (fuse_in log.commits.disk.budget) plain)
+  lost_shows plain rest shows =
+      let of_log : ShowsLog log plain.cache.log = subst (λ (cache : PlainCache). ShowsLog log cache.log) (sym rest.cache) shows_empty in
+      shown (data_in log a_row) list log checkpoint plain rest.valid (shows (data_in log a_row)) of_log (logs_none plain rest)
+      (sym rest.checkpoint_is) rest.pins
+
+  pub lost_shows_some : (plain : PlainState) × Shows (volume_of list log [] checkpoint) plain
+  lost_shows_some =
+      let some = list_shows_some uuid geometry checkpoint list.uploads.window.last end list limits is.numbered is.from is.list is.places in
+      (passing (fuse_in log.commits.disk.budget) some.0, lost_shows some.0 some.1 some.2)
+
+  pub lost_is_small : (before : ℕ) → AreLow before list → IsSmall (volume_of list log [] checkpoint) 0
+  lost_is_small before are =
+      let first = formatted.first in
+      let rows = ap length formatted.rows in
+      let low = are.end in
+      let last = are.last in
+      let number = formatted.commits.same_number in
+      record { entries = omega (arith, first, rows, low); objects = omega (arith, last); commits = omega (arith, number) }
+
+  pub lost_of_volume : IsOfVolume uuid geometry epoch (mounted_of list log checkpoint)
+  lost_of_volume =
+      let own = formatted_has_committed uuid epoch end geometry old log formatted in
+      record {
+        uuid_is = is.list.uuid_is;
+        geometry_is = is.list.geometry_is;
+        steps = refl;
+        own =
+            subst (λ u. HasCommitted (record { uuid = u; epoch = epoch }) list.batch.geometry log) (sym is.list.uuid_is)
+            (subst (λ g. HasCommitted (record { uuid = uuid; epoch = epoch }) g log) (sym is.list.geometry_is) own);
+        last = refl;
+      }
+
+  pub mounts_stored : (objects : Option Objects) → IfSome objects (λ o. IsRecoveredFrom uuid geometry o list checkpoint)
+      → MountsStored uuid geometry objects (mounted_of list log checkpoint)
+  mounts_stored objects from = λ plain number stored.
+      let of = (list_of uuid geometry plain number objects list checkpoint limits is from stored).1 in
+      let first = is.list.first in
+      let none = ap length is.list.entries in
+      let history = of.at_rest.history in
+      record {
+        shows = lost_shows (mounted_without number plain) of.at_rest of.shows;
+        entries = omega (arith, first, none, history);
+        number_is = of.number_is;
+      }

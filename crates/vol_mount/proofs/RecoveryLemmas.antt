@@ -1,0 +1,257 @@
+-- For `recover_list`: the list of a volume, and why it is not recovered.
+use Rattle.std.proofs.Common.{◌≡◌, ℕ, ◌+◌, ◌-◌, ◌<◌, ◌^◌, List, false, refl, sym, ◌∙◌, ap, subst, arith}
+use Rattle.std.specs.Prelude.{Option, Some, None, Result, Ok, Err, IfSome, IsErrAnd, OnErr, IsTrue}
+use Rattle.std.proofs.lemmas.Bool.Decides.{nat_tests}
+use Rattle.lsvd_base.specs.declared.geometry.Geometry.{Geometry}
+use Rattle.lsvd_base.specs.Limits.{is_within_limits}
+use Rattle.lsvd_fault.specs.Faults.{Counts}
+use Rattle.lsvd_objstore.specs.Objects.{Objects}
+use Rattle.obj_log.specs.State.{ObjLogState}
+use Rattle.plain_disk.specs.State.{PlainState, stream_in}
+use Rattle.object_recovery.specs.declared.error.RecoverError.{RecoverError}
+use Rattle.object_recovery.specs.declared.error.RecoverError.TheVariants as recovery
+use Rattle.object_recovery.specs.Faults.{is_store_fault, IsNoAnswer}
+use Rattle.object_recovery.specs.Checkpoints.{expected_of, IsNewestWithEnd, IsNoCheckpoint}
+use Rattle.object_recovery.specs.Judging.{HaveLanded}
+use Rattle.object_recovery.specs.Recovery.{HasDataUpTo, IsListUpTo, IsNoLonger, HasRecovered, IsLastLanded, IsRecoveredOf, IsRefusal, IsRefused}
+use Rattle.object_recovery.proofs.RecoverLemmas.{base_is}
+use Rattle.mount_meaning.specs.Found.{HasObjects}
+use Rattle.mount_meaning.specs.Mounted.{end_of_object, mounted_without}
+use Rattle.mount_meaning.specs.Rest.{IsAtRest}
+use Rattle.mount_meaning.proofs.RestLemmas.{mounted_is_at_rest, recovered_shows_objects}
+use Rattle.objects_meaning.specs.Shows.{ShowsObjects}
+use Rattle.vol_core.specs.Shows.{max_number}
+use Rattle.vol_mount.specs.declared.error.MountError.{MountError}
+use Rattle.vol_mount.specs.declared.error.MountError.TheVariants.{NoVolume, BadSuper, HasAncestors, NoCheckpoint, BadObject, NotData, NoSlot, WrongVolume, StaleCache, BadRecord, Worn, StoreFault, DeviceFault, OutOfMemory}
+use Rattle.vol_mount.specs.Mounting.{IsStored, RefusesNoneStored}
+use Rattle.vol_mount.specs.Refusals.{of_recovery, IsWhyNotStored, IsWhyLost, refuses, is_device_fault, is_store_fault_of}
+use Rattle.vol_mount.specs.Steps.{IsRecovered, IsRecoveredFrom, IsFault, ends_by_store}
+
+-- ---- the errors of a recovery
+
+pub no_device_fault : (error : RecoverError) → is_device_fault (of_recovery error) ≡ false
+no_device_fault recovery.NoCheckpoint = refl
+no_device_fault (recovery.BadObject number reason) = refl
+no_device_fault (recovery.NotData number) = refl
+no_device_fault recovery.StoreFault = refl
+no_device_fault recovery.OutOfMemory = refl
+
+pub same_fault : (error : RecoverError) → is_store_fault_of (of_recovery error) ≡ is_store_fault error
+same_fault recovery.NoCheckpoint = refl
+same_fault (recovery.BadObject number reason) = refl
+same_fault (recovery.NotData number) = refl
+same_fault recovery.StoreFault = refl
+same_fault recovery.OutOfMemory = refl
+
+none_is : (uuid : List ℕ) (geometry : Geometry) (objects : Option Objects)
+    → IfSome objects (λ o. IsRefused (expected_of uuid geometry) o recovery.NoCheckpoint)
+    → IfSome objects (λ o. (number : ℕ) → 0 < number → IsNoCheckpoint (expected_of uuid geometry) o number)
+none_is uuid geometry None refused = tt
+none_is uuid geometry (Some objects) refused = λ number more. refused.why number
+
+pub why_of : (error : RecoverError) (uuid : List ℕ) (geometry : Geometry) (objects : Option Objects)
+    → IfSome objects (λ o. IsRefused (expected_of uuid geometry) o error) → IsWhyNotStored uuid geometry objects (of_recovery error)
+why_of recovery.NoCheckpoint uuid geometry objects refused = none_is uuid geometry objects refused
+why_of (recovery.BadObject number reason) uuid geometry objects refused = refused
+why_of (recovery.NotData number) uuid geometry objects refused = refused
+why_of recovery.StoreFault uuid geometry objects refused = tt
+why_of recovery.OutOfMemory uuid geometry objects refused = tt
+
+-- the stream of a plain volume that the store has
+data_of : (uuid : List ℕ) (geometry : Geometry) (plain : PlainState) (number : ℕ) (objects : Objects) → plain.geometry ≡ geometry
+    → (has : HasObjects uuid plain number objects) → HasDataUpTo (expected_of uuid geometry) has.uuid_at objects (stream_in plain) number
+data_of uuid geometry plain number objects same has =
+    subst (λ g. HasDataUpTo (expected_of uuid g) has.uuid_at objects (stream_in plain) number) same has.stored
+
+refuses_none : (error : RecoverError) (uuid : List ℕ) (geometry : Geometry) (objects : Option Objects) → IsRefusal error
+    → IfSome objects (λ o. IsRefused (expected_of uuid geometry) o error) → (plain : PlainState) (number : ℕ)
+    → IsStored uuid geometry plain number objects → ⊥
+refuses_none error uuid geometry None refusal refused plain number stored = absurd stored.objects_are
+refuses_none error uuid geometry (Some objects) refusal refused plain number stored =
+    let has : HasObjects uuid plain number objects = stored.objects_are in
+    refused.no_stream has.uuid_at (stream_in plain) number (data_of uuid geometry plain number objects stored.geometry_is has) refusal
+
+pub no_refusal_of : (error : RecoverError) (uuid : List ℕ) (geometry : Geometry) (objects : Option Objects)
+    → IfSome objects (λ o. IsRefused (expected_of uuid geometry) o error) → RefusesNoneStored uuid geometry objects (of_recovery error)
+no_refusal_of recovery.NoCheckpoint uuid geometry objects refused = λ plain number stored.
+    absurd (refuses_none recovery.NoCheckpoint uuid geometry objects tt refused plain number stored)
+no_refusal_of (recovery.BadObject n reason) uuid geometry objects refused = λ plain number stored.
+    absurd (refuses_none (recovery.BadObject n reason) uuid geometry objects tt refused plain number stored)
+no_refusal_of (recovery.NotData n) uuid geometry objects refused = λ plain number stored.
+    absurd (refuses_none (recovery.NotData n) uuid geometry objects tt refused plain number stored)
+no_refusal_of recovery.StoreFault uuid geometry objects refused = λ plain number stored. refl
+no_refusal_of recovery.OutOfMemory uuid geometry objects refused = λ plain number stored. refl
+
+-- ---- the newest checkpoint
+
+-- where bytes are told, a checkpoint is the newest with some end
+abbrev pub IsToldNewest : (uuid : List ℕ) → Geometry → Option Objects → (checkpoint : ℕ) → Type 0
+IsToldNewest uuid geometry objects checkpoint =
+    IfSome objects (λ o. (end : ℕ) × IsNewestWithEnd (expected_of uuid geometry) o checkpoint end)
+
+-- a checkpoint with the number 0 is the only one
+pub only_none : (uuid : List ℕ) (geometry : Geometry) (objects : Option Objects) (checkpoint : ℕ) → checkpoint ≡ 0
+    → IsToldNewest uuid geometry objects checkpoint
+    → IsWhyNotStored uuid geometry objects NoCheckpoint
+only_none uuid geometry None checkpoint none newest = tt
+only_none uuid geometry (Some objects) checkpoint none newest = λ number more end owned is.
+    let most = newest.1.newest number end owned is in
+    absurd (omega (arith, most, none, more))
+
+wide_is : (geometry : Geometry) → IsTrue (is_within_limits geometry) → geometry.sectors < 2 ^ 64
+wide_is geometry limits = grind (arith, nat_tests, limits)
+
+-- the newest checkpoint is that of each plain volume that the store has
+checkpoint_is : (uuid : List ℕ) (geometry : Geometry) (plain : PlainState) (number : ℕ) (objects : Objects) (checkpoint end : ℕ)
+    → IsTrue (is_within_limits geometry) → IsNewestWithEnd (expected_of uuid geometry) objects checkpoint end → plain.geometry ≡ geometry
+    → HasObjects uuid plain number objects → plain.checkpoint ≡ checkpoint
+checkpoint_is uuid geometry plain number objects checkpoint end limits newest same has =
+    let is = base_is (expected_of uuid geometry) objects checkpoint end (wide_is geometry limits) newest has.uuid_at (stream_in plain) number
+    (data_of uuid geometry plain number objects same has) in
+    has.opened ∙ sym is
+
+-- no plain volume has the number 0
+pub only_none_refuses : (uuid : List ℕ) (geometry : Geometry) (objects : Option Objects) (checkpoint : ℕ) → IsTrue (is_within_limits geometry)
+    → checkpoint ≡ 0
+    → IsToldNewest uuid geometry objects checkpoint → RefusesNoneStored uuid geometry objects NoCheckpoint
+only_none_refuses uuid geometry None checkpoint limits none newest = λ plain number stored. absurd stored.objects_are
+only_none_refuses uuid geometry (Some objects) checkpoint limits none newest = λ plain number stored.
+    let is = checkpoint_is uuid geometry plain number objects checkpoint newest.0 limits newest.1 stored.geometry_is stored.objects_are in
+    let more = stored.valid.numbered in
+    absurd (omega (arith, is, more, none))
+
+-- ---- the list
+
+pub recovered_from : (uuid : List ℕ) (geometry : Geometry) (objects : Option Objects) (log : ObjLogState) (checkpoint : ℕ)
+    → IsToldNewest uuid geometry objects checkpoint → IfSome objects (λ o. HaveLanded o uuid checkpoint log.uploads.window.last)
+    → IfSome objects (λ o. IsNoLonger (expected_of uuid geometry) o log.uploads.window.last)
+    → IfSome objects (λ o. log.uploads.window.last + 1 < 2 ^ 64 - 1 → IsRecoveredOf (expected_of uuid geometry) o log)
+    → IfSome objects (λ o. IsRecoveredFrom uuid geometry o log checkpoint)
+recovered_from uuid geometry None log checkpoint newest landed no_longer recovered = tt
+recovered_from uuid geometry (Some objects) log checkpoint newest landed no_longer recovered =
+    record { checkpoint_end = newest.0; newest = newest.1; landed = landed; no_longer = no_longer; recovered = recovered }
+
+-- the list ends before the first missing number, where its numbers are low
+pub last_landed : (uuid : List ℕ) (geometry : Geometry) (objects : Option Objects) (log : ObjLogState) (checkpoint : ℕ)
+    → log.uploads.window.last < max_number → IfSome objects (λ o. IsRecoveredFrom uuid geometry o log checkpoint)
+    → IfSome objects (λ o. IsLastLanded (expected_of uuid geometry) o log.uploads.window.last)
+last_landed uuid geometry None log checkpoint low is = tt
+last_landed uuid geometry (Some objects) log checkpoint low is = (is.recovered (omega (arith, low))).last
+
+-- what a list is of a plain volume that the store has
+pub record IsListOf (uuid : List ℕ) (geometry : Geometry) (plain : PlainState) (number : ℕ) (objects : Objects) (log : ObjLogState)
+    (checkpoint : ℕ) : Type 0 where
+  pub has : HasObjects uuid plain number objects
+  pub at_rest : IsAtRest geometry checkpoint log.uploads.queue.end (mounted_without number plain)
+  pub shows : (data_at : ℕ → ℕ) → ShowsObjects data_at log (mounted_without number plain)
+  pub end_is : log.uploads.queue.end ≡ end_of_object number plain
+  pub number_is : log.uploads.window.last ≡ number
+
+list_of_told : (uuid : List ℕ) (geometry : Geometry) (plain : PlainState) (number : ℕ) (objects : Objects) (log : ObjLogState) (checkpoint : ℕ)
+    → IsTrue (is_within_limits geometry) → IsRecovered uuid geometry log checkpoint → IsRecoveredFrom uuid geometry objects log checkpoint
+    → IsStored uuid geometry plain number (Some objects) → IsListOf uuid geometry plain number objects log checkpoint
+list_of_told uuid geometry plain number objects log checkpoint limits is from stored =
+    let has : HasObjects uuid plain number objects = stored.objects_are in
+    let same = stored.geometry_is in
+    let of_data = data_of uuid geometry plain number objects same has in
+    let short = from.no_longer has.uuid_at (stream_in plain) number of_data in
+    let low = stored.low in
+    let recovered : HasRecovered geometry.sectors (stream_in plain) number log =
+    (from.recovered (omega (arith, short, low))).streams has.uuid_at (stream_in plain) number of_data in
+    let first = checkpoint_is uuid geometry plain number objects checkpoint from.checkpoint_end limits from.newest same has in
+    let rest = mounted_is_at_rest uuid plain number objects stored.valid has in
+    let R : Geometry → ℕ → ℕ → Type 0 = λ g c e. IsAtRest g c e (mounted_without number plain) in
+    record {
+      has = has;
+      at_rest =
+          subst (λ e. R geometry checkpoint e) (sym recovered.end_is)
+          (subst (λ c. R geometry c (end_of_object number plain)) first (subst (λ g. R g plain.checkpoint (end_of_object number plain)) same rest));
+      shows = λ data_at.
+          recovered_shows_objects uuid data_at plain number objects log stored.valid has
+          (subst (λ g. IsListUpTo uuid g log.uploads.window.last log.uploads.queue.end log) (sym same) is.list)
+          (subst (λ (g : Geometry). HasRecovered g.sectors (stream_in plain) number log) (sym same) recovered);
+      end_is = recovered.end_is;
+      number_is = recovered.number_is;
+    }
+
+pub list_of : (uuid : List ℕ) (geometry : Geometry) (plain : PlainState) (number : ℕ) (objects : Option Objects) (log : ObjLogState) (checkpoint : ℕ)
+    → IsTrue (is_within_limits geometry) → IsRecovered uuid geometry log checkpoint
+    → IfSome objects (λ o. IsRecoveredFrom uuid geometry o log checkpoint)
+    → IsStored uuid geometry plain number objects → (o : Objects) × IsListOf uuid geometry plain number o log checkpoint
+list_of uuid geometry plain number None log checkpoint limits is from stored = absurd stored.objects_are
+list_of uuid geometry plain number (Some objects) log checkpoint limits is from stored =
+    (objects, list_of_told uuid geometry plain number objects log checkpoint limits is from stored)
+
+-- ---- what follows the recovery
+
+-- the removal of objects ends by a fault alone
+pub removal_faults : (error : RecoverError) → IsNoAnswer error → IsFault (of_recovery error)
+removal_faults recovery.NoCheckpoint is = absurd is
+removal_faults (recovery.BadObject number reason) is = absurd is
+removal_faults (recovery.NotData number) is = absurd is
+removal_faults recovery.StoreFault is = tt
+removal_faults recovery.OutOfMemory is = tt
+
+-- a fault refuses nothing
+pub faults_refuse_none : (error : MountError) → IsFault error → refuses error ≡ false
+faults_refuse_none NoVolume is = absurd is
+faults_refuse_none (BadSuper reason) is = absurd is
+faults_refuse_none (HasAncestors count) is = absurd is
+faults_refuse_none NoCheckpoint is = absurd is
+faults_refuse_none (BadObject number reason) is = absurd is
+faults_refuse_none (NotData number) is = absurd is
+faults_refuse_none (NoSlot log) is = absurd is
+faults_refuse_none (WrongVolume found) is = absurd is
+faults_refuse_none (StaleCache cache store) is = absurd is
+faults_refuse_none (BadRecord seq reason) is = absurd is
+faults_refuse_none (Worn value) is = absurd is
+faults_refuse_none StoreFault is = refl
+faults_refuse_none DeviceFault is = refl
+faults_refuse_none OutOfMemory is = refl
+
+pub why_faulted : (error : MountError) (uuid : List ℕ) (geometry : Geometry) (objects : Option Objects) → IsFault error
+    → IsWhyNotStored uuid geometry objects error
+why_faulted NoVolume uuid geometry objects is = absurd is
+why_faulted (BadSuper reason) uuid geometry objects is = absurd is
+why_faulted (HasAncestors count) uuid geometry objects is = absurd is
+why_faulted NoCheckpoint uuid geometry objects is = absurd is
+why_faulted (BadObject number reason) uuid geometry objects is = absurd is
+why_faulted (NotData number) uuid geometry objects is = absurd is
+why_faulted (NoSlot log) uuid geometry objects is = absurd is
+why_faulted (WrongVolume found) uuid geometry objects is = absurd is
+why_faulted (StaleCache cache store) uuid geometry objects is = absurd is
+why_faulted (BadRecord seq reason) uuid geometry objects is = absurd is
+why_faulted (Worn value) uuid geometry objects is = absurd is
+why_faulted StoreFault uuid geometry objects is = tt
+why_faulted DeviceFault uuid geometry objects is = tt
+why_faulted OutOfMemory uuid geometry objects is = tt
+
+-- why a volume is not mounted without its cache, by its objects
+pub why_lost_too : (error : MountError) (uuid : List ℕ) (geometry : Geometry) (epoch : ℕ) (objects : Option Objects)
+    → IsWhyNotStored uuid geometry objects error → IsWhyLost uuid geometry epoch objects error
+why_lost_too NoVolume uuid geometry epoch objects why = absurd why
+why_lost_too (BadSuper reason) uuid geometry epoch objects why = absurd why
+why_lost_too (HasAncestors count) uuid geometry epoch objects why = absurd why
+why_lost_too NoCheckpoint uuid geometry epoch objects why = why
+why_lost_too (BadObject number reason) uuid geometry epoch objects why = why
+why_lost_too (NotData number) uuid geometry epoch objects why = why
+why_lost_too (NoSlot log) uuid geometry epoch objects why = absurd why
+why_lost_too (WrongVolume found) uuid geometry epoch objects why = absurd why
+why_lost_too (StaleCache cache store) uuid geometry epoch objects why = absurd why
+why_lost_too (BadRecord seq reason) uuid geometry epoch objects why = absurd why
+why_lost_too (Worn value) uuid geometry epoch objects why = absurd why
+why_lost_too StoreFault uuid geometry epoch objects why = tt
+why_lost_too DeviceFault uuid geometry epoch objects why = tt
+why_lost_too OutOfMemory uuid geometry epoch objects why = tt
+
+-- an error that is passed on was counted as such
+pub counts_on : {T : Type 0} (outcome : Result T MountError) (error : RecoverError) (old middle new : ℕ)
+    → IsErrAnd outcome (λ e. e ≡ of_recovery error) → middle ≡ old → Counts (is_store_fault error) middle new → Counts (ends_by_store outcome) old new
+counts_on (Ok value) error old middle new is same counts = absurd is
+counts_on (Err e) error old middle new is same counts =
+    let fault : is_store_fault error ≡ is_store_fault_of e = sym (same_fault error) ∙ ap is_store_fault_of (sym is) in
+    subst (λ n. Counts (is_store_fault_of e) n new) same (subst (λ b. Counts b middle new) fault counts)
+
+pub on_err : {T E : Type 0} (P : Type 0) (outcome : Result T E) → P → OnErr outcome P
+on_err P (Ok value) holds = tt
+on_err P (Err error) holds = holds

@@ -1,0 +1,42 @@
+-- Contract: what is seen of a volume that was mounted.
+use Rattle.std.specs.Prelude.{◌≡◌, ℕ, ◌+◌, List}
+use Rattle.lsvd_base.specs.declared.geometry.Geometry.{Geometry}
+use Rattle.lsvd_device.specs.Device.{DiskState, HoldsNow}
+use Rattle.commit_body.specs.declared.body.CommitBody.{CommitBody}
+use Rattle.commit_slot.specs.Slots.{Reads}
+use Rattle.plain_disk.specs.State.{PlainState, history_length}
+use Rattle.log_meaning.specs.Fuses.{fuse_in}
+use Rattle.vol_core.specs.Volume.{SteppedVolume}
+use Rattle.vol_core.specs.Shows.{Shows}
+use Rattle.vol_core.specs.Step.{passing}
+use Rattle.vol_core.specs.Stops.{HasOwnCommits}
+
+-- a volume, how many entries its history has, and the number of the object before the first missing one
+pub record MountedState : Type 0 where
+  pub volume : SteppedVolume
+  pub entries : ℕ
+  pub number : ℕ
+
+-- its device
+abbrev pub disk_of : MountedState → DiskState
+disk_of mounted = mounted.volume.volume.log.commits.disk
+
+-- the commit that it made has the number after that of the commit which the device read as
+abbrev pub NumbersNextCommit : (log : ℕ) → DiskState → MountedState → Type 0
+NumbersNextCommit log old mounted =
+    HoldsNow (λ now. (number : ℕ) (body : CommitBody) → Reads log now.bytes body number
+    → mounted.volume.volume.log.commits.number ≡ number + 1) old.moments
+
+-- it is the volume that was asked for, has made no step, and its commits are its own, in this epoch
+pub record IsOfVolume (uuid : List ℕ) (geometry : Geometry) (epoch : ℕ) (mounted : MountedState) : Type 0 where
+  pub uuid_is : mounted.volume.volume.objects.uploads.uuid ≡ uuid
+  pub geometry_is : mounted.volume.volume.objects.batch.geometry ≡ geometry
+  pub steps : mounted.volume.steps ≡ 0
+  pub own : HasOwnCommits epoch mounted.volume.volume
+  pub last : mounted.number ≡ mounted.volume.volume.objects.uploads.window.last
+
+-- It shows a plain volume, whose device passes the calls that its own does, with its objects up to a number.
+pub record IsMountOf (plain : PlainState) (number : ℕ) (mounted : MountedState) : Type 0 where
+  pub shows : Shows mounted.volume.volume (passing (fuse_in mounted.volume.volume.log.commits.disk.budget) plain)
+  pub entries : mounted.entries ≡ history_length plain
+  pub number_is : mounted.number ≡ number

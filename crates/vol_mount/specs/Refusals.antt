@@ -1,0 +1,165 @@
+-- Contract: why a volume is not mounted.
+use Rattle.std.specs.Prelude.{◌≡◌, ℕ, ◌^◌, ◌<◌, ◌≤◌, ◌⊎◌, max, Bool, true, false, Option, None, IfSome, IsTrue, Result, Ok, Err, List, [], ◌∷◌}
+use Rattle.lsvd_base.specs.declared.geometry.Geometry.{Geometry}
+use Rattle.lsvd_device.specs.Device.{DiskState, HoldsNow}
+use Rattle.lsvd_names.specs.Spelling.{IsName}
+use Rattle.lsvd_names.specs.declared.name.ObjName.{ObjName}
+use Rattle.lsvd_objstore.specs.Objects.{Objects, found}
+use Rattle.log_record.specs.declared.reason.Reason.{Reason}
+use Rattle.log_record.specs.declared.reason.Reason.TheVariants as reasons
+use Rattle.commit_body.specs.declared.body.CommitBody.{CommitBody}
+use Rattle.commit_slot.specs.Slots.{Reads, ReadsNone}
+use Rattle.commit_slot.specs.declared.error.LoadError.{LoadError}
+use Rattle.commit_slot.specs.declared.error.LoadError.TheVariants as load_errors
+use Rattle.cache_log.specs.declared.row.Row.{Row}
+use Rattle.cache_log.specs.Opening.{AreRecordsInRange, IsBadRecord}
+use Rattle.cache_log.specs.declared.error.OpenError.{OpenError}
+use Rattle.cache_log.specs.declared.error.OpenError.TheVariants as open_errors
+use Rattle.cache_log.specs.declared.error.ReadError.{ReadError}
+use Rattle.cache_log.specs.declared.error.ReadError.TheVariants as read_errors
+use Rattle.object_stream.specs.Stream.{Stream, end_at}
+use Rattle.stopped_volume.specs.Objects.{landed_in}
+use Rattle.super_recovery.specs.declared.error.SuperError.{SuperError}
+use Rattle.super_recovery.specs.declared.error.SuperError.TheVariants as supers
+use Rattle.object_recovery.specs.declared.error.RecoverError.{RecoverError}
+use Rattle.object_recovery.specs.declared.error.RecoverError.TheVariants as recovery
+use Rattle.object_recovery.specs.Checkpoints.{expected_of, IsNoCheckpoint}
+use Rattle.object_recovery.specs.Recovery.{HasDataUpTo, IsPastOf, IsRefused}
+use Rattle.vol_mount.specs.declared.error.MountError.{MountError}
+use Rattle.vol_mount.specs.declared.error.MountError.TheVariants.{NoVolume, BadSuper, HasAncestors, NoCheckpoint, BadObject, NotData, NoSlot, WrongVolume, StaleCache, BadRecord, Worn, StoreFault, DeviceFault, OutOfMemory}
+
+-- ---- the errors of the steps
+
+abbrev pub of_recovery : RecoverError → MountError
+of_recovery recovery.NoCheckpoint = NoCheckpoint
+of_recovery (recovery.BadObject number reason) = BadObject number reason
+of_recovery (recovery.NotData number) = NotData number
+of_recovery recovery.StoreFault = StoreFault
+of_recovery recovery.OutOfMemory = OutOfMemory
+
+abbrev pub of_load : LoadError → MountError
+of_load (load_errors.NoSlot log) = NoSlot log
+of_load load_errors.DeviceFault = DeviceFault
+
+abbrev pub of_open : OpenError → MountError
+of_open (open_errors.BadRecord seq reason) = BadRecord seq reason
+of_open open_errors.DeviceFault = DeviceFault
+of_open open_errors.OutOfMemory = OutOfMemory
+
+abbrev pub of_read : ReadError → MountError
+of_read read_errors.DeviceFault = DeviceFault
+of_read read_errors.OutOfMemory = OutOfMemory
+
+abbrev pub of_super : SuperError → MountError
+of_super supers.NoVolume = NoVolume
+of_super (supers.BadSuper reason) = BadSuper reason
+of_super supers.StoreFault = StoreFault
+of_super supers.OutOfMemory = OutOfMemory
+
+-- ---- the device
+
+-- a device reads as a commit with P
+abbrev pub ReadsAs : Geometry → (ℕ → CommitBody → Type 0) → DiskState → Type 0
+ReadsAs geometry P disk = HoldsNow (λ now. (number : ℕ) × (body : CommitBody) × Reads geometry.log now.bytes body number × P number body) disk.moments
+
+-- the device reads as a commit whose log has no list of records up to the head, and the first bad record is this one
+abbrev pub IsBadLeftLog : Geometry → DiskState → (seq : ℕ) → Reason → Type 0
+IsBadLeftLog geometry disk seq reason =
+    HoldsNow (λ now. (number : ℕ) × (body : CommitBody) × Reads geometry.log now.bytes body number
+    × IsBadRecord geometry body seq reason now.bytes × ((rows : List Row) → AreRecordsInRange geometry body rows now.bytes → ⊥)) disk.moments
+
+-- ---- numbers that are too great
+
+-- the first of some numbers that is 2^60 or more
+abbrev pub IsFirstGreat : List ℕ → (value : ℕ) → Type 0
+IsFirstGreat [] value = ⊥
+IsFirstGreat (number ∷ numbers) value = ((2 ^ 60 ≤ number) × (value ≡ number)) ⊎ ((number < 2 ^ 60) × IsFirstGreat numbers value)
+
+-- The greatest number of the volume's objects in a store. Where it is not too great, this is the end of the object before the first missing
+-- one, if the store has a stream of the volume.
+pub record IsExtent (uuid : List ℕ) (geometry : Geometry) (objects : Objects) (greatest end : ℕ) : Type 0 where
+  pub none_greater : (name : ObjName) → IsName name → IsPastOf uuid greatest name → found objects name ≡ None
+  pub present : IsTrue (landed_in objects uuid greatest)
+  pub end_is : greatest < 2 ^ 60 → (uuid_at : ℕ → Option (List ℕ)) (stream : Stream) (number : ℕ)
+      → HasDataUpTo (expected_of uuid geometry) uuid_at objects stream number → end ≡ end_at stream number
+
+abbrev pub HasExtent : (uuid : List ℕ) → Geometry → Option Objects → (greatest end : ℕ) → Type 0
+HasExtent uuid geometry objects greatest end = IfSome objects (λ objects. IsExtent uuid geometry objects greatest end)
+
+-- the first of these numbers is too great: the epoch, the greatest number of an object, and the count of entries in the objects
+abbrev pub IsWornStored : (uuid : List ℕ) → Geometry → (epoch : ℕ) → Option Objects → (value : ℕ) → Type 0
+IsWornStored uuid geometry epoch objects value =
+    (greatest : ℕ) × (end : ℕ) × IsFirstGreat (epoch ∷ greatest ∷ end ∷ []) value
+    × HasExtent uuid geometry objects greatest end
+
+-- the first of these: the number of the commit that the device reads as, the epoch, the greatest number of an object, and the count of all entries
+abbrev pub IsWornLeft : (uuid : List ℕ) → Geometry → (epoch : ℕ) → Option Objects → DiskState → (value : ℕ) → Type 0
+IsWornLeft uuid geometry epoch objects disk value =
+    (greatest : ℕ) × (end : ℕ)
+    × ReadsAs geometry (λ number body. IsFirstGreat (number ∷ epoch ∷ greatest ∷ max end body.head.seq ∷ []) value) disk
+    × HasExtent uuid geometry objects greatest end
+
+-- ---- the log of a device
+
+-- The log of the commit that the device reads as is bad so; or its tail is past the end of the objects, which is then the seq that is told.
+abbrev pub IsBadLeft : (uuid : List ℕ) → Geometry → Option Objects → DiskState → (seq : ℕ) → Reason → Type 0
+IsBadLeft uuid geometry objects disk seq reason =
+    IsBadLeftLog geometry disk seq reason
+    ⊎ ((reason ≡ reasons.Seq) × ReadsAs geometry (λ number body. seq < body.tail.seq) disk
+    × ((greatest : ℕ) × HasExtent uuid geometry objects greatest seq))
+
+-- ---- the whole
+
+-- why the objects of a store are refused, where receipts tell what they stand for; the objects of a volume have numbers from 1 on
+abbrev pub IsWhyNotStored : (uuid : List ℕ) → Geometry → Option Objects → MountError → Type 0
+IsWhyNotStored uuid geometry objects NoCheckpoint =
+    IfSome objects (λ objects. (number : ℕ) → 0 < number → IsNoCheckpoint (expected_of uuid geometry) objects number)
+IsWhyNotStored uuid geometry objects (BadObject number reason) =
+    IfSome objects (λ objects. IsRefused (expected_of uuid geometry) objects (recovery.BadObject number reason))
+IsWhyNotStored uuid geometry objects (NotData number) =
+    IfSome objects (λ objects. IsRefused (expected_of uuid geometry) objects (recovery.NotData number))
+IsWhyNotStored uuid geometry objects StoreFault = Unit {0}
+IsWhyNotStored uuid geometry objects DeviceFault = Unit {0}
+IsWhyNotStored uuid geometry objects OutOfMemory = Unit {0}
+IsWhyNotStored uuid geometry objects error = ⊥
+
+-- the log of a device is refused, whose sectors are told
+abbrev pub IsUnfitting : Geometry → MountError → Type 0
+IsUnfitting geometry (NoSlot log) = log ≡ geometry.log
+IsUnfitting geometry error = ⊥
+
+-- why a mount without the cache gives none
+abbrev pub IsWhyLost : (uuid : List ℕ) → Geometry → (epoch : ℕ) → Option Objects → MountError → Type 0
+IsWhyLost uuid geometry epoch objects (Worn value) = IsWornStored uuid geometry epoch objects value
+IsWhyLost uuid geometry epoch objects error = IsWhyNotStored uuid geometry objects error
+
+-- why a mount with the cache gives none
+abbrev pub IsWhyNotLeft : (uuid : List ℕ) → Geometry → (epoch : ℕ) → Option Objects → DiskState → MountError → Type 0
+IsWhyNotLeft uuid geometry epoch objects disk (NoSlot log) = (log ≡ geometry.log) × HoldsNow (λ now. ReadsNone geometry.log now.bytes) disk.moments
+IsWhyNotLeft uuid geometry epoch objects disk (WrongVolume found) = ReadsAs geometry (λ number body. (body.uuid ≡ found) × (found ≡ uuid → ⊥)) disk
+IsWhyNotLeft uuid geometry epoch objects disk (StaleCache cache store) =
+    (store ≡ epoch) × (cache ≡ epoch → ⊥) × ReadsAs geometry (λ number body. (body.uuid ≡ uuid) × (body.epoch ≡ cache)) disk
+IsWhyNotLeft uuid geometry epoch objects disk (BadRecord seq reason) = IsBadLeft uuid geometry objects disk seq reason
+IsWhyNotLeft uuid geometry epoch objects disk (Worn value) = IsWornLeft uuid geometry epoch objects disk value
+IsWhyNotLeft uuid geometry epoch objects disk error = IsWhyNotStored uuid geometry objects error
+
+-- the error refuses what device or store have
+abbrev pub refuses : MountError → Bool
+refuses (Worn value) = false
+refuses StoreFault = false
+refuses DeviceFault = false
+refuses OutOfMemory = false
+refuses error = true
+
+-- a call of the device failed, or one of the store
+abbrev pub is_device_fault : MountError → Bool
+is_device_fault DeviceFault = true
+is_device_fault error = false
+
+abbrev pub is_store_fault_of : MountError → Bool
+is_store_fault_of StoreFault = true
+is_store_fault_of error = false
+
+abbrev pub ends_by_store_fault : {D T : Type 0} → Result T (D × MountError) → Bool
+ends_by_store_fault (Ok mounted) = false
+ends_by_store_fault (Err error) = is_store_fault_of error.1

@@ -1,0 +1,150 @@
+-- For this crate's own clauses: the steps of a mount.
+use Rattle.std.specs.Prelude.{◌≡◌, ℕ, ◌+◌, ◌-◌, ◌^◌, ◌<◌, ◌≤◌, ◌⊎◌, max, None, Bool, true, false, not, IfSome, Result, Ok, Err, List, [], ◌∷◌, length}
+use Rattle.lsvd_base.specs.declared.entry.Entry.{Entry}
+use Rattle.lsvd_base.specs.declared.geometry.Geometry.{Geometry}
+use Rattle.lsvd_device.specs.Device.{DiskState, HoldsNow}
+use Rattle.lsvd_device.specs.Memory.{IsSynced}
+use Rattle.lsvd_objstore.specs.Objects.{Objects}
+use Rattle.log_record.specs.declared.reason.Reason.TheVariants as reasons
+use Rattle.commit_body.specs.declared.body.CommitBody.{CommitBody}
+use Rattle.commit_body.specs.Body.{MayStand}
+use Rattle.commit_slot.specs.Slots.{Reads, ReadsNone}
+use Rattle.commit_slot.specs.Commits.{CommitsState, IsLastOr, IsMade}
+use Rattle.commit_slot.specs.Loading.{MakesAtMost, LeavesSettled}
+use Rattle.cache_log.specs.declared.row.Row.{Row}
+use Rattle.cache_log.specs.Rows.{AreNumbered}
+use Rattle.cache_log.specs.Log.{LogState, AreRowsOf, IsTrimmed}
+use Rattle.cache_log.specs.Opening.{IsOpenedLog, entry_count}
+use Rattle.cache_log.specs.Committed.{body_of, HasSameList, IsReleased, LeavesEntriesSince}
+use Rattle.stopped_volume.specs.Device.{owner_of}
+use Rattle.obj_log.specs.State.{ObjLogState}
+use Rattle.object_recovery.specs.Checkpoints.{expected_of, IsNewestWithEnd}
+use Rattle.object_recovery.specs.Places.{HasPlacesInside}
+use Rattle.object_recovery.specs.Judging.{HaveLanded}
+use Rattle.object_recovery.specs.Recovery.{IsListUpTo, IsNoLonger, IsRecoveredOf}
+use Rattle.mount_meaning.specs.Mounted.{data_in, AddsEntries}
+use Rattle.vol_core.specs.Volume.{volume_of}
+use Rattle.vol_core.specs.Shows.{max_number}
+use Rattle.vol_mount.specs.declared.error.MountError.{MountError}
+use Rattle.vol_mount.specs.declared.error.MountError.TheVariants.{NoSlot, WrongVolume, StaleCache, BadRecord, Worn, StoreFault, DeviceFault, OutOfMemory}
+use Rattle.vol_mount.specs.Mounted.{MountedState}
+use Rattle.vol_mount.specs.Costs.{open_cost}
+use Rattle.vol_mount.specs.Refusals.{ReadsAs, IsBadLeftLog, IsFirstGreat, is_device_fault, is_store_fault_of}
+
+-- ---- errors
+
+-- a call of the store failed, which ended a step
+abbrev pub ends_by_store : {T : Type 0} → Result T MountError → Bool
+ends_by_store (Ok value) = false
+ends_by_store (Err error) = is_store_fault_of error
+
+-- no call of the device failed in a step
+abbrev pub passes_device : {T : Type 0} → Result T MountError → Bool
+passes_device (Ok value) = true
+passes_device (Err error) = not (is_device_fault error)
+
+-- a call failed, or memory ran out
+abbrev pub IsFault : MountError → Type 0
+IsFault StoreFault = Unit {0}
+IsFault DeviceFault = Unit {0}
+IsFault OutOfMemory = Unit {0}
+IsFault error = ⊥
+
+-- ---- the list
+
+-- the list of a volume was recovered, from a checkpoint with this number on
+pub record IsRecovered (uuid : List ℕ) (geometry : Geometry) (log : ObjLogState) (checkpoint : ℕ) : Type 0 where
+  pub list : IsListUpTo uuid geometry log.uploads.window.last log.uploads.queue.end log
+  pub places : HasPlacesInside geometry.sectors log.uploads.queue
+  pub numbered : 0 < checkpoint
+  pub from : checkpoint ≤ log.uploads.window.last
+
+-- its numbers and the epoch are below those of a volume that is worn out
+pub record AreLow (epoch : ℕ) (log : ObjLogState) : Type 0 where
+  pub epoch_low : epoch < max_number
+  pub last : log.uploads.window.last < max_number
+  pub end : log.uploads.queue.end < max_number
+
+-- Where bytes are told, it is that of the objects of a store, and the checkpoint is their newest. A list whose last number is the greatest
+-- that a list can have may end before the first missing number.
+pub record IsRecoveredFrom (uuid : List ℕ) (geometry : Geometry) (objects : Objects) (log : ObjLogState) (checkpoint : ℕ) : Type 0 where
+  pub checkpoint_end : ℕ
+  pub newest : IsNewestWithEnd (expected_of uuid geometry) objects checkpoint checkpoint_end
+  pub landed : HaveLanded objects uuid checkpoint log.uploads.window.last
+  pub no_longer : IsNoLonger (expected_of uuid geometry) objects log.uploads.window.last
+  pub recovered : log.uploads.window.last + 1 < 2 ^ 64 - 1 → IsRecoveredOf (expected_of uuid geometry) objects log
+
+-- ---- the log
+
+-- the log of these commits was opened, which begins at an end or before
+pub record IsOpenedUpTo (geometry : Geometry) (end : ℕ) (commits : CommitsState) (log : LogState) : Type 0 where
+  pub may_stand : MayStand commits.body geometry.log
+  pub finished : commits.unfinished ≡ None
+  pub opened : IsOpenedLog geometry commits log
+  pub tail : commits.body.tail.seq ≤ end
+  pub number : commits.number < max_number
+  pub count : max end commits.body.head.seq < max_number
+
+-- the commits are those that a device reads as, and are of the volume in this epoch
+pub record IsOpenedOf (uuid : List ℕ) (geometry : Geometry) (epoch end : ℕ) (old : DiskState) (log : LogState) : Type 0 where
+  pub commits : CommitsState
+  pub read : HoldsNow (λ now. Reads geometry.log now.bytes commits.body commits.number) old.moments
+  pub is_of : owner_of commits.body ≡ record { uuid = uuid; epoch = epoch }
+  pub up_to : IsOpenedUpTo geometry end commits log
+  pub settled : LeavesSettled old log.commits.disk
+  pub calls : MakesAtMost (open_cost (entry_count commits.body)) true old log.commits.disk
+
+-- why a log was not opened, where the objects have this end, and no greater number than this
+abbrev pub IsWhyNotOpened : (uuid : List ℕ) → Geometry → (epoch end greatest : ℕ) → DiskState → MountError → Type 0
+IsWhyNotOpened uuid geometry epoch end greatest old (NoSlot log) =
+    (log ≡ geometry.log) × HoldsNow (λ now. ReadsNone geometry.log now.bytes) old.moments
+IsWhyNotOpened uuid geometry epoch end greatest old (WrongVolume found) =
+    ReadsAs geometry (λ number body. (body.uuid ≡ found) × (found ≡ uuid → ⊥)) old
+IsWhyNotOpened uuid geometry epoch end greatest old (StaleCache cache store) =
+    (store ≡ epoch) × (cache ≡ epoch → ⊥) × ReadsAs geometry (λ number body. (body.uuid ≡ uuid) × (body.epoch ≡ cache)) old
+IsWhyNotOpened uuid geometry epoch end greatest old (BadRecord seq reason) =
+    IsBadLeftLog geometry old seq reason ⊎ ((seq ≡ end) × (reason ≡ reasons.Seq) × ReadsAs geometry (λ number body. seq < body.tail.seq) old)
+IsWhyNotOpened uuid geometry epoch end greatest old (Worn value) =
+    ReadsAs geometry (λ number body. IsFirstGreat (number ∷ epoch ∷ greatest ∷ max end body.head.seq ∷ []) value) old
+IsWhyNotOpened uuid geometry epoch end greatest old DeviceFault = Unit {0}
+IsWhyNotOpened uuid geometry epoch end greatest old OutOfMemory = Unit {0}
+IsWhyNotOpened uuid geometry epoch end greatest old error = ⊥
+
+-- why the last commit is not that of a volume in this epoch whose objects have this end
+abbrev pub IsWhyRefusedCommit : (uuid : List ℕ) → (epoch end : ℕ) → CommitBody → MountError → Type 0
+IsWhyRefusedCommit uuid epoch end body (WrongVolume found) = (body.uuid ≡ found) × (found ≡ uuid → ⊥)
+IsWhyRefusedCommit uuid epoch end body (StaleCache cache store) =
+    (body.uuid ≡ uuid) × (body.epoch ≡ cache) × (store ≡ epoch) × (cache ≡ epoch → ⊥)
+IsWhyRefusedCommit uuid epoch end body (BadRecord seq reason) = (seq ≡ end) × (reason ≡ reasons.Seq) × (end < body.tail.seq)
+IsWhyRefusedCommit uuid epoch end body error = ⊥
+
+-- ---- completing
+
+-- Whatever a stop left meanwhile had the entries of the log from an end on that was opened, or of the one that is committed.
+abbrev pub LeavesFrom : (end : ℕ) → (old : LogState) → DiskState → Type 0
+LeavesFrom end old new =
+    (trimmed : LogState) × IsTrimmed end old trimmed × LeavesEntriesSince trimmed (IsLastOr trimmed.commits (body_of trimmed)) new
+
+-- The entries of a log from the end of a list on were added to the list, and the log was committed with its tail there.
+pub record IsCompleted (list : ObjLogState) (old new : LogState) (objects : ObjLogState) : Type 0 where
+  pub trimmed : LogState
+  pub trims : IsTrimmed list.uploads.queue.end old trimmed
+  pub entries : List Entry
+  pub rows : AreRowsOf trimmed.rows entries
+  pub told : IfSome trimmed.entries (λ all. all ≡ entries)
+  pub added : (row_of_none : Row) → AddsEntries (data_in trimmed row_of_none) entries list objects
+  pub same : HasSameList trimmed new
+  pub released : IsReleased trimmed new
+  pub made : IsMade (body_of trimmed) trimmed.commits new.commits
+  pub numbered : AreNumbered new.first new.rows
+  pub synced : HoldsNow IsSynced new.commits.disk.moments
+
+-- ---- the volume
+
+-- a volume of a list and a log that was just mounted, whose newest checkpoint has this number
+abbrev pub mounted_of : ObjLogState → LogState → (checkpoint : ℕ) → MountedState
+mounted_of objects log checkpoint = record {
+  volume = record { volume = volume_of objects log [] checkpoint; steps = 0 };
+  entries = objects.batch.first + length objects.batch.entries;
+  number = objects.uploads.window.last;
+}

@@ -1,0 +1,37 @@
+ghost use Rattle.std.specs.Prelude.{◌≡◌, ◌⊎◌, false, IsTrue};
+ghost use Rattle.lsvd_base.specs.Limits.{is_within_limits};
+ghost use Rattle.log_room.specs.Room.{max_log};
+ghost use Rattle.lsvd_fault.specs.Faults.{Counts};
+ghost use Rattle.lsvd_objstore.specs.Store.{StoreState, ReceiptState, OnlyCounts};
+ghost use Rattle.object_recovery.specs.Faults.{TellsBytes};
+ghost use Rattle.vol_mount.specs.Refusals.{IsUnfitting, IsWhyNotStored, is_device_fault, is_store_fault_of};
+
+use crate::error::MountError;
+use crate::recovery::recover_list;
+use lsvd_base::Geometry;
+use lsvd_objstore::{Receipt, Store};
+use std::alloc::Global;
+use uuid::Uuid;
+
+/// Why a volume is refused on a device whose log is too short or too long for it: by its objects, which are judged before, or for that. Its
+/// other sizes keep their limits (a condition). The store is only read.
+pub fn refuse_log<S: Store>(
+    alloc: Global,
+    store: &mut S,
+    uuid: Uuid,
+    geometry: Geometry,
+) -> MountError
+    requires { IsTrue (is_within_limits (record geometry { log = max_log })) }
+    ensures why { TellsBytes S.Receipt.state
+        → IsUnfitting geometry result ⊎ IsWhyNotStored uuid geometry (S.state store.old).objects result }
+    ensures no_fault { is_device_fault result ≡ false }
+    ensures unchanged { OnlyCounts (S.state store.old) (S.state store.new) }
+    ensures faults { Counts (is_store_fault_of result) (S.state store.old).faults (S.state store.new).faults }
+{
+    let log = Geometry::MAX_LOG;
+    let _recovered = match recover_list(alloc, store, uuid, Geometry { log, ..geometry }) {
+        Ok(recovered) => recovered,
+        Err(error) => return error,
+    };
+    MountError::NoSlot { log: geometry.log }
+}

@@ -1,0 +1,146 @@
+ghost use Rattle.std.specs.Prelude.{◌≡◌, ◌≤◌, true, not, IsTrue, IfOk, IfErr, OnOk, OnErr, length};
+ghost use Rattle.lsvd_base.specs.Limits.{is_within_limits};
+ghost use Rattle.lsvd_fault.specs.Faults.{Counts};
+ghost use Rattle.lsvd_device.specs.Device.{IsDisk, HoldsNow};
+ghost use Rattle.lsvd_device.specs.Memory.{IsSynced};
+ghost use Rattle.lsvd_objstore.specs.Store.{Becomes};
+ghost use Rattle.commit_slot.specs.Slots.{log_of};
+ghost use Rattle.commit_slot.specs.Commits.{CommitsState};
+ghost use Rattle.commit_slot.specs.Loading.{MakesAtMost};
+ghost use Rattle.object_recovery.specs.Faults.{TellsBytes};
+ghost use Rattle.object_recovery.specs.Checkpoints.{expected_of};
+ghost use Rattle.object_recovery.specs.Recovery.{IsPastOf, RemovesAllPast, MayRemovePast};
+ghost use Rattle.object_recovery.specs.Removal.{Removes};
+ghost use Rattle.object_recovery.specs.State.{HasAllNames};
+ghost use Rattle.vol_mount.specs.Mounted.{IsOfVolume, disk_of, NumbersNextCommit};
+ghost use Rattle.vol_mount.specs.Mounting.{MountsLeft, KeepsLeft, RefusesNoneLeft};
+ghost use Rattle.vol_mount.specs.Refusals.{IsWhyNotLeft, refuses, is_device_fault, ends_by_store_fault};
+ghost use Rattle.vol_mount.specs.Costs.{again_cost, CostsMount};
+ghost use Rattle.vol_mount.specs.Steps.{IsRecovered, IsOpenedUpTo, IsCompleted, LeavesFrom, IsFault, passes_device, ends_by_store};
+
+use crate::adding::add_all;
+use crate::error::MountError;
+use crate::mounted::{Mounted, assemble};
+use crate::opening::{Known, open_log};
+use crate::recovery::recover_list;
+use cache_log::CacheLog;
+use lsvd_base::Geometry;
+use lsvd_device::Disk;
+use lsvd_objstore::Store;
+use obj_log::ObjLog;
+use object_recovery::Recovered;
+use std::alloc::Global;
+use uuid::Uuid;
+
+/// Mounts a volume with the cache that it had: recovers the list of its objects, opens the log up to the head of the commit that the
+/// device reads as, takes the entries past the objects' end from it, removes the objects past the first missing number, and makes one
+/// commit, whose tail is at that end.
+///
+/// The store has the volume with these sizes, and this is its newest epoch. The geometry is within the limits, its log has just the sectors of
+/// the device past byte 4,096, and the device is a disk of at least 4,096 bytes (conditions). Objects and device are tested before anything
+/// is changed, but that loading mends the slots of the device.
+///
+/// Of each plain volume that device and store have it makes what such a mount is to make. Where nothing was pending on the device, whatever
+/// a stop leaves of it meanwhile keeps all entries of that, and so does what an error leaves. An error comes with the device, which is a
+/// disk still. They are tested in this order:
+///
+/// - `NoCheckpoint`, `BadObject`, `NotData`: the objects are refused.
+/// - `NoSlot`: no slot of the device is open; it was but synced then.
+/// - `WrongVolume`: the commit is of a volume with another uuid.
+/// - `StaleCache`: the commit is of another epoch.
+/// - `BadRecord`: the log begins past the end of the objects, or has no list of records up to the head.
+/// - `Worn`: the number of the commit, the epoch, the greatest number of an object, or the count of entries is 2^60 or more.
+/// - `StoreFault`, `DeviceFault`: a call of the store, or of the device, failed, which ended the mount.
+/// - `OutOfMemory`: memory ran out.
+pub fn mount_with_cache<D: Disk, S: Store>(
+    alloc: Global,
+    disk: D,
+    store: &mut S,
+    uuid: Uuid,
+    geometry: Geometry,
+    epoch: u64,
+) -> Result<Mounted<D, S::Receipt>, (D, MountError)>
+    requires limits { IsTrue (is_within_limits geometry) }
+    requires is_disk { IsDisk (D.state disk) }
+    requires size { 4096 ≤ (D.state disk).size }
+    requires log { geometry.log ≡ log_of (D.state disk).size }
+    ensures volume { IfOk result (IsOfVolume uuid geometry epoch) }
+    ensures mounts { TellsBytes S.Receipt.state → IfOk result
+        (MountsLeft uuid geometry epoch (S.state store.old).objects (D.state disk)) }
+    ensures removed { IfOk result (λ mounted.
+        Becomes (RemovesAllPast uuid mounted.number) (S.state store.old).objects (S.state store.new).objects) }
+    ensures stops { TellsBytes S.Receipt.state → IfOk result (λ mounted.
+        KeepsLeft uuid geometry epoch (S.state store.old).objects (D.state disk) (disk_of mounted)) }
+    ensures costs { IfOk result (λ mounted.
+        CostsMount geometry.log true (D.state disk) (disk_of mounted)) }
+    ensures synced { IfOk result (λ mounted. HoldsNow IsSynced (disk_of mounted).moments) }
+    ensures number { IfOk result (NumbersNextCommit geometry.log (D.state disk)) }
+    ensures why { TellsBytes S.Receipt.state → IfErr result (λ error.
+        IsWhyNotLeft uuid geometry epoch (S.state store.old).objects (D.state disk) error.1) }
+    ensures no_refusal { TellsBytes S.Receipt.state → IfErr result (λ error.
+        RefusesNoneLeft uuid geometry epoch (S.state store.old).objects (D.state disk) error.1) }
+    ensures refused { IfErr result (λ error.
+        refuses error.1 ≡ true → (S.state store.new).objects ≡ (S.state store.old).objects) }
+    ensures some { OnErr result (Becomes (MayRemovePast (TellsBytes S.Receipt.state) (expected_of uuid geometry))
+        (S.state store.old).objects (S.state store.new).objects) }
+    ensures err_stops { TellsBytes S.Receipt.state → IfErr result (λ error.
+        KeepsLeft uuid geometry epoch (S.state store.old).objects (D.state disk) (D.state error.0)) }
+    ensures err_costs { IfErr result (λ error.
+        CostsMount geometry.log (not (is_device_fault error.1)) (D.state disk) (D.state error.0)) }
+    ensures faults { Counts (ends_by_store_fault result) (S.state store.old).faults (S.state store.new).faults }
+    ensures is_disk { IfErr result (λ error. IsDisk (D.state error.0)) }
+{
+    let recovered = match recover_list(alloc, store, uuid, geometry) {
+        Ok(recovered) => recovered,
+        Err(error) => return Err((disk, error)),
+    };
+    let checkpoint = recovered.checkpoint();
+    let known = Known {
+        uuid,
+        geometry,
+        epoch,
+        end: recovered.log().end(),
+        greatest: recovered.greatest_number(),
+    };
+    let mut log = open_log(alloc, disk, &known)?;
+    match complete(alloc, store, recovered, &mut log) {
+        Ok(objects) => Ok(assemble(alloc, objects, log, checkpoint)),
+        Err(error) => Err((log.into_disk(), error)),
+    }
+}
+
+// Completes a list that was recovered by the entries that the log has past the objects' end. The objects past the first missing number are
+// removed, and the log is committed with its tail at that end. The geometry is within the limits, the log was opened for the list, and the
+// store has the same objects as when the list was recovered (conditions).
+fn complete<D: Disk, S: Store>(
+    alloc: Global,
+    store: &mut S,
+    recovered: Recovered<S::Receipt>,
+    log: &mut CacheLog<D>,
+) -> Result<ObjLog<S::Receipt>, MountError>
+    requires limits { IsTrue (is_within_limits recovered.log.batch.geometry) }
+    requires list { IsRecovered recovered.log.uploads.uuid recovered.log.batch.geometry recovered.log recovered.checkpoint }
+    requires names { HasAllNames (S.state store.old).objects recovered }
+    requires opened { (commits : CommitsState)
+        × IsOpenedUpTo recovered.log.batch.geometry recovered.log.uploads.queue.end commits log.old }
+    ensures ok { IfOk result (IsCompleted recovered.log log.old log.new) }
+    ensures stops { LeavesFrom recovered.log.uploads.queue.end log.old log.new.commits.disk }
+    ensures calls { MakesAtMost (again_cost (length log.old.rows)) (passes_device result)
+        log.old.commits.disk log.new.commits.disk }
+    ensures removed { OnOk result (Becomes (RemovesAllPast recovered.log.uploads.uuid recovered.log.uploads.window.last)
+        (S.state store.old).objects (S.state store.new).objects) }
+    ensures some { Becomes (Removes (IsPastOf recovered.log.uploads.uuid recovered.log.uploads.window.last))
+        (S.state store.old).objects (S.state store.new).objects }
+    ensures err { IfErr result IsFault }
+    ensures faults { Counts (ends_by_store result) (S.state store.old).faults (S.state store.new).faults }
+{
+    let end = recovered.log().end();
+    log.trim_to(end);
+    let entries = log.entries_from(alloc, end)?;
+    recovered.remove_past(alloc, store)?;
+    let mut objects = recovered.into_log();
+    add_all(&mut objects, log, entries)?;
+    log.commit()?;
+    log.on_disk();
+    Ok(objects)
+}

@@ -1,0 +1,47 @@
+-- Contract: what a store says of a volume that is mounted, and what is claimed of the volume that it has.
+use Rattle.std.specs.Prelude.{◌≡◌, ℕ, false, ◌⊎◌, Option, IsSomeAnd, IfSome, List, []}
+use Rattle.lsvd_base.specs.declared.geometry.Geometry.{Geometry}
+use Rattle.lsvd_base.specs.Limits.{is_within_limits}
+use Rattle.lsvd_objstore.specs.Objects.{Objects}
+use Rattle.super_format.specs.declared.super_object.Super.{Super}
+use Rattle.super_format.specs.Super.{geometry_with}
+use Rattle.stopped_volume.specs.Super.{HasSuper, HasNewestEpoch, HasVolume}
+use Rattle.super_recovery.specs.declared.error.SuperError.TheVariants as supers
+use Rattle.super_recovery.specs.Found.{IsRefused}
+use Rattle.vol_mount.specs.declared.error.MountError.{MountError}
+use Rattle.vol_mount.specs.declared.error.MountError.TheVariants.{NoVolume, BadSuper, HasAncestors, StoreFault, OutOfMemory}
+use Rattle.vol_mount.specs.Refusals.{IsUnfitting}
+
+-- Whatever volume the store has, with these sizes on a device whose log has so many sectors, and in this newest epoch.
+abbrev pub OfVolume : (uuid : List ℕ) → (log : ℕ) → Option Objects → (Geometry → ℕ → Type 0) → Type 0
+OfVolume uuid log objects P =
+    (geometry : Geometry) (epoch : ℕ) → geometry.log ≡ log → IsSomeAnd objects (HasVolume uuid geometry epoch) → P geometry epoch
+
+-- the store says that there is a volume without ancestors, which has these sizes on such a device, and that this is its newest epoch
+pub record SaysVolume (uuid : List ℕ) (geometry : Geometry) (epoch : ℕ) (objects : Objects) : Type 0 where
+  pub volume : Super
+  pub says : HasSuper uuid volume objects
+  pub sizes : geometry ≡ geometry_with volume geometry.log
+  pub alone : volume.chain ≡ []
+  pub newest : HasNewestEpoch uuid epoch objects
+
+-- why the volume as a whole is refused, where receipts tell what they stand for
+abbrev pub IsWhyNotDescribed : (uuid : List ℕ) → Option Objects → MountError → Type 0
+IsWhyNotDescribed uuid objects NoVolume = IfSome objects (λ objects. IsRefused uuid objects supers.NoVolume)
+IsWhyNotDescribed uuid objects (BadSuper reason) = IfSome objects (λ objects. IsRefused uuid objects (supers.BadSuper reason))
+IsWhyNotDescribed uuid objects (HasAncestors count) =
+    IfSome objects (λ objects. (volume : Super) × HasSuper uuid volume objects × (volume.chain ≡ [] → ⊥))
+IsWhyNotDescribed uuid objects StoreFault = Unit {0}
+IsWhyNotDescribed uuid objects OutOfMemory = Unit {0}
+IsWhyNotDescribed uuid objects error = ⊥
+
+-- why a volume of these sizes in this epoch is refused: the log of the device does not fit it, or for such a reason
+abbrev pub IsWhyFor : (Geometry → ℕ → MountError → Type 0) → Geometry → ℕ → MountError → Type 0
+IsWhyFor Why geometry epoch error = ((is_within_limits geometry ≡ false) × IsUnfitting geometry error) ⊎ Why geometry epoch error
+
+-- Why a volume is not mounted: it is refused as a whole, or for such a reason by what the store says of it.
+abbrev pub IsWhyOf : (uuid : List ℕ) → (log : ℕ) → Option Objects → (Geometry → ℕ → MountError → Type 0) → MountError → Type 0
+IsWhyOf uuid log objects Why error =
+    IsWhyNotDescribed uuid objects error
+    ⊎ ((geometry : Geometry) × (epoch : ℕ) × (geometry.log ≡ log) × IfSome objects (SaysVolume uuid geometry epoch)
+    × IsWhyFor Why geometry epoch error)
