@@ -1,5 +1,5 @@
 -- Contract: what a step of a volume is: one step of the plain volume that it shows.
-use Rattle.std.specs.Prelude.{◌≡◌, ℕ, ◌+◌, ◌⊎◌, Bool, true, false, List, length}
+use Rattle.std.specs.Prelude.{◌≡◌, ℕ, ◌+◌, ◌*◌, ◌⊎◌, Bool, true, false, List, length}
 use Rattle.std.specs.List.{list_any}
 use Rattle.lsvd_base.specs.declared.entry.Entry.TheVariants as entries
 use Rattle.lsvd_fault.specs.Faults.{Counts}
@@ -86,6 +86,13 @@ HandsBack (Release plan) (told.NotReleased back) = back ≡ plan
 HandsBack (JobDone job receipt) (told.NotDone back given) = (back ≡ job) × (given ≡ receipt)
 HandsBack (JobFailed job) (told.NotReturned back) = back ≡ job
 HandsBack event reply = Unit {0}
+
+-- ---- a plan
+
+-- the plan of a look has as many bytes as its sectors
+abbrev pub HasItsBytes : {R : Type 0} → Event R → Reply R → Type 0
+HasItsBytes (Look lba sectors) (told.Planned plan) = length plan.bytes ≡ 512 * sectors
+HasItsBytes event reply = Unit {0}
 
 -- ---- a step
 

@@ -8,8 +8,8 @@ ghost use Rattle.plain_disk.specs.State.{PlainState};
 ghost use Rattle.log_meaning.specs.Fuses.{fuse_in};
 ghost use Rattle.vol_core.specs.Volume.{volume_of, with_budget_of};
 ghost use Rattle.vol_core.specs.declared.event.Event.TheVariants as events;
-ghost use Rattle.vol_core.specs.Shows.{Shows, IsSmall, NumbersGrow, max_number};
-ghost use Rattle.vol_core.specs.Step.{passing, HasItsReceipt, StepsAsPlain, HandsBack, HasSameSizes, tells_fault, CountsFault, KeepsBytes};
+ghost use Rattle.vol_core.specs.Shows.{Shows, IsVolume, IsSmall, NumbersGrow, max_number};
+ghost use Rattle.vol_core.specs.Step.{passing, HasItsReceipt, StepsAsPlain, HandsBack, HasItsBytes, HasSameSizes, tells_fault, CountsFault, KeepsBytes};
 ghost use Rattle.vol_core.specs.Stops.{HasOwnCommits, KeepsNow, StepKeeps};
 ghost use Rattle.vol_core.specs.Calls.{HasRoomForStep, event_of};
 
@@ -85,6 +85,7 @@ impl<D: Disk, R: Receipt> Volume<D, R> {
         requires receipt { HasItsReceipt R.state event }
         ensures step { StepsAsPlain R.state event result self.old.volume self.new.volume }
         ensures back { HandsBack event result }
+        ensures plan { HasItsBytes event result }
         ensures steps { self.new.steps ≡ self.old.steps + 1 }
         ensures sizes { HasSameSizes self.old.volume self.new.volume }
         ensures numbers { NumbersGrow self.old.volume self.new.volume }
@@ -132,6 +133,14 @@ impl<D: Disk, R: Receipt> Volume<D, R> {
     /// now keeps the entries up to the head of the last commit, or of the unfinished one. Nothing is done.
     pub fn stands(&self)
         ensures { (epoch : ℕ) → HasOwnCommits epoch self.now.volume → KeepsNow epoch self.now.volume }
+    {
+        self.log.on_disk();
+    }
+
+    /// What is so of every volume, as a fact for the proofs of callers: it shows a plain volume, and its numbers are bounded by its steps.
+    /// Nothing is done.
+    pub fn is_volume(&self)
+        ensures { IsVolume self.now }
     {
         self.log.on_disk();
     }
@@ -220,6 +229,7 @@ impl<D: Disk, R: Receipt> Volume<D, R> {
         requires { HasRoomForStep self.old }
         ensures step { StepsAsPlain R.state (events.Look lba sectors) result self.old.volume self.new.volume }
         ensures back { HandsBack (events.Look lba sectors) result }
+        ensures plan { HasItsBytes (events.Look lba sectors) result }
         ensures steps { self.new.steps ≡ self.old.steps }
         ensures sizes { HasSameSizes self.old.volume self.new.volume }
         ensures numbers { NumbersGrow self.old.volume self.new.volume }

@@ -4,7 +4,7 @@ use Rattle.vol_core.specs.declared.event.Event.TheVariants as events
 use Rattle.vol_core.specs.declared.reply.Reply.TheVariants as replies
 use Rattle.vol_core.specs.Volume.{VolumeState, SteppedVolume, volume_of}
 use Rattle.vol_core.specs.Shows.{NumbersGrow}
-use Rattle.vol_core.specs.Step.{StepsAsPlain}
+use Rattle.vol_core.specs.Step.{StepsAsPlain, HasItsBytes}
 use Rattle.vol_core.specs.Calls.{HasRoomForStep}
 use Rattle.vol_core.proofs.StepLemmas.{steps_keep_volume, numbers_stay, numbers_seen}
 use Rattle.vol_core.proofs.LookLemmas.{may_of_own, log_has_read, objects_have_read}
@@ -151,3 +151,12 @@ returns-clause-bytes g c =
     let volume : VolumeState = volume_of inside.objects inside.log inside.pins inside.checkpoint in
     let now : VolumeState = with_reads c.look.new.log c.look.new.pins volume in
     bytes_seen now _ _ c.self.view_is (same_bytes volume now refl refl)
+
+-- a plan has the bytes of its sectors
+pub returns-clause-plan : goal.returns-clause-plan
+returns-clause-plan g c =
+    elim c.match-look.branch [
+      | in-Ok w ↦ subst (λ reply. HasItsBytes (events.Look c.args.lba c.args.sectors) reply) (sym w.result-is) w.in-Ok.ensures.plan.size
+      | in-Err-Fault w ↦ subst (λ reply. HasItsBytes (events.Look c.args.lba c.args.sectors) reply) (sym w.result-is) tt
+      | in-Err-OutOfMemory w ↦ subst (λ reply. HasItsBytes (events.Look c.args.lba c.args.sectors) reply) (sym w.result-is) tt
+    ]
