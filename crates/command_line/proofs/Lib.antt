@@ -1,2 +1,14 @@
-pub mod Lines
 pub mod Refusals
+pub mod Requests
+pub mod Rows
+pub mod Rules
+pub mod Words
+pub mod Commands
+pub mod Given
+pub mod Leaves
+pub mod Levels
+pub mod Lines
+pub mod Numbers
+pub mod Taken
+pub mod Turns
+pub mod Values

@@ -1,67 +1,32 @@
 -- The command lines that clap takes, and how it refuses each other one.
-use Rattle.std.proofs.Common.{Bool, true, false, List, [], ◌∷◌, ◌++◌, Option, Some, None, ◌≡◌, ◌≢◌, ◌⊎◌, ◌∙◌, inl, inr, refl, sym, ap, subst, codes, is_some, append_assoc}
-use Rattle.std.specs.Prelude.{IfNone, Ok, fold}
-use Rattle.std.specs.Option.{ok_or}
+use Rattle.std.proofs.Common.{Bool, true, false, List, [], ◌∷◌, ◌++◌, Option, Some, None, ◌≡◌, ◌≢◌, ◌⊎◌, ◌∙◌, inl, inr, refl, sym, ap, ap₂, subst, codes, is_some, lit<}
+use Rattle.std.specs.Prelude.{fold}
+use Rattle.std.specs.List.{All, flat_map}
 use Rattle.std.specs.Str.{bytes_eq}
+use Rattle.std.proofs.lemmas.List.Elements.{All-cons, All-nil}
 use Rattle.std.proofs.lemmas.Slice.Eq.{bytes_eq-Decides}
-use Rattle.std.proofs.lemmas.List.{append-nil}
-use Rattle.clap.specs.Walk.{Names, Rule, Text, Walk, finished, idle, nothing_held, settled, subcommand_met, walk_from, walked}
-use Rattle.clap.specs.Simple.{App, Shape, built, built_leaf, entered, inherited, names_of}
+use Rattle.clap.specs.Walk.{Row, Text, Walk, finished, first_of, idle, nothing_held, rows_after, settled, subcommand_met, walk_from, walked}
+use Rattle.clap.specs.Simple.{App, Shape, built, built_leaf, entered, inherited, names_of, subcommand_of}
 use Rattle.clap.specs.Kinds.{HasKind, IsAmong, Kinds, or_else}
 use Rattle.clap.specs.Values.{kind_of}
 use Rattle.clap.specs.declared.error.Error.{Error}
-use Rattle.clap.specs.declared.error.kind.ErrorKind.TheVariants as errors
-use Rattle.clap.specs.Faults.{check_fault, defaults_fault, entered_fault, level_fault, settle_fault, turn_fault, walk_fault}
-use Rattle.clap.proofs.OnLiterals.{clap_on_literals}
-use Rattle.clap.specs.declared.error.kind.ErrorKind.TheVariants.{DisplayHelp, DisplayVersion, InvalidSubcommand, MissingSubcommand, UnknownArgument}
 use Rattle.clap.specs.declared.error.kind.ErrorKind.{ErrorKind}
-use Rattle.command_line.specs.Program.{bare, lsvdctl, replay}
-use Rattle.command_line.specs.CommandLine.{AsksForHelp, IsHelpOption, IsVersionOption, Spells, command_in, faults_of, name_of}
-use Rattle.command_line.specs.declared.request.CommandLineError.TheVariants.{Usage}
-use Rattle.command_line.specs.declared.request.Request.{Request}
-use Rattle.command_line.specs.declared.request.Request.TheVariants.{Replay}
+use Rattle.clap.specs.declared.error.kind.ErrorKind.TheVariants as errors
+use Rattle.clap.specs.declared.error.kind.ErrorKind.TheVariants.{DisplayHelp, DisplayVersion, InvalidSubcommand, MissingSubcommand, UnknownArgument}
+use Rattle.clap.specs.Faults.{check_fault, defaults_fault, entered_fault, level_fault, settle_fault, walk_fault}
+use Rattle.clap.proofs.OnLiterals.{clap_on_literals}
+use Rattle.command_line.specs.CommandLine.{AsksForHelp, IsHelpOption, IsVersionOption, Line, Spells, commands, create, faults_of, replay}
+use Rattle.command_line.specs.Create.{create_options, value_in}
+use Rattle.command_line.specs.Options.{AreOptionsOf, Given, MayEnd, option_words}
+use Rattle.command_line.specs.Program.{bare, lsvdctl}
+use Rattle.command_line.specs.Program as program
+use Rattle.command_line.proofs.Given.{HasNames, given_is_found, given_is_taken, has_names}
+use Rattle.command_line.proofs.Leaves.{Reads, leaf_faults}
+use Rattle.command_line.proofs.Levels.{IsByFirst, next_refused, stopped_fault, stopped_walk}
 use Rattle.command_line.proofs.Refusals.{HasRequestsOnly, IsRefusal, first_refused, refusal_first, trailing_refused}
-
--- ---- one level
-
--- `level_fault`, from where a walk stands
-abbrev faults_from : Shape → Names → Walk → List Text → Bool → Kinds → Kinds
-faults_from s names w words has_subcommand below =
-    let end = (fold (walked s.rules names) w words).held in
-    or_else (walk_fault s names w words)
-    (or_else below (or_else (settle_fault s.rules s.args_override_self end)
-    (or_else (defaults_fault (settled s.rules end).rows s.rules)
-    (check_fault s (finished s.rules end) has_subcommand))))
-
--- the next word is refused
-next_refused : (s : Shape) (names : Names) (w : Walk) (word : Text) (rest : List Text) (has_subcommand : Bool) (below : Kinds)
-    → IsRefusal (turn_fault s names w word) → IsRefusal (faults_from s names w (word ∷ rest) has_subcommand below)
-unfolding walk_fault
-next_refused s names w word rest has_subcommand below refused = refusal_first _ _ (refusal_first _ _ refused)
-
--- what the first refusal decides
-abbrev IsByFirst : (Kinds → Type 0) → Type 0
-IsByFirst P = (first next : Kinds) → P first → P (or_else first next)
-
--- the subcommand refuses its words
-below_holds : (P : Kinds → Type 0) (s : Shape) (names : Names) (w : Walk) (words : List Text) (has_subcommand : Bool) (below : Kinds)
-    → IsByFirst P → walk_fault s names w words ≡ [] → P below → P (faults_from s names w words has_subcommand below)
-below_holds P s names w words has_subcommand below by_first passed holds = rw passed (by_first below _ holds)
-
--- a walk that met a subcommand passes over the words
-stopped_walk : (rules : List Rule) (names : Names) (w : Walk) (name : Text) (before rest : List Text)
-    → fold (walked rules names) (record w { stopped = Some (name, before) }) rest ≡ record w { stopped = Some (name, before ++ rest) }
-unfolding walked
-stopped_walk rules names w name before [] = ap (λ words. record w { stopped = Some (name, words) }) (sym (append-nil before))
-stopped_walk rules names w name before (word ∷ rest) =
-    stopped_walk rules names w name (before ++ word ∷ []) rest
-    ∙ ap (λ words. record w { stopped = Some (name, words) }) (append_assoc before (word ∷ []) rest)
-
-stopped_fault : (s : Shape) (names : Names) (w : Walk) (name : Text) (before rest : List Text)
-    → walk_fault s names (record w { stopped = Some (name, before) }) rest ≡ []
-unfolding walked walk_fault
-stopped_fault s names w name before [] = refl
-stopped_fault s names w name before (word ∷ rest) = stopped_fault s names w name (before ++ word ∷ []) rest
+use Rattle.command_line.proofs.Rules.{rules_for}
+use Rattle.command_line.proofs.Taken.{refused_or_read}
+use Rattle.command_line.proofs.Turns.{held_for, leaf_for}
 
 -- where a walk stands after `--`
 abbrev trailing : Walk
@@ -70,7 +35,7 @@ trailing = record (walk_from nothing_held) { is_trailing = true }
 -- ---- the words after `replay`
 
 abbrev leaf : Shape
-leaf = built_leaf (inherited bare.top replay)
+leaf = built_leaf (inherited bare.top program.replay)
 
 leaf_has : HasRequestsOnly leaf
 leaf_has = record {
@@ -78,12 +43,12 @@ leaf_has = record {
   places = refl;
 }
 
-abbrev leaf_faults : List Text → Kinds
-leaf_faults words = level_fault leaf [] nothing_held words false []
+abbrev replay_faults : List Text → Kinds
+replay_faults words = level_fault leaf [] nothing_held words false []
 
 -- they are none, or `--`, or are refused
 abbrev IsAfterReplay : List Text → Type 0
-IsAfterReplay words = (words ≡ []) ⊎ ((words ≡ codes "--" ∷ []) ⊎ IsRefusal (leaf_faults words))
+IsAfterReplay words = (words ≡ []) ⊎ ((words ≡ codes "--" ∷ []) ⊎ IsRefusal (replay_faults words))
 
 leaf_dashes : (words : List Text) → IsAfterReplay (codes "--" ∷ words)
 unfolding clap_on_literals
@@ -97,6 +62,27 @@ after_replay (word ∷ rest) = go (bytes_eq word (codes "--")) refl
     go : (test : Bool) → bytes_eq word (codes "--") ≡ test → IsAfterReplay (word ∷ rest)
     go true e = subst (λ (w : Text). IsAfterReplay (w ∷ rest)) (sym ((bytes_eq-Decides word (codes "--")).0 e)) (leaf_dashes rest)
     go false e = inr (inr (next_refused leaf [] (walk_from nothing_held) word rest false [] (first_refused leaf [] word leaf_has refl e)))
+
+-- ---- the words after `create`
+
+abbrev create_leaf : Shape
+create_leaf = built_leaf (inherited bare.top program.create)
+
+create_leaf_is : create_leaf ≡ leaf_for (codes "create") create_options
+create_leaf_is = refl
+
+abbrev create_faults : List Text → Kinds
+create_faults words = level_fault create_leaf [] nothing_held words false []
+
+same_faults : (words : List Text) → create_faults words ≡ leaf_faults (codes "create") create_options (walk_from (held_for [] None)) words
+same_faults words = refl
+
+create_has_names : HasNames create_options
+create_has_names = has_names create_options refl
+
+-- the words after `create` are refused, or give it its options
+after_create : (words : List Text) → IsRefusal (create_faults words) ⊎ Reads create_options [] words
+after_create words = refused_or_read (codes "create") create_options words
 
 -- ---- the words of the program
 
@@ -113,31 +99,57 @@ top_has = record {
   places = refl;
 }
 
--- where a walk stands after `replay`
-abbrev stopped : Walk
-stopped = record (walk_from nothing_held) { stopped = Some (codes "replay", []) }
+-- the kinds of error by where the walk over all words ends
+abbrev top_at : Kinds → Walk → Kinds
+top_at walking end =
+    or_else walking
+    (or_else (entered_fault app end.stopped) (or_else (settle_fault app.top.rules app.top.args_override_self end.held)
+    (or_else (defaults_fault (settled app.top.rules end.held).rows app.top.rules)
+    (check_fault app.top (finished app.top.rules end.held) (is_some (entered app end.stopped))))))
 
 abbrev top_from : Walk → List Text → Kinds
-top_from w words =
-    let stop = (fold (walked app.top.rules (names_of app)) w words).stopped in
-    faults_from app.top (names_of app) w words (is_some (entered app stop)) (entered_fault app stop)
+top_from w words = top_at (walk_fault app.top (names_of app) w words) (fold (walked app.top.rules (names_of app)) w words)
 
-entered_holds : (P : Kinds → Type 0) (words : List Text) → P (leaf_faults words) → P (entered_fault app (Some (codes "replay", words)))
-unfolding lsvdctl
-entered_holds P words holds = holds
+-- where a walk stands after a command and these words
+abbrev stopped : Text → List Text → Walk
+stopped name words = record (walk_from nothing_held) { stopped = Some (name, words) }
 
-stopped_holds : (P : Kinds → Type 0) (words : List Text) → IsByFirst P → P (leaf_faults words) → P (top_from stopped words)
-stopped_holds P words by_first holds =
-    below_holds P app.top (names_of app) stopped words _ _ by_first
-    (stopped_fault app.top (names_of app) (walk_from nothing_held) (codes "replay") [] words)
-    (subst (λ (w : Walk). P (entered_fault app w.stopped))
-    (sym (stopped_walk app.top.rules (names_of app) (walk_from nothing_held) (codes "replay") [] words))
-    (entered_holds P words holds))
+top_stopped : (name : Text) (words : List Text) → top_from (stopped name []) words ≡ top_at [] (stopped name words)
+top_stopped name words =
+    ap₂ top_at (stopped_fault app.top (names_of app) (walk_from nothing_held) name [] words)
+    (stopped_walk app.top.rules (names_of app) (walk_from nothing_held) name [] words)
 
--- what `replay` makes of the words after it is what the program makes of the line
-after_replay_holds : (P : Kinds → Type 0) → IsByFirst P → (words : List Text) → P (leaf_faults words) → P (faults_of (codes "replay" ∷ words))
+-- what a command makes of the words after it is what the program makes of the line
+replay_stops : (words : List Text) → faults_of (codes "replay" ∷ words) ≡ top_at [] (stopped (codes "replay") words)
 unfolding faults_of lsvdctl walk_fault walked
-after_replay_holds P by_first words holds = stopped_holds P words by_first holds
+replay_stops words = top_stopped (codes "replay") words
+
+create_stops : (words : List Text) → faults_of (codes "create" ∷ words) ≡ top_at [] (stopped (codes "create") words)
+unfolding faults_of lsvdctl walk_fault walked
+create_stops words = top_stopped (codes "create") words
+
+replay_entered : (words : List Text) → entered_fault app (Some (codes "replay", words)) ≡ replay_faults words
+unfolding lsvdctl
+replay_entered words = refl
+
+create_entered : (words : List Text) → entered_fault app (Some (codes "create", words)) ≡ create_faults words
+unfolding lsvdctl
+create_entered words = refl
+
+after_replay_holds : (P : Kinds → Type 0) → IsByFirst P → (words : List Text) → P (replay_faults words)
+    → P (faults_of (codes "replay" ∷ words))
+after_replay_holds P by_first words holds = subst P (sym (replay_stops words)) (by_first _ _ (subst P (sym (replay_entered words)) holds))
+
+after_create_holds : (P : Kinds → Type 0) → IsByFirst P → (words : List Text) → P (create_faults words)
+    → P (faults_of (codes "create" ∷ words))
+after_create_holds P by_first words holds = subst P (sym (create_stops words)) (by_first _ _ (subst P (sym (create_entered words)) holds))
+
+-- where the command takes the words, so does the program
+after_create_quiet : (words : List Text) → create_faults words ≡ [] → faults_of (codes "create" ∷ words) ≡ []
+unfolding lsvdctl defaults_fault
+after_create_quiet words quiet = create_stops words ∙ (rw (create_entered words ∙ quiet) refl)
+
+-- ---- other first words
 
 trailing_word : (next : Text) (more : List Text) → IsRefusal (top_from trailing (next ∷ more))
 trailing_word next more =
@@ -158,86 +170,165 @@ first_word word rest none other =
     next_refused app.top (names_of app) (walk_from nothing_held) word rest (is_some (entered app stop)) (entered_fault app stop)
     (first_refused app.top (names_of app) word top_has none other)
 
-no_command : (word : Text) → bytes_eq (codes "replay") word ≡ false → subcommand_met (names_of app) idle word ≡ None
+no_command : (word : Text) → bytes_eq (codes "replay") word ≡ false → bytes_eq (codes "create") word ≡ false
+    → subcommand_met (names_of app) idle word ≡ None
 unfolding lsvdctl
-no_command word other = rw other refl
+no_command word replays creates = rw (replays, creates) refl
 
-top_first : (word : Text) (rest : List Text) → bytes_eq (codes "replay") word ≡ false → bytes_eq word (codes "--") ≡ false
+top_first : (word : Text) (rest : List Text) → subcommand_met (names_of app) idle word ≡ None → bytes_eq word (codes "--") ≡ false
     → IsRefusal (faults_of (word ∷ rest))
 unfolding faults_of lsvdctl defaults_fault
-top_first word rest differs other = first_word word rest (no_command word differs) other
+top_first word rest none other = first_word word rest none other
 
 -- ---- each command line
 
--- the words are those of a request, or are refused
+-- the words spell a line, or are refused
 abbrev pub IsLine : List Text → Type 0
-IsLine words = ((request : Request) × Spells words request) ⊎ IsRefusal (faults_of words)
+IsLine words = ((line : Line) × Spells words line) ⊎ IsRefusal (faults_of words)
 
 nothing_refused : IsRefusal (faults_of [])
 unfolding faults_of lsvdctl clap_on_literals
 nothing_refused = inl (MissingSubcommand, refl)
 
 replay_line : (words : List Text) → IsAfterReplay words → IsLine (codes "replay" ∷ words)
-replay_line words (inl none) = inl (Replay, inl (ap (λ rest. codes "replay" ∷ rest) none))
-replay_line words (inr (inl dashes)) = inl (Replay, inr (ap (λ rest. codes "replay" ∷ rest) dashes))
+replay_line words (inl none) = inl (replay, inl (ap (λ rest. codes "replay" ∷ rest) none))
+replay_line words (inr (inl one)) = inl (replay, inr (ap (λ rest. codes "replay" ∷ rest) one))
 replay_line words (inr (inr refused)) = inr (after_replay_holds IsRefusal refusal_first words refused)
 
-other_line : (word : Text) (rest : List Text) (test : Bool) → bytes_eq (codes "replay") word ≡ false
-    → bytes_eq word (codes "--") ≡ test → IsRefusal (faults_of (word ∷ rest))
-other_line word rest true differs is =
-    subst (λ (w : Text). IsRefusal (faults_of (w ∷ rest))) (sym ((bytes_eq-Decides word (codes "--")).0 is)) (top_dashes rest)
-other_line word rest false differs other = top_first word rest differs other
+create_line : (words : List Text) → IsRefusal (create_faults words) ⊎ Reads create_options [] words → IsLine (codes "create" ∷ words)
+create_line words (inl refused) = inr (after_create_holds IsRefusal refusal_first words refused)
+create_line words (inr reads) =
+    inl (
+      create reads.more,
+      (
+        record { each = reads.each; once = reads.once; required = reads.required },
+        elim reads.ends [
+          | inl whole ↦ inl (ap (λ (rest : List Text). codes "create" ∷ rest) whole)
+          | inr whole ↦ inr (ap (λ (rest : List Text). codes "create" ∷ rest) whole)
+        ],
+      ),
+    )
 
-first_line : (word : Text) (rest : List Text) (test : Bool) → bytes_eq (codes "replay") word ≡ test → IsLine (word ∷ rest)
-first_line word rest true is =
+other_line : (word : Text) (rest : List Text) (test : Bool) → subcommand_met (names_of app) idle word ≡ None
+    → bytes_eq word (codes "--") ≡ test → IsRefusal (faults_of (word ∷ rest))
+other_line word rest true none is =
+    subst (λ (w : Text). IsRefusal (faults_of (w ∷ rest))) (sym ((bytes_eq-Decides word (codes "--")).0 is)) (top_dashes rest)
+other_line word rest false none other = top_first word rest none other
+
+first_line : (word : Text) (rest : List Text) (replays creates : Bool) → bytes_eq (codes "replay") word ≡ replays
+    → bytes_eq (codes "create") word ≡ creates
+    → IsLine (word ∷ rest)
+first_line word rest true creates is other =
     subst (λ (w : Text). IsLine (w ∷ rest)) ((bytes_eq-Decides (codes "replay") word).0 is) (replay_line rest (after_replay rest))
-first_line word rest false differs = inr (other_line word rest (bytes_eq word (codes "--")) differs refl)
+first_line word rest false true other is =
+    subst (λ (w : Text). IsLine (w ∷ rest)) ((bytes_eq-Decides (codes "create") word).0 is) (create_line rest (after_create rest))
+first_line word rest false false replays creates =
+    inr (other_line word rest (bytes_eq word (codes "--")) (no_command word replays creates) refl)
 
 pub each_line : (words : List Text) → IsLine words
 each_line [] = inr nothing_refused
-each_line (word ∷ rest) = first_line word rest (bytes_eq (codes "replay") word) refl
+each_line (word ∷ rest) = first_line word rest (bytes_eq (codes "replay") word) (bytes_eq (codes "create") word) refl refl
 
-pub spelled_is_taken : (words : List Text) (request : Request) → Spells words request → faults_of words ≡ []
+-- the words after a command that may be ended
+after_command : (command : Text) (options words : List Text) → MayEnd (command ∷ options) words
+    → (rest : List Text) × (words ≡ command ∷ rest) × MayEnd options rest
+after_command command options words (inl is) = (options, is, inl refl)
+after_command command options words (inr is) = (options ++ codes "--" ∷ [], is, inr refl)
+
+pub spelled_is_taken : (words : List Text) (line : Line) → Spells words line → faults_of words ≡ []
 unfolding faults_of lsvdctl clap_on_literals
-spelled_is_taken words Replay (inl is) = rw is refl
-spelled_is_taken words Replay (inr is) = rw is refl
+spelled_is_taken words replay (inl is) = rw is refl
+spelled_is_taken words replay (inr is) = rw is refl
+spelled_is_taken words (create options) (are, end) = taken_create (after_command (codes "create") (flat_map option_words options) words end)
+  where
+    taken_create : (rest : List Text) × (words ≡ codes "create" ∷ rest) × MayEnd (flat_map option_words options) rest → faults_of words ≡ []
+    taken_create (rest, is, ends) = rw is (after_create_quiet rest
+        (given_is_taken (codes "create") create_options create_has_names options rest are ends))
 
-pub spelled_is_met : (words : List Text) (request : Request) → Spells words request → command_in words ≡ Some (name_of request)
-unfolding command_in lsvdctl clap_on_literals
-spelled_is_met words Replay (inl is) = rw is refl
-spelled_is_met words Replay (inr is) = rw is refl
+-- ---- what clap finds
+
+stopped_at : (name : Text) (words : List Text)
+    → (fold (walked app.top.rules (names_of app)) (stopped name []) words).stopped ≡ Some (name, words)
+stopped_at name words = ap (λ (w : Walk). w.stopped) (stopped_walk app.top.rules (names_of app) (walk_from nothing_held) name [] words)
+
+replay_met : (words : List Text) → subcommand_of lsvdctl (codes "replay" ∷ words) ≡ Some (codes "replay", rows_after leaf.rules [] words)
+unfolding lsvdctl walked
+replay_met words = ap (entered app) (stopped_at (codes "replay") words)
+
+create_met : (words : List Text)
+    → subcommand_of lsvdctl (codes "create" ∷ words) ≡ Some (codes "create", rows_after (rules_for create_options) [] words)
+unfolding lsvdctl walked
+create_met words = ap (entered app) (stopped_at (codes "create") words)
+
+-- the command and the values that clap finds, where the words spell a line
+abbrev pub IsFound : Line → Option (Text × List Row) → Type 0
+IsFound replay met = (rows : List Row) × (met ≡ Some (codes "replay", rows))
+IsFound (create options) met = (rows : List Row) × (met ≡ Some (codes "create", rows))
+    × ((name : Text) → first_of name rows ≡ value_in options name)
+
+replay_found : (words : List Text) → (rest : List Text) × (words ≡ codes "replay" ∷ rest) × MayEnd [] rest
+    → IsFound replay (subcommand_of lsvdctl words)
+replay_found words (rest, is, end) = (rows_after leaf.rules [] rest, rw is (replay_met rest))
+
+create_found : (words : List Text) (options : List Given) → AreOptionsOf create_options options
+    → (rest : List Text) × (words ≡ codes "create" ∷ rest) × MayEnd (flat_map option_words options) rest
+    → IsFound (create options) (subcommand_of lsvdctl words)
+create_found words options are (rest, is, end) = (
+  rows_after (rules_for create_options) [] rest,
+  rw is (create_met rest),
+  given_is_found (codes "create") create_options create_has_names options rest are end,
+)
+
+pub spelled_is_found : (words : List Text) (line : Line) → Spells words line → IsFound line (subcommand_of lsvdctl words)
+spelled_is_found words replay end = replay_found words (after_command (codes "replay") [] words end)
+spelled_is_found words (create options) (are, end) =
+    create_found words options are (after_command (codes "create") (flat_map option_words options) words end)
 
 -- ---- what follows for a request, and for help
 
-pub taken_is_spelled : (words : List Text) → faults_of words ≡ [] → (request : Request) × Spells words request
+pub taken_is_spelled : (words : List Text) → faults_of words ≡ [] → (line : Line) × Spells words line
 taken_is_spelled words taken = go (each_line words)
   where
-    go : IsLine words → (request : Request) × Spells words request
+    go : IsLine words → (line : Line) × Spells words line
     go (inl spelled) = spelled
     go (inr (inl one)) = let bad : one.0 ∷ [] ≡ [] = sym one.1 ∙ taken in cc
     go (inr (inr stray)) = let bad : UnknownArgument ∷ InvalidSubcommand ∷ [] ≡ [] = sym stray ∙ taken in cc
-
--- the answer to words that clap takes, from what is found in their matches
-pub answer_of_taken : (words : List Text) (found : Option Request) (met : Option Text) → faults_of words ≡ [] → met ≡ command_in words
-    → IfNone found ((request : Request) → met ≢ Some (name_of request))
-    → (request : Request) × (ok_or found Usage ≡ Ok request)
-answer_of_taken words None met taken same none =
-    let spelled = taken_is_spelled words taken in
-    absurd (none spelled.0 (same ∙ spelled_is_met words spelled.0 spelled.1))
-answer_of_taken words (Some request) met taken same none = (request, refl)
 
 -- clap's error for words that it takes
 pub error_of_taken : (kinds : Kinds) (error : Error) → HasKind kinds error → kinds ≡ [] → kind_of error ≡ errors.OutOfMemory
 error_of_taken kinds error (inl memory) taken = memory
 error_of_taken kinds error (inr among) taken = absurd (subst (IsAmong (kind_of error)) taken among)
 
-pub nothing_is_spelled : (request : Request) → Spells [] request → ⊥
-nothing_is_spelled Replay (inl is) = cc
-nothing_is_spelled Replay (inr is) = cc
+-- and for words that it does not take
+pub error_of_faulty : (kinds : Kinds) (error : Error) → HasKind kinds error → kind_of error ≢ errors.OutOfMemory → kinds ≢ []
+error_of_faulty kinds error (inl memory) other none = other memory
+error_of_faulty kinds error (inr among) other none = absurd (subst (IsAmong (kind_of error)) none among)
 
-pub first_is_spelled : (request : Request) (first : Text) (rest : List Text) → Spells (first ∷ rest) request → name_of request ≡ first
-first_is_spelled Replay first rest (inl is) = cc
-first_is_spelled Replay first rest (inr is) = cc
+first_of_line : (first : Text) (rest : List Text) (line : Line) → Spells (first ∷ rest) line
+    → (first ≡ codes "replay") ⊎ (first ≡ codes "create")
+first_of_line first rest replay end = go (after_command (codes "replay") [] (first ∷ rest) end)
+  where
+    go : (more : List Text) × (first ∷ rest ≡ codes "replay" ∷ more) × MayEnd [] more → (first ≡ codes "replay") ⊎ (first ≡ codes "create")
+    go (more, is, ends) = inl cc
+first_of_line first rest (create options) (are, end) = go (after_command (codes "create") (flat_map option_words options) (first ∷ rest) end)
+  where
+    go : (more : List Text) × (first ∷ rest ≡ codes "create" ∷ more) × MayEnd (flat_map option_words options) more
+        → (first ≡ codes "replay") ⊎ (first ≡ codes "create")
+    go (more, is, ends) = inr cc
+
+pub spells_a_command : (first : Text) (rest : List Text) (line : Line) → Spells (first ∷ rest) line
+    → All (λ command. command ≢ first) commands → ⊥
+spells_a_command first rest line spelled others = go (first_of_line first rest line spelled)
+  where
+    go : (first ≡ codes "replay") ⊎ (first ≡ codes "create") → ⊥
+    go (inl is) = others 0 [] (lit< tt) (sym is)
+    go (inr is) = others 1 [] (lit< tt) (sym is)
+
+pub nothing_is_spelled : (line : Line) → Spells [] line → ⊥
+nothing_is_spelled replay (inl is) = cc
+nothing_is_spelled replay (inr is) = cc
+nothing_is_spelled (create options) (are, inl is) = cc
+nothing_is_spelled (create options) (are, inr is) = cc
 
 -- an error of words that ask for help is the answer to it
 abbrev AsksIn : Kinds → Type 0
@@ -281,11 +372,20 @@ among_first : (kind : ErrorKind) (first next : Kinds) → IsAmong kind first →
 among_first kind [] next among = absurd among
 among_first kind (one ∷ more) next among = among
 
-leaf_asks : (option : Text) (rest : List Text) → IsHelpOption option → IsAmong DisplayHelp (leaf_faults (option ∷ rest))
+replay_asks : (option : Text) (rest : List Text) → IsHelpOption option → IsAmong DisplayHelp (replay_faults (option ∷ rest))
 unfolding clap_on_literals
-leaf_asks option rest (inl is) = rw is (inl refl)
-leaf_asks option rest (inr is) = rw is (inl refl)
+replay_asks option rest (inl is) = rw is (inl refl)
+replay_asks option rest (inr is) = rw is (inl refl)
 
-pub second_asks : (request : Request) (option : Text) (rest : List Text) → IsHelpOption option → AsksForHelp (name_of request ∷ option ∷ rest)
-second_asks Replay option rest is =
-    inl (after_replay_holds (IsAmong DisplayHelp) (among_first DisplayHelp) (option ∷ rest) (leaf_asks option rest is))
+create_asks : (option : Text) (rest : List Text) → IsHelpOption option → IsAmong DisplayHelp (create_faults (option ∷ rest))
+unfolding clap_on_literals
+create_asks option rest (inl is) = rw is (inl refl)
+create_asks option rest (inr is) = rw is (inl refl)
+
+pub second_asks : (option : Text) (rest : List Text) → IsHelpOption option → All (λ command. AsksForHelp (command ∷ option ∷ rest)) commands
+second_asks option rest is =
+    All-cons (λ command. AsksForHelp (command ∷ option ∷ rest)) (codes "replay") (codes "create" ∷ [])
+    (inl (after_replay_holds (IsAmong DisplayHelp) (among_first DisplayHelp) (option ∷ rest) (replay_asks option rest is)))
+    (All-cons (λ command. AsksForHelp (command ∷ option ∷ rest)) (codes "create") []
+    (inl (after_create_holds (IsAmong DisplayHelp) (among_first DisplayHelp) (option ∷ rest) (create_asks option rest is)))
+    (All-nil (λ command. AsksForHelp (command ∷ option ∷ rest))))

@@ -1,15 +1,17 @@
 -- Contract: which command lines the program takes, and what they ask for.
-use Rattle.std.specs.Prelude.{◌≡◌, ◌≢◌, ◌⊎◌, List, [], ◌∷◌, Option, Result, Err, codes, option_map}
+use Rattle.std.specs.Prelude.{◌≡◌, ◌≢◌, ◌⊎◌, List, [], ◌∷◌, Result, Ok, Err, codes}
+use Rattle.std.specs.List.{flat_map}
 use Rattle.clap.specs.Walk.{Text}
 use Rattle.clap.specs.Faults.{fault_of}
 use Rattle.clap.specs.Kinds.{Kinds, IsAmong}
-use Rattle.clap.specs.Simple.{subcommand_of}
 use Rattle.clap.specs.declared.error.kind.ErrorKind.TheVariants.{DisplayHelp, DisplayVersion}
+use Rattle.command_line.specs.Create.{AsksToCreate, HasBadValue, create_options, value_in}
+use Rattle.command_line.specs.Options.{AreOptionsOf, Given, MayEnd, option_words}
 use Rattle.command_line.specs.Program.{lsvdctl}
 use Rattle.command_line.specs.declared.request.CommandLineError.{CommandLineError}
 use Rattle.command_line.specs.declared.request.CommandLineError.TheVariants.{Usage, OutOfMemory}
 use Rattle.command_line.specs.declared.request.Request.{Request}
-use Rattle.command_line.specs.declared.request.Request.TheVariants.{Replay}
+use Rattle.command_line.specs.declared.request.Request.TheVariants.{Replay, Create}
 
 -- the kinds of error by which clap refuses the words after the program's name
 unfoldable pub faults_of : List Text → Kinds
@@ -23,21 +25,43 @@ IsFaulty words = faults_of words ≢ []
 abbrev pub AsksForHelp : List Text → Type 0
 AsksForHelp words = IsAmong DisplayHelp (faults_of words) ⊎ IsAmong DisplayVersion (faults_of words)
 
--- the command that clap meets in the words
-unfoldable pub command_in : List Text → Option Text
-command_in words = option_map (λ p. p.0) (subcommand_of lsvdctl words)
-
--- the command that stands for a request
-abbrev pub name_of : Request → Text
-name_of Replay = codes "replay"
+-- the names of the commands
+abbrev pub commands : List Text
+commands = codes "replay" ∷ codes "create" ∷ []
 
 -- the words are told to be no command line, or it is out of memory
 abbrev pub IsRefused : Result Request CommandLineError → Type 0
 IsRefused result = (result ≡ Err Usage) ⊎ (result ≡ Err OutOfMemory)
 
--- the words that make a request: its command, after which `--` may end the options
-abbrev pub Spells : List Text → Request → Type 0
-Spells words Replay = (words ≡ codes "replay" ∷ []) ⊎ (words ≡ codes "replay" ∷ codes "--" ∷ [])
+-- ---- what words spell
+
+-- a command, with the options that are given to it
+pub data Line : Type 0 where
+  replay : Line
+  create : List Given → Line
+
+-- the words that make a line: its command with its options, which `--` may end
+abbrev pub Spells : List Text → Line → Type 0
+Spells words replay = MayEnd (codes "replay" ∷ []) words
+Spells words (create options) = AreOptionsOf create_options options × MayEnd (codes "create" ∷ flat_map option_words options) words
+
+-- the line asks for this
+abbrev pub IsAskedBy : Line → Request → Type 0
+IsAskedBy replay Replay = Unit {0}
+IsAskedBy (create options) (Create request) = AsksToCreate (value_in options) request
+IsAskedBy replay (Create request) = ⊥
+IsAskedBy (create options) Replay = ⊥
+
+-- the line asks for nothing
+abbrev pub AsksForNothing : Line → Type 0
+AsksForNothing replay = ⊥
+AsksForNothing (create options) = HasBadValue (value_in options)
+
+-- how the line is read
+abbrev pub IsRead : Line → Result Request CommandLineError → Type 0
+IsRead line (Ok request) = IsAskedBy line request
+IsRead line (Err Usage) = AsksForNothing line
+IsRead line (Err OutOfMemory) = Unit {0}
 
 -- an option that asks for help, and one that asks for the version
 abbrev pub IsHelpOption : Text → Type 0

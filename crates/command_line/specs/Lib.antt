@@ -1,2 +1,5 @@
 pub mod CommandLine
+pub mod Create
+pub mod Met
+pub mod Options
 pub mod Program

@@ -1,10 +1,15 @@
 -- Contract: the commands of the program, as clap reads them.
-use Rattle.std.specs.Prelude.{[], codes, true}
+use Rattle.std.specs.Prelude.{[], codes, map, true}
 use Rattle.clap.specs.Simple.{App, Shape, new_shape, with_subcommand}
+use Rattle.command_line.specs.Create.{create_options}
+use Rattle.command_line.specs.Options.{rule_for}
 
 -- `replay` has no options
 abbrev pub replay : Shape
 replay = new_shape (codes "replay")
+
+abbrev pub create : Shape
+create = record (new_shape (codes "create")) { rules = map rule_for create_options }
 
 -- The program asks for one of its commands. It has a version, and no command `help`. Its own name is not
 -- among the words.
@@ -21,4 +26,4 @@ bare = record {
 
 -- the program with all its commands
 unfoldable pub lsvdctl : App
-lsvdctl = with_subcommand bare replay
+lsvdctl = with_subcommand (with_subcommand bare replay) create

@@ -1,16 +1,20 @@
 //! The command line of the program `lsvdctl`: the one place from which its commands come.
 //!
-//! Its contract: words are answered with a request exactly where clap takes them, for the command that clap
-//! meets in them, unless it is out of memory. It stands on `clap` and `thiserror`.
+//! Its contract: words are answered with what the command and the options in them ask for, exactly where clap takes them
+//! and the values of the options are in form and in their limits, unless it is out of memory. It stands on `lsvd_base`, for
+//! the limits of a volume, and on the kit's `clap`, `uuid`, `itoa` and `thiserror`.
 #![tactic(auto)]
 
+mod create;
 mod help;
 mod laws;
+mod number;
 mod program;
 mod request;
 #[cfg(test)]
 mod tests;
 
+pub use create::CreateRequest;
 pub use help::help_of;
 pub use laws::{a_command_line_spells_a_request, the_help_options_ask_for_help};
 pub use request::{CommandLineError, Request, request_of};

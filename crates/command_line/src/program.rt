@@ -1,9 +1,10 @@
 ghost use Rattle.std.specs.Prelude.{◌≡◌, List, ℕ, map, string_bytes, IfOk, false};
-ghost use Rattle.clap.specs.Words.{FailsBy, app_of, shape_of, subcommand_name_of};
+ghost use Rattle.clap.specs.Words.{FailsBy, app_of, fault_of, shape_of, subcommand_of, subcommand_rows_of};
 ghost use Rattle.clap.specs.declared.builder.command.Command.TheViews.{out-Command};
 ghost use Rattle.command_line.specs.Program.{lsvdctl, replay};
-ghost use Rattle.command_line.specs.CommandLine.{command_in, faults_of};
+ghost use Rattle.command_line.specs.CommandLine.{faults_of};
 
+use crate::create::create_command;
 use clap::{ArgMatches, Command, Error};
 use std::alloc::{AllocError, Global};
 
@@ -16,7 +17,7 @@ const VERSION: &str = "0.1.0";
 // What clap makes of the words after the program's name.
 pub(crate) fn matches_of(alloc: Global, words: &[String]) -> Result<ArgMatches<'_>, Error>
     ensures kinds { FailsBy (faults_of (map string_bytes words.now)) result }
-    ensures command { IfOk result (λ matches. subcommand_name_of matches ≡ command_in (map string_bytes words.now)) }
+    ensures met { IfOk result (λ matches. subcommand_rows_of matches ≡ subcommand_of lsvdctl (map string_bytes words.now)) }
 {
     program(alloc)?.try_get_matches_from(words)
 }
@@ -32,7 +33,8 @@ fn program<'a>(alloc: Global) -> Result<Command<'a>, AllocError>
         .no_binary_name(true)
         .subcommand_required(true)
         .disable_help_subcommand(true)
-        .subcommand(replay_command(alloc))
+        .subcommand(replay_command(alloc))?
+        .subcommand(create_command(alloc)?)
 }
 
 // `replay`, which has no options.

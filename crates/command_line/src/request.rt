@@ -1,8 +1,14 @@
-ghost use Rattle.std.specs.Prelude.{◌≡◌, ◌≢◌, ◌⊎◌, List, ℕ, [], ◌∷◌, map, codes, string_bytes, Some, IfOk, IfSome, IfNone, IsErrOf};
-ghost use Rattle.clap.specs.Words.{kind_of, subcommand_name_of};
+ghost use Rattle.std.specs.Prelude.{◌≡◌, ◌≢◌, ◌⊎◌, ◌<◌, ◌+◌, ◌*◌, List, ℕ, [], ◌∷◌, map, codes, string_bytes, IfOk, IfSome, IfNone, IsErrOf};
+ghost use Rattle.std.specs.List.{All, flat_map};
+ghost use Rattle.clap.specs.Words.{kind_of, subcommand_rows_of};
 ghost use Rattle.clap.specs.declared.error.kind.ErrorKind.TheVariants as kinds;
-ghost use Rattle.command_line.specs.CommandLine.{IsFaulty, IsRefused, command_in, faults_of, name_of};
+ghost use Rattle.lsvd_base.specs.declared.geometry.Geometry.{Geometry};
+ghost use Rattle.command_line.specs.CommandLine.{IsAskedBy, AsksForNothing, IsFaulty, IsRead, IsRefused, Line, Spells, commands};
+ghost use Rattle.command_line.specs.Create.{AreValid, HasBadUuid, value_in};
+ghost use Rattle.command_line.specs.Met.{IsMadeOf, MakesNone};
+ghost use Rattle.command_line.specs.Options.{Given, option_words};
 
+use crate::create::{CreateRequest, create_in};
 use crate::program::matches_of;
 use clap::ArgMatches;
 use clap::error::ErrorKind;
@@ -11,9 +17,11 @@ use thiserror::Error;
 
 /// What a command line asks for.
 #[derive(Clone, Copy, Debug, PartialEq, Eq)]
-pub enum Request {
+pub enum Request<'a> {
     /// Replay the script on the input.
     Replay,
+    /// Create a volume.
+    Create(CreateRequest<'a>),
 }
 
 /// Why a command line was not read.
@@ -27,33 +35,52 @@ pub enum CommandLineError {
     OutOfMemory,
 }
 
-/// Reads the words after the program's name. `Usage` comes where clap refuses them, and `OutOfMemory` where memory
-/// runs out while they are read.
-pub fn request_of(alloc: Global, words: &[String]) -> Result<Request, CommandLineError>
-    ensures ok { IfOk result (λ request. (faults_of (map string_bytes words.now) ≡ [])
-        × (command_in (map string_bytes words.now) ≡ Some (name_of request))) }
-    ensures usage { IsErrOf result CommandLineError.Usage → IsFaulty (map string_bytes words.now) }
+/// Reads the words after the program's name. `Usage` comes where clap refuses them, and where the values of the options
+/// of `create` ask for nothing; `OutOfMemory` where memory runs out while they are read.
+pub fn request_of<'a>(alloc: Global, words: &'a [String]) -> Result<Request<'a>, CommandLineError>
+    ensures ok { IfOk result (λ request. (line : Line) × Spells (map string_bytes words.now) line × IsAskedBy line request) }
+    ensures usage { IsErrOf result CommandLineError.Usage → IsFaulty (map string_bytes words.now)
+        ⊎ ((line : Line) × Spells (map string_bytes words.now) line × AsksForNothing line) }
 
-    // Without a word of clap: the command alone is taken, no words are refused, and so are words that begin
+    // Words that clap takes are read by the line that they spell, and those that it refuses are none.
+    ensures line { (line : Line) → Spells (map string_bytes words.now) line → IsRead line result }
+    ensures faulty { IsFaulty (map string_bytes words.now) → IsRefused result }
+
+    // Without a word of clap: the command `replay` alone is taken, no words are refused, and so are words that begin
     // with no command.
-    ensures replay { map string_bytes words.now ≡ codes "replay" ∷ [] → (result ≡ Ok Request.Replay) ⊎ (result ≡ Err CommandLineError.OutOfMemory) }
+    ensures replay { map string_bytes words.now ≡ codes "replay" ∷ []
+        → (result ≡ Ok Request.Replay) ⊎ (result ≡ Err CommandLineError.OutOfMemory) }
     ensures empty { words.now ≡ [] → IsRefused result }
     ensures unknown { (first : List ℕ) (rest : List (List ℕ)) → map string_bytes words.now ≡ first ∷ rest
-        → ((request : Request) → name_of request ≢ first) → IsRefused result }
+        → All (λ command. command ≢ first) commands → IsRefused result }
+
+    // Plain options of `create` are refused for a text that is no uuid alone, and for a log that is too short.
+    ensures valid { (options : List Given) (sizes : Geometry) → AreValid options sizes
+        → map string_bytes words.now ≡ codes "create" ∷ flat_map option_words options
+        → IsErrOf result CommandLineError.Usage → HasBadUuid (value_in options) ⊎ (sizes.log < 2 * (sizes.max_write + 1)) }
 {
-    match matches_of(alloc, words) {
-        Ok(matches) => request_in(&matches).ok_or(CommandLineError::Usage),
-        Err(error) => Err(cause_of(&error)),
+    let matches = match matches_of(alloc, words) {
+        Ok(matches) => matches,
+        Err(error) => return Err(cause_of(&error)),
+    };
+    match request_in(&matches) {
+        Some(request) => Ok(request),
+        None => Err(CommandLineError::Usage),
     }
 }
 
-// The request that the command in the matches makes.
-fn request_in(matches: &ArgMatches<'_>) -> Option<Request>
-    ensures found { IfSome result (λ request. subcommand_name_of matches.now ≡ Some (name_of request)) }
-    ensures none { IfNone result ((request : Request) → subcommand_name_of matches.now ≢ Some (name_of request)) }
+// The request that the command in the matches makes, with the values of its options.
+fn request_in<'a>(matches: &ArgMatches<'a>) -> Option<Request<'a>>
+    ensures found { IfSome result (IsMadeOf (subcommand_rows_of matches.now)) }
+    ensures none { IfNone result (MakesNone (subcommand_rows_of matches.now)) }
 {
-    match matches.subcommand_name()? {
+    let (command, values) = matches.subcommand()?;
+    match command {
         "replay" => Some(Request::Replay),
+        "create" => match create_in(values) {
+            Some(request) => Some(Request::Create(request)),
+            None => None,
+        },
         _ => None,
     }
 }

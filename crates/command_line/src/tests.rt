@@ -1,20 +1,23 @@
 use crate::help::help_of;
 use crate::request::{CommandLineError, Request, request_of};
+use lsvd_base::Geometry;
 use std::alloc::{AllocError, Global};
 use std::test::Fail;
+use uuid::Uuid;
 
-// Words, what is read of them, and the parts of the text that they ask for, where they ask for one.
+// Words without options of a command, whether they are taken for `replay`, and the parts of the text that they ask for,
+// where they ask for one.
 #[derive(Clone, Copy)]
 struct Case {
     words: &'static [&'static str],
-    answer: Result<Request, CommandLineError>,
+    is_taken: bool,
     help: Option<&'static [&'static str]>,
 }
 
 const fn taken(words: &'static [&'static str]) -> Case {
     Case {
         words,
-        answer: Ok(Request::Replay),
+        is_taken: true,
         help: None,
     }
 }
@@ -22,7 +25,7 @@ const fn taken(words: &'static [&'static str]) -> Case {
 const fn faulty(words: &'static [&'static str]) -> Case {
     Case {
         words,
-        answer: Err(CommandLineError::Usage),
+        is_taken: false,
         help: None,
     }
 }
@@ -30,7 +33,7 @@ const fn faulty(words: &'static [&'static str]) -> Case {
 const fn helped(words: &'static [&'static str], parts: &'static [&'static str]) -> Case {
     Case {
         words,
-        answer: Err(CommandLineError::Usage),
+        is_taken: false,
         help: Some(parts),
     }
 }
@@ -39,11 +42,23 @@ const fn helped(words: &'static [&'static str], parts: &'static [&'static str]) 
 const PROGRAM: &[&str] = &[
     "Usage: lsvdctl <COMMAND>\n",
     "  replay  ",
+    "  create  ",
     "  -h, --help     Print help\n",
     "  -V, --version  Print version\n",
 ];
 
 const REPLAY: &[&str] = &["Usage: lsvdctl replay\n", "  -h, --help  Print help\n"];
+
+const CREATE: &[&str] = &[
+    "Usage: lsvdctl create [OPTIONS] --store <DIRECTORY> --cache <FILE> --sectors <SECTORS> --log <SECTORS>\n",
+    "  --store <DIRECTORY>    Directory of the store",
+    "  --cache <FILE>         File of the cache device",
+    "  --sectors <SECTORS>    Sectors of the volume, of 512 bytes each: 8 to 2147483648\n",
+    "  --log <SECTORS>        Sectors of the log on the cache device: 2 * (max-write + 1) to 2147483648\n",
+    "  --max-write <SECTORS>  Most sectors of one read or write: 8 to 65536 [default: 65536]\n",
+    "  --batch <SECTORS>      Sectors that make a batch of writes full: 1 to 65536 [default: 16384]\n",
+    "  --uuid <UUID>          UUID of the volume [default: a random one]\n",
+];
 
 const VERSION: &[&str] = &["lsvdctl 0.1.0\n"];
 
@@ -51,6 +66,15 @@ fn words_of(alloc: Global, texts: &[&str]) -> Result<Vec<String>, AllocError> {
     let mut words = Vec::new(alloc);
     for text in texts {
         words.push(String::from_str(alloc, text)?)?;
+    }
+    Ok(words)
+}
+
+// The words of a line, with a single space between them.
+fn words_of_line(alloc: Global, line: &str) -> Result<Vec<String>, AllocError> {
+    let mut words = Vec::new(alloc);
+    for word in line.split(' ') {
+        words.push(String::from_str(alloc, word)?)?;
     }
     Ok(words)
 }
@@ -81,7 +105,7 @@ fn each_command_line_is_read(rt: HostRuntime) -> Result<(), Fail> {
         faulty(&["--nope"]),
         faulty(&["-x"]),
         faulty(&["-"]),
-        faulty(&["create"]),
+        faulty(&["replay", "--store", "s"]),
         faulty(&["serve", "--store", "a"]),
         faulty(&["help"]),
         faulty(&["help", "replay"]),
@@ -93,14 +117,142 @@ fn each_command_line_is_read(rt: HostRuntime) -> Result<(), Fail> {
         helped(&["--help", "replay"], PROGRAM),
         helped(&["replay", "--help"], REPLAY),
         helped(&["replay", "-h"], REPLAY),
+        helped(&["create", "--help"], CREATE),
+        helped(&["create", "--store", "s", "-h"], CREATE),
         helped(&["--version"], VERSION),
         helped(&["-V"], VERSION),
     ] {
         let words = words_of(alloc, case.words)?;
-        assert_eq!(rt; request_of(alloc, words.as_slice()), case.answer);
+        let answer = if case.is_taken {
+            Ok(Request::Replay)
+        } else {
+            Err(CommandLineError::Usage)
+        };
+        assert_eq!(rt; request_of(alloc, words.as_slice()), answer);
         let help = help_of(alloc, words.as_slice())?;
         let text = help.as_ref().map(|text| text.as_str());
         assert!(rt; has_parts(text, case.help), "at {:?}", case.words);
+    }
+    Ok(())
+}
+
+// The sizes of a volume, in the order of their limits.
+fn sizes(sectors: u64, log: u64, max_write: u64, batch: u64) -> Geometry {
+    Geometry {
+        sectors,
+        max_write,
+        batch,
+        log,
+    }
+}
+
+#[test]
+fn each_line_of_create_is_read(rt: HostRuntime) -> Result<(), Fail> {
+    let alloc = rt.alloc();
+    for (line, wanted) in [
+        (
+            "create --store s --cache c --sectors 8 --log 131074",
+            sizes(8, 131_074, 65_536, 16_384),
+        ),
+        (
+            "create --batch 1 --max-write 8 --log 18 --sectors 2147483648 --cache c --store s",
+            sizes(2_147_483_648, 18, 8, 1),
+        ),
+        (
+            "create --store=s --cache c --sectors=64 --log 2147483648 --max-write=65536 --batch 65536 --",
+            sizes(64, 2_147_483_648, 65_536, 65_536),
+        ),
+    ] {
+        let words = words_of_line(alloc, line)?;
+        let Ok(Request::Create(request)) = request_of(alloc, words.as_slice()) else {
+            return Err(Fail::new(line));
+        };
+        assert_eq!(rt; request.store, "s");
+        assert_eq!(rt; request.cache, "c");
+        assert_eq!(rt; request.geometry(), wanted);
+        assert_eq!(rt; request.uuid, None);
+    }
+    Ok(())
+}
+
+#[test]
+fn a_faulty_line_of_create_is_refused(rt: HostRuntime) -> Result<(), Fail> {
+    let alloc = rt.alloc();
+    for line in [
+        "create",
+        "create --cache c --sectors 8 --log 131074",
+        "create --store s --sectors 8 --log 131074",
+        "create --store s --cache c --log 131074",
+        "create --store s --cache c --sectors 8",
+        "create --store s --cache c --sectors 8 --log 131074 --store s",
+        "create --store s --cache c --sectors 8 --log 131074 --size 8",
+        "create --store s --cache c --sectors 8 --log 131074 -v",
+        "create --store s --cache c --sectors 8 --log 131074 more",
+        "create --store s --cache c --sectors 8 --log 131074 -- more",
+        "create --store s --cache c --sectors 8 --log 131074 --uuid",
+        "create --store --cache c --sectors 8 --log 131074",
+        "create --store -s --cache c --sectors 8 --log 131074",
+        "create --store s --cache c --sectors 7 --log 131074",
+        "create --store s --cache c --sectors 2147483649 --log 131074",
+        "create --store s --cache c --sectors 18446744073709551624 --log 131074",
+        "create --store s --cache c --sectors +8 --log 131074",
+        "create --store s --cache c --sectors 08 --log 131074",
+        "create --store s --cache c --sectors 8.0 --log 131074",
+        "create --store s --cache c --sectors 0x8 --log 131074",
+        "create --store s --cache c --sectors= --log 131074",
+        "create --store s --cache c --sectors -8 --log 131074",
+        "create --store s --cache c --sectors 8 --log 131073",
+        "create --store s --cache c --sectors 8 --log 2147483649",
+        "create --store s --cache c --sectors 8 --log 0",
+        "create --store s --cache c --sectors 8 --log 17 --max-write 8",
+        "create --store s --cache c --sectors 8 --log 18 --max-write 7",
+        "create --store s --cache c --sectors 8 --log 131076 --max-write 65537",
+        "create --store s --cache c --sectors 8 --log 18 --max-write 8 --batch 0",
+        "create --store s --cache c --sectors 8 --log 18 --max-write 8 --batch 65537",
+        "create --store s --cache c --sectors 8 --log 131074 --uuid u",
+        "create --version",
+        "create replay",
+    ] {
+        let words = words_of_line(alloc, line)?;
+        let answer = request_of(alloc, words.as_slice());
+        assert_eq!(rt; answer, Err(CommandLineError::Usage), "at {line}");
+    }
+    Ok(())
+}
+
+#[test]
+fn each_form_of_a_uuid_is_read(rt: HostRuntime) -> Result<(), Fail> {
+    let alloc = rt.alloc();
+    let uuid = Uuid::from_bytes([
+        0x67, 0xe5, 0x50, 0x44, 0x10, 0xb1, 0x42, 0x6f, 0x92, 0x47, 0xbb, 0x68, 0x0e, 0x5f, 0xe0,
+        0xc8,
+    ]);
+    for text in [
+        "67e55044-10b1-426f-9247-bb680e5fe0c8",
+        "67E55044-10B1-426F-9247-BB680E5FE0C8",
+        "67e5504410b1426f9247bb680e5fe0c8",
+    ] {
+        let words = words_of(
+            alloc,
+            &[
+                "create",
+                "--store=",
+                "--cache",
+                "-",
+                "--sectors",
+                "8",
+                "--log",
+                "131074",
+                "--uuid",
+                text,
+            ],
+        )?;
+        let Ok(Request::Create(request)) = request_of(alloc, words.as_slice()) else {
+            return Err(Fail::new(text));
+        };
+        assert_eq!(rt; request.store, "");
+        assert_eq!(rt; request.cache, "-");
+        assert_eq!(rt; request.uuid, Some(uuid));
     }
     Ok(())
 }

@@ -1,12 +1,21 @@
 -- Contract: what a run of the program says of its input, of its output and of its status.
-use Rattle.std.specs.Prelude.{◌≡◌, ◌⊎◌, ℕ, List, []}
+use Rattle.std.specs.Prelude.{◌≡◌, ◌⊎◌, ℕ, List, Option, IfSome}
+use Rattle.std.specs.Io.KnownBytes.{Appends}
 use Rattle.lsvd_fault.specs.Faults.{CountsOne}
+use Rattle.clap.specs.Walk.{Text}
 use Rattle.transcript.specs.Answers.{State}
 use Rattle.transcript.specs.Transcript.{AllAnswered, Stopped, IsTranscript, IsFrontOfTranscript}
+use Rattle.command_line.specs.CommandLine.{IsFaulty, Spells, replay, create}
+use Rattle.command_line.specs.Create.{AsksToCreate, HasBadValue, value_in}
+use Rattle.command_line.specs.Options.{Given}
+use Rattle.command_line.specs.declared.create.CreateRequest.{CreateRequest}
 use Rattle.vol_replay.specs.declared.outcome.Outcome.{Outcome}
 use Rattle.vol_replay.specs.declared.outcome.Outcome.TheVariants as outcomes
+use Rattle.lsvdctl.specs.Creating.{TellsCreation}
 use Rattle.lsvdctl.specs.declared.report.Report.{Report}
-use Rattle.lsvdctl.specs.declared.report.Report.TheVariants.{Done, Fault, Usage, BadLine, Memory}
+use Rattle.lsvdctl.specs.declared.report.Report.TheVariants.{Done, Fault, Usage, BadLine, Exists, Memory}
+
+-- ---- replays
 
 -- how an outcome of a replay is reported
 abbrev pub report_of : Outcome → Report
@@ -25,14 +34,50 @@ IsReported script text (BadLine number reason) = IsTranscript script text (Stopp
 -- a front of the transcript stands there
 IsReported script text Fault = IsFrontOfTranscript script text
 IsReported script text Memory = IsFrontOfTranscript script text
--- nothing was run
-IsReported script text Usage = text ≡ []
+-- a replay does not end so
+IsReported script text Usage = ⊥
+IsReported script text Exists = ⊥
 
--- one call failed: one of the input, or one of the output
-abbrev pub CountsOneOf : (in_before in_now out_before out_now : ℕ) → Type 0
-CountsOneOf in_before in_now out_before out_now =
-    (CountsOne in_before in_now × (out_now ≡ out_before)) ⊎ ((in_now ≡ in_before) × CountsOne out_before out_now)
+-- the output took what the script on the input is answered with
+abbrev pub RunsReplay : Report → (input : Option (List ℕ)) → (old new : Option (List ℕ)) → Type 0
+RunsReplay report input old new =
+    IfSome input (λ script. (text : List ℕ) × Appends old new text × IsReported script text report)
 
--- no call failed
-abbrev pub CountsNone : (in_before in_now out_before out_now : ℕ) → Type 0
-CountsNone in_before in_now out_before out_now = (in_now ≡ in_before) × (out_now ≡ out_before)
+-- ---- creations
+
+-- the values of these options ask for a volume, and the output took what it is told with; or they ask for nothing, or
+-- memory ran out before they were read
+abbrev pub RunsCreate : List Given → Report → (old new : Option (List ℕ)) → Type 0
+RunsCreate options Usage old new = HasBadValue (value_in options) × (new ≡ old)
+RunsCreate options Memory old new = new ≡ old
+RunsCreate options report old new =
+    (request : CreateRequest) × AsksToCreate (value_in options) request × TellsCreation request report old new
+
+-- ---- runs
+
+-- What the output took for the words, where the run ended so: each words that are no faulty ones spell a command.
+pub record Runs (words : List Text) (report : Report) (input old new : Option (List ℕ)) : Type 0 where
+  pub replay : Spells words replay → RunsReplay report input old new
+  pub create : (options : List Given) → Spells words (create options) → RunsCreate options report old new
+  pub faulty : IsFaulty words → ((report ≡ Usage) ⊎ (report ≡ Memory)) × (new ≡ old)
+
+-- why words are refused: they are faulty, or the values of the options of `create` ask for nothing
+abbrev pub AreRefused : List Text → Type 0
+AreRefused words = IsFaulty words ⊎ ((options : List Given) × Spells words (create options) × HasBadValue (value_in options))
+
+-- ---- faults
+
+-- one call failed: one of two things that count theirs
+abbrev pub CountsOneOf : (first_before first_now second_before second_now : ℕ) → Type 0
+CountsOneOf first_before first_now second_before second_now =
+    (CountsOne first_before first_now × (second_now ≡ second_before)) ⊎ ((first_now ≡ first_before) × CountsOne second_before second_now)
+
+-- no call of them failed
+abbrev pub CountsNone : (first_before first_now second_before second_now : ℕ) → Type 0
+CountsNone first_before first_now second_before second_now = (first_now ≡ first_before) × (second_now ≡ second_before)
+
+-- one call failed: one of the world, of the input, or of the output
+abbrev pub CountsOneOfAll : (world_before world_now in_before in_now out_before out_now : ℕ) → Type 0
+CountsOneOfAll world_before world_now in_before in_now out_before out_now =
+    (CountsOne world_before world_now × CountsNone in_before in_now out_before out_now)
+    ⊎ ((world_now ≡ world_before) × CountsOneOf in_before in_now out_before out_now)

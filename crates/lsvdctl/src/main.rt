@@ -1,28 +1,37 @@
 //! The program `lsvdctl`.
 //!
 //! Its contract is that of `run`: what it writes and how it ends, for each command line and input. Words that ask for
-//! help are answered before, by `answer_help`. It stands on `command_line`, `vol_replay` and `lsvd_fault`.
+//! help are answered before, by `answer_help`. It stands on `command_line` for the words, on `vol_replay` and `vol_recover` for
+//! the commands, and on `lsvd_device`, `lsvd_objstore` and `lsvd_fault` for what it reaches outside itself.
 #![tactic(auto)]
 
+mod creating;
+mod error;
 mod help;
+mod mem_world;
 mod program;
+mod quiet_world;
+mod real_world;
 mod report;
+mod shared;
+#[cfg(test)]
+mod tests;
 mod world;
 
 use help::answer_help;
 use lsvd_fault::{ReadSource, Sink, WriteSink};
 use program::run;
+use real_world::RealWorld;
 use report::Report;
 use std::env;
 use std::io::ErrorKind;
 use std::process::ExitCode;
-use world::RealWorld;
 
 fn main(rt: HostRuntime) -> ExitCode {
     let mut input = ReadSource::new(rt.stdin());
     let mut out = WriteSink::new(rt.stdout());
     let mut err = WriteSink::new(rt.stderr());
-    let mut world = RealWorld::new();
+    let mut world = RealWorld::new(&rt);
     let words = match words(&rt) {
         Ok(words) => words,
         Err(report) => return ended(report, &mut err),

@@ -1,78 +1,102 @@
-ghost use Rattle.std.specs.Prelude.{◌≡◌, ◌≢◌, ◌⊎◌, List, ℕ, [], ◌∷◌, map, codes, string_bytes, IfSome};
-ghost use Rattle.std.specs.Io.KnownBytes.{Appends, IsAtEnd};
-ghost use Rattle.command_line.specs.CommandLine.{IsFaulty};
+ghost use Rattle.std.specs.Prelude.{◌≡◌, ◌≢◌, ◌⊎◌, ◌<◌, ◌+◌, ◌*◌, List, ℕ, [], ◌∷◌, map, codes, string_bytes};
+ghost use Rattle.std.specs.Io.KnownBytes.{IsAtEnd};
+ghost use Rattle.std.specs.List.{flat_map};
+ghost use Rattle.lsvd_base.specs.declared.geometry.Geometry.{Geometry};
+ghost use Rattle.command_line.specs.CommandLine.{IsFaulty, Spells, replay, create};
+ghost use Rattle.command_line.specs.Create.{AreValid, HasBadUuid, value_in};
+ghost use Rattle.command_line.specs.Options.{Given, option_words};
 ghost use Rattle.lsvdctl.specs.Report.{status_of, line_of, IsTold};
-ghost use Rattle.lsvdctl.specs.Run.{IsReported, CountsOneOf, CountsNone, report_of};
+ghost use Rattle.lsvdctl.specs.Run.{AreRefused, CountsOneOf, CountsOneOfAll, CountsNone, Runs, report_of};
+ghost use Rattle.lsvdctl.specs.World.{IsConstant};
 
+use crate::creating::answer_create;
 use crate::report::Report;
 use crate::world::World;
 use command_line::{CommandLineError, Request, request_of};
-use lsvd_fault::{Sink, Source};
 use std::alloc::Global;
 use vol_replay::{Outcome, replay};
 
 /// Runs the program on the words after its name, and answers its exit status.
 ///
-/// `replay` reads a script from `input` and writes its transcript to `out`; a line on `err` tells each end
-/// but a good one. Words that ask for help are faulty here: `answer_help` is asked first.
+/// `replay` reads a script from `input` and writes its transcript to `out`. `create` makes a volume in a store and a disk
+/// that the world gives, and writes its uuid to `out`. A line on `err` tells each end but a good one. Words that ask for
+/// help are faulty here: `answer_help` is asked first.
 pub fn run<W: World>(
     alloc: Global,
     words: &[String],
-    _world: &mut W,
+    world: &mut W,
     input: &mut W::In,
     out: &mut W::Out,
     err: &mut W::Err,
 ) -> u8
-    // 0: each line is answered. 3: a line is bad. 1 or 4: a fault, or memory ran out. The output and the line on
-    // the error stream say so too.
+    // 0: it is done. 3: a line is bad, or the volume exists. 1 or 4: a fault, or memory ran out. The output and the line
+    // on the error stream say so too.
     ensures report { (report : Report) × (result ≡ status_of report)
         × IsTold (W.Err.contents err.old) (W.Err.contents err.new) (W.Err.faults err.old) (W.Err.faults err.new) (line_of report)
-        × IfSome (W.In.remaining input.old) (λ script. (text : List ℕ)
-        × Appends (W.Out.contents out.old) (W.Out.contents out.new) text × IsReported script text report) }
+        × Runs (map string_bytes words.now) report (W.In.remaining input.old) (W.Out.contents out.old) (W.Out.contents out.new) }
 
-    // The input was read to its end.
-    ensures end { result ≡ 0 → IsAtEnd (W.In.remaining input.new) }
+    // The input of a script was read to its end, and the world was asked for nothing. A creation reads no input.
+    ensures end { Spells (map string_bytes words.now) replay → result ≡ 0 → IsAtEnd (W.In.remaining input.new) }
+    ensures replay_world { Spells (map string_bytes words.now) replay → world.new ≡ world.old }
+    ensures create_input { (options : List Given) → Spells (map string_bytes words.now) (create options) → input.new ≡ input.old }
 
-    // 2 is for faulty words alone, so never for the one word `replay`.
-    ensures usage { result ≡ 2 → IsFaulty (map string_bytes words.now) }
+    // 2 is for words that are refused, so never for the one word `replay`, and for plain options of `create` only where a
+    // text is no uuid or a log is too short. Then nothing was read, written or made.
+    ensures usage { result ≡ 2 → AreRefused (map string_bytes words.now) }
     ensures replay { map string_bytes words.now ≡ codes "replay" ∷ [] → result ≢ 2 }
-
-    // Then nothing was read or written.
-    ensures untouched { result ≡ 2 → (input.new ≡ input.old) × (out.new ≡ out.old) }
+    ensures valid { (options : List Given) (sizes : Geometry) → AreValid options sizes
+        → map string_bytes words.now ≡ codes "create" ∷ flat_map option_words options
+        → result ≡ 2 → HasBadUuid (value_in options) ⊎ (sizes.log < 2 * (sizes.max_write + 1)) }
+    ensures untouched { result ≡ 2 → (world.new ≡ world.old) × (input.new ≡ input.old) × (out.new ≡ out.old) }
 
     // Faulty words end with 2, or with 4 where memory ran out while they were judged, and nothing is run of them.
     ensures faulty { IsFaulty (map string_bytes words.now)
-        → ((result ≡ 2) ⊎ (result ≡ 4)) × (input.new ≡ input.old) × (out.new ≡ out.old) }
+        → ((result ≡ 2) ⊎ (result ≡ 4)) × (world.new ≡ world.old) × (input.new ≡ input.old) × (out.new ≡ out.old) }
 
-    // 1 is for one call that failed, and every other status for none.
-    ensures fault { result ≡ 1 → CountsOneOf (W.In.faults input.old) (W.In.faults input.new) (W.Out.faults out.old) (W.Out.faults out.new) }
-    ensures no_fault { result ≢ 1 → CountsNone (W.In.faults input.old) (W.In.faults input.new) (W.Out.faults out.old) (W.Out.faults out.new) }
+    // 1 is for one call that failed, and every other status for none. A disk and a store that the world gave end here; where
+    // they never count a fault, the call was one of the world, of the input or of the output.
+    ensures fault { result ≡ 1 → IsConstant (λ disk. (W.Disk.state disk).faults) → IsConstant (λ store. (W.Store.state store).faults)
+        → CountsOneOfAll (W.faults world.old) (W.faults world.new) (W.In.faults input.old) (W.In.faults input.new) (W.Out.faults out.old) (W.Out.faults out.new) }
+    ensures replay_fault { Spells (map string_bytes words.now) replay → result ≡ 1
+        → CountsOneOf (W.In.faults input.old) (W.In.faults input.new) (W.Out.faults out.old) (W.Out.faults out.new) }
+    ensures no_fault { result ≢ 1 → (W.faults world.new ≡ W.faults world.old)
+        × CountsNone (W.In.faults input.old) (W.In.faults input.new) (W.Out.faults out.old) (W.Out.faults out.new) }
 {
-    let report = execute::<W::In, W::Out>(alloc, words, input, out);
+    let report = execute(alloc, words, world, input, out);
     report.tell(err);
     report.status()
 }
 
 // Does what the words ask for, and says how it ended.
-fn execute<I: Source, O: Sink>(
+fn execute<W: World>(
     alloc: Global,
     words: &[String],
-    input: &mut I,
-    out: &mut O,
+    world: &mut W,
+    input: &mut W::In,
+    out: &mut W::Out,
 ) -> Report
-    ensures output { IfSome (I.remaining input.old) (λ script. (text : List ℕ)
-        × Appends (O.contents out.old) (O.contents out.new) text × IsReported script text result) }
-    ensures end { result ≡ Report.Done → IsAtEnd (I.remaining input.new) }
-    ensures usage { result ≡ Report.Usage → IsFaulty (map string_bytes words.now) }
+    ensures output { Runs (map string_bytes words.now) result (W.In.remaining input.old) (W.Out.contents out.old) (W.Out.contents out.new) }
+    ensures end { Spells (map string_bytes words.now) replay → result ≡ Report.Done → IsAtEnd (W.In.remaining input.new) }
+    ensures replay_world { Spells (map string_bytes words.now) replay → world.new ≡ world.old }
+    ensures create_input { (options : List Given) → Spells (map string_bytes words.now) (create options) → input.new ≡ input.old }
+    ensures usage { result ≡ Report.Usage → AreRefused (map string_bytes words.now) }
     ensures replay { map string_bytes words.now ≡ codes "replay" ∷ [] → result ≢ Report.Usage }
+    ensures valid { (options : List Given) (sizes : Geometry) → AreValid options sizes
+        → map string_bytes words.now ≡ codes "create" ∷ flat_map option_words options
+        → result ≡ Report.Usage → HasBadUuid (value_in options) ⊎ (sizes.log < 2 * (sizes.max_write + 1)) }
+    ensures untouched { result ≡ Report.Usage → (world.new ≡ world.old) × (input.new ≡ input.old) × (out.new ≡ out.old) }
     ensures faulty { IsFaulty (map string_bytes words.now)
-        → ((result ≡ Report.Usage) ⊎ (result ≡ Report.Memory)) × (input.new ≡ input.old) × (out.new ≡ out.old) }
-    ensures untouched { result ≡ Report.Usage → (input.new ≡ input.old) × (out.new ≡ out.old) }
-    ensures fault { result ≡ Report.Fault → CountsOneOf (I.faults input.old) (I.faults input.new) (O.faults out.old) (O.faults out.new) }
-    ensures no_fault { result ≢ Report.Fault → CountsNone (I.faults input.old) (I.faults input.new) (O.faults out.old) (O.faults out.new) }
+        → ((result ≡ Report.Usage) ⊎ (result ≡ Report.Memory)) × (world.new ≡ world.old) × (input.new ≡ input.old) × (out.new ≡ out.old) }
+    ensures fault { result ≡ Report.Fault → IsConstant (λ disk. (W.Disk.state disk).faults) → IsConstant (λ store. (W.Store.state store).faults)
+        → CountsOneOfAll (W.faults world.old) (W.faults world.new) (W.In.faults input.old) (W.In.faults input.new) (W.Out.faults out.old) (W.Out.faults out.new) }
+    ensures replay_fault { Spells (map string_bytes words.now) replay → result ≡ Report.Fault
+        → CountsOneOf (W.In.faults input.old) (W.In.faults input.new) (W.Out.faults out.old) (W.Out.faults out.new) }
+    ensures no_fault { result ≢ Report.Fault → (W.faults world.new ≡ W.faults world.old)
+        × CountsNone (W.In.faults input.old) (W.In.faults input.new) (W.Out.faults out.old) (W.Out.faults out.new) }
 {
     match request_of(alloc, words) {
         Ok(Request::Replay) => report_of(replay(alloc, input, out)),
+        Ok(Request::Create(request)) => answer_create(alloc, &request, world, out),
         Err(CommandLineError::Usage) => Report::Usage,
         Err(CommandLineError::OutOfMemory) => Report::Memory,
     }
@@ -105,7 +129,7 @@ fn told(outcome: &Outcome) -> Report
 #[cfg(test)]
 mod tests {
     use super::*;
-    use crate::world::MemWorld;
+    use crate::mem_world::MemWorld;
     use lsvd_fault::{MemSink, MemSource};
     use std::alloc::AllocError;
     use std::test::Fail;
@@ -222,7 +246,7 @@ mod tests {
             let mut input = MemSource::new(case.script.to_vec(alloc)?);
             let mut out = MemSink::new(alloc);
             let mut err = MemSink::new(alloc);
-            let mut world = MemWorld;
+            let mut world = MemWorld::new(alloc);
             let status = run(
                 alloc,
                 words.as_slice(),
@@ -252,7 +276,7 @@ mod tests {
                 .failing_at(read_fails);
             let mut out = MemSink::new(alloc).in_pieces(9).failing_at(write_fails);
             let mut err = MemSink::new(alloc);
-            let mut world = MemWorld;
+            let mut world = MemWorld::new(alloc);
             let status = run(
                 alloc,
                 words.as_slice(),
@@ -275,7 +299,7 @@ mod tests {
         let mut input = MemSource::new(b"\n".to_vec(alloc)?);
         let mut out = MemSink::new(alloc);
         let mut err = MemSink::new(alloc).in_pieces(4).failing_at(1);
-        let mut world = MemWorld;
+        let mut world = MemWorld::new(alloc);
         let status = run(
             alloc,
             words.as_slice(),

@@ -3,7 +3,7 @@ ghost use Rattle.lsvdctl.specs.Report.{status_of, line_of, IsTold};
 
 use arrayvec::ArrayString;
 use itoa::Buffer;
-use lsvd_fault::{Failed, Sink, write_all};
+use lsvd_fault::{Sink, write_all};
 use vol_replay::Reason;
 
 /// How a run of the program ended.
@@ -17,6 +17,8 @@ pub enum Report {
     Usage,
     /// This line of the script, counted from 1, is bad.
     BadLine { number: u64, reason: Reason },
+    /// The volume that was to be created exists: refusal 11.
+    Exists,
     /// Memory ran out.
     Memory,
 }
@@ -30,7 +32,7 @@ impl Report {
             Report::Done => 0,
             Report::Fault => 1,
             Report::Usage => 2,
-            Report::BadLine { .. } => 3,
+            Report::BadLine { .. } | Report::Exists => 3,
             Report::Memory => 4,
         }
     }
@@ -40,21 +42,29 @@ impl Report {
     pub fn tell<E: Sink>(self, err: &mut E)
         ensures told { IsTold (E.contents err.old) (E.contents err.new) (E.faults err.old) (E.faults err.new) (line_of self) }
     {
-        let _ = match self {
-            Report::Done => Ok(()),
-            Report::Fault => write_all(err, b"fault\n"),
-            Report::Usage => write_all(err, b"usage\n"),
+        match self {
+            Report::Done => {}
+            Report::Fault => tell_line(err, b"fault\n"),
+            Report::Usage => tell_line(err, b"usage\n"),
             Report::BadLine { number, reason } => tell_bad_line(err, number, reason),
-            Report::Memory => write_all(err, b"memory\n"),
-        };
+            Report::Exists => tell_line(err, b"refused 11\n"),
+            Report::Memory => tell_line(err, b"memory\n"),
+        }
     }
+}
+
+// Writes a line, or a front of it.
+fn tell_line<E: Sink>(err: &mut E, line: &[u8])
+    ensures told { IsTold (E.contents err.old) (E.contents err.new) (E.faults err.old) (E.faults err.new) line.now }
+{
+    let _ = write_all(err, line);
 }
 
 // The most bytes of a line that tells a bad line.
 const LINE_BYTES: usize = 64;
 
 // The line that tells a bad line, as one write.
-fn tell_bad_line<E: Sink>(err: &mut E, number: u64, reason: Reason) -> Result<(), Failed>
+fn tell_bad_line<E: Sink>(err: &mut E, number: u64, reason: Reason)
     ensures told { IsTold (E.contents err.old) (E.contents err.new) (E.faults err.old) (E.faults err.new) (line_of (Report.BadLine number reason)) }
 {
     let mut line = ArrayString::<LINE_BYTES>::new();
@@ -63,5 +73,5 @@ fn tell_bad_line<E: Sink>(err: &mut E, number: u64, reason: Reason) -> Result<()
     line.push_str(" reason ");
     line.push_str(Buffer::new().format(reason.code()));
     line.push_str("\n");
-    write_all(err, line.as_bytes())
+    tell_line(err, line.as_bytes());
 }

@@ -2,12 +2,14 @@ use Rattle.std.proofs.Common.{rules, ◌≡◌, ◌∙◌, ap₂}
 use Rattle.std.proofs.lemmas.Result.{IfOk-weaker}
 use Rattle.clap.specs.Words.{app_of}
 use Rattle.clap.specs.Simple.{with_subcommand}
-use Rattle.command_line.specs.Program.{bare, lsvdctl}
+use Rattle.command_line.specs.Program.{bare, lsvdctl, replay}
 use Rattle.command_line.proofs.program.program.Goals as goal
 
 pub returns : goal.returns
 unfolding lsvdctl
 returns c =
     let above : app_of c.disable_help_subcommand.result ≡ bare = search rules in
-    IfOk-weaker c.subcommand.result _ _ (λ program added. added.shape c.replay_command.ensures.local
-    ∙ ap₂ with_subcommand above c.replay_command.ensures.shape) c.subcommand.ensures
+    let one : app_of c.in_ok-subcommand.field-0 ≡ with_subcommand bare replay =
+    c.in_ok-subcommand.ensures.shape c.replay_command.ensures.local ∙ ap₂ with_subcommand above c.replay_command.ensures.shape in
+    IfOk-weaker c.subcommand-2.result _ _ (λ program added. added.shape c.in_ok-create_command.ensures.local
+    ∙ ap₂ with_subcommand one c.in_ok-create_command.ensures.shape) c.subcommand-2.ensures

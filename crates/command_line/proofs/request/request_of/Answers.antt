@@ -1,52 +1,82 @@
-use Rattle.std.proofs.Common.{◌≡◌, ◌≢◌, ◌∙◌, List, [], ◌∷◌, inl, inr, ap, refl, sym, subst, map, string_bytes}
-use Rattle.std.specs.Prelude.{Result, Ok, Err, IsErrOf}
+use Rattle.std.proofs.Common.{List, inl, inr, map, string_bytes, subst, sym}
+use Rattle.std.specs.Prelude.{Err, Ok}
 use Rattle.clap.specs.Walk.{Text}
-use Rattle.command_line.specs.CommandLine.{Spells, faults_of, name_of}
+use Rattle.clap.specs.Simple.{subcommand_of}
+use Rattle.command_line.specs.CommandLine.{IsRead, Line, Spells, create, faults_of, replay}
+use Rattle.command_line.specs.Program.{lsvdctl}
 use Rattle.command_line.specs.declared.request.CommandLineError.{CommandLineError}
 use Rattle.command_line.specs.declared.request.CommandLineError.TheVariants.{Usage}
-use Rattle.command_line.specs.declared.request.Request.{Request}
-use Rattle.command_line.specs.declared.request.Request.TheVariants.{Replay}
-use Rattle.command_line.proofs.Lines.{answer_of_taken, error_of_taken, first_is_spelled, nothing_is_spelled, spelled_is_taken, taken_is_spelled}
+use Rattle.command_line.proofs.Lines.{IsFound, error_of_taken, spelled_is_found, spelled_is_taken, spells_a_command, taken_is_spelled}
+use Rattle.command_line.proofs.Requests.{found_asks, found_asks_nothing, replay_is_read, valid_is_read}
 use Rattle.command_line.proofs.request.request_of.Goals as goal
+use Rattle.command_line.proofs.request.request_of.Goals.{Joined-error, Joined-matches, Joined-matches-2}
 
-abbrev Answer : Type 0
-Answer = Result Request CommandLineError
+-- what clap finds in the words of a line, as its matches
+found_in : (words : List Text) (line : Line) (spelled : Spells words line) → IsFound line (subcommand_of lsvdctl words)
+found_in words line spelled = spelled_is_found words line spelled
 
-not_usage : (result : Answer) (answer : (request : Request) × (result ≡ Ok request)) → IsErrOf result Usage → ⊥
-not_usage result answer usage = let differ : Ok answer.0 ≡ Err Usage = sym answer.1 ∙ usage in cc
+-- ---- clap refuses the words
 
-only_replay : (request : Request) → request ≡ Replay
-only_replay Replay = refl
+read_of_error : (c : Joined-error) (line : Line) → Spells (map string_bytes c.args.words.now) line → IsRead line (Err c.cause_of.result)
+read_of_error c line spelled =
+    let words = map string_bytes c.args.words.now in
+    let memory = error_of_taken (faults_of words) c.in-Err.error c.in-Err.ensures.kinds (spelled_is_taken words line spelled) in
+    let P : CommandLineError → Type 0 = λ e. IsRead line (Err e) in
+    subst P (sym (c.cause_of.ensures.memory memory)) tt
 
-no_words : (words : List Text) → words ≡ [] → faults_of words ≡ [] → ⊥
-no_words words none taken =
-    let spelled = taken_is_spelled words taken in
-    nothing_is_spelled spelled.0 (subst (λ (w : List Text). Spells w spelled.0) none spelled.1)
-
-no_command : (words : List Text) (first : Text) (rest : List Text) → words ≡ first ∷ rest → ((request : Request) → name_of request ≢ first)
-    → faults_of words ≡ [] → ⊥
-no_command words first rest is unknown taken =
-    let spelled = taken_is_spelled words taken in
-    unknown spelled.0 (first_is_spelled spelled.0 first rest (subst (λ (w : List Text). Spells w spelled.0) is spelled.1))
-
-pub returns-in-Ok-clause-usage : goal.returns-in-Ok-clause-usage
-returns-in-Ok-clause-usage c =
-    let found = answer_of_taken (map string_bytes c.args.words.now) c.request_in.result _ c.in-Ok.ensures.kinds c.in-Ok.ensures.command c.request_in.ensures.none in
-    λ usage. absurd (not_usage c.ok_or.result (found.0, c.ok_or.ensures.value ∙ found.1) usage)
-
-pub returns-in-Ok-clause-replay : goal.returns-in-Ok-clause-replay
-returns-in-Ok-clause-replay c =
-    let found = answer_of_taken (map string_bytes c.args.words.now) c.request_in.result _ c.in-Ok.ensures.kinds c.in-Ok.ensures.command c.request_in.ensures.none in
-    λ replay. inl (c.ok_or.ensures.value ∙ found.1 ∙ ap (λ (r : Request). Ok r) (only_replay found.0))
-
-pub returns-in-Ok-clause-empty : goal.returns-in-Ok-clause-empty
-returns-in-Ok-clause-empty c none = absurd (no_words (map string_bytes c.args.words.now) (ap (map string_bytes) none) c.in-Ok.ensures.kinds)
-
-pub returns-in-Ok-clause-unknown : goal.returns-in-Ok-clause-unknown
-returns-in-Ok-clause-unknown c first rest is unknown =
-    absurd (no_command (map string_bytes c.args.words.now) first rest is unknown c.in-Ok.ensures.kinds)
+pub returns-in-Err-clause-line : goal.returns-in-Err-clause-line
+returns-in-Err-clause-line c = read_of_error c
 
 pub returns-in-Err-clause-replay : goal.returns-in-Err-clause-replay
-returns-in-Err-clause-replay c is =
-    inr (ap (λ (e : CommandLineError). Err e) (c.cause_of.ensures.memory (error_of_taken (faults_of (map string_bytes c.args.words.now)) c.in-Err.error
-    c.in-Err.ensures.kinds (spelled_is_taken (map string_bytes c.args.words.now) Replay (inl is)))))
+returns-in-Err-clause-replay c is = replay_is_read (Err c.cause_of.result) (read_of_error c replay (inl is))
+
+pub returns-in-Err-clause-valid : goal.returns-in-Err-clause-valid
+returns-in-Err-clause-valid c options sizes valid is =
+    valid_is_read options sizes (Err c.cause_of.result) valid (read_of_error c (create options) (valid.are, inl is))
+
+-- ---- the matches make a request
+
+read_of_request : (c : Joined-matches) (line : Line) → Spells (map string_bytes c.args.words.now) line → IsRead line (Ok c.in-Some.request)
+read_of_request c line spelled =
+    found_asks line _ c.in-Some.request (subst (IsFound line) (sym c.in-Ok.ensures.met)
+    (spelled_is_found (map string_bytes c.args.words.now) line spelled))
+    c.in-Some.ensures.found
+
+pub returns-in-Some-clause-ok : goal.returns-in-Some-clause-ok
+returns-in-Some-clause-ok c =
+    let spelled = taken_is_spelled (map string_bytes c.args.words.now) c.in-Ok.ensures.kinds in
+    (spelled.0, spelled.1, read_of_request c spelled.0 spelled.1)
+
+pub returns-in-Some-clause-line : goal.returns-in-Some-clause-line
+returns-in-Some-clause-line c = read_of_request c
+
+pub returns-in-Some-clause-replay : goal.returns-in-Some-clause-replay
+returns-in-Some-clause-replay c is = replay_is_read (Ok c.in-Some.request) (read_of_request c replay (inl is))
+
+pub returns-in-Some-clause-unknown : goal.returns-in-Some-clause-unknown
+returns-in-Some-clause-unknown c first rest is unknown =
+    let spelled = taken_is_spelled (map string_bytes c.args.words.now) c.in-Ok.ensures.kinds in
+    absurd (spells_a_command first rest spelled.0 (subst (λ (words : List Text). Spells words spelled.0) is spelled.1) unknown)
+
+-- ---- the matches make none
+
+read_of_none : (c : Joined-matches-2) (line : Line) → Spells (map string_bytes c.args.words.now) line → IsRead line (Err Usage)
+read_of_none c line spelled =
+    found_asks_nothing (map string_bytes c.args.words.now) line _ spelled
+    (subst (IsFound line) (sym c.in-Ok.ensures.met) (spelled_is_found (map string_bytes c.args.words.now) line spelled))
+    c.in-None.ensures.none
+
+pub returns-clause-usage : goal.returns-clause-usage
+returns-clause-usage c usage =
+    let spelled = taken_is_spelled (map string_bytes c.args.words.now) c.in-Ok.ensures.kinds in
+    inr (spelled.0, spelled.1, read_of_none c spelled.0 spelled.1)
+
+pub returns-clause-line : goal.returns-clause-line
+returns-clause-line c = read_of_none c
+
+pub returns-clause-replay : goal.returns-clause-replay
+returns-clause-replay c is = replay_is_read (Err Usage) (read_of_none c replay (inl is))
+
+pub returns-clause-valid : goal.returns-clause-valid
+returns-clause-valid c options sizes valid is =
+    valid_is_read options sizes (Err Usage) valid (read_of_none c (create options) (valid.are, inl is))
