@@ -1,0 +1,183 @@
+-- Calls of an owner, made of steps and puts.
+use Rattle.std.proofs.Common.{◌≡◌, ℕ, ◌+◌, ◌≤◌, inl, inr, Bool, true, false, List, [], refl, sym, ◌∙◌, ap, subst}
+use Rattle.std.specs.Prelude.{Option, Some, None, Result, Ok, Err, IsOkUnless, IsErrOf, IsErrAnd}
+use Rattle.lsvd_base.specs.declared.entry.Entry.{Entry}
+use Rattle.lsvd_fault.specs.Faults.{Counts}
+use Rattle.lsvd_names.specs.declared.name.ObjName.{ObjName}
+use Rattle.lsvd_objstore.specs.declared.error.StoreError.{StoreError}
+use Rattle.lsvd_objstore.specs.declared.error.StoreError.TheVariants as store_errors
+use Rattle.lsvd_objstore.specs.Objects.{Objects, found, IsPut, MayBePut}
+use Rattle.lsvd_objstore.specs.Store.{StoreState, OnlyCounts, Becomes, has_failed}
+use Rattle.object_stream.specs.Replay.{name_of}
+use Rattle.vol_core.specs.Volume.{SteppedVolume}
+use Rattle.volume_owner.specs.Calls.{KeepsOtherNames, CountsEitherFault, MakesSteps, IsCall, added_by}
+use Rattle.volume_owner.specs.declared.error.OwnerError.{OwnerError}
+use Rattle.volume_owner.specs.declared.error.OwnerError.TheVariants as errors
+use Rattle.volume_owner.specs.Errors.{is_eio, of_store}
+use Rattle.volume_owner.proofs.StepLemmas.{makes_then, makes_fewer}
+
+-- ---- the store
+
+pub becomes_by : (P Q : Objects → Objects → Type 0) → ((old new : Objects) → P old new → Q old new) → (old new : Option Objects)
+    → Becomes P old new → Becomes Q old new
+becomes_by P Q follows None new is = is
+becomes_by P Q follows (Some old) new is = (is.0, is.1, follows old is.0 is.2)
+
+pub becomes_same : (uuid : List ℕ) (objects : Option Objects) → Becomes (KeepsOtherNames uuid) objects objects
+becomes_same uuid None = refl
+becomes_same uuid (Some objects) = (objects, refl, λ name other. refl)
+
+becomes_then : (uuid : List ℕ) (old mid new : Option Objects) → Becomes (KeepsOtherNames uuid) old mid → Becomes (KeepsOtherNames uuid) mid new
+    → Becomes (KeepsOtherNames uuid) old new
+becomes_then uuid None mid new first second = subst (λ o. Becomes (KeepsOtherNames uuid) o new) first second
+becomes_then uuid (Some old) mid new first second =
+    let next = subst (λ o. Becomes (KeepsOtherNames uuid) o new) first.1 second in
+    (next.0, next.1, λ name other. next.2 name other ∙ first.2 name other)
+
+-- a put of a numbered object of a volume
+pub put_keeps : (uuid : List ℕ) (number : ℕ) (name : ObjName) (bytes : List ℕ) → name ≡ name_of uuid number → (old new : Objects)
+    → IsPut name bytes old new → KeepsOtherNames uuid old new
+put_keeps uuid number name bytes is old new put other not_own = put.others other (λ same. not_own number (same ∙ is))
+
+may_keep : (uuid : List ℕ) (number : ℕ) (name : ObjName) (bytes : List ℕ) → name ≡ name_of uuid number → (old new : Objects)
+    → MayBePut name bytes old new → KeepsOtherNames uuid old new
+may_keep uuid number name bytes is old new (inl same) other not_own = ap (λ o. found o other) same
+may_keep uuid number name bytes is old new (inr put) other not_own = put_keeps uuid number name bytes is old new put other not_own
+
+-- ---- faults
+
+pub disk_counts : (failed : Bool) (old_disk new_disk store : ℕ) → Counts failed old_disk new_disk → CountsEitherFault failed old_disk new_disk store store
+disk_counts false old_disk new_disk store counts = (counts, refl)
+disk_counts true old_disk new_disk store counts = inl (counts, refl)
+
+pub store_counts : (failed : Bool) (disk old_store new_store : ℕ) → Counts failed old_store new_store → CountsEitherFault failed disk disk old_store new_store
+store_counts false disk old_store new_store counts = (refl, counts)
+store_counts true disk old_store new_store counts = inr (refl, counts)
+
+-- ---- calls
+
+pub quiet_call : (most : ℕ) (added : List Entry) (old new : SteppedVolume) (store : StoreState) → MakesSteps most added old new
+    → new.volume.log.commits.disk.faults ≡ old.volume.log.commits.disk.faults → IsCall most added false old new store store
+quiet_call most added old new store makes same = record {
+  steps = makes;
+  store = becomes_same old.volume.objects.uploads.uuid store.objects;
+  faults = (same, refl);
+}
+
+pub disk_call : (most : ℕ) (added : List Entry) (failed : Bool) (old new : SteppedVolume) (store : StoreState) → MakesSteps most added old new
+    → Counts failed old.volume.log.commits.disk.faults new.volume.log.commits.disk.faults → IsCall most added failed old new store store
+disk_call most added failed old new store makes counts = record {
+  steps = makes;
+  store = becomes_same old.volume.objects.uploads.uuid store.objects;
+  faults = disk_counts failed old.volume.log.commits.disk.faults new.volume.log.commits.disk.faults store.faults counts;
+}
+
+pub call_then : (m n : ℕ) (added : List Entry) (failed : Bool) (old mid new : SteppedVolume) (first second third : StoreState)
+    → IsCall m [] false old mid first second → IsCall n added failed mid new second third → IsCall (m + n) added failed old new first third
+call_then m n added failed old mid new first second third one two = record {
+  steps = makes_then m n added old mid new one.steps two.steps;
+  store =
+      becomes_then old.volume.objects.uploads.uuid first.objects second.objects third.objects one.store
+      (subst (λ u. Becomes (KeepsOtherNames u) second.objects third.objects) one.steps.sizes.uuid two.store);
+  faults =
+      subst (λ d. CountsEitherFault failed d new.volume.log.commits.disk.faults first.faults third.faults) one.faults.0
+      (subst (λ s. CountsEitherFault failed mid.volume.log.commits.disk.faults new.volume.log.commits.disk.faults s third.faults) one.faults.1 two.faults);
+}
+
+pub call_fewer : (m n : ℕ) (added : List Entry) (failed : Bool) (old new : SteppedVolume) (first second : StoreState) → m ≤ n
+    → IsCall m added failed old new first second → IsCall n added failed old new first second
+call_fewer m n added failed old new first second less call = record {
+  steps = makes_fewer m n added old new less call.steps;
+  store = call.store;
+  faults = call.faults;
+}
+
+-- ---- a put
+
+-- the name of a job, made of the volume's uuid and the job's number
+pub job_name : (name job : ObjName) (uuid told : List ℕ) (number : ℕ) → name ≡ name_of told number → told ≡ uuid → number ≡ job.number
+    → name ≡ name_of uuid job.number
+job_name name job uuid told number is same_uuid same_number =
+    is ∙ ap (λ u. name_of u number) same_uuid ∙ ap (name_of uuid) same_number
+
+pub put_call : (uuid : List ℕ) (number : ℕ) (name : ObjName) (bytes : List ℕ) (old new : SteppedVolume) (first second : StoreState)
+    → old.volume.objects.uploads.uuid ≡ uuid → name ≡ name_of uuid number → Becomes (IsPut name bytes) first.objects second.objects
+    → second.faults ≡ first.faults → MakesSteps 1 [] old new → new.volume.log.commits.disk.faults ≡ old.volume.log.commits.disk.faults
+    → IsCall 1 [] false old new first second
+put_call uuid number name bytes old new first second uuid_is is put counted makes same = record {
+  steps = makes;
+  store = subst (λ u. Becomes (KeepsOtherNames u) first.objects second.objects) (sym uuid_is)
+      (becomes_by (IsPut name bytes) (KeepsOtherNames uuid) (put_keeps uuid number name bytes is) first.objects second.objects put);
+  faults = (same, counted);
+}
+
+pub failed_put_call : (T : Type 0) (error : StoreError) (uuid : List ℕ) (number : ℕ) (name : ObjName) (bytes : List ℕ) (old new : SteppedVolume)
+    (first second : StoreState) → old.volume.objects.uploads.uuid ≡ uuid → name ≡ name_of uuid number
+    → (error ≡ store_errors.Failed → Becomes (MayBePut name bytes) first.objects second.objects)
+    → (error ≡ store_errors.OutOfMemory → second ≡ first) → Counts (has_failed {T = T} (Err error)) first.faults second.faults
+    → MakesSteps 1 [] old new → new.volume.log.commits.disk.faults ≡ old.volume.log.commits.disk.faults
+    → IsCall 1 [] (is_eio {T = Unit {0}} (Err (of_store error))) old new first second
+failed_put_call T store_errors.Failed uuid number name bytes old new first second uuid_is is failed unchanged counts makes same = record {
+  steps = makes;
+  store = subst (λ u. Becomes (KeepsOtherNames u) first.objects second.objects) (sym uuid_is)
+      (becomes_by (MayBePut name bytes) (KeepsOtherNames uuid) (may_keep uuid number name bytes is) first.objects second.objects (failed refl));
+  faults = inr (same, counts);
+}
+failed_put_call T store_errors.OutOfMemory uuid number name bytes old new first second uuid_is is failed unchanged counts makes same =
+    subst (λ s. IsCall 1 [] false old new first s) (sym (unchanged refl)) (quiet_call 1 [] old new first makes same)
+
+-- ---- want of memory
+
+-- a result that is Ok, or tells that memory ran out, tells no fault, and no range
+pub memory_alone : (result : Result (Unit {0}) OwnerError) → IsOkUnless result errors.OutOfMemory → is_eio result ≡ false
+memory_alone (Ok value) is = refl
+memory_alone (Err errors.Range) is = refl
+memory_alone (Err errors.Eio) is = let bad : ⊥ = cc in absurd bad
+memory_alone (Err errors.OutOfMemory) is = refl
+
+pub memory_no_range : (result : Result (Unit {0}) OwnerError) → IsOkUnless result errors.OutOfMemory → IsErrOf result errors.Range → ⊥
+memory_no_range (Ok value) is range = cc
+memory_no_range (Err errors.Range) is range = let bad : ⊥ = cc in bad
+memory_no_range (Err errors.Eio) is range = cc
+memory_no_range (Err errors.OutOfMemory) is range = cc
+
+-- ---- an error that is handed on
+
+pub handed_on : (result : Result ℕ OwnerError) (error : OwnerError) → IsErrAnd result (λ e. e ≡ error) → result ≡ Err error
+handed_on (Ok value) error is = let bad : ⊥ = is in absurd bad
+handed_on (Err other) error is = ap Err is
+
+-- a call that ends with it
+pub call_ends : (entry : Entry) (most : ℕ) (result : Result ℕ OwnerError) (error : OwnerError) (old new : SteppedVolume) (first second : StoreState)
+    → IsErrAnd result (λ e. e ≡ error) → IsCall most [] (is_eio {T = ℕ} (Err error)) old new first second
+    → IsCall most (added_by entry result) (is_eio result) old new first second
+call_ends entry most result error old new first second is call =
+    subst (λ (r : Result ℕ OwnerError). IsCall most (added_by entry r) (is_eio r) old new first second) (sym (handed_on result error is)) call
+
+pub call_ends_none : (most : ℕ) (result : Result ℕ OwnerError) (error : OwnerError) (old new : SteppedVolume) (first second : StoreState)
+    → IsErrAnd result (λ e. e ≡ error) → IsCall most [] (is_eio {T = ℕ} (Err error)) old new first second
+    → IsCall most [] (is_eio result) old new first second
+call_ends_none most result error old new first second is call =
+    subst (λ (r : Result ℕ OwnerError). IsCall most [] (is_eio r) old new first second) (sym (handed_on result error is)) call
+
+-- the same error tells the same of any call
+pub same_eio : (A B : Type 0) (error : OwnerError) → is_eio {T = A} (Err error) ≡ is_eio {T = B} (Err error)
+same_eio A B errors.Range = refl
+same_eio A B errors.Eio = refl
+same_eio A B errors.OutOfMemory = refl
+
+-- ---- a read
+
+-- a look, a fetch, and the release of the plan
+pub read_call : (most : ℕ) (failed : Bool) (old mid last : SteppedVolume) (first second : StoreState) → 2 ≤ most → MakesSteps 1 [] old mid → MakesSteps 1 [] mid last
+    → mid.volume.log.commits.disk.faults ≡ old.volume.log.commits.disk.faults → last.volume.log.commits.disk.faults ≡ mid.volume.log.commits.disk.faults
+    → OnlyCounts first second → Counts failed first.faults second.faults → IsCall most [] failed old last first second
+read_call most failed old mid last first second two look release looked released only counts =
+    let uuid : List ℕ = old.volume.objects.uploads.uuid in
+    let disk : ℕ = old.volume.log.commits.disk.faults in
+    let objects : second.objects ≡ first.objects = ap (λ (s : StoreState). s.objects) only in
+    record {
+      steps = makes_fewer 2 most [] old last two (makes_then 1 1 [] old mid last look release);
+      store = subst (λ o. Becomes (KeepsOtherNames uuid) first.objects o) (sym objects) (becomes_same uuid first.objects);
+      faults = subst (λ d. CountsEitherFault failed disk d first.faults second.faults) (sym (released ∙ looked)) (store_counts failed disk first.faults second.faults counts);
+    }

@@ -1,0 +1,13 @@
+pub mod PlainLemmas
+pub mod EntryLemmas
+pub mod WindowLemmas
+pub mod TellsLemmas
+pub mod ReplyLemmas
+pub mod StepLemmas
+pub mod EnterLemmas
+pub mod HelpLemmas
+pub mod CallLemmas
+pub mod BoundLemmas
+pub mod LoopLemmas
+pub mod ReadLemmas
+pub mod New

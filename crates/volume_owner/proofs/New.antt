@@ -1,0 +1,20 @@
+-- For callers: a volume is idle where the plain volume that it shows has no put under way and no plan out.
+use Rattle.std.proofs.Common.{◌≡◌, ℕ, List, [], false, refl}
+use Rattle.std.specs.List.{list_any}
+use Rattle.lsvd_base.specs.declared.geometry.Geometry.{Geometry}
+use Rattle.plain_disk.specs.State.{PlainState, created_volume}
+use Rattle.log_meaning.specs.Fuses.{fuse_in}
+use Rattle.vol_core.specs.Volume.{VolumeState, SteppedVolume}
+use Rattle.vol_core.specs.Shows.{Shows}
+use Rattle.vol_core.specs.Step.{passing}
+use Rattle.vol_core.specs.Creating.{IsCreated}
+use Rattle.volume_owner.specs.Owner.{IsIdle}
+use Rattle.volume_owner.proofs.StepLemmas.{idle_shown}
+
+pub shown_is_idle : (volume : VolumeState) (plain : PlainState) → Shows volume plain
+    → list_any (λ object. object.is_started) plain.window.objects ≡ false → plain.pins ≡ [] → IsIdle volume
+shown_is_idle volume plain shows none no_plans = idle_shown volume plain shows (record { puts = none; plans = no_plans })
+
+pub created_is_idle : (uuid : List ℕ) (geometry : Geometry) (stepped : SteppedVolume) → IsCreated uuid geometry stepped → IsIdle stepped.volume
+created_is_idle uuid geometry stepped created =
+    shown_is_idle stepped.volume (passing (fuse_in stepped.volume.log.commits.disk.budget) (created_volume geometry)) created.shows refl refl

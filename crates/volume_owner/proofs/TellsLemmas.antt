@@ -1,0 +1,218 @@
+-- Which replies of a volume tell a reply of the plain volume.
+use Rattle.std.proofs.Common.{◌≡◌, ℕ, true, false, List, refl, ap}
+use Rattle.lsvd_objstore.specs.Store.{ReceiptState}
+use Rattle.object_uploads.specs.State.{JobState}
+use Rattle.read_plan.specs.Plan.{PlanState}
+use Rattle.batcher.specs.declared.full.Full.TheVariants as full
+use Rattle.plain_disk.specs.declared.event.PlainReply.{PlainReply}
+use Rattle.plain_disk.specs.declared.event.PlainReply.TheVariants as replies
+use Rattle.vol_core.specs.declared.reply.Refusal.{Refusal}
+use Rattle.vol_core.specs.declared.reply.Refusal.TheVariants as refusals
+use Rattle.vol_core.specs.declared.reply.Reply.{Reply}
+use Rattle.vol_core.specs.declared.reply.Reply.TheVariants as told
+use Rattle.vol_core.specs.Volume.{VolumeState}
+use Rattle.vol_core.specs.Events.{Tells, TellsRefusal}
+use Rattle.vol_core.specs.Step.{tells_fault}
+
+-- that an entry was entered
+tells_entered_refusal : (why : Refusal) (count : ℕ) → TellsRefusal why (replies.Entered count) → ⊥
+tells_entered_refusal refusals.Range count tells = cc
+tells_entered_refusal (refusals.Full (full.Sectors sectors)) count tells = cc
+tells_entered_refusal (refusals.Full (full.Entries entries)) count tells = cc
+tells_entered_refusal (refusals.NoRoom needed left) count tells = cc
+tells_entered_refusal refusals.Fault count tells = cc
+tells_entered_refusal refusals.OutOfMemory count tells = tells
+
+pub tells_entered : {R : Type 0} (state : R → ReceiptState) (volume : VolumeState) (reply : Reply R) (count : ℕ)
+    → Tells state volume reply (replies.Entered count) → reply ≡ told.Entered count
+tells_entered state volume (told.Entered n) count tells = (let same : n ≡ count = cc in ap told.Entered same)
+tells_entered state volume (told.NotEntered entry why) count tells = absurd (tells_entered_refusal why count tells)
+tells_entered state volume (told.Flushed n) count tells = let bad : ⊥ = cc in absurd bad
+tells_entered state volume (told.Planned plan) count tells = let is = tells.1 in let bad : ⊥ = cc in absurd bad
+tells_entered state volume told.Released count tells = let bad : ⊥ = cc in absurd bad
+tells_entered state volume (told.NotReleased plan) count tells = let bad : ⊥ = cc in absurd bad
+tells_entered state volume (told.Sealed n) count tells = let bad : ⊥ = cc in absurd bad
+tells_entered state volume (told.Taken job) count tells = let is = tells.0 in let bad : ⊥ = cc in absurd bad
+tells_entered state volume (told.Done n) count tells = let bad : ⊥ = cc in absurd bad
+tells_entered state volume (told.NotDone job receipt) count tells = let bad : ⊥ = cc in absurd bad
+tells_entered state volume told.Returned count tells = let bad : ⊥ = cc in absurd bad
+tells_entered state volume (told.NotReturned job) count tells = let bad : ⊥ = cc in absurd bad
+tells_entered state volume (told.Told a b c d) count tells = let bad : ⊥ = cc in absurd bad
+tells_entered state volume told.Range count tells = let bad : ⊥ = cc in absurd bad
+tells_entered state volume told.Nothing count tells = let bad : ⊥ = cc in absurd bad
+tells_entered state volume told.Busy count tells = let bad : ⊥ = cc in absurd bad
+tells_entered state volume told.Fault count tells = let bad : ⊥ = cc in absurd bad
+tells_entered state volume told.OutOfMemory count tells = absurd tells
+
+-- that all is durable
+tells_flushed_refusal : (why : Refusal) (count : ℕ) → TellsRefusal why (replies.Flushed count) → ⊥
+tells_flushed_refusal refusals.Range count tells = cc
+tells_flushed_refusal (refusals.Full (full.Sectors sectors)) count tells = cc
+tells_flushed_refusal (refusals.Full (full.Entries entries)) count tells = cc
+tells_flushed_refusal (refusals.NoRoom needed left) count tells = cc
+tells_flushed_refusal refusals.Fault count tells = cc
+tells_flushed_refusal refusals.OutOfMemory count tells = tells
+
+pub tells_flushed : {R : Type 0} (state : R → ReceiptState) (volume : VolumeState) (reply : Reply R) (count : ℕ)
+    → Tells state volume reply (replies.Flushed count) → reply ≡ told.Flushed count
+tells_flushed state volume (told.Entered n) count tells = let bad : ⊥ = cc in absurd bad
+tells_flushed state volume (told.NotEntered entry why) count tells = absurd (tells_flushed_refusal why count tells)
+tells_flushed state volume (told.Flushed n) count tells = (let same : n ≡ count = cc in ap told.Flushed same)
+tells_flushed state volume (told.Planned plan) count tells = let is = tells.1 in let bad : ⊥ = cc in absurd bad
+tells_flushed state volume told.Released count tells = let bad : ⊥ = cc in absurd bad
+tells_flushed state volume (told.NotReleased plan) count tells = let bad : ⊥ = cc in absurd bad
+tells_flushed state volume (told.Sealed n) count tells = let bad : ⊥ = cc in absurd bad
+tells_flushed state volume (told.Taken job) count tells = let is = tells.0 in let bad : ⊥ = cc in absurd bad
+tells_flushed state volume (told.Done n) count tells = let bad : ⊥ = cc in absurd bad
+tells_flushed state volume (told.NotDone job receipt) count tells = let bad : ⊥ = cc in absurd bad
+tells_flushed state volume told.Returned count tells = let bad : ⊥ = cc in absurd bad
+tells_flushed state volume (told.NotReturned job) count tells = let bad : ⊥ = cc in absurd bad
+tells_flushed state volume (told.Told a b c d) count tells = let bad : ⊥ = cc in absurd bad
+tells_flushed state volume told.Range count tells = let bad : ⊥ = cc in absurd bad
+tells_flushed state volume told.Nothing count tells = let bad : ⊥ = cc in absurd bad
+tells_flushed state volume told.Busy count tells = let bad : ⊥ = cc in absurd bad
+tells_flushed state volume told.Fault count tells = let bad : ⊥ = cc in absurd bad
+tells_flushed state volume told.OutOfMemory count tells = absurd tells
+
+-- that a put began
+tells_taken_refusal : (why : Refusal) (number : ℕ) → TellsRefusal why (replies.Taken number) → ⊥
+tells_taken_refusal refusals.Range number tells = cc
+tells_taken_refusal (refusals.Full (full.Sectors sectors)) number tells = cc
+tells_taken_refusal (refusals.Full (full.Entries entries)) number tells = cc
+tells_taken_refusal (refusals.NoRoom needed left) number tells = cc
+tells_taken_refusal refusals.Fault number tells = cc
+tells_taken_refusal refusals.OutOfMemory number tells = tells
+
+pub tells_taken : {R : Type 0} (state : R → ReceiptState) (volume : VolumeState) (reply : Reply R) (number : ℕ)
+    → Tells state volume reply (replies.Taken number) → (job : JobState) × (reply ≡ told.Taken job)
+tells_taken state volume (told.Entered n) number tells = let bad : ⊥ = cc in absurd bad
+tells_taken state volume (told.NotEntered entry why) number tells = absurd (tells_taken_refusal why number tells)
+tells_taken state volume (told.Flushed n) number tells = let bad : ⊥ = cc in absurd bad
+tells_taken state volume (told.Planned plan) number tells = let is = tells.1 in let bad : ⊥ = cc in absurd bad
+tells_taken state volume told.Released number tells = let bad : ⊥ = cc in absurd bad
+tells_taken state volume (told.NotReleased plan) number tells = let bad : ⊥ = cc in absurd bad
+tells_taken state volume (told.Sealed n) number tells = let bad : ⊥ = cc in absurd bad
+tells_taken state volume (told.Taken job) number tells = (job, refl)
+tells_taken state volume (told.Done n) number tells = let bad : ⊥ = cc in absurd bad
+tells_taken state volume (told.NotDone job receipt) number tells = let bad : ⊥ = cc in absurd bad
+tells_taken state volume told.Returned number tells = let bad : ⊥ = cc in absurd bad
+tells_taken state volume (told.NotReturned job) number tells = let bad : ⊥ = cc in absurd bad
+tells_taken state volume (told.Told a b c d) number tells = let bad : ⊥ = cc in absurd bad
+tells_taken state volume told.Range number tells = let bad : ⊥ = cc in absurd bad
+tells_taken state volume told.Nothing number tells = let bad : ⊥ = cc in absurd bad
+tells_taken state volume told.Busy number tells = let bad : ⊥ = cc in absurd bad
+tells_taken state volume told.Fault number tells = let bad : ⊥ = cc in absurd bad
+tells_taken state volume told.OutOfMemory number tells = absurd tells
+
+-- that an object was sealed
+tells_sealed_refusal : (why : Refusal) (number : ℕ) → TellsRefusal why (replies.Sealed number) → ⊥
+tells_sealed_refusal refusals.Range number tells = cc
+tells_sealed_refusal (refusals.Full (full.Sectors sectors)) number tells = cc
+tells_sealed_refusal (refusals.Full (full.Entries entries)) number tells = cc
+tells_sealed_refusal (refusals.NoRoom needed left) number tells = cc
+tells_sealed_refusal refusals.Fault number tells = cc
+tells_sealed_refusal refusals.OutOfMemory number tells = tells
+
+pub tells_sealed : {R : Type 0} (state : R → ReceiptState) (volume : VolumeState) (reply : Reply R) (number : ℕ)
+    → Tells state volume reply (replies.Sealed number) → reply ≡ told.Sealed number
+tells_sealed state volume (told.Entered n) number tells = let bad : ⊥ = cc in absurd bad
+tells_sealed state volume (told.NotEntered entry why) number tells = absurd (tells_sealed_refusal why number tells)
+tells_sealed state volume (told.Flushed n) number tells = let bad : ⊥ = cc in absurd bad
+tells_sealed state volume (told.Planned plan) number tells = let is = tells.1 in let bad : ⊥ = cc in absurd bad
+tells_sealed state volume told.Released number tells = let bad : ⊥ = cc in absurd bad
+tells_sealed state volume (told.NotReleased plan) number tells = let bad : ⊥ = cc in absurd bad
+tells_sealed state volume (told.Sealed n) number tells = (let same : n ≡ number = cc in ap told.Sealed same)
+tells_sealed state volume (told.Taken job) number tells = let is = tells.0 in let bad : ⊥ = cc in absurd bad
+tells_sealed state volume (told.Done n) number tells = let bad : ⊥ = cc in absurd bad
+tells_sealed state volume (told.NotDone job receipt) number tells = let bad : ⊥ = cc in absurd bad
+tells_sealed state volume told.Returned number tells = let bad : ⊥ = cc in absurd bad
+tells_sealed state volume (told.NotReturned job) number tells = let bad : ⊥ = cc in absurd bad
+tells_sealed state volume (told.Told a b c d) number tells = let bad : ⊥ = cc in absurd bad
+tells_sealed state volume told.Range number tells = let bad : ⊥ = cc in absurd bad
+tells_sealed state volume told.Nothing number tells = let bad : ⊥ = cc in absurd bad
+tells_sealed state volume told.Busy number tells = let bad : ⊥ = cc in absurd bad
+tells_sealed state volume told.Fault number tells = let bad : ⊥ = cc in absurd bad
+tells_sealed state volume told.OutOfMemory number tells = absurd tells
+
+-- that a read was planned
+tells_planned_refusal : (why : Refusal) (front : ℕ) (bytes objects : List ℕ) → TellsRefusal why (replies.Planned front bytes objects) → ⊥
+tells_planned_refusal refusals.Range front bytes objects tells = cc
+tells_planned_refusal (refusals.Full (full.Sectors sectors)) front bytes objects tells = cc
+tells_planned_refusal (refusals.Full (full.Entries entries)) front bytes objects tells = cc
+tells_planned_refusal (refusals.NoRoom needed left) front bytes objects tells = cc
+tells_planned_refusal refusals.Fault front bytes objects tells = cc
+tells_planned_refusal refusals.OutOfMemory front bytes objects tells = tells
+
+pub tells_planned : {R : Type 0} (state : R → ReceiptState) (volume : VolumeState) (reply : Reply R) (front : ℕ) (bytes objects : List ℕ)
+    → Tells state volume reply (replies.Planned front bytes objects) → (plan : PlanState) × (reply ≡ told.Planned plan)
+tells_planned state volume (told.Entered n) front bytes objects tells = let bad : ⊥ = cc in absurd bad
+tells_planned state volume (told.NotEntered entry why) front bytes objects tells = absurd (tells_planned_refusal why front bytes objects tells)
+tells_planned state volume (told.Flushed n) front bytes objects tells = let bad : ⊥ = cc in absurd bad
+tells_planned state volume (told.Planned plan) front bytes objects tells = (plan, refl)
+tells_planned state volume told.Released front bytes objects tells = let bad : ⊥ = cc in absurd bad
+tells_planned state volume (told.NotReleased plan) front bytes objects tells = let bad : ⊥ = cc in absurd bad
+tells_planned state volume (told.Sealed n) front bytes objects tells = let bad : ⊥ = cc in absurd bad
+tells_planned state volume (told.Taken job) front bytes objects tells = let is = tells.0 in let bad : ⊥ = cc in absurd bad
+tells_planned state volume (told.Done n) front bytes objects tells = let bad : ⊥ = cc in absurd bad
+tells_planned state volume (told.NotDone job receipt) front bytes objects tells = let bad : ⊥ = cc in absurd bad
+tells_planned state volume told.Returned front bytes objects tells = let bad : ⊥ = cc in absurd bad
+tells_planned state volume (told.NotReturned job) front bytes objects tells = let bad : ⊥ = cc in absurd bad
+tells_planned state volume (told.Told a b c d) front bytes objects tells = let bad : ⊥ = cc in absurd bad
+tells_planned state volume told.Range front bytes objects tells = let bad : ⊥ = cc in absurd bad
+tells_planned state volume told.Nothing front bytes objects tells = let bad : ⊥ = cc in absurd bad
+tells_planned state volume told.Busy front bytes objects tells = let bad : ⊥ = cc in absurd bad
+tells_planned state volume told.Fault front bytes objects tells = let bad : ⊥ = cc in absurd bad
+tells_planned state volume told.OutOfMemory front bytes objects tells = absurd tells
+
+-- that a call of the device failed
+pub tells_failed : {R : Type 0} (state : R → ReceiptState) (volume : VolumeState) (reply : Reply R)
+    → Tells state volume reply replies.Fault → tells_fault reply ≡ true
+tells_failed state volume (told.Entered n) tells = let bad : ⊥ = cc in absurd bad
+tells_failed state volume (told.NotEntered entry refusals.Range) tells = let bad : ⊥ = cc in absurd bad
+tells_failed state volume (told.NotEntered entry (refusals.Full (full.Sectors sectors))) tells = let bad : ⊥ = cc in absurd bad
+tells_failed state volume (told.NotEntered entry (refusals.Full (full.Entries entries))) tells = let bad : ⊥ = cc in absurd bad
+tells_failed state volume (told.NotEntered entry (refusals.NoRoom needed left)) tells = let bad : ⊥ = cc in absurd bad
+tells_failed state volume (told.NotEntered entry refusals.Fault) tells = refl
+tells_failed state volume (told.NotEntered entry refusals.OutOfMemory) tells = absurd tells
+tells_failed state volume (told.Flushed n) tells = let bad : ⊥ = cc in absurd bad
+tells_failed state volume (told.Planned plan) tells = let is = tells.1 in let bad : ⊥ = cc in absurd bad
+tells_failed state volume told.Released tells = let bad : ⊥ = cc in absurd bad
+tells_failed state volume (told.NotReleased plan) tells = let bad : ⊥ = cc in absurd bad
+tells_failed state volume (told.Sealed n) tells = let bad : ⊥ = cc in absurd bad
+tells_failed state volume (told.Taken job) tells = let is = tells.0 in let bad : ⊥ = cc in absurd bad
+tells_failed state volume (told.Done n) tells = let bad : ⊥ = cc in absurd bad
+tells_failed state volume (told.NotDone job receipt) tells = let bad : ⊥ = cc in absurd bad
+tells_failed state volume told.Returned tells = let bad : ⊥ = cc in absurd bad
+tells_failed state volume (told.NotReturned job) tells = let bad : ⊥ = cc in absurd bad
+tells_failed state volume (told.Told a b c d) tells = let bad : ⊥ = cc in absurd bad
+tells_failed state volume told.Range tells = let bad : ⊥ = cc in absurd bad
+tells_failed state volume told.Nothing tells = let bad : ⊥ = cc in absurd bad
+tells_failed state volume told.Busy tells = let bad : ⊥ = cc in absurd bad
+tells_failed state volume told.Fault tells = refl
+tells_failed state volume told.OutOfMemory tells = absurd tells
+
+-- a reply that tells another one than a fault tells none
+pub tells_no_fault : {R : Type 0} (state : R → ReceiptState) (volume : VolumeState) (reply : Reply R) (plain : PlainReply)
+    → Tells state volume reply plain → (plain ≡ replies.Fault → ⊥) → tells_fault reply ≡ false
+tells_no_fault state volume (told.Entered n) plain tells other = refl
+tells_no_fault state volume (told.NotEntered entry refusals.Range) plain tells other = refl
+tells_no_fault state volume (told.NotEntered entry (refusals.Full why)) plain tells other = refl
+tells_no_fault state volume (told.NotEntered entry (refusals.NoRoom needed left)) plain tells other = refl
+tells_no_fault state volume (told.NotEntered entry refusals.Fault) plain tells other = absurd (other tells)
+tells_no_fault state volume (told.NotEntered entry refusals.OutOfMemory) plain tells other = refl
+tells_no_fault state volume (told.Flushed n) plain tells other = refl
+tells_no_fault state volume (told.Planned plan) plain tells other = refl
+tells_no_fault state volume told.Released plain tells other = refl
+tells_no_fault state volume (told.NotReleased plan) plain tells other = refl
+tells_no_fault state volume (told.Sealed n) plain tells other = refl
+tells_no_fault state volume (told.Taken job) plain tells other = refl
+tells_no_fault state volume (told.Done n) plain tells other = refl
+tells_no_fault state volume (told.NotDone job receipt) plain tells other = refl
+tells_no_fault state volume told.Returned plain tells other = refl
+tells_no_fault state volume (told.NotReturned job) plain tells other = refl
+tells_no_fault state volume (told.Told a b c d) plain tells other = refl
+tells_no_fault state volume told.Range plain tells other = refl
+tells_no_fault state volume told.Nothing plain tells other = refl
+tells_no_fault state volume told.Busy plain tells other = refl
+tells_no_fault state volume told.Fault plain tells other = absurd (other tells)
+tells_no_fault state volume told.OutOfMemory plain tells other = refl

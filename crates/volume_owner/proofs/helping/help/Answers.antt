@@ -1,0 +1,127 @@
+use Rattle.std.proofs.Common.{arith, ◌<◌, false, List, [], length, sym, ◌∙◌, ap, subst}
+use Rattle.lsvd_objstore.specs.Store.{StoreState}
+use Rattle.upload_window.specs.declared.object.OpenObject.{OpenObject}
+use Rattle.vol_core.specs.declared.event.Event.TheVariants as asks
+use Rattle.vol_core.specs.Volume.{SteppedVolume}
+use Rattle.std.specs.Prelude.{OnOk}
+use Rattle.volume_owner.specs.Calls.{IsCall}
+use Rattle.volume_owner.specs.Errors.{is_eio}
+use Rattle.volume_owner.specs.Helping.{work_of}
+use Rattle.volume_owner.proofs.StepLemmas.{Steps}
+use Rattle.volume_owner.proofs.CallLemmas.{quiet_call, call_then, memory_alone, memory_no_range}
+use Rattle.volume_owner.proofs.HelpLemmas.{take_makes, take_faults, handed_job, taken_is, none_taken}
+use Rattle.volume_owner.proofs.helping.help.Goals as goal
+
+pub put-requires-clause-job : goal.put-requires-clause-job
+put-requires-clause-job g c =
+    let state = g.R.Receipt.state in
+    let reply = c.step.result in
+    let old : SteppedVolume = c.args.volume.now in
+    let mid : SteppedVolume = c.step.new.self in
+    let plain = c.is_volume.ensures.plain in
+    let shows = c.is_volume.ensures.shows in
+    let of : Steps state asks.TakeJob reply old mid = record {
+      step = c.step.ensures.step;
+      steps = c.step.ensures.steps;
+      sizes = c.step.ensures.sizes;
+      stops = c.step.ensures.stops;
+      bytes = c.step.ensures.bytes;
+      faults = c.step.ensures.faults;
+    } in
+    let taken = taken_is state reply old mid of plain shows c.in-Some.job c.requires.idle (handed_job reply c.in-Some.job (sym c.job_of.ensures ∙ c.in-Some.is)) in
+    taken.0
+
+pub returns-in-Some-clause-help : goal.returns-in-Some-clause-help
+returns-in-Some-clause-help g c =
+    let state = g.R.Receipt.state in
+    let reply = c.step.result in
+    let old : SteppedVolume = c.args.volume.now in
+    let mid : SteppedVolume = c.step.new.self in
+    let plain = c.is_volume.ensures.plain in
+    let shows = c.is_volume.ensures.shows in
+    let of : Steps state asks.TakeJob reply old mid = record {
+      step = c.step.ensures.step;
+      steps = c.step.ensures.steps;
+      sizes = c.step.ensures.sizes;
+      stops = c.step.ensures.stops;
+      bytes = c.step.ensures.bytes;
+      faults = c.step.ensures.faults;
+    } in
+    let taken = taken_is state reply old mid of plain shows c.in-Some.job c.requires.idle (handed_job reply c.in-Some.job (sym c.job_of.ensures ∙ c.in-Some.is)) in
+    let first : StoreState = g.S.Store.state c.args.store.now in
+    call_then 1 1 [] (is_eio c.put.result) old mid c.put.new.volume first first (g.S.Store.state c.put.new.store)
+    (quiet_call 1 [] old mid first (take_makes state reply old mid of plain shows) (take_faults state reply old mid of plain shows)) c.put.ensures.call
+
+pub returns-in-Some-clause-less : goal.returns-in-Some-clause-less
+returns-in-Some-clause-less g c =
+    let state = g.R.Receipt.state in
+    let reply = c.step.result in
+    let old : SteppedVolume = c.args.volume.now in
+    let mid : SteppedVolume = c.step.new.self in
+    let plain = c.is_volume.ensures.plain in
+    let shows = c.is_volume.ensures.shows in
+    let of : Steps state asks.TakeJob reply old mid = record {
+      step = c.step.ensures.step;
+      steps = c.step.ensures.steps;
+      sizes = c.step.ensures.sizes;
+      stops = c.step.ensures.stops;
+      bytes = c.step.ensures.bytes;
+      faults = c.step.ensures.faults;
+    } in
+    let taken = taken_is state reply old mid of plain shows c.in-Some.job c.requires.idle (handed_job reply c.in-Some.job (sym c.job_of.ensures ∙ c.in-Some.is)) in
+    subst (λ w. OnOk c.put.result (work_of c.put.new.volume.volume < w)) taken.1 c.put.ensures.less
+
+pub seal-requires : goal.seal-requires
+seal-requires g c =
+    let state = g.R.Receipt.state in
+    let reply = c.step.result in
+    let old : SteppedVolume = c.args.volume.now in
+    let mid : SteppedVolume = c.step.new.self in
+    let plain = c.is_volume.ensures.plain in
+    let shows = c.is_volume.ensures.shows in
+    let of : Steps state asks.TakeJob reply old mid = record {
+      step = c.step.ensures.step;
+      steps = c.step.ensures.steps;
+      sizes = c.step.ensures.sizes;
+      stops = c.step.ensures.stops;
+      bytes = c.step.ensures.bytes;
+      faults = c.step.ensures.faults;
+    } in
+    let left = none_taken state reply old mid of plain shows c.requires.idle c.is_ordered.ensures.uploads (sym c.job_of.ensures ∙ c.in-None.is) in
+    let empty = ap (λ (o : List OpenObject). length o) left.0 in
+    let work = c.requires.work in
+    record {
+      steps = omega (arith, c.requires.steps, of.steps);
+      idle = left.1;
+      none = left.0;
+      some = omega (arith, empty, work, left.2);
+    }
+
+pub returns-in-None : goal.returns-in-None
+returns-in-None g c =
+    let state = g.R.Receipt.state in
+    let reply = c.step.result in
+    let old : SteppedVolume = c.args.volume.now in
+    let mid : SteppedVolume = c.step.new.self in
+    let plain = c.is_volume.ensures.plain in
+    let shows = c.is_volume.ensures.shows in
+    let of : Steps state asks.TakeJob reply old mid = record {
+      step = c.step.ensures.step;
+      steps = c.step.ensures.steps;
+      sizes = c.step.ensures.sizes;
+      stops = c.step.ensures.stops;
+      bytes = c.step.ensures.bytes;
+      faults = c.step.ensures.faults;
+    } in
+    let left = none_taken state reply old mid of plain shows c.requires.idle c.is_ordered.ensures.uploads (sym c.job_of.ensures ∙ c.in-None.is) in
+    let first : StoreState = g.S.Store.state c.args.store.now in
+    let no_fault = memory_alone c.seal.result c.seal.ensures.error in
+    record {
+      help = subst (λ b. IsCall 2 [] b old c.seal.new.volume first first) (sym no_fault)
+          (call_then 1 1 [] false old mid c.seal.new.volume first first first
+          (quiet_call 1 [] old mid first (take_makes state reply old mid of plain shows) (take_faults state reply old mid of plain shows))
+          (quiet_call 1 [] mid c.seal.new.volume first c.seal.ensures.steps c.seal.ensures.faults));
+      less = subst (λ w. OnOk c.seal.result (work_of c.seal.new.volume.volume < w)) left.2 c.seal.ensures.less;
+      error = memory_no_range c.seal.result c.seal.ensures.error;
+      idle = c.seal.ensures.idle;
+    }

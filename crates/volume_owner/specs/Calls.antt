@@ -1,0 +1,77 @@
+-- Contract: what a call of an owner does to its volume and to the store, told by each plain volume that the volume showed.
+use Rattle.std.specs.Prelude.{◌≡◌, ℕ, ◌+◌, ◌/◌, ◌≤◌, ◌⊎◌, Bool, true, false, IsSome, Result, Ok, Err, List, [], ◌∷◌, length}
+use Rattle.lsvd_base.specs.declared.entry.Entry.{Entry}
+use Rattle.lsvd_fault.specs.Faults.{CountsOne}
+use Rattle.lsvd_names.specs.declared.name.ObjName.{ObjName}
+use Rattle.lsvd_objstore.specs.Objects.{Objects, found}
+use Rattle.lsvd_objstore.specs.Store.{StoreState, ReceiptState, Becomes}
+use Rattle.object_stream.specs.Replay.{name_of}
+use Rattle.plain_disk.specs.Sectors.{sectors_at}
+use Rattle.plain_disk.specs.State.{PlainState, history_length, image_now}
+use Rattle.vol_core.specs.Volume.{VolumeState, SteppedVolume}
+use Rattle.vol_core.specs.Shows.{Shows}
+use Rattle.vol_core.specs.Step.{HasSameSizes}
+use Rattle.vol_core.specs.Stops.{HasOwnCommits}
+use Rattle.volume_owner.specs.History.{GoesOn}
+
+-- ---- the history
+
+-- whatever plain volume the volume showed, it shows one now that goes on from that with these entries more
+abbrev pub Adds : List Entry → (old new : VolumeState) → Type 0
+Adds added old new = (plain : PlainState) → Shows old plain → (after : PlainState) × Shows new after × GoesOn added plain after
+
+-- this is the length of a volume's history
+abbrev pub IsLengthOf : ℕ → VolumeState → Type 0
+IsLengthOf count volume = (plain : PlainState) → Shows volume plain → count ≡ history_length plain
+
+-- each entry of a volume's history is committed
+abbrev pub IsDurable : VolumeState → Type 0
+IsDurable volume = (plain : PlainState) → Shows volume plain → plain.cache.log.last.head.seq ≡ history_length plain
+
+-- ---- contents
+
+-- a volume tells what it holds: the disk of its log tells the log's entries, and each receipt its object's bytes
+pub record TellsContents {R : Type 0} (state : R → ReceiptState) (volume : VolumeState) : Type 0 where
+  pub log : IsSome volume.log.entries
+  pub receipts : (receipt : R) → IsSome (state receipt).told
+
+-- these bytes are the sectors of a volume from one on, where it tells them
+abbrev pub HasSectors : {R : Type 0} → (R → ReceiptState) → VolumeState → (lba : ℕ) → (bytes : List ℕ) → Type 0
+HasSectors state volume lba bytes =
+    TellsContents state volume → (plain : PlainState) → Shows volume plain
+    → bytes ≡ sectors_at lba (length bytes / 512) (image_now plain)
+
+-- ---- faults
+
+-- one call of the disk or of the store failed, which that counted, or none did
+abbrev pub CountsEitherFault : (failed : Bool) → (old_disk new_disk old_store new_store : ℕ) → Type 0
+CountsEitherFault false old_disk new_disk old_store new_store = (new_disk ≡ old_disk) × (new_store ≡ old_store)
+CountsEitherFault true old_disk new_disk old_store new_store =
+    (CountsOne old_disk new_disk × (new_store ≡ old_store)) ⊎ ((new_disk ≡ old_disk) × CountsOne old_store new_store)
+
+-- ---- the store
+
+-- under each name but those of a volume's numbered objects stands what stood there
+abbrev pub KeepsOtherNames : (uuid : List ℕ) → Objects → Objects → Type 0
+KeepsOtherNames uuid old new = (name : ObjName) → ((number : ℕ) → name ≡ name_of uuid number → ⊥) → found new name ≡ found old name
+
+-- ---- a call
+
+-- A volume made so many steps at most, which added these entries to its history. Its sizes stay, and the commits stay its own.
+pub record MakesSteps (most : ℕ) (added : List Entry) (old new : SteppedVolume) : Type 0 where
+  pub adds : Adds added old.volume new.volume
+  pub sizes : HasSameSizes old.volume new.volume
+  pub own : (epoch : ℕ) → HasOwnCommits epoch old.volume → HasOwnCommits epoch new.volume
+  pub steps : new.steps ≤ old.steps + most
+
+-- A call made steps of a volume, and puts of its objects into a store: the store has changed under the names of the volume's own
+-- numbered objects alone. One call of the disk or of the store failed in it, or none did.
+pub record IsCall (most : ℕ) (added : List Entry) (failed : Bool) (old new : SteppedVolume) (old_store new_store : StoreState) : Type 0 where
+  pub steps : MakesSteps most added old new
+  pub store : Becomes (KeepsOtherNames old.volume.objects.uploads.uuid) old_store.objects new_store.objects
+  pub faults : CountsEitherFault failed old.volume.log.commits.disk.faults new.volume.log.commits.disk.faults old_store.faults new_store.faults
+
+-- an entry that was answered is entered, and one that was not is not
+abbrev pub added_by : {E : Type 0} → Entry → Result ℕ E → List Entry
+added_by entry (Ok count) = entry ∷ []
+added_by entry (Err error) = []

@@ -1,0 +1,38 @@
+-- For this crate's own clauses: what an attempt to enter an entry answers, and what a help does.
+use Rattle.std.specs.Prelude.{◌≡◌, ℕ, ◌+◌, ◌*◌, ◌<◌, Bool, true, false, List, [], ◌∷◌, length}
+use Rattle.std.specs.List.{list_any}
+use Rattle.lsvd_base.specs.declared.entry.Entry.{Entry}
+use Rattle.object_stream.specs.Replay.{name_of}
+use Rattle.upload_window.specs.Window.{with_started}
+use Rattle.object_uploads.specs.State.{JobState}
+use Rattle.object_uploads.specs.Changes.{IsOut}
+use Rattle.vol_core.specs.Volume.{VolumeState}
+use Rattle.volume_owner.specs.declared.replies.Attempt.{Attempt}
+use Rattle.volume_owner.specs.declared.replies.Attempt.TheVariants.{Entered, Again, Failed}
+
+-- What is left to help with: each entry that is in no object has to be sealed and put, and each object on its way to be put. A help
+-- lowers it.
+abbrev pub work_of : VolumeState → ℕ
+work_of volume = 2 * length volume.objects.batch.entries + length volume.objects.uploads.window.objects
+
+-- a put is out, which this is the job of, and no other is
+pub record IsTaken (job : JobState) (volume : VolumeState) : Type 0 where
+  pub out : IsOut volume.objects.uploads job.name.number job.bytes
+  pub named : job.name ≡ name_of volume.objects.uploads.uuid job.name.number
+  pub alone : list_any (λ object. object.is_started) (with_started job.name.number false volume.objects.uploads.window.objects) ≡ false
+  pub plans : volume.pins ≡ []
+
+-- what an attempt entered
+abbrev pub entered_by : Entry → Attempt → List Entry
+entered_by entry (Entered count) = entry ∷ []
+entered_by entry attempt = []
+
+-- an attempt tells that the device failed
+abbrev pub attempt_failed : Attempt → Bool
+attempt_failed Failed = true
+attempt_failed attempt = false
+
+-- one that may be made again hands the entry back, and there is something to help with, as much as before
+abbrev pub MayTryAgain : Entry → Attempt → (old new : VolumeState) → Type 0
+MayTryAgain entry (Again back) old new = (back ≡ entry) × (0 < work_of new) × (work_of new ≡ work_of old)
+MayTryAgain entry attempt old new = Unit {0}

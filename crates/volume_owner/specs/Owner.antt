@@ -1,0 +1,16 @@
+-- Contract: what an owner keeps of its volume between its calls, and how many steps these make.
+use Rattle.std.specs.Prelude.{◌≡◌, ℕ, ◌^◌, false, []}
+use Rattle.std.specs.List.{list_any}
+use Rattle.vol_core.specs.Volume.{VolumeState}
+
+-- no put of an object is under way, and no plan of a read is out
+pub record IsIdle (volume : VolumeState) : Type 0 where
+  pub puts : list_any (λ object. object.is_started) volume.objects.uploads.window.objects ≡ false
+  pub plans : volume.pins ≡ []
+
+-- how many steps a volume may have made before a call, and how many more it has made at most after it
+abbrev pub max_steps : ℕ
+max_steps = 2 ^ 59
+
+abbrev pub most_of_call : ℕ
+most_of_call = 2 ^ 40

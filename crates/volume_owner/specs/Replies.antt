@@ -1,0 +1,42 @@
+-- For this crate's own clauses: what a reply of the volume tells of what it was asked for.
+use Rattle.std.specs.Prelude.{ℕ, Bool, true, false, Option, Some, None, Result, Ok, Err}
+use Rattle.object_uploads.specs.State.{JobState}
+use Rattle.read_plan.specs.Plan.{PlanState}
+use Rattle.vol_core.specs.declared.reply.Refusal.TheVariants as refusals
+use Rattle.vol_core.specs.declared.reply.Reply.{Reply}
+use Rattle.vol_core.specs.declared.reply.Reply.TheVariants as told
+use Rattle.volume_owner.specs.declared.error.OwnerError.{OwnerError}
+use Rattle.volume_owner.specs.declared.error.OwnerError.TheVariants as errors
+use Rattle.volume_owner.specs.declared.replies.Attempt.{Attempt}
+use Rattle.volume_owner.specs.declared.replies.Attempt.TheVariants.{Entered, Again, Failed, OutOfMemory}
+
+-- of an entry in range
+abbrev pub attempt_in : {R : Type 0} → Reply R → Attempt
+attempt_in (told.Entered count) = Entered count
+attempt_in (told.NotEntered entry (refusals.Full why)) = Again entry
+attempt_in (told.NotEntered entry (refusals.NoRoom needed left)) = Again entry
+attempt_in (told.NotEntered entry refusals.Fault) = Failed
+attempt_in told.Fault = Failed
+attempt_in reply = OutOfMemory
+
+-- of a put
+abbrev pub job_in : {R : Type 0} → Reply R → Option JobState
+job_in (told.Taken job) = Some job
+job_in reply = None
+
+-- of a read in range
+abbrev pub plan_in : {R : Type 0} → Reply R → Result PlanState OwnerError
+plan_in (told.Planned plan) = Ok plan
+plan_in (told.NotEntered entry refusals.Fault) = Err errors.Eio
+plan_in told.Fault = Err errors.Eio
+plan_in reply = Err errors.OutOfMemory
+
+-- of a flush
+abbrev pub count_in : {R : Type 0} → Reply R → Option ℕ
+count_in (told.Flushed count) = Some count
+count_in reply = None
+
+-- of a seal
+abbrev pub is_sealed : {R : Type 0} → Reply R → Bool
+is_sealed (told.Sealed number) = true
+is_sealed reply = false

@@ -1,0 +1,74 @@
+ghost use Rattle.std.specs.Prelude.{◌≡◌, ℕ, ◌↔◌, ◌<◌, ◌≤◌, true, false, IfOk, IsErrOf};
+ghost use Rattle.lsvd_base.specs.Range.{is_in_range};
+ghost use Rattle.lsvd_fault.specs.Faults.{Counts};
+ghost use Rattle.vol_core.specs.Calls.{event_of};
+ghost use Rattle.vol_core.specs.Shows.{max_number};
+ghost use Rattle.volume_owner.specs.Owner.{IsIdle, max_steps, most_of_call};
+ghost use Rattle.volume_owner.specs.Calls.{MakesSteps, IsCall, IsLengthOf, added_by};
+ghost use Rattle.volume_owner.specs.Errors.{is_eio};
+ghost use Rattle.volume_owner.specs.Helping.{entered_by, attempt_failed, MayTryAgain};
+
+use crate::error::OwnerError;
+use crate::helping::help;
+use crate::replies::{Attempt, attempt_of};
+use lsvd_base::{Entry, in_range};
+use lsvd_device::Disk;
+use lsvd_objstore::{Receipt, Store};
+use std::alloc::Global;
+use vol_core::{Event, Volume};
+
+/// Enters an entry. Where the volume has no room for it, objects are sealed and put until it has.
+pub(crate) fn enter<D: Disk, R: Receipt, S: Store<Receipt = R>>(
+    alloc: Global,
+    volume: &mut Volume<D, R>,
+    store: &mut S,
+    entry: Entry,
+) -> Result<u64, OwnerError>
+    requires steps { volume.old.steps ≤ max_steps }
+    requires idle { IsIdle volume.old.volume }
+    ensures call { IsCall most_of_call (added_by entry result) (is_eio result) volume.old volume.new (S.state store.old) (S.state store.new) }
+    ensures count { IfOk result (λ count. IsLengthOf count volume.new.volume) }
+    ensures range { IsErrOf result OwnerError.Range ↔ (is_in_range volume.old.volume.objects.batch.geometry entry ≡ false) }
+    ensures idle { IsIdle volume.new.volume }
+{
+    if !in_range(&entry, &volume.geometry()) {
+        return Err(OwnerError::Range);
+    }
+    volume.is_volume();
+    volume.is_ordered();
+    let mut left = entry;
+    loop {
+        left = match try_entry(volume, left) {
+            Attempt::Entered(count) => return Ok(count),
+            Attempt::Again(back) => back,
+            Attempt::Failed => return Err(OwnerError::Eio),
+            Attempt::OutOfMemory => return Err(OwnerError::OutOfMemory),
+        };
+        help(alloc, volume, store)?;
+    }
+}
+
+// Tries to enter an entry, which is in range (a condition), by one step.
+fn try_entry<D: Disk, R: Receipt>(volume: &mut Volume<D, R>, entry: Entry) -> Attempt
+    requires steps { volume.old.steps < max_number }
+    requires idle { IsIdle volume.old.volume }
+    requires range { is_in_range volume.old.volume.objects.batch.geometry entry ≡ true }
+    ensures steps { MakesSteps 1 (entered_by entry result) volume.old volume.new }
+    ensures count { (count : ℕ) → result ≡ Attempt.Entered count → IsLengthOf count volume.new.volume }
+    ensures back { MayTryAgain entry result volume.old.volume volume.new.volume }
+    ensures faults { Counts (attempt_failed result) volume.old.volume.log.commits.disk.faults volume.new.volume.log.commits.disk.faults }
+    ensures idle { IsIdle volume.new.volume }
+{
+    volume.is_volume();
+    attempt_of(volume.step(event_for(entry)))
+}
+
+// The event of an entry.
+fn event_for<R: Receipt>(entry: Entry) -> Event<R>
+    ensures { result ≡ event_of entry }
+{
+    match entry {
+        Entry::Write { lba, body } => Event::Write { lba, body },
+        Entry::Zero { lba, sectors } => Event::Zero { lba, sectors },
+    }
+}

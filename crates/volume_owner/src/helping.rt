@@ -1,0 +1,110 @@
+ghost use Rattle.std.specs.Prelude.{◌≡◌, ◌+◌, ◌<◌, [], length, OnOk, IsErrOf, IsOkUnless};
+ghost use Rattle.lsvd_names.specs.Spelling.{IsUuid, IsName};
+ghost use Rattle.object_stream.specs.Replay.{name_of};
+ghost use Rattle.vol_core.specs.Shows.{max_number};
+ghost use Rattle.volume_owner.specs.Owner.{IsIdle};
+ghost use Rattle.volume_owner.specs.Calls.{MakesSteps, IsCall};
+ghost use Rattle.volume_owner.specs.Errors.{is_eio};
+ghost use Rattle.volume_owner.specs.Helping.{work_of, IsTaken};
+
+use crate::error::OwnerError;
+use crate::replies::{job_of, was_sealed};
+use lsvd_device::Disk;
+use lsvd_names::{Kind, ObjName};
+use lsvd_objstore::{Receipt, Store};
+use object_uploads::Job;
+use std::alloc::Global;
+use uuid::Uuid;
+use vol_core::{Event, Volume};
+
+/// Puts the lowest object that waits for its put; where none does, seals the next one. There is one or there are entries for one
+/// (a condition).
+///
+/// `Eio` comes where the put failed, and `OutOfMemory` where memory ran out. The object then waits again.
+pub(crate) fn help<D: Disk, R: Receipt, S: Store<Receipt = R>>(
+    alloc: Global,
+    volume: &mut Volume<D, R>,
+    store: &mut S,
+) -> Result<(), OwnerError>
+    requires steps { volume.old.steps + 1 < max_number }
+    requires idle { IsIdle volume.old.volume }
+    requires work { 0 < work_of volume.old.volume }
+    ensures help { IsCall 2 [] (is_eio result) volume.old volume.new (S.state store.old) (S.state store.new) }
+    ensures less { OnOk result (work_of volume.new.volume < work_of volume.old.volume) }
+    ensures error { IsErrOf result OwnerError.Range → ⊥ }
+    ensures idle { IsIdle volume.new.volume }
+{
+    volume.is_volume();
+    volume.is_ordered();
+    match job_of(volume.step(Event::TakeJob)) {
+        Some(job) => put(alloc, volume, store, job),
+        None => seal(volume),
+    }
+}
+
+// Puts the object of the one job that is out (a condition). The errors are those of `help`.
+fn put<D: Disk, R: Receipt, S: Store<Receipt = R>>(
+    alloc: Global,
+    volume: &mut Volume<D, R>,
+    store: &mut S,
+    job: Job,
+) -> Result<(), OwnerError>
+    requires steps { volume.old.steps < max_number }
+    requires job { IsTaken job volume.old.volume }
+    ensures call { IsCall 1 [] (is_eio result) volume.old volume.new (S.state store.old) (S.state store.new) }
+    ensures less { OnOk result (work_of volume.new.volume < work_of volume.old.volume) }
+    ensures error { IsErrOf result OwnerError.Range → ⊥ }
+    ensures idle { IsIdle volume.new.volume }
+{
+    volume.is_volume();
+    let name = object_name(volume.uuid().into_bytes(), job.name().number);
+    match store.put(alloc, &name, job.object()) {
+        Ok(receipt) => {
+            let _ = volume.step(Event::JobDone { job, receipt });
+            Ok(())
+        }
+        Err(error) => {
+            let _ = volume.step(Event::JobFailed(job));
+            Err(error.into())
+        }
+    }
+}
+
+// Seals the next object, for which there are entries. No object is on its way (conditions). The one error is that memory ran out.
+fn seal<D: Disk, R: Receipt>(volume: &mut Volume<D, R>) -> Result<(), OwnerError>
+    requires steps { volume.old.steps < max_number }
+    requires idle { IsIdle volume.old.volume }
+    requires none { volume.old.volume.objects.uploads.window.objects ≡ [] }
+    requires some { 0 < length volume.old.volume.objects.batch.entries }
+    ensures steps { MakesSteps 1 [] volume.old volume.new }
+    ensures less { OnOk result (work_of volume.new.volume < work_of volume.old.volume) }
+    ensures error { IsOkUnless result OwnerError.OutOfMemory }
+    ensures faults { volume.new.volume.log.commits.disk.faults ≡ volume.old.volume.log.commits.disk.faults }
+    ensures idle { IsIdle volume.new.volume }
+{
+    volume.is_volume();
+    if was_sealed(volume.step(Event::Seal)) {
+        Ok(())
+    } else {
+        Err(OwnerError::OutOfMemory)
+    }
+}
+
+// The name of the numbered object of a volume.
+fn object_name(uuid: [u8; 16], number: u64) -> ObjName
+    ensures is_name { IsName result }
+    ensures is { result ≡ name_of uuid number }
+{
+    is_uuid(uuid.as_slice());
+    ObjName {
+        uuid: Uuid::from_bytes(uuid),
+        kind: Kind::Object,
+        number,
+    }
+}
+
+// A fact for the proofs of callers: 16 bytes are those of a uuid. Nothing is done.
+fn is_uuid(bytes: &[u8])
+    requires { length bytes.now ≡ 16 }
+    ensures { IsUuid bytes.now }
+{}

@@ -1,0 +1,16 @@
+ghost use Rattle.std.specs.Prelude.{◌≡◌, ℕ, List, [], false};
+ghost use Rattle.std.specs.List.{list_any};
+ghost use Rattle.lsvd_base.specs.declared.geometry.Geometry.{Geometry};
+ghost use Rattle.plain_disk.specs.State.{PlainState};
+ghost use Rattle.vol_core.specs.Creating.{IsCreated};
+ghost use Rattle.vol_core.specs.Shows.{Shows};
+ghost use Rattle.vol_core.specs.Volume.{VolumeState, SteppedVolume};
+ghost use Rattle.volume_owner.specs.Owner.{IsIdle};
+
+/// A law: a volume may have an owner where no put is under way and no plan is out in a plain volume that it shows. So it is of one that was
+/// just created.
+pub fn a_new_volume_is_idle()
+    ensures shown { (volume : VolumeState) (plain : PlainState) → Shows volume plain
+        → list_any (λ object. object.is_started) plain.window.objects ≡ false → plain.pins ≡ [] → IsIdle volume }
+    ensures created { (uuid : List ℕ) (geometry : Geometry) (stepped : SteppedVolume) → IsCreated uuid geometry stepped → IsIdle stepped.volume }
+{}

@@ -1,0 +1,80 @@
+ghost use Rattle.std.specs.Prelude.{◌≡◌};
+ghost use Rattle.volume_owner.specs.Replies.{attempt_in, job_in, plan_in, count_in, is_sealed};
+
+use crate::error::OwnerError;
+use lsvd_base::Entry;
+use lsvd_objstore::Receipt;
+use object_uploads::Job;
+use read_plan::Plan;
+use vol_core::{Refusal, Reply};
+
+/// What came of one attempt to enter an entry.
+#[derive(Drop)]
+pub(crate) enum Attempt {
+    /// The entry was entered; the history has this length now.
+    Entered(u64),
+    /// The batch or the log has no room for the entry, which is handed back. An object is to be sealed or put first.
+    Again(Entry),
+    /// A call of the disk failed.
+    Failed,
+    /// Memory ran out.
+    OutOfMemory,
+}
+
+/// What a reply tells of the attempt to enter an entry that is in range.
+pub(crate) fn attempt_of<R: Receipt>(reply: Reply<R>) -> Attempt
+    ensures { result ≡ attempt_in reply }
+{
+    match reply {
+        Reply::Entered(count) => Attempt::Entered(count),
+        Reply::NotEntered { entry, why } => match why {
+            Refusal::Full(_) | Refusal::NoRoom { .. } => Attempt::Again(entry),
+            Refusal::Fault => Attempt::Failed,
+            Refusal::Range | Refusal::OutOfMemory => Attempt::OutOfMemory,
+        },
+        Reply::Fault => Attempt::Failed,
+        _ => Attempt::OutOfMemory,
+    }
+}
+
+/// The job that a reply hands out, if it does.
+pub(crate) fn job_of<R: Receipt>(reply: Reply<R>) -> Option<Job>
+    ensures { result ≡ job_in reply }
+{
+    match reply {
+        Reply::Taken(job) => Some(job),
+        _ => None,
+    }
+}
+
+/// The plan of a read in range that a reply hands out, or why it does not.
+pub(crate) fn plan_of<R: Receipt>(reply: Reply<R>) -> Result<Plan<R>, OwnerError>
+    ensures { result ≡ plan_in reply }
+{
+    match reply {
+        Reply::Planned(plan) => Ok(plan),
+        Reply::Fault
+        | Reply::NotEntered {
+            why: Refusal::Fault,
+            ..
+        } => Err(OwnerError::Eio),
+        _ => Err(OwnerError::OutOfMemory),
+    }
+}
+
+/// How long the history is that a reply tells to be durable, if it does.
+pub(crate) fn count_of<R: Receipt>(reply: Reply<R>) -> Option<u64>
+    ensures { result ≡ count_in reply }
+{
+    match reply {
+        Reply::Flushed(count) => Some(count),
+        _ => None,
+    }
+}
+
+/// Whether an object was sealed.
+pub(crate) fn was_sealed<R: Receipt>(reply: Reply<R>) -> bool
+    ensures { result ≡ is_sealed reply }
+{
+    matches!(reply, Reply::Sealed(_))
+}
