@@ -90,3 +90,12 @@ asked_by geometry request (Some command) = judged_as request command (first_refu
 -- what a request asks
 abbrev pub asked_of : Geometry → Request → Asked
 asked_of geometry request = asked_by geometry request (command_at request.kind)
+
+-- it is to end the session
+abbrev pub is_to_disconnect : Asked → Bool
+is_to_disconnect (asked.Read lba sectors) = false
+is_to_disconnect (asked.Write lba sectors durable) = false
+is_to_disconnect (asked.Zero lba sectors durable) = false
+is_to_disconnect asked.Flush = false
+is_to_disconnect asked.Disconnect = true
+is_to_disconnect (asked.Refused why) = false

@@ -1,9 +1,10 @@
 ghost use Rattle.std.specs.Prelude.{◌≡◌, ◌/◌};
-ghost use Rattle.nbd_session.specs.Requests.{asked_of, error_code, past_end, first_refusal, taken_as};
+ghost use Rattle.nbd_session.specs.Requests.{asked_of, is_to_disconnect, error_code, past_end, first_refusal, taken_as};
 
 use crate::command::Command;
 use lsvd_base::{Geometry, SECTOR_BYTES};
 use nbd_wire::Request;
+use thiserror::Error;
 
 // The command flag for data that are durable before the reply. The other known one forbids holes, of which there are none.
 const FUA: u16 = 1;
@@ -12,12 +13,14 @@ const FUA: u16 = 1;
 const FIRST_UNKNOWN_FLAG: u16 = 4;
 
 /// Why a request is refused.
-#[derive(Clone, Copy, Debug, PartialEq, Eq)]
+#[derive(Clone, Copy, Debug, PartialEq, Eq, Error)]
 pub enum RequestError {
     /// It is out of form: an unknown command or flag, bytes that are no whole sectors, a read or a trim past the end, or a read or a
     /// write that is too long.
+    #[error("the request is out of form")]
     Invalid,
     /// It writes past the end.
+    #[error("the request writes past the end")]
     NoSpace,
 }
 
@@ -60,6 +63,15 @@ pub enum Asked {
     Disconnect,
     /// It is refused. The data of a write come after it all the same.
     Refused(RequestError),
+}
+
+impl Asked {
+    /// Whether it is to end the session.
+    pub fn is_to_disconnect(self) -> bool
+        ensures { result ≡ is_to_disconnect self }
+    {
+        matches!(self, Asked::Disconnect)
+    }
 }
 
 /// What a request asks of a volume of these sizes, or the first reason to refuse it, in this order: another command, another flag,

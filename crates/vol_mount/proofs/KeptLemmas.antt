@@ -285,6 +285,8 @@ module _ (uuid : List ℕ) (geometry : Geometry) (epoch : ℕ) (list : ObjLogSta
             subst (λ u. HasCommitted (record { uuid = u; epoch = epoch }) objects.batch.geometry new) (sym uuid_is)
             (subst (λ g. HasCommitted own_cache g new) (sym geometry_is) own);
         last = refl;
+        acknowledged = ap (λ (w : WindowState). w.objects) added.window ∙ ap (λ (w : WindowState). w.objects) is.list.window;
+        plans = refl;
       }
 
   pub numbers_next : NumbersNextCommit geometry.log old (mounted_of objects new checkpoint)

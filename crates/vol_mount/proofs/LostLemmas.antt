@@ -29,6 +29,7 @@ use Rattle.mount_meaning.specs.Mounted.{data_in, going_on, mounted_without}
 use Rattle.mount_meaning.specs.Rest.{IsAtRest}
 use Rattle.mount_meaning.proofs.ListLemmas.{list_shows_some}
 use Rattle.mount_meaning.proofs.OpenedLemmas.{added_are_logged}
+use Rattle.upload_window.specs.Window.{WindowState}
 use Rattle.vol_core.specs.Volume.{volume_of}
 use Rattle.vol_core.specs.Shows.{Shows, IsSmall}
 use Rattle.vol_core.specs.Step.{passing}
@@ -106,6 +107,8 @@ module _ (uuid : List ℕ) (geometry : Geometry) (epoch : ℕ) (list : ObjLogSta
             subst (λ u. HasCommitted (record { uuid = u; epoch = epoch }) list.batch.geometry log) (sym is.list.uuid_is)
             (subst (λ g. HasCommitted (record { uuid = uuid; epoch = epoch }) g log) (sym is.list.geometry_is) own);
         last = refl;
+        acknowledged = ap (λ (w : WindowState). w.objects) is.list.window;
+        plans = refl;
       }
 
   pub mounts_stored : (objects : Option Objects) → IfSome objects (λ o. IsRecoveredFrom uuid geometry o list checkpoint)

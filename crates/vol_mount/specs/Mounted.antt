@@ -1,5 +1,5 @@
 -- Contract: what is seen of a volume that was mounted.
-use Rattle.std.specs.Prelude.{◌≡◌, ℕ, ◌+◌, List}
+use Rattle.std.specs.Prelude.{◌≡◌, ℕ, ◌+◌, List, []}
 use Rattle.lsvd_base.specs.declared.geometry.Geometry.{Geometry}
 use Rattle.lsvd_device.specs.Device.{DiskState, HoldsNow}
 use Rattle.commit_body.specs.declared.body.CommitBody.{CommitBody}
@@ -27,13 +27,16 @@ NumbersNextCommit log old mounted =
     HoldsNow (λ now. (number : ℕ) (body : CommitBody) → Reads log now.bytes body number
     → mounted.volume.volume.log.commits.number ≡ number + 1) old.moments
 
--- it is the volume that was asked for, has made no step, and its commits are its own, in this epoch
+-- It is the volume that was asked for, has made no step, and its commits are its own, in this epoch. Each of its objects is acknowledged,
+-- and no plan of a read is out.
 pub record IsOfVolume (uuid : List ℕ) (geometry : Geometry) (epoch : ℕ) (mounted : MountedState) : Type 0 where
   pub uuid_is : mounted.volume.volume.objects.uploads.uuid ≡ uuid
   pub geometry_is : mounted.volume.volume.objects.batch.geometry ≡ geometry
   pub steps : mounted.volume.steps ≡ 0
   pub own : HasOwnCommits epoch mounted.volume.volume
   pub last : mounted.number ≡ mounted.volume.volume.objects.uploads.window.last
+  pub acknowledged : mounted.volume.volume.objects.uploads.window.objects ≡ []
+  pub plans : mounted.volume.volume.pins ≡ []
 
 -- It shows a plain volume, whose device passes the calls that its own does, with its objects up to a number.
 pub record IsMountOf (plain : PlainState) (number : ℕ) (mounted : MountedState) : Type 0 where

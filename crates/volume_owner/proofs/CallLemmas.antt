@@ -27,7 +27,7 @@ pub becomes_same : (uuid : List ℕ) (objects : Option Objects) → Becomes (Kee
 becomes_same uuid None = refl
 becomes_same uuid (Some objects) = (objects, refl, λ name other. refl)
 
-becomes_then : (uuid : List ℕ) (old mid new : Option Objects) → Becomes (KeepsOtherNames uuid) old mid → Becomes (KeepsOtherNames uuid) mid new
+pub becomes_then : (uuid : List ℕ) (old mid new : Option Objects) → Becomes (KeepsOtherNames uuid) old mid → Becomes (KeepsOtherNames uuid) mid new
     → Becomes (KeepsOtherNames uuid) old new
 becomes_then uuid None mid new first second = subst (λ o. Becomes (KeepsOtherNames uuid) o new) first second
 becomes_then uuid (Some old) mid new first second =
@@ -129,13 +129,13 @@ failed_put_call T store_errors.OutOfMemory uuid number name bytes old new first 
 -- ---- want of memory
 
 -- a result that is Ok, or tells that memory ran out, tells no fault, and no range
-pub memory_alone : (result : Result (Unit {0}) OwnerError) → IsOkUnless result errors.OutOfMemory → is_eio result ≡ false
+pub memory_alone : {T : Type 0} (result : Result T OwnerError) → IsOkUnless result errors.OutOfMemory → is_eio result ≡ false
 memory_alone (Ok value) is = refl
 memory_alone (Err errors.Range) is = refl
 memory_alone (Err errors.Eio) is = let bad : ⊥ = cc in absurd bad
 memory_alone (Err errors.OutOfMemory) is = refl
 
-pub memory_no_range : (result : Result (Unit {0}) OwnerError) → IsOkUnless result errors.OutOfMemory → IsErrOf result errors.Range → ⊥
+pub memory_no_range : {T : Type 0} (result : Result T OwnerError) → IsOkUnless result errors.OutOfMemory → IsErrOf result errors.Range → ⊥
 memory_no_range (Ok value) is range = cc
 memory_no_range (Err errors.Range) is range = let bad : ⊥ = cc in bad
 memory_no_range (Err errors.Eio) is range = cc
@@ -143,7 +143,7 @@ memory_no_range (Err errors.OutOfMemory) is range = cc
 
 -- ---- an error that is handed on
 
-pub handed_on : (result : Result ℕ OwnerError) (error : OwnerError) → IsErrAnd result (λ e. e ≡ error) → result ≡ Err error
+pub handed_on : {T : Type 0} (result : Result T OwnerError) (error : OwnerError) → IsErrAnd result (λ e. e ≡ error) → result ≡ Err error
 handed_on (Ok value) error is = let bad : ⊥ = is in absurd bad
 handed_on (Err other) error is = ap Err is
 
@@ -154,11 +154,11 @@ pub call_ends : (entry : Entry) (most : ℕ) (result : Result ℕ OwnerError) (e
 call_ends entry most result error old new first second is call =
     subst (λ (r : Result ℕ OwnerError). IsCall most (added_by entry r) (is_eio r) old new first second) (sym (handed_on result error is)) call
 
-pub call_ends_none : (most : ℕ) (result : Result ℕ OwnerError) (error : OwnerError) (old new : SteppedVolume) (first second : StoreState)
-    → IsErrAnd result (λ e. e ≡ error) → IsCall most [] (is_eio {T = ℕ} (Err error)) old new first second
+pub call_ends_none : {T : Type 0} (most : ℕ) (result : Result T OwnerError) (error : OwnerError) (old new : SteppedVolume) (first second : StoreState)
+    → IsErrAnd result (λ e. e ≡ error) → IsCall most [] (is_eio {T = T} (Err error)) old new first second
     → IsCall most [] (is_eio result) old new first second
-call_ends_none most result error old new first second is call =
-    subst (λ (r : Result ℕ OwnerError). IsCall most [] (is_eio r) old new first second) (sym (handed_on result error is)) call
+call_ends_none {T} most result error old new first second is call =
+    subst (λ (r : Result T OwnerError). IsCall most [] (is_eio r) old new first second) (sym (handed_on result error is)) call
 
 -- the same error tells the same of any call
 pub same_eio : (A B : Type 0) (error : OwnerError) → is_eio {T = A} (Err error) ≡ is_eio {T = B} (Err error)

@@ -1,6 +1,6 @@
 -- What the steps of a help do: a put begins, is done, or fails; an object is sealed.
 use Rattle.std.proofs.Common.{arith, ◌≡◌, ℕ, ◌+◌, ◌*◌, ◌-◌, ◌<◌, ◌==◌, ◌⊎◌, inl, inr, Bool, true, false, cond, not, ◌&&◌, List, [], ◌∷◌, ◌++◌, length, take, length-append, length-drop, refl, sym, ◌∙◌, ap, subst}
-use Rattle.std.specs.Prelude.{Option, Some, None, if◌then◌else◌}
+use Rattle.std.specs.Prelude.{Option, Some, None, Result, Ok, Err, IfOk, if◌then◌else◌}
 use Rattle.std.specs.List.{list_any}
 use Rattle.std.proofs.lemmas.Bool.Decides.{nat_tests}
 use Rattle.std.proofs.lemmas.List.{take_all}
@@ -24,7 +24,7 @@ use Rattle.plain_disk.specs.declared.event.PlainEvent.TheVariants as events
 use Rattle.plain_disk.specs.declared.event.PlainReply.{PlainReply}
 use Rattle.plain_disk.specs.declared.event.PlainReply.TheVariants as replies
 use Rattle.plain_disk.specs.State.{PlainState, stream_in, unsealed_entries}
-use Rattle.plain_disk.specs.Objects.{is_under_way, is_busy, has_unsealed, end_of_next, reply_of_taken, window_after_take, window_after_done, after_seal}
+use Rattle.plain_disk.specs.Objects.{is_under_way, is_busy, has_unsealed, end_of_next, reply_of_taken, window_after_take, window_after_done, seal_reply, after_seal}
 use Rattle.plain_disk.specs.Reads.{are_pinned}
 use Rattle.plain_disk.specs.Step.{plain_reply, plain_after}
 use Rattle.plain_disk.specs.Valid.{IsPlainVolume}
@@ -40,12 +40,13 @@ use Rattle.vol_core.specs.Events.{Asks, Tells, IsOfPut, IsOfDonePut}
 use Rattle.vol_core.specs.Step.{passing, IsStep, IsNoStep, lacks_memory, tells_fault}
 use Rattle.volume_owner.specs.Owner.{IsIdle}
 use Rattle.volume_owner.specs.Calls.{MakesSteps}
-use Rattle.volume_owner.specs.Replies.{job_in, is_sealed}
-use Rattle.volume_owner.specs.Helping.{work_of, IsTaken}
+use Rattle.volume_owner.specs.declared.error.OwnerError.{OwnerError}
+use Rattle.volume_owner.specs.Replies.{job_in, seal_in}
+use Rattle.volume_owner.specs.Helping.{work_of, HasHelped, IsTaken}
 use Rattle.volume_owner.proofs.PlainLemmas.{is_quiet}
 use Rattle.volume_owner.proofs.WindowLemmas.{any_started, none_is_ready, started_once, begun_alone, without_shorter, without_it, entered_none, ready_is_open, marked_numbers, marked_long}
 use Rattle.volume_owner.proofs.TellsLemmas.{tells_taken, tells_no_fault}
-use Rattle.volume_owner.proofs.ReplyLemmas.{job_cases, sealed_cases, memory_is_no_fault}
+use Rattle.volume_owner.proofs.ReplyLemmas.{job_cases, seal_cases, memory_is_no_fault}
 use Rattle.volume_owner.proofs.StepLemmas.{shown_work, shown_idle, idle_shown, plans_shown, plans_plain, Steps, quiet_makes}
 
 -- ---- events that ask nothing of the device
@@ -362,27 +363,23 @@ fewer_unsealed plain valid after =
     let from = ends_from plain (last_number (stream_in plain)) valid in
     omega (arith, goes, ends, last_end, before, later, within, from)
 
-not_sealed : {R : Type 0} (reply : Reply R) → lacks_memory reply ≡ true → is_sealed reply ≡ false
-not_sealed reply lacks =
-    elim (sealed_cases reply) [
-      | inl e ↦ (let lacked = ap lacks_memory e.1 in let bad : ⊥ = cc in absurd bad)
-      | inr none ↦ none
-    ]
-
--- what such a step leaves, where nothing is on its way and there are entries
+-- what such a step leaves, where nothing is on its way
 record IsAfterSeal {R : Type 0} (reply : Reply R) (plain : PlainState) (new : VolumeState) : Type 0 where
   after : PlainState
   shows : Shows new after
   pins : after.pins ≡ plain.pins
   idle : any_started after.window.objects ≡ false
-  less : is_sealed reply ≡ true → 2 * length (unsealed_entries after) + length after.window.objects < 2 * length (unsealed_entries plain)
+  less : (number : ℕ) → reply ≡ told.Sealed number
+      → 2 * length (unsealed_entries after) + length after.window.objects < 2 * length (unsealed_entries plain)
+  none : reply ≡ told.Nothing → (length (unsealed_entries plain) ≡ 0) × (2 * length (unsealed_entries after) + length after.window.objects ≡ 0)
 
-seal_by : {R : Type 0} (reply : Reply R) (plain : PlainState) (new : VolumeState) (left now : Fuse) (has busy : Bool)
-    → IsPlainVolume plain → has_unsealed plain ≡ has → is_busy plain ≡ busy → plain.window.objects ≡ [] → 0 < length (unsealed_entries plain)
+seal_by : {R : Type 0} (state : R → ReceiptState) (volume : VolumeState) (reply : Reply R) (plain : PlainState) (new : VolumeState) (left now : Fuse)
+    (has busy : Bool) (number : ℕ) → IsPlainVolume plain → has_unsealed plain ≡ has → is_busy plain ≡ busy → plain.window.objects ≡ []
+    → Tells state volume reply (if has then (if busy then replies.Busy else replies.Sealed number) else replies.Nothing)
     → Shows new (passing now (cond (has && not busy) (with_sealed (passing left plain)) (passing left plain)))
     → IsPlainVolume (cond (has && not busy) (with_sealed plain) plain)
     → IsAfterSeal reply plain new
-seal_by reply plain new left now true false valid has_is busy_is none some shows after =
+seal_by state volume reply plain new left now true false number valid has_is busy_is none tells shows after =
     let few = fewer_unsealed plain valid after in
     let opened : OpenObject = record { number = plain.window.last + 1; is_checkpoint = false; is_started = false; was_started = false } in
     let long = length-append plain.window.objects (opened ∷ []) in
@@ -392,12 +389,28 @@ seal_by reply plain new left now true false valid has_is busy_is none some shows
       shows = shows;
       pins = refl;
       idle = entered_none plain.window.objects opened (ap any_started none) refl;
-      less = λ sealed. omega (arith, few, long, empty);
+      less = λ sealed is. omega (arith, few, long, empty);
+      none = λ is. (let told_it = subst (λ r. Tells state volume r (replies.Sealed number)) is tells in let bad : ⊥ = cc in absurd bad);
     }
-seal_by reply plain new left now true true valid has_is busy_is none some shows after =
+seal_by state volume reply plain new left now true true number valid has_is busy_is none tells shows after =
     let empty = ap (λ (o : List OpenObject). length o == 16) none in let bad : ⊥ = cc in absurd bad
-seal_by reply plain new left now false busy valid has_is busy_is none some shows after =
-    let bad : ⊥ = grind (arith, nat_tests) in absurd bad
+seal_by state volume reply plain new left now false busy number valid has_is busy_is none tells shows after =
+    let nothing : length (unsealed_entries plain) ≡ 0 = grind (arith, nat_tests) in
+    let empty = ap (λ (o : List OpenObject). length o) none in
+    record {
+      after = passing now (passing left plain);
+      shows = shows;
+      pins = refl;
+      idle = ap any_started none;
+      less = λ sealed is. (let told_it = subst (λ r. Tells state volume r replies.Nothing) is tells in let bad : ⊥ = cc in absurd bad);
+      none = λ is. (nothing, omega (arith, nothing, empty));
+    }
+
+sealed_lacks : (R : Type 0) (number : ℕ) → lacks_memory {R = R} (told.Sealed number) ≡ true → ⊥
+sealed_lacks R number lacks = cc
+
+nothing_lacks : (R : Type 0) → lacks_memory {R = R} told.Nothing ≡ true → ⊥
+nothing_lacks R lacks = cc
 
 module _ {R : Type 0} (state : R → ReceiptState) (reply : Reply R) (old new : SteppedVolume) (of : Steps state asks.Seal reply old new)
     (plain : PlainState) (shows : Shows old.volume plain) where
@@ -407,31 +420,54 @@ module _ {R : Type 0} (state : R → ReceiptState) (reply : Reply R) (old new : 
   pub seal_faults : new.volume.log.commits.disk.faults ≡ old.volume.log.commits.disk.faults
   seal_faults = silent_faults state asks.Seal reply plain old new (λ asked is. ap is_silent is) shows of
 
-  sealing : plain.window.objects ≡ [] → 0 < length (unsealed_entries plain)
+  sealing : plain.window.objects ≡ []
       → IsStep state asks.Seal reply plain old.volume new.volume ⊎ IsNoStep asks.Seal reply plain old.volume new.volume → IsAfterSeal reply plain new.volume
-  sealing none some (inl s) =
+  sealing none (inl s) =
       let ready : PlainState = passing s.left plain in
       let now : Fuse = fuse_in new.volume.log.commits.disk.budget in
       let shown : Shows new.volume (passing now (after_seal ready)) = subst (λ e. Shows new.volume (passing now (plain_after e ready))) s.asks s.shows in
-      seal_by reply plain new.volume s.left now (has_unsealed plain) (is_busy plain) shows.valid refl refl none some shown (seal_keeps plain shows.valid)
-  sealing none some (inr n) = record {
+      let tells : Tells state old.volume reply (seal_reply ready) = subst (λ e. Tells state old.volume reply (plain_reply ready e)) s.asks s.tells in
+      seal_by state old.volume reply plain new.volume s.left now (has_unsealed plain) (is_busy plain) (plain.window.last + 1) shows.valid refl refl none
+      tells shown (seal_keeps plain shows.valid)
+  sealing none (inr n) = record {
     after = plain;
     shows = n.shows;
     pins = refl;
     idle = ap any_started none;
-    less = λ sealed. (let lacks = not_sealed reply n.lacks in let bad : ⊥ = cc in absurd bad);
+    less = λ number is. absurd (sealed_lacks R number (subst (λ r. lacks_memory r ≡ true) is n.lacks));
+    none = λ is. absurd (nothing_lacks R (subst (λ r. lacks_memory r ≡ true) is n.lacks));
   }
 
-  pub sealed_leaves : IsIdle old.volume → old.volume.objects.uploads.window.objects ≡ [] → 0 < length old.volume.objects.batch.entries
-      → IsIdle new.volume × (is_sealed reply ≡ true → work_of new.volume < work_of old.volume)
-  sealed_leaves idle none some =
+  pub sealed_leaves : IsIdle old.volume → old.volume.objects.uploads.window.objects ≡ []
+      → IsIdle new.volume × IfOk (seal_in reply) (λ has_sealed. HasHelped has_sealed old.volume new.volume)
+  sealed_leaves idle none =
       let was = shown_idle old.volume plain shows idle in
-      let entries = ap (λ (es : List Entry). length es) shows.objects.stream.entries in
       let empty : plain.window.objects ≡ [] = ap (λ (w : WindowState). w.objects) (sym shows.objects.window) ∙ none in
-      let after = sealing empty (omega (arith, entries, some)) (of.step plain shows) in
+      let after = sealing empty (of.step plain shows) in
       let before = shown_work old.volume plain shows in
       let later = shown_work new.volume after.after after.shows in
-      let no_objects = ap (λ (o : List OpenObject). length o) empty in (
+      let no_objects = ap (λ (o : List OpenObject). length o) empty in
+      let Helps : Result Bool OwnerError → Type 0 = λ r. IfOk r (λ has_sealed. HasHelped has_sealed old.volume new.volume) in (
         idle_shown new.volume after.after after.shows (record { puts = after.idle; plans = after.pins ∙ was.plans }),
-        λ sealed. (let less = after.less sealed in omega (arith, before, later, no_objects, less)),
+        elim (seal_cases reply) [
+          | inl e ↦
+              let less = after.less e.0 e.1 in
+              let lower : work_of new.volume < work_of old.volume = omega (arith, before, later, no_objects, less) in
+              subst Helps (sym (ap seal_in e.1)) lower
+          | inr o ↦ elim o [
+            | inl is ↦
+                let left = after.none is in
+                let old_none : work_of old.volume ≡ 0 = omega (arith, before, no_objects, left.0) in
+                let new_none : work_of new.volume ≡ 0 = omega (arith, later, left.1) in
+                subst Helps (sym (ap seal_in is)) (old_none, new_none)
+            | inr lacks ↦ subst Helps (sym lacks) tt
+          ]
+        ],
       )
+
+-- a help after a step that left as much
+pub helped_as : (result : Result Bool OwnerError) (old mid new : VolumeState) → work_of mid ≡ work_of old
+    → IfOk result (λ has_helped. HasHelped has_helped mid new) → IfOk result (λ has_helped. HasHelped has_helped old new)
+helped_as (Ok true) old mid new same less = subst (λ w. work_of new < w) same less
+helped_as (Ok false) old mid new same none = (sym same ∙ none.0, none.1)
+helped_as (Err error) old mid new same is = is

@@ -1,15 +1,14 @@
--- Attempts to enter an entry, each after a help: how far they have come.
-use Rattle.std.proofs.Common.{arith, ◌≡◌, ℕ, ◌+◌, ◌*◌, ◌-◌, ◌≤◌, ◌<◌, Bool, true, false, List, [], refl, ◌∙◌, ap, subst}
+-- Helps one after the other, with attempts to enter an entry between them or without: how far they have come.
+use Rattle.std.proofs.Common.{arith, ◌≡◌, ℕ, ◌+◌, ◌*◌, ◌-◌, ◌≤◌, ◌<◌, Bool, true, false, List, [], refl}
 use Rattle.lsvd_base.specs.declared.entry.Entry.{Entry}
-use Rattle.lsvd_base.specs.Range.{is_in_range}
 use Rattle.lsvd_fault.specs.Faults.{Counts}
 use Rattle.lsvd_objstore.specs.Store.{StoreState}
 use Rattle.object_uploads.specs.Order.{IsUploads}
-use Rattle.vol_core.specs.Volume.{SteppedVolume}
+use Rattle.vol_core.specs.Volume.{VolumeState, SteppedVolume}
 use Rattle.vol_core.specs.Shows.{IsVolume, max_number}
 use Rattle.volume_owner.specs.Owner.{IsIdle, max_steps, most_of_call}
 use Rattle.volume_owner.specs.Calls.{MakesSteps, IsCall}
-use Rattle.volume_owner.specs.Helping.{work_of}
+use Rattle.volume_owner.specs.Helping.{work_of, HasHelped}
 use Rattle.volume_owner.proofs.PlainLemmas.{goes_on_nothing}
 use Rattle.volume_owner.proofs.CallLemmas.{becomes_same, disk_call, call_then, call_fewer}
 use Rattle.volume_owner.proofs.BoundLemmas.{work_bound}
@@ -18,17 +17,15 @@ use Rattle.volume_owner.proofs.BoundLemmas.{work_bound}
 abbrev pub helping_steps : (old now : SteppedVolume) → ℕ
 helping_steps old now = 3 * (work_of old.volume - work_of now.volume)
 
--- nothing was entered yet, and helps made this volume and this store of others
-pub record IsHelped (entry left : Entry) (old now : SteppedVolume) (first second : StoreState) : Type 0 where
-  pub same : left ≡ entry
+-- helps made this volume and this store of others, and entered nothing
+pub record IsHelped (old now : SteppedVolume) (first second : StoreState) : Type 0 where
   pub less : work_of now.volume ≤ work_of old.volume
   pub call : IsCall (helping_steps old now) [] false old now first second
   pub idle : IsIdle now.volume
 
 -- the first time
-pub helped_first : (entry : Entry) (old : SteppedVolume) (store : StoreState) → IsIdle old.volume → IsHelped entry entry old old store store
-helped_first entry old store idle = record {
-  same = refl;
+pub helped_first : (old : SteppedVolume) (store : StoreState) → IsIdle old.volume → IsHelped old old store store
+helped_first old store idle = record {
   less = omega arith;
   call = record {
     steps = record {
@@ -43,13 +40,13 @@ helped_first entry old store idle = record {
   idle = idle;
 }
 
-module _ (entry left : Entry) (old now : SteppedVolume) (first second : StoreState) (helped : IsHelped entry left old now first second) where
-  -- the entry is in range still
-  pub helped_range : is_in_range old.volume.objects.batch.geometry entry ≡ true → is_in_range now.volume.objects.batch.geometry left ≡ true
-  helped_range inside =
-      ap (is_in_range now.volume.objects.batch.geometry) helped.same ∙ ap (λ g. is_in_range g entry) helped.call.steps.sizes.geometry ∙ inside
+-- what was some is less after a help
+pub helped_some : (has_helped : Bool) (old new : VolumeState) → 0 < work_of old → HasHelped has_helped old new → work_of new < work_of old
+helped_some true old new some less = less
+helped_some false old new some none = (let nothing = none.0 in omega (arith, some, nothing))
 
-  -- and the steps are few enough for more
+module _ (old now : SteppedVolume) (first second : StoreState) (helped : IsHelped old now first second) where
+  -- the steps are few enough for more
   pub helped_few : old.steps ≤ max_steps → IsVolume old → IsUploads old.volume.objects.uploads.queue old.volume.objects.uploads.window
       → now.steps + 3 < max_number
   helped_few few is uploads =
@@ -57,36 +54,44 @@ module _ (entry left : Entry) (old now : SteppedVolume) (first second : StoreSta
       let steps = helped.call.steps.steps in
       omega (arith, few, bound, steps)
 
-  -- one attempt more, which ends it
-  pub helped_ends : (added : List Entry) (failed : Bool) (new : SteppedVolume) → IsVolume old
-      → IsUploads old.volume.objects.uploads.queue old.volume.objects.uploads.window → MakesSteps 1 added now new
-      → Counts failed now.volume.log.commits.disk.faults new.volume.log.commits.disk.faults → IsCall most_of_call added failed old new first second
-  helped_ends added failed new is uploads makes counts =
+  -- three steps more, which end it
+  pub helped_ends : (added : List Entry) (failed : Bool) (new : SteppedVolume) (third : StoreState) → IsVolume old
+      → IsUploads old.volume.objects.uploads.queue old.volume.objects.uploads.window → IsCall 3 added failed now new second third
+      → IsCall most_of_call added failed old new first third
+  helped_ends added failed new third is uploads call =
       let bound = work_bound old.volume is.plain is.shows uploads in
-      call_fewer (helping_steps old now + 1) most_of_call added failed old new first second (omega (arith, bound))
-      (call_then (helping_steps old now) 1 added failed old now new first second second helped.call (disk_call 1 added failed now new second makes counts))
+      call_fewer (helping_steps old now + 3) most_of_call added failed old new first third (omega (arith, bound))
+      (call_then (helping_steps old now) 3 added failed old now new first second third helped.call call)
 
-  -- one attempt and a help more
-  module _ (mid new : SteppedVolume) (third : StoreState) (failed : Bool) (makes : MakesSteps 1 [] now mid)
-      (counts : mid.volume.log.commits.disk.faults ≡ now.volume.log.commits.disk.faults) (work : work_of mid.volume ≡ work_of now.volume)
-      (help : IsCall 2 [] failed mid new second third) where
-    helped_both : IsCall (helping_steps old now + (1 + 2)) [] failed old new first third
-    helped_both =
-        call_then (helping_steps old now) (1 + 2) [] failed old now new first second third helped.call
-        (call_then 1 2 [] failed now mid new second second third (disk_call 1 [] false now mid second makes counts) help)
+  -- or after which it goes on, with less left
+  pub helped_more : (new : SteppedVolume) (third : StoreState) → IsCall 3 [] false now new second third → work_of new.volume < work_of now.volume
+      → IsIdle new.volume → IsHelped old new first third
+  helped_more new third call less idle = record {
+    less = omega (arith, helped.less, less);
+    call = call_fewer (helping_steps old now + 3) (helping_steps old new) [] false old new first third (omega (arith, helped.less, less))
+        (call_then (helping_steps old now) 3 [] false old now new first second third helped.call call);
+    idle = idle;
+  }
 
-    pub helped_fails : IsVolume old → IsUploads old.volume.objects.uploads.queue old.volume.objects.uploads.window
-        → IsCall most_of_call [] failed old new first third
-    helped_fails is uploads =
-        let bound = work_bound old.volume is.plain is.shows uploads in
-        call_fewer (helping_steps old now + (1 + 2)) most_of_call [] failed old new first third (omega (arith, bound)) helped_both
+-- ---- what these steps are
 
-    pub helped_more : (back : Entry) → back ≡ left → failed ≡ false → work_of new.volume < work_of mid.volume → IsIdle new.volume
-        → IsHelped entry back old new first third
-    helped_more back same fine less idle = record {
-      same = same ∙ helped.same;
-      less = omega (arith, helped.less, work, less);
-      call = call_fewer (helping_steps old now + (1 + 2)) (helping_steps old new) [] false old new first third (omega (arith, helped.less, work, less))
-          (subst (λ b. IsCall (helping_steps old now + (1 + 2)) [] b old new first third) fine helped_both);
-      idle = idle;
-    }
+pub one_attempt : (added : List Entry) (failed : Bool) (now new : SteppedVolume) (store : StoreState) → MakesSteps 1 added now new
+    → Counts failed now.volume.log.commits.disk.faults new.volume.log.commits.disk.faults → IsCall 3 added failed now new store store
+one_attempt added failed now new store makes counts =
+    call_fewer 1 3 added failed now new store store (omega arith) (disk_call 1 added failed now new store makes counts)
+
+pub attempt_and_help : (failed : Bool) (now mid new : SteppedVolume) (second third : StoreState) → MakesSteps 1 [] now mid
+    → mid.volume.log.commits.disk.faults ≡ now.volume.log.commits.disk.faults → IsCall 2 [] failed mid new second third
+    → IsCall 3 [] failed now new second third
+attempt_and_help failed now mid new second third makes counts help =
+    call_then 1 2 [] failed now mid new second second third (disk_call 1 [] false now mid second makes counts) help
+
+pub one_help : (failed : Bool) (now new : SteppedVolume) (second third : StoreState) → IsCall 2 [] failed now new second third
+    → IsCall 3 [] failed now new second third
+one_help failed now new second third help = call_fewer 2 3 [] failed now new second third (omega arith) help
+
+pub help_and_flush : (failed : Bool) (now mid new : SteppedVolume) (second third : StoreState) → IsCall 2 [] false now mid second third
+    → MakesSteps 1 [] mid new → Counts failed mid.volume.log.commits.disk.faults new.volume.log.commits.disk.faults
+    → IsCall 3 [] failed now new second third
+help_and_flush failed now mid new second third help makes counts =
+    call_then 2 1 [] failed now mid new second third third help (disk_call 1 [] failed mid new third makes counts)

@@ -34,11 +34,12 @@ use Rattle.volume_owner.specs.Errors.{is_eio}
 use Rattle.volume_owner.specs.declared.error.OwnerError.{OwnerError}
 use Rattle.volume_owner.specs.declared.error.OwnerError.TheVariants as errors
 use Rattle.volume_owner.specs.Replies.{count_in, plan_in}
+use Rattle.volume_owner.specs.Helping.{work_of}
 use Rattle.volume_owner.proofs.PlainLemmas.{is_quiet}
 use Rattle.volume_owner.proofs.WindowLemmas.{any_started}
 use Rattle.volume_owner.proofs.TellsLemmas.{tells_flushed, tells_planned, tells_failed}
 use Rattle.volume_owner.proofs.ReplyLemmas.{count_cases, plan_cases}
-use Rattle.volume_owner.proofs.StepLemmas.{length_is, IsIdlePlain, shown_idle, idle_shown, Steps, quiet_makes}
+use Rattle.volume_owner.proofs.StepLemmas.{shown_work, length_is, IsIdlePlain, shown_idle, idle_shown, Steps, quiet_makes}
 use Rattle.volume_owner.proofs.HelpLemmas.{is_silent, silent_faults}
 
 -- ---- a flush
@@ -81,6 +82,10 @@ module _ {R : Type 0} (state : R → ReceiptState) (reply : Reply R) (old new : 
   flush_idle idle =
       let was = shown_idle old.volume plain shows idle in
       idle_shown new.volume _ flushing.shows (record { puts = was.puts; plans = was.plans })
+
+  -- what is left to seal and to put stays
+  pub flush_work : work_of new.volume ≡ work_of old.volume
+  flush_work = shown_work new.volume _ flushing.shows ∙ sym (shown_work old.volume plain shows)
 
   -- it is told to be done
   pub flushed_is : (count : ℕ) → reply ≡ told.Flushed count → IsLengthOf count new.volume × IsDurable new.volume × (tells_fault reply ≡ false)

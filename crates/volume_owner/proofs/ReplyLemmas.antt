@@ -1,6 +1,6 @@
 -- Each reply of a volume to an entry: that it was entered, or another, by which it is tried again or refused.
-use Rattle.std.proofs.Common.{◌≡◌, ℕ, ◌⊎◌, inl, inr, Bool, true, false, [], refl, ap}
-use Rattle.std.specs.Prelude.{None, Err}
+use Rattle.std.proofs.Common.{◌≡◌, ℕ, ◌⊎◌, inl, inr, Bool, true, false, [], refl, sym, ap, subst}
+use Rattle.std.specs.Prelude.{None, Result, Err, IsOkUnless}
 use Rattle.lsvd_base.specs.declared.entry.Entry.{Entry}
 use Rattle.vol_core.specs.declared.reply.Refusal.{Refusal}
 use Rattle.vol_core.specs.declared.reply.Refusal.TheVariants as refusals
@@ -10,7 +10,7 @@ use Rattle.object_uploads.specs.State.{JobState}
 use Rattle.read_plan.specs.Plan.{PlanState}
 use Rattle.vol_core.specs.Step.{tells_fault, lacks_memory}
 use Rattle.volume_owner.specs.declared.replies.Attempt.TheVariants.{Entered, Again}
-use Rattle.volume_owner.specs.Replies.{attempt_in, job_in, plan_in, count_in, is_sealed}
+use Rattle.volume_owner.specs.Replies.{attempt_in, job_in, plan_in, count_in, seal_in}
 use Rattle.volume_owner.specs.Errors.{is_eio}
 use Rattle.volume_owner.specs.declared.error.OwnerError.{OwnerError}
 use Rattle.volume_owner.specs.declared.error.OwnerError.TheVariants as errors
@@ -125,29 +125,42 @@ count_cases told.Busy = inr refl
 count_cases told.Fault = inr refl
 count_cases told.OutOfMemory = inr refl
 
-pub sealed_cases : {R : Type 0} (reply : Reply R) → ((number : ℕ) × (reply ≡ told.Sealed number)) ⊎ (is_sealed reply ≡ false)
-sealed_cases (told.Entered n) = inr refl
-sealed_cases (told.NotEntered entry refusals.Range) = inr refl
-sealed_cases (told.NotEntered entry (refusals.Full why)) = inr refl
-sealed_cases (told.NotEntered entry (refusals.NoRoom needed left)) = inr refl
-sealed_cases (told.NotEntered entry refusals.Fault) = inr refl
-sealed_cases (told.NotEntered entry refusals.OutOfMemory) = inr refl
-sealed_cases (told.Flushed n) = inr refl
-sealed_cases (told.Planned plan) = inr refl
-sealed_cases told.Released = inr refl
-sealed_cases (told.NotReleased plan) = inr refl
-sealed_cases (told.Sealed n) = inl (n, refl)
-sealed_cases (told.Taken job) = inr refl
-sealed_cases (told.Done n) = inr refl
-sealed_cases (told.NotDone job receipt) = inr refl
-sealed_cases told.Returned = inr refl
-sealed_cases (told.NotReturned job) = inr refl
-sealed_cases (told.Told a b c d) = inr refl
-sealed_cases told.Range = inr refl
-sealed_cases told.Nothing = inr refl
-sealed_cases told.Busy = inr refl
-sealed_cases told.Fault = inr refl
-sealed_cases told.OutOfMemory = inr refl
+pub seal_cases : {R : Type 0} (reply : Reply R)
+    → ((number : ℕ) × (reply ≡ told.Sealed number)) ⊎ ((reply ≡ told.Nothing) ⊎ (seal_in reply ≡ Err errors.OutOfMemory))
+seal_cases (told.Entered n) = inr (inr refl)
+seal_cases (told.NotEntered entry refusals.Range) = inr (inr refl)
+seal_cases (told.NotEntered entry (refusals.Full why)) = inr (inr refl)
+seal_cases (told.NotEntered entry (refusals.NoRoom needed left)) = inr (inr refl)
+seal_cases (told.NotEntered entry refusals.Fault) = inr (inr refl)
+seal_cases (told.NotEntered entry refusals.OutOfMemory) = inr (inr refl)
+seal_cases (told.Flushed n) = inr (inr refl)
+seal_cases (told.Planned plan) = inr (inr refl)
+seal_cases told.Released = inr (inr refl)
+seal_cases (told.NotReleased plan) = inr (inr refl)
+seal_cases (told.Sealed n) = inl (n, refl)
+seal_cases (told.Taken job) = inr (inr refl)
+seal_cases (told.Done n) = inr (inr refl)
+seal_cases (told.NotDone job receipt) = inr (inr refl)
+seal_cases told.Returned = inr (inr refl)
+seal_cases (told.NotReturned job) = inr (inr refl)
+seal_cases (told.Told a b c d) = inr (inr refl)
+seal_cases told.Range = inr (inr refl)
+seal_cases told.Nothing = inr (inl refl)
+seal_cases told.Busy = inr (inr refl)
+seal_cases told.Fault = inr (inr refl)
+seal_cases told.OutOfMemory = inr (inr refl)
+
+-- of a seal that fails memory ran out
+pub seal_alone : {R : Type 0} (reply : Reply R) → IsOkUnless (seal_in reply) errors.OutOfMemory
+seal_alone {R} reply =
+    let Alone : Result Bool OwnerError → Type 0 = λ r. IsOkUnless r errors.OutOfMemory in
+    elim (seal_cases reply) [
+      | inl e ↦ subst Alone (sym (ap seal_in e.1)) tt
+      | inr o ↦ elim o [
+        | inl is ↦ subst Alone (sym (ap seal_in is)) tt
+        | inr lacks ↦ subst Alone (sym lacks) refl
+      ]
+    ]
 
 -- why there is no plan
 pub record HasNoPlan {R : Type 0} (reply : Reply R) : Type 0 where

@@ -28,6 +28,12 @@ IsLengthOf count volume = (plain : PlainState) → Shows volume plain → count 
 abbrev pub IsDurable : VolumeState → Type 0
 IsDurable volume = (plain : PlainState) → Shows volume plain → plain.cache.log.last.head.seq ≡ history_length plain
 
+-- Each entry of a volume's history is in an object, each object is acknowledged, and each entry is committed.
+pub record IsDrained (volume : VolumeState) : Type 0 where
+  pub unsealed : volume.objects.batch.entries ≡ []
+  pub on_way : volume.objects.uploads.window.objects ≡ []
+  pub durable : IsDurable volume
+
 -- ---- contents
 
 -- a volume tells what it holds: the disk of its log tells the log's entries, and each receipt its object's bytes

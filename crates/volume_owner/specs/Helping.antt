@@ -15,6 +15,11 @@ use Rattle.volume_owner.specs.declared.replies.Attempt.TheVariants.{Entered, Aga
 abbrev pub work_of : VolumeState → ℕ
 work_of volume = 2 * length volume.objects.batch.entries + length volume.objects.uploads.window.objects
 
+-- a help lowers what is left; or nothing was left, and nothing is
+abbrev pub HasHelped : (has_helped : Bool) → (old new : VolumeState) → Type 0
+HasHelped true old new = work_of new < work_of old
+HasHelped false old new = (work_of old ≡ 0) × (work_of new ≡ 0)
+
 -- a put is out, which this is the job of, and no other is
 pub record IsTaken (job : JobState) (volume : VolumeState) : Type 0 where
   pub out : IsOut volume.objects.uploads job.name.number job.bytes

@@ -36,7 +36,8 @@ abbrev pub count_in : {R : Type 0} → Reply R → Option ℕ
 count_in (told.Flushed count) = Some count
 count_in reply = None
 
--- of a seal
-abbrev pub is_sealed : {R : Type 0} → Reply R → Bool
-is_sealed (told.Sealed number) = true
-is_sealed reply = false
+-- of a seal, where no object is on its way
+abbrev pub seal_in : {R : Type 0} → Reply R → Result Bool OwnerError
+seal_in (told.Sealed number) = Ok true
+seal_in told.Nothing = Ok false
+seal_in reply = Err errors.OutOfMemory

@@ -1,14 +1,14 @@
-ghost use Rattle.std.specs.Prelude.{◌≡◌, ◌+◌, ◌<◌, [], length, OnOk, IsErrOf, IsOkUnless};
+ghost use Rattle.std.specs.Prelude.{◌≡◌, ◌+◌, ◌<◌, [], length, IfOk, OnOk, IsErrOf, IsOkUnless};
 ghost use Rattle.lsvd_names.specs.Spelling.{IsUuid, IsName};
 ghost use Rattle.object_stream.specs.Replay.{name_of};
 ghost use Rattle.vol_core.specs.Shows.{max_number};
 ghost use Rattle.volume_owner.specs.Owner.{IsIdle};
 ghost use Rattle.volume_owner.specs.Calls.{MakesSteps, IsCall};
 ghost use Rattle.volume_owner.specs.Errors.{is_eio};
-ghost use Rattle.volume_owner.specs.Helping.{work_of, IsTaken};
+ghost use Rattle.volume_owner.specs.Helping.{work_of, HasHelped, IsTaken};
 
 use crate::error::OwnerError;
-use crate::replies::{job_of, was_sealed};
+use crate::replies::{job_of, seal_of};
 use lsvd_device::Disk;
 use lsvd_names::{Kind, ObjName};
 use lsvd_objstore::{Receipt, Store};
@@ -17,27 +17,29 @@ use std::alloc::Global;
 use uuid::Uuid;
 use vol_core::{Event, Volume};
 
-/// Puts the lowest object that waits for its put; where none does, seals the next one. There is one or there are entries for one
-/// (a condition).
+/// Puts the lowest object that waits for its put; where none does, seals the next one. Answers whether there was one, or were entries
+/// for one.
 ///
 /// `Eio` comes where the put failed, and `OutOfMemory` where memory ran out. The object then waits again.
 pub(crate) fn help<D: Disk, R: Receipt, S: Store<Receipt = R>>(
     alloc: Global,
     volume: &mut Volume<D, R>,
     store: &mut S,
-) -> Result<(), OwnerError>
+) -> Result<bool, OwnerError>
     requires steps { volume.old.steps + 1 < max_number }
     requires idle { IsIdle volume.old.volume }
-    requires work { 0 < work_of volume.old.volume }
     ensures help { IsCall 2 [] (is_eio result) volume.old volume.new (S.state store.old) (S.state store.new) }
-    ensures less { OnOk result (work_of volume.new.volume < work_of volume.old.volume) }
+    ensures less { IfOk result (λ has_helped. HasHelped has_helped volume.old.volume volume.new.volume) }
     ensures error { IsErrOf result OwnerError.Range → ⊥ }
     ensures idle { IsIdle volume.new.volume }
 {
     volume.is_volume();
     volume.is_ordered();
     match job_of(volume.step(Event::TakeJob)) {
-        Some(job) => put(alloc, volume, store, job),
+        Some(job) => {
+            put(alloc, volume, store, job)?;
+            Ok(true)
+        }
         None => seal(volume),
     }
 }
@@ -70,24 +72,20 @@ fn put<D: Disk, R: Receipt, S: Store<Receipt = R>>(
     }
 }
 
-// Seals the next object, for which there are entries. No object is on its way (conditions). The one error is that memory ran out.
-fn seal<D: Disk, R: Receipt>(volume: &mut Volume<D, R>) -> Result<(), OwnerError>
+// Seals the next object. No object is on its way (a condition). Answers whether there were entries for one; the one error is that memory
+// ran out.
+fn seal<D: Disk, R: Receipt>(volume: &mut Volume<D, R>) -> Result<bool, OwnerError>
     requires steps { volume.old.steps < max_number }
     requires idle { IsIdle volume.old.volume }
     requires none { volume.old.volume.objects.uploads.window.objects ≡ [] }
-    requires some { 0 < length volume.old.volume.objects.batch.entries }
     ensures steps { MakesSteps 1 [] volume.old volume.new }
-    ensures less { OnOk result (work_of volume.new.volume < work_of volume.old.volume) }
+    ensures less { IfOk result (λ has_sealed. HasHelped has_sealed volume.old.volume volume.new.volume) }
     ensures error { IsOkUnless result OwnerError.OutOfMemory }
     ensures faults { volume.new.volume.log.commits.disk.faults ≡ volume.old.volume.log.commits.disk.faults }
     ensures idle { IsIdle volume.new.volume }
 {
     volume.is_volume();
-    if was_sealed(volume.step(Event::Seal)) {
-        Ok(())
-    } else {
-        Err(OwnerError::OutOfMemory)
-    }
+    seal_of(volume.step(Event::Seal))
 }
 
 // The name of the numbered object of a volume.

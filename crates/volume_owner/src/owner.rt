@@ -1,12 +1,13 @@
-ghost use Rattle.std.specs.Prelude.{◌≡◌, ◌<◌, ◌≤◌, ◌↔◌, ◌/◌, ◌%◌, [], false, length, IfOk, OnOk, IsErrOf, is_err};
+ghost use Rattle.std.specs.Prelude.{◌≡◌, ◌<◌, ◌≤◌, ◌↔◌, ◌/◌, ◌%◌, [], IsTrue, false, length, IfOk, OnOk, IsErrOf, is_err};
 ghost use Rattle.lsvd_base.specs.declared.entry.Entry.TheVariants as entries;
-ghost use Rattle.lsvd_base.specs.Limits.{may_transfer};
+ghost use Rattle.lsvd_base.specs.Limits.{is_within_limits, may_transfer};
 ghost use Rattle.lsvd_base.specs.Range.{is_in_range};
 ghost use Rattle.lsvd_fault.specs.Faults.{Counts};
 ghost use Rattle.volume_owner.specs.Owner.{IsIdle, max_steps, most_of_call};
-ghost use Rattle.volume_owner.specs.Calls.{MakesSteps, IsCall, IsLengthOf, IsDurable, HasSectors, added_by};
+ghost use Rattle.volume_owner.specs.Calls.{MakesSteps, IsCall, IsLengthOf, IsDurable, IsDrained, HasSectors, added_by};
 ghost use Rattle.volume_owner.specs.Errors.{is_eio};
 
+use crate::draining::drain;
 use crate::entering::enter;
 use crate::error::OwnerError;
 use crate::reading::{flush, read};
@@ -101,6 +102,25 @@ impl<D: Disk, R: Receipt> Owner<D, R> {
         flush(&mut self.volume)
     }
 
+    /// Seals and puts until no entry is unsealed and each object is acknowledged, and then flushes. Answers how many entries the history
+    /// has. A server calls it before it ends.
+    ///
+    /// `Eio` comes where a call of the disk or of the store failed, which that counted, and `OutOfMemory` where memory ran out; `Range`
+    /// never comes. After an error some of this may be done, and the call may be made again. Nothing is entered.
+    pub fn drain<S: Store<Receipt = R>>(
+        &mut self,
+        alloc: Global,
+        store: &mut S,
+    ) -> Result<u64, OwnerError>
+        requires { self.old.steps ≤ max_steps }
+        ensures call { IsCall most_of_call [] (is_eio result) self.old self.new (S.state store.old) (S.state store.new) }
+        ensures count { IfOk result (λ count. IsLengthOf count self.new.volume) }
+        ensures drained { OnOk result (IsDrained self.new.volume) }
+        ensures range { IsErrOf result OwnerError.Range → ⊥ }
+    {
+        drain(alloc, &mut self.volume, store)
+    }
+
     /// Reads the sectors from `lba` on into the whole of a buffer of whole sectors (a condition), and answers the front: how many entries
     /// the history has that the sectors are those of. Where the volume tells what it holds, they are its sectors.
     ///
@@ -130,10 +150,12 @@ impl<D: Disk, R: Receipt> Owner<D, R> {
         self.volume.steps()
     }
 
-    /// The geometry of the volume, which no call changes.
+    /// The geometry of the volume, which no call changes. Each size keeps its limits.
     pub fn geometry(&self) -> Geometry
-        ensures { result ≡ self.now.volume.objects.batch.geometry }
+        ensures same { result ≡ self.now.volume.objects.batch.geometry }
+        ensures limits { IsTrue (is_within_limits result) }
     {
+        self.volume.is_volume();
         self.volume.geometry()
     }
 

@@ -1,9 +1,11 @@
 ghost use Rattle.std.specs.Prelude.{◌≡◌, ◌<◌, ◌≤◌, ◌↔◌, ◌/◌, ◌%◌, [], false, length, IfOk, OnOk, IsErrOf, is_err};
 ghost use Rattle.lsvd_base.specs.Limits.{may_transfer};
 ghost use Rattle.lsvd_fault.specs.Faults.{Counts};
+ghost use Rattle.vol_core.specs.Shows.{max_number};
 ghost use Rattle.volume_owner.specs.Owner.{IsIdle, max_steps, most_of_call};
 ghost use Rattle.volume_owner.specs.Calls.{MakesSteps, IsCall, IsLengthOf, IsDurable, HasSectors};
 ghost use Rattle.volume_owner.specs.Errors.{is_eio};
+ghost use Rattle.volume_owner.specs.Helping.{work_of};
 
 use crate::error::OwnerError;
 use crate::replies::{count_of, plan_of};
@@ -45,11 +47,12 @@ pub(crate) fn read<D: Disk, R: Receipt, S: Store<Receipt = R>>(
 
 /// Commits each entry so far, and answers the length of the history. `Failed` comes where a call of the disk failed.
 pub(crate) fn flush<D: Disk, R: Receipt>(volume: &mut Volume<D, R>) -> Result<u64, Failed>
-    requires steps { volume.old.steps ≤ max_steps }
+    requires steps { volume.old.steps < max_number }
     requires idle { IsIdle volume.old.volume }
     ensures steps { MakesSteps 1 [] volume.old volume.new }
     ensures count { IfOk result (λ count. IsLengthOf count volume.new.volume) }
     ensures durable { OnOk result (IsDurable volume.new.volume) }
+    ensures work { work_of volume.new.volume ≡ work_of volume.old.volume }
     ensures faults { Counts (is_err result) volume.old.volume.log.commits.disk.faults volume.new.volume.log.commits.disk.faults }
     ensures idle { IsIdle volume.new.volume }
 {

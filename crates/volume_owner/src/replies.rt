@@ -1,5 +1,5 @@
 ghost use Rattle.std.specs.Prelude.{◌≡◌};
-ghost use Rattle.volume_owner.specs.Replies.{attempt_in, job_in, plan_in, count_in, is_sealed};
+ghost use Rattle.volume_owner.specs.Replies.{attempt_in, job_in, plan_in, count_in, seal_in};
 
 use crate::error::OwnerError;
 use lsvd_base::Entry;
@@ -72,9 +72,13 @@ pub(crate) fn count_of<R: Receipt>(reply: Reply<R>) -> Option<u64>
     }
 }
 
-/// Whether an object was sealed.
-pub(crate) fn was_sealed<R: Receipt>(reply: Reply<R>) -> bool
-    ensures { result ≡ is_sealed reply }
+/// Whether a reply tells that an object was sealed, where none is on its way, or that there was nothing to seal.
+pub(crate) fn seal_of<R: Receipt>(reply: Reply<R>) -> Result<bool, OwnerError>
+    ensures { result ≡ seal_in reply }
 {
-    matches!(reply, Reply::Sealed(_))
+    match reply {
+        Reply::Sealed(_) => Ok(true),
+        Reply::Nothing => Ok(false),
+        _ => Err(OwnerError::OutOfMemory),
+    }
 }

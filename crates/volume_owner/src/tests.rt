@@ -291,3 +291,111 @@ fn requests_that_are_out_of_range_are_refused(rt: HostRuntime) -> Result<(), Fai
     drop(owner);
     judged
 }
+
+// A change before each further drain, or none, and how many entries and objects there are then more than after the first: one
+// entry that is in no object yet is in one alone.
+const DRAINS: [(Option<Change>, u64); 4] = [
+    (
+        Some(Change {
+            lba: 60,
+            sectors: 4,
+            byte: 3,
+        }),
+        1,
+    ),
+    (None, 1),
+    (None, 1),
+    (
+        Some(Change {
+            lba: 3,
+            sectors: 5,
+            byte: 0,
+        }),
+        2,
+    ),
+];
+
+// Drains, and answers how many entries the history has, and how many objects of the volume the store.
+fn drain_and_count<S: Store<Receipt = MemReceipt>>(
+    alloc: Global,
+    owner: &mut TestOwner,
+    store: &mut S,
+) -> Result<(u64, u64), Fail> {
+    if 1 << 40 < owner.steps() {
+        return Err("too many steps")?;
+    }
+    let count = owner.drain(alloc, store)?;
+    let names = store.list(alloc, owner.uuid())?;
+    Ok((count, names.as_slice().len() as u64))
+}
+
+// The same after a change.
+fn change_and_drain<S: Store<Receipt = MemReceipt>>(
+    alloc: Global,
+    owner: &mut TestOwner,
+    store: &mut S,
+    image: &mut [u8],
+    change: Option<Change>,
+) -> Result<(u64, u64), Fail> {
+    if let Some(change) = change {
+        make(alloc, owner, store, change)??;
+        make_in(image, change);
+    }
+    drain_and_count(alloc, owner, store)
+}
+
+// Whether the sectors of the whole volume are those of the image.
+fn has_image<S: Store<Receipt = MemReceipt>>(
+    alloc: Global,
+    owner: &mut TestOwner,
+    store: &mut S,
+    image: &[u8],
+) -> Result<bool, Fail> {
+    for part in 0..8u8 {
+        let seen = Change {
+            lba: 8 * part,
+            sectors: 8,
+            byte: 0,
+        };
+        if !has_sectors(alloc, owner, store, image, seen)? {
+            return Ok(false);
+        }
+    }
+    Ok(true)
+}
+
+// Makes changes and drains, and goes on as the table says.
+fn judge_drains<S: Store<Receipt = MemReceipt>>(
+    rt: &impl Abort,
+    alloc: Global,
+    owner: &mut TestOwner,
+    store: &mut S,
+    image: &mut [u8],
+) -> Result<(), Fail> {
+    make_all(rt, alloc, owner, store, image)?;
+    let (count, objects) = drain_and_count(alloc, owner, store)?;
+    assert_eq!(rt; count, 600);
+    for (change, more) in DRAINS {
+        let drained = change_and_drain(alloc, owner, store, image, change)?;
+        let wanted = (count.wrapping_add(more), objects.wrapping_add(more));
+        assert_eq!(rt; drained, wanted);
+        assert!(rt; has_image(alloc, owner, store, image)?);
+    }
+    Ok(())
+}
+
+#[test]
+fn a_drain_puts_what_is_left_and_no_more(rt: HostRuntime) -> Result<(), Fail> {
+    let mut image = vec![in rt.alloc(); 0; IMAGE]?;
+    let mut owner = created(rt.alloc())?;
+    let mut store = MemStore::new(rt.alloc());
+    let judged = judge_drains(
+        &rt,
+        rt.alloc(),
+        &mut owner,
+        &mut store,
+        image.as_mut_slice(),
+    );
+    drop(owner);
+    judged
+}

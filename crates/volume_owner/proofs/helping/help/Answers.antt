@@ -1,15 +1,14 @@
-use Rattle.std.proofs.Common.{arith, ◌<◌, false, List, [], length, sym, ◌∙◌, ap, subst}
+use Rattle.std.proofs.Common.{arith, ◌<◌, Bool, false, [], sym, ◌∙◌, subst, Err}
 use Rattle.lsvd_objstore.specs.Store.{StoreState}
-use Rattle.upload_window.specs.declared.object.OpenObject.{OpenObject}
 use Rattle.vol_core.specs.declared.event.Event.TheVariants as asks
 use Rattle.vol_core.specs.Volume.{SteppedVolume}
-use Rattle.std.specs.Prelude.{OnOk}
 use Rattle.volume_owner.specs.Calls.{IsCall}
 use Rattle.volume_owner.specs.Errors.{is_eio}
+use Rattle.volume_owner.specs.declared.error.OwnerError.{OwnerError}
 use Rattle.volume_owner.specs.Helping.{work_of}
 use Rattle.volume_owner.proofs.StepLemmas.{Steps}
-use Rattle.volume_owner.proofs.CallLemmas.{quiet_call, call_then, memory_alone, memory_no_range}
-use Rattle.volume_owner.proofs.HelpLemmas.{take_makes, take_faults, handed_job, taken_is, none_taken}
+use Rattle.volume_owner.proofs.CallLemmas.{quiet_call, call_then, call_ends_none, same_eio, memory_alone, memory_no_range}
+use Rattle.volume_owner.proofs.HelpLemmas.{take_makes, take_faults, handed_job, taken_is, none_taken, helped_as}
 use Rattle.volume_owner.proofs.helping.help.Goals as goal
 
 pub put-requires-clause-job : goal.put-requires-clause-job
@@ -31,8 +30,8 @@ put-requires-clause-job g c =
     let taken = taken_is state reply old mid of plain shows c.in-Some.job c.requires.idle (handed_job reply c.in-Some.job (sym c.job_of.ensures ∙ c.in-Some.is)) in
     taken.0
 
-pub returns-in-Some-clause-help : goal.returns-in-Some-clause-help
-returns-in-Some-clause-help g c =
+pub returns-in_err-put-in-Some-clause-help : goal.returns-in_err-put-in-Some-clause-help
+returns-in_err-put-in-Some-clause-help g c =
     let state = g.R.Receipt.state in
     let reply = c.step.result in
     let old : SteppedVolume = c.args.volume.now in
@@ -47,13 +46,38 @@ returns-in-Some-clause-help g c =
       bytes = c.step.ensures.bytes;
       faults = c.step.ensures.faults;
     } in
-    let taken = taken_is state reply old mid of plain shows c.in-Some.job c.requires.idle (handed_job reply c.in-Some.job (sym c.job_of.ensures ∙ c.in-Some.is)) in
+    let last : SteppedVolume = c.put.new.volume in
     let first : StoreState = g.S.Store.state c.args.store.now in
-    call_then 1 1 [] (is_eio c.put.result) old mid c.put.new.volume first first (g.S.Store.state c.put.new.store)
-    (quiet_call 1 [] old mid first (take_makes state reply old mid of plain shows) (take_faults state reply old mid of plain shows)) c.put.ensures.call
+    let second : StoreState = g.S.Store.state c.put.new.store in
+    let error : OwnerError = c.in_err-put-in-Some.field-0.0 in
+    let failed = is_eio {T = Unit {0}} (Err error) in
+    call_ends_none 2 c.from_residual.result error old last first second c.from_residual.ensures.1
+    (subst (λ b. IsCall 2 [] b old last first second) (same_eio (Unit {0}) Bool error)
+    (call_then 1 1 [] failed old mid last first first second
+    (quiet_call 1 [] old mid first (take_makes state reply old mid of plain shows) (take_faults state reply old mid of plain shows)) c.in_err-put-in-Some.ensures.call))
 
-pub returns-in-Some-clause-less : goal.returns-in-Some-clause-less
-returns-in-Some-clause-less g c =
+pub returns-in_ok-put-in-Some-clause-help : goal.returns-in_ok-put-in-Some-clause-help
+returns-in_ok-put-in-Some-clause-help g c =
+    let state = g.R.Receipt.state in
+    let reply = c.step.result in
+    let old : SteppedVolume = c.args.volume.now in
+    let mid : SteppedVolume = c.step.new.self in
+    let plain = c.is_volume.ensures.plain in
+    let shows = c.is_volume.ensures.shows in
+    let of : Steps state asks.TakeJob reply old mid = record {
+      step = c.step.ensures.step;
+      steps = c.step.ensures.steps;
+      sizes = c.step.ensures.sizes;
+      stops = c.step.ensures.stops;
+      bytes = c.step.ensures.bytes;
+      faults = c.step.ensures.faults;
+    } in
+    let first : StoreState = g.S.Store.state c.args.store.now in
+    call_then 1 1 [] false old mid c.put.new.volume first first (g.S.Store.state c.put.new.store)
+    (quiet_call 1 [] old mid first (take_makes state reply old mid of plain shows) (take_faults state reply old mid of plain shows)) c.in_ok-put-in-Some.ensures.call
+
+pub returns-in_ok-put-in-Some-clause-less : goal.returns-in_ok-put-in-Some-clause-less
+returns-in_ok-put-in-Some-clause-less g c =
     let state = g.R.Receipt.state in
     let reply = c.step.result in
     let old : SteppedVolume = c.args.volume.now in
@@ -69,7 +93,7 @@ returns-in-Some-clause-less g c =
       faults = c.step.ensures.faults;
     } in
     let taken = taken_is state reply old mid of plain shows c.in-Some.job c.requires.idle (handed_job reply c.in-Some.job (sym c.job_of.ensures ∙ c.in-Some.is)) in
-    subst (λ w. OnOk c.put.result (work_of c.put.new.volume.volume < w)) taken.1 c.put.ensures.less
+    subst (λ w. work_of c.put.new.volume.volume < w) taken.1 c.in_ok-put-in-Some.ensures.less
 
 pub seal-requires : goal.seal-requires
 seal-requires g c =
@@ -88,13 +112,10 @@ seal-requires g c =
       faults = c.step.ensures.faults;
     } in
     let left = none_taken state reply old mid of plain shows c.requires.idle c.is_ordered.ensures.uploads (sym c.job_of.ensures ∙ c.in-None.is) in
-    let empty = ap (λ (o : List OpenObject). length o) left.0 in
-    let work = c.requires.work in
     record {
       steps = omega (arith, c.requires.steps, of.steps);
       idle = left.1;
       none = left.0;
-      some = omega (arith, empty, work, left.2);
     }
 
 pub returns-in-None : goal.returns-in-None
@@ -121,7 +142,7 @@ returns-in-None g c =
           (call_then 1 1 [] false old mid c.seal.new.volume first first first
           (quiet_call 1 [] old mid first (take_makes state reply old mid of plain shows) (take_faults state reply old mid of plain shows))
           (quiet_call 1 [] mid c.seal.new.volume first c.seal.ensures.steps c.seal.ensures.faults));
-      less = subst (λ w. OnOk c.seal.result (work_of c.seal.new.volume.volume < w)) left.2 c.seal.ensures.less;
+      less = helped_as c.seal.result old.volume mid.volume c.seal.new.volume.volume left.2 c.seal.ensures.less;
       error = memory_no_range c.seal.result c.seal.ensures.error;
       idle = c.seal.ensures.idle;
     }

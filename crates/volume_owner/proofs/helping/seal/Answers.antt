@@ -1,83 +1,36 @@
-use Rattle.std.proofs.Common.{sym, ◌∙◌}
+use Rattle.std.proofs.Common.{Bool, sym, subst}
+use Rattle.std.specs.Prelude.{Result, IfOk, IsOkUnless}
+use Rattle.vol_core.specs.declared.event.Event.TheVariants as asks
+use Rattle.vol_core.specs.Volume.{SteppedVolume}
+use Rattle.volume_owner.specs.declared.error.OwnerError.{OwnerError}
+use Rattle.volume_owner.specs.declared.error.OwnerError.TheVariants as errors
+use Rattle.volume_owner.specs.Helping.{HasHelped}
+use Rattle.volume_owner.proofs.StepLemmas.{Steps}
+use Rattle.volume_owner.proofs.ReplyLemmas.{seal_alone}
 use Rattle.volume_owner.proofs.HelpLemmas.{seal_makes, seal_faults, sealed_leaves}
 use Rattle.volume_owner.proofs.helping.seal.Goals as goal
 
-pub returns-then-was_sealed-clause-steps : goal.returns-then-was_sealed-clause-steps
-returns-then-was_sealed-clause-steps g c =
-    seal_makes g.R.Receipt.state c.step.result c.args.volume.now c.step.new.self (record {
+pub returns : goal.returns
+returns g c =
+    let state = g.R.Receipt.state in
+    let reply = c.step.result in
+    let old : SteppedVolume = c.args.volume.now in
+    let new : SteppedVolume = c.step.new.self in
+    let plain = c.is_volume.ensures.plain in
+    let shows = c.is_volume.ensures.shows in
+    let of : Steps state asks.Seal reply old new = record {
       step = c.step.ensures.step;
       steps = c.step.ensures.steps;
       sizes = c.step.ensures.sizes;
       stops = c.step.ensures.stops;
       bytes = c.step.ensures.bytes;
       faults = c.step.ensures.faults;
-    }) c.is_volume.ensures.plain c.is_volume.ensures.shows
-
-pub returns-then-was_sealed-clause-faults : goal.returns-then-was_sealed-clause-faults
-returns-then-was_sealed-clause-faults g c =
-    seal_faults g.R.Receipt.state c.step.result c.args.volume.now c.step.new.self (record {
-      step = c.step.ensures.step;
-      steps = c.step.ensures.steps;
-      sizes = c.step.ensures.sizes;
-      stops = c.step.ensures.stops;
-      bytes = c.step.ensures.bytes;
-      faults = c.step.ensures.faults;
-    }) c.is_volume.ensures.plain c.is_volume.ensures.shows
-
-pub returns-then-was_sealed-clause-idle : goal.returns-then-was_sealed-clause-idle
-returns-then-was_sealed-clause-idle g c =
-    (sealed_leaves g.R.Receipt.state c.step.result c.args.volume.now c.step.new.self (record {
-      step = c.step.ensures.step;
-      steps = c.step.ensures.steps;
-      sizes = c.step.ensures.sizes;
-      stops = c.step.ensures.stops;
-      bytes = c.step.ensures.bytes;
-      faults = c.step.ensures.faults;
-    }) c.is_volume.ensures.plain c.is_volume.ensures.shows
-    c.requires.idle c.requires.none c.requires.some).0
-
-pub returns-else-was_sealed-clause-steps : goal.returns-else-was_sealed-clause-steps
-returns-else-was_sealed-clause-steps g c =
-    seal_makes g.R.Receipt.state c.step.result c.args.volume.now c.step.new.self (record {
-      step = c.step.ensures.step;
-      steps = c.step.ensures.steps;
-      sizes = c.step.ensures.sizes;
-      stops = c.step.ensures.stops;
-      bytes = c.step.ensures.bytes;
-      faults = c.step.ensures.faults;
-    }) c.is_volume.ensures.plain c.is_volume.ensures.shows
-
-pub returns-else-was_sealed-clause-faults : goal.returns-else-was_sealed-clause-faults
-returns-else-was_sealed-clause-faults g c =
-    seal_faults g.R.Receipt.state c.step.result c.args.volume.now c.step.new.self (record {
-      step = c.step.ensures.step;
-      steps = c.step.ensures.steps;
-      sizes = c.step.ensures.sizes;
-      stops = c.step.ensures.stops;
-      bytes = c.step.ensures.bytes;
-      faults = c.step.ensures.faults;
-    }) c.is_volume.ensures.plain c.is_volume.ensures.shows
-
-pub returns-else-was_sealed-clause-idle : goal.returns-else-was_sealed-clause-idle
-returns-else-was_sealed-clause-idle g c =
-    (sealed_leaves g.R.Receipt.state c.step.result c.args.volume.now c.step.new.self (record {
-      step = c.step.ensures.step;
-      steps = c.step.ensures.steps;
-      sizes = c.step.ensures.sizes;
-      stops = c.step.ensures.stops;
-      bytes = c.step.ensures.bytes;
-      faults = c.step.ensures.faults;
-    }) c.is_volume.ensures.plain c.is_volume.ensures.shows
-    c.requires.idle c.requires.none c.requires.some).0
-
-pub returns-then-was_sealed-clause-less : goal.returns-then-was_sealed-clause-less
-returns-then-was_sealed-clause-less g c =
-    (sealed_leaves g.R.Receipt.state c.step.result c.args.volume.now c.step.new.self (record {
-      step = c.step.ensures.step;
-      steps = c.step.ensures.steps;
-      sizes = c.step.ensures.sizes;
-      stops = c.step.ensures.stops;
-      bytes = c.step.ensures.bytes;
-      faults = c.step.ensures.faults;
-    }) c.is_volume.ensures.plain c.is_volume.ensures.shows
-    c.requires.idle c.requires.none c.requires.some).1 (sym c.was_sealed.ensures ∙ c.if-was_sealed.true)
+    } in
+    let left = sealed_leaves state reply old new of plain shows c.requires.idle c.requires.none in
+    record {
+      steps = seal_makes state reply old new of plain shows;
+      less = subst (λ (r : Result Bool OwnerError). IfOk r (λ has_sealed. HasHelped has_sealed old.volume new.volume)) (sym c.seal_of.ensures) left.1;
+      error = subst (λ (r : Result Bool OwnerError). IsOkUnless r errors.OutOfMemory) (sym c.seal_of.ensures) (seal_alone reply);
+      faults = seal_faults state reply old new of plain shows;
+      idle = left.0;
+    }

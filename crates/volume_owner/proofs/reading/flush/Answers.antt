@@ -3,7 +3,7 @@ use Rattle.lsvd_fault.specs.Faults.{Counts}
 use Rattle.vol_core.specs.declared.event.Event.TheVariants as asks
 use Rattle.vol_core.specs.Volume.{SteppedVolume}
 use Rattle.volume_owner.proofs.StepLemmas.{Steps}
-use Rattle.volume_owner.proofs.ReadLemmas.{flush_makes, flush_idle, flushed_is, not_flushed, flushed_reply}
+use Rattle.volume_owner.proofs.ReadLemmas.{flush_makes, flush_idle, flush_work, flushed_is, not_flushed, flushed_reply}
 use Rattle.volume_owner.proofs.reading.flush.Goals as goal
 
 pub returns-in-Some : goal.returns-in-Some
@@ -27,6 +27,7 @@ returns-in-Some g c =
       steps = flush_makes state reply old new of plain shows;
       count = is.0;
       durable = is.1;
+      work = flush_work state reply old new of plain shows;
       faults = subst (λ b. Counts b old.volume.log.commits.disk.faults new.volume.log.commits.disk.faults) is.2 of.faults;
       idle = flush_idle state reply old new of plain shows c.requires.idle;
     }
@@ -52,6 +53,7 @@ returns-in-None g c =
       steps = flush_makes state reply old new of plain shows;
       count = tt;
       durable = tt;
+      work = flush_work state reply old new of plain shows;
       faults = subst (λ b. Counts b old.volume.log.commits.disk.faults new.volume.log.commits.disk.faults) fault of.faults;
       idle = flush_idle state reply old new of plain shows c.requires.idle;
     }

@@ -1,0 +1,4 @@
+pub mod Buffer
+pub mod Listening
+pub mod Memory
+pub mod Socket

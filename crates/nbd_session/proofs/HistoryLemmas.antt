@@ -1,0 +1,261 @@
+-- What a session adds to the history of its volume.
+use Rattle.std.proofs.Common.{◌≡◌, ℕ, ◌+◌, ◌^◌, ◌≤◌, Bool, true, false, List, [], ◌∷◌, ◌++◌, length, append-nil, append_assoc, refl, sym, ◌∙◌, ap, subst, inl, inr, arith}
+use Rattle.std.specs.Prelude.{Option, Some, None, Ok, Err}
+use Rattle.lsvd_base.specs.declared.entry.Entry.{Entry}
+use Rattle.lsvd_objstore.specs.Store.{StoreState, ReceiptState, Becomes}
+use Rattle.object_stream.specs.declared.object.StreamObject.{StreamObject}
+use Rattle.plain_disk.specs.State.{PlainState}
+use Rattle.vol_core.specs.Volume.{VolumeState}
+use Rattle.volume_owner.specs.History.{GoesOn}
+use Rattle.volume_owner.specs.Calls.{Adds, KeepsOtherNames}
+use Rattle.volume_owner.proofs.PlainLemmas.{goes_on_nothing}
+use Rattle.volume_owner.proofs.StepLemmas.{same_sizes}
+use Rattle.volume_owner.proofs.CallLemmas.{becomes_same, becomes_then}
+use Rattle.nbd_session.specs.declared.asking.Asked.{Asked}
+use Rattle.nbd_session.specs.declared.asking.Asked.TheVariants.{Read, Write, Zero, Flush, Disconnect, Refused}
+use Rattle.nbd_session.specs.declared.outcome.ReplyError.TheVariants as errors
+use Rattle.nbd_session.specs.declared.session.SessionEnd.{SessionEnd}
+use Rattle.nbd_session.specs.declared.session.SessionEnd.TheVariants as ends
+use Rattle.nbd_session.specs.Exchanges.{Outcome, Moment, Calls, Flushes, ReadsSectors, as_list, EntersIt, FlushesIf, EntersEntry, FlushesAll, CarriesOut, write_of, zero_of, asked_at, RequestExchange, IsRequestExchange, AreRequestExchanges}
+use Rattle.nbd_session.specs.Session.{LinkBytes, EndsSession, Transmits}
+use Rattle.nbd_session.specs.History.{Grows, LeavesRoom, entered_in}
+
+-- ---- one after the other
+
+goes_on_more : (xs ys : List Entry) (plain mid after : PlainState) → GoesOn xs plain mid → GoesOn ys mid after → GoesOn (xs ++ ys) plain after
+goes_on_more xs ys plain mid after first second = record {
+  opens =
+      second.opens
+      ∙ ap (λ (m : PlainState). record m { entries = m.entries ++ ys; objects = after.objects; window = after.window; pins = after.pins; cache = after.cache }) first.opens
+      ∙ ap (λ (es : List Entry). record plain { entries = es; objects = after.objects; window = after.window; pins = after.pins; cache = after.cache })
+      (append_assoc plain.entries xs ys);
+  objects = (
+    first.objects.0 ++ second.objects.0,
+    second.objects.1 ∙ ap (λ (o : List StreamObject). o ++ second.objects.0) first.objects.1
+        ∙ append_assoc plain.objects first.objects.0 second.objects.0,
+  );
+  frontier = omega (arith, first.frontier, second.frontier);
+  committed = omega (arith, first.committed, second.committed);
+}
+
+adds_more : (xs ys : List Entry) (old mid new : VolumeState) → Adds xs old mid → Adds ys mid new → Adds (xs ++ ys) old new
+adds_more xs ys old mid new first second plain shows =
+    let one = first plain shows in
+    let two = second one.0 one.1 in
+    (two.0, two.1, goes_on_more xs ys plain one.0 two.0 one.2 two.2)
+
+pub grows_nothing : (moment : Moment) → Grows [] moment moment
+grows_nothing moment = record {
+  adds = λ plain shows. (plain, shows, goes_on_nothing plain);
+  sizes = record { geometry = refl; uuid = refl };
+  own = λ epoch own. own;
+  store = becomes_same moment.volume.volume.objects.uploads.uuid moment.store.objects;
+}
+
+pub grows_more : (xs ys : List Entry) (old mid new : Moment) → Grows xs old mid → Grows ys mid new → Grows (xs ++ ys) old new
+grows_more xs ys old mid new first second = record {
+  adds = adds_more xs ys old.volume.volume mid.volume.volume new.volume.volume first.adds second.adds;
+  sizes = same_sizes old.volume.volume mid.volume.volume new.volume.volume first.sizes second.sizes;
+  own = λ epoch own. second.own epoch (first.own epoch own);
+  store =
+      becomes_then old.volume.volume.objects.uploads.uuid old.store.objects mid.store.objects new.store.objects first.store
+      (subst (λ u. Becomes (KeepsOtherNames u) mid.store.objects new.store.objects) first.sizes.uuid second.store);
+}
+
+-- ---- calls of the owner
+
+called : (added : List Entry) (failed : Bool) (old new : Moment) → Calls added failed old new → Grows added old new
+called added failed old new call = record { adds = call.steps.adds; sizes = call.steps.sizes; own = call.steps.own; store = call.store }
+
+flushed : (failed : Bool) (old new : Moment) → Flushes failed old new → Grows [] old new
+flushed failed old new flushes = record {
+  adds = flushes.steps.adds;
+  sizes = flushes.steps.sizes;
+  own = flushes.steps.own;
+  store =
+      subst (λ (s : StoreState). Becomes (KeepsOtherNames old.volume.volume.objects.uploads.uuid) old.store.objects s.objects) (sym flushes.store)
+      (becomes_same old.volume.volume.objects.uploads.uuid old.store.objects);
+}
+
+flushed_if : (durable : Bool) (old new : Moment) → FlushesIf durable old new → Grows [] old new
+flushed_if false old new same = subst (Grows [] old) (sym same) (grows_nothing old)
+flushed_if true old new flushes = flushed false old new flushes
+
+entered : (entry : Option Entry) (old new : Moment) → EntersIt entry old new → Grows (as_list entry) old new
+entered None old new same = subst (Grows [] old) (sym same) (grows_nothing old)
+entered (Some entry) old new call = called (entry ∷ []) false old new call
+
+-- ---- a request
+
+-- at most one entry is entered for it
+record GrowsByOne (added : List Entry) (old new : Moment) : Type 0 where
+  few : length added ≤ 1
+  grows : Grows added old new
+
+none_more : (added : List Entry) (old new : Moment) → added ≡ [] → Grows [] old new → GrowsByOne added old new
+none_more added old new none grows = subst (λ a. GrowsByOne a old new) (sym none) (record { few = omega arith; grows = grows })
+
+one_more : (entry : Option Entry) (added : List Entry) (old mid new : Moment) → added ≡ as_list entry → EntersIt entry old mid → Grows [] mid new
+    → GrowsByOne added old new
+one_more entry added old mid new is enters grows =
+    subst (λ a. GrowsByOne a old new) (sym is) (record {
+      few = few entry;
+      grows =
+          subst (λ a. Grows a old new) (append-nil (as_list entry))
+          (grows_more (as_list entry) [] old mid new (entered entry old mid enters) grows);
+    })
+  where
+    few : (entry : Option Entry) → length (as_list entry) ≤ 1
+    few None = omega arith
+    few (Some entry) = omega arith
+
+read_grows : {R : Type 0} (state : R → ReceiptState) (lba sectors : ℕ) (outcome : Outcome) (old new : Moment) → ReadsSectors state lba sectors outcome old new
+    → Grows [] old new
+read_grows state lba sectors (Ok content) old new reads = called [] false old new reads.2
+read_grows state lba sectors (Err (errors.Refused why)) old new reads = absurd reads
+read_grows state lba sectors (Err errors.Io) old new reads = called [] true old new reads
+read_grows state lba sectors (Err errors.NoMemory) old new reads = called [] false old new reads
+
+entry_grows : (entry : Option Entry) (durable : Bool) (outcome : Outcome) (added : List Entry) (old new : Moment)
+    → EntersEntry entry durable outcome added old new → GrowsByOne added old new
+entry_grows entry durable (Ok content) added old new enters =
+    one_more entry added old enters.2 new enters.1 enters.3 (flushed_if durable enters.2 new enters.4)
+entry_grows entry durable (Err (errors.Refused why)) added old new enters = absurd enters
+entry_grows entry durable (Err errors.Io) added old new (inl failed) = none_more added old new failed.1 (called [] true old new failed.2)
+entry_grows entry durable (Err errors.Io) added old new (inr failed) =
+    one_more entry added old failed.2 new failed.1 failed.3 (flushed true failed.2 new failed.4)
+entry_grows entry durable (Err errors.NoMemory) added old new enters = none_more added old new enters.0 (called [] false old new enters.1)
+
+flush_grows : (outcome : Outcome) (added : List Entry) (old new : Moment) → FlushesAll outcome added old new → GrowsByOne added old new
+flush_grows (Ok content) added old new flushes = none_more added old new flushes.1 (flushed false old new flushes.2)
+flush_grows (Err (errors.Refused why)) added old new flushes = absurd flushes
+flush_grows (Err errors.Io) added old new flushes = none_more added old new flushes.0 (flushed true old new flushes.1)
+flush_grows (Err errors.NoMemory) added old new flushes = absurd flushes
+
+unchanged : (added : List Entry) (old new : Moment) → added ≡ [] → new ≡ old → GrowsByOne added old new
+unchanged added old new none same = none_more added old new none (subst (Grows [] old) (sym same) (grows_nothing old))
+
+request_grows : {R : Type 0} (state : R → ReceiptState) (asked : Asked) (content : List ℕ) (outcome : Outcome) (added : List Entry) (old new : Moment)
+    → CarriesOut state asked content outcome added old new → GrowsByOne added old new
+request_grows state (Read lba sectors) content outcome added old new done =
+    none_more added old new done.0 (read_grows state lba sectors outcome old new done.1)
+request_grows state (Write lba sectors durable) content outcome added old new done = entry_grows (write_of lba content) durable outcome added old new done
+request_grows state (Zero lba sectors durable) content outcome added old new done = entry_grows (zero_of lba sectors) durable outcome added old new done
+request_grows state Flush content outcome added old new done = flush_grows outcome added old new done
+request_grows state Disconnect content outcome added old new done = unchanged added old new done.1 done.2
+request_grows state (Refused why) content outcome added old new done = unchanged added old new done.1 done.2
+
+exchange_grows : {R : Type 0} (state : R → ReceiptState) (exchange : RequestExchange) (old new : Moment) → IsRequestExchange state exchange old new
+    → GrowsByOne exchange.entered old new
+exchange_grows state exchange old new is =
+    request_grows state (asked_at old exchange.message.request) exchange.message.content exchange.outcome exchange.entered old new is.done
+
+-- ---- its steps
+
+-- so many at most
+abbrev TakesFew : Moment → Moment → Type 0
+TakesFew old new = new.volume.steps ≤ old.volume.steps + 2 ^ 41
+
+same_steps : (old new : Moment) → new ≡ old → TakesFew old new
+same_steps old new same = omega (arith, ap (λ (m : Moment). m.volume.steps) same)
+
+entered_steps : (entry : Option Entry) (old new : Moment) → EntersIt entry old new → new.volume.steps ≤ old.volume.steps + 2 ^ 40
+entered_steps None old new same = omega (arith, ap (λ (m : Moment). m.volume.steps) same)
+entered_steps (Some entry) old new call = call.steps.steps
+
+flushed_steps : (durable : Bool) (old new : Moment) → FlushesIf durable old new → new.volume.steps ≤ old.volume.steps + 1
+flushed_steps false old new same = omega (arith, ap (λ (m : Moment). m.volume.steps) same)
+flushed_steps true old new flushes = flushes.steps.steps
+
+read_steps : {R : Type 0} (state : R → ReceiptState) (lba sectors : ℕ) (outcome : Outcome) (old new : Moment)
+    → ReadsSectors state lba sectors outcome old new → TakesFew old new
+read_steps state lba sectors (Ok content) old new reads = omega (arith, reads.2.steps.steps)
+read_steps state lba sectors (Err (errors.Refused why)) old new reads = absurd reads
+read_steps state lba sectors (Err errors.Io) old new reads = omega (arith, reads.steps.steps)
+read_steps state lba sectors (Err errors.NoMemory) old new reads = omega (arith, reads.steps.steps)
+
+entry_steps : (entry : Option Entry) (durable : Bool) (outcome : Outcome) (added : List Entry) (old new : Moment)
+    → EntersEntry entry durable outcome added old new → TakesFew old new
+entry_steps entry durable (Ok content) added old new enters =
+    omega (arith, entered_steps entry old enters.2 enters.3, flushed_steps durable enters.2 new enters.4)
+entry_steps entry durable (Err (errors.Refused why)) added old new enters = absurd enters
+entry_steps entry durable (Err errors.Io) added old new (inl failed) = omega (arith, failed.2.steps.steps)
+entry_steps entry durable (Err errors.Io) added old new (inr failed) =
+    omega (arith, entered_steps entry old failed.2 failed.3, failed.4.steps.steps)
+entry_steps entry durable (Err errors.NoMemory) added old new enters = omega (arith, enters.1.steps.steps)
+
+flush_steps : (outcome : Outcome) (added : List Entry) (old new : Moment) → FlushesAll outcome added old new → TakesFew old new
+flush_steps (Ok content) added old new flushes = omega (arith, flushes.2.steps.steps)
+flush_steps (Err (errors.Refused why)) added old new flushes = absurd flushes
+flush_steps (Err errors.Io) added old new flushes = omega (arith, flushes.1.steps.steps)
+flush_steps (Err errors.NoMemory) added old new flushes = absurd flushes
+
+request_steps : {R : Type 0} (state : R → ReceiptState) (asked : Asked) (content : List ℕ) (outcome : Outcome) (added : List Entry) (old new : Moment)
+    → CarriesOut state asked content outcome added old new → TakesFew old new
+request_steps state (Read lba sectors) content outcome added old new done = read_steps state lba sectors outcome old new done.1
+request_steps state (Write lba sectors durable) content outcome added old new done = entry_steps (write_of lba content) durable outcome added old new done
+request_steps state (Zero lba sectors durable) content outcome added old new done = entry_steps (zero_of lba sectors) durable outcome added old new done
+request_steps state Flush content outcome added old new done = flush_steps outcome added old new done
+request_steps state Disconnect content outcome added old new done = same_steps old new done.2
+request_steps state (Refused why) content outcome added old new done = same_steps old new done.2
+
+-- a request leaves room for calls, since it is made only where there is some
+exchange_leaves : {R : Type 0} (state : R → ReceiptState) (exchange : RequestExchange) (old new : Moment) → IsRequestExchange state exchange old new
+    → LeavesRoom old new
+exchange_leaves state exchange old new is small =
+    let few = request_steps state (asked_at old exchange.message.request) exchange.message.content exchange.outcome exchange.entered old new is.done in
+    omega (arith, few, is.room)
+
+pub stays_leaves : (old new : Moment) → new ≡ old → LeavesRoom old new
+stays_leaves old new same small = omega (arith, small, ap (λ (m : Moment). m.volume.steps) same)
+
+-- ---- a session
+
+requests_leave : {R : Type 0} (state : R → ReceiptState) (exchanges : List RequestExchange) (old new : Moment)
+    → AreRequestExchanges state exchanges old new → LeavesRoom old new
+requests_leave state [] old new same small = stays_leaves old new same small
+requests_leave state (exchange ∷ rest) old new done small =
+    requests_leave state rest done.0 new done.2 (exchange_leaves state exchange old done.0 done.1 small)
+
+requests_add : {R : Type 0} (state : R → ReceiptState) (exchanges : List RequestExchange) (old new : Moment) → AreRequestExchanges state exchanges old new
+    → Grows (entered_in exchanges) old new
+requests_add state [] old new same = subst (Grows [] old) (sym same) (grows_nothing old)
+requests_add state (exchange ∷ rest) old new done =
+    grows_more exchange.entered (entered_in rest) old done.0 new (exchange_grows state exchange old done.0 done.1).grows
+    (requests_add state rest done.0 new done.2)
+
+pub requests_grow : {R : Type 0} (state : R → ReceiptState) (exchanges : List RequestExchange) (old new : Moment)
+    → AreRequestExchanges state exchanges old new → Grows (entered_in exchanges) old new × LeavesRoom old new
+requests_grow state exchanges old new done = (requests_add state exchanges old new done, requests_leave state exchanges old new done)
+
+-- how it ends adds an entry at most
+end_grows : {R : Type 0} (state : R → ReceiptState) (end : SessionEnd) (count : ℕ) (now last : LinkBytes) (old new : Moment)
+    → EndsSession state end count now last old new → (more : List Entry) × GrowsByOne more old new
+end_grows state ends.Ended count now last old new by = ([], unchanged [] old new refl by.0)
+end_grows state ends.Closed count now last old new by = ([], unchanged [] old new refl by.0)
+end_grows state ends.Spent count now last old new by = ([], unchanged [] old new refl by.0)
+end_grows state ends.LinkFault count now last old new (inl by) = ([], unchanged [] old new refl by.0)
+end_grows state ends.LinkFault count now last old new (inr by) = (by.exchange.entered, exchange_grows state by.exchange old new by.is_exchange)
+end_grows state ends.OutOfMemory count now last old new by = absurd by
+
+end_leaves : {R : Type 0} (state : R → ReceiptState) (end : SessionEnd) (count : ℕ) (now last : LinkBytes) (old new : Moment)
+    → EndsSession state end count now last old new → LeavesRoom old new
+end_leaves state ends.Ended count now last old new by = stays_leaves old new by.0
+end_leaves state ends.Closed count now last old new by = stays_leaves old new by.0
+end_leaves state ends.Spent count now last old new by = stays_leaves old new by.0
+end_leaves state ends.LinkFault count now last old new (inl by) = stays_leaves old new by.0
+end_leaves state ends.LinkFault count now last old new (inr by) = exchange_leaves state by.exchange old new by.is_exchange
+end_leaves state ends.OutOfMemory count now last old new by = absurd by
+
+pub session_grows : {R : Type 0} (state : R → ReceiptState) (end : SessionEnd) (first last : LinkBytes) (old new : Moment)
+    (session : Transmits state end first last old new)
+    → (more : List Entry) × (length more ≤ 1) × Grows (entered_in session.exchanges ++ more) old new × LeavesRoom old new
+session_grows state end first last old new session =
+    let ended = end_grows state end (length session.exchanges) session.now last session.then new session.ends in (
+      ended.0,
+      ended.1.few,
+      grows_more (entered_in session.exchanges) ended.0 old session.then new
+          (requests_add state session.exchanges old session.then session.served.done) ended.1.grows,
+      λ small. end_leaves state end (length session.exchanges) session.now last session.then new session.ends
+          (requests_leave state session.exchanges old session.then session.served.done small),
+    )

@@ -1,0 +1,5 @@
+mod RequestLemmas
+mod RefusalLemmas
+mod SessionLemmas
+mod OwnerLemmas
+pub mod HistoryLemmas

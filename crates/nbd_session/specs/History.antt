@@ -1,0 +1,42 @@
+-- Contract: what a session makes of the history of its volume.
+use Rattle.std.specs.Prelude.{ℕ, ◌+◌, ◌^◌, ◌≤◌, List, ◌++◌, length, flat_map}
+use Rattle.lsvd_base.specs.declared.entry.Entry.{Entry}
+use Rattle.lsvd_objstore.specs.Store.{ReceiptState, Becomes}
+use Rattle.vol_core.specs.Step.{HasSameSizes}
+use Rattle.vol_core.specs.Stops.{HasOwnCommits}
+use Rattle.volume_owner.specs.Calls.{Adds, KeepsOtherNames}
+use Rattle.nbd_session.specs.declared.session.SessionEnd.{SessionEnd}
+use Rattle.nbd_session.specs.Exchanges.{Moment, RequestExchange, AreRequestExchanges, max_session_steps}
+use Rattle.nbd_session.specs.Session.{LinkBytes, Transmits}
+
+-- A volume's history has these entries more. Its sizes stay, the commits stay its own, and the store has changed under the names of the
+-- volume's own numbered objects alone.
+pub record Grows (added : List Entry) (old new : Moment) : Type 0 where
+  pub adds : Adds added old.volume.volume new.volume.volume
+  pub sizes : HasSameSizes old.volume.volume new.volume.volume
+  pub own : (epoch : ℕ) → HasOwnCommits epoch old.volume.volume → HasOwnCommits epoch new.volume.volume
+  pub store : Becomes (KeepsOtherNames old.volume.volume.objects.uploads.uuid) old.store.objects new.store.objects
+
+-- Each request is made where the volume has made fewer than the most steps of a session, and takes few itself. So a volume that had
+-- room for calls of its owner before a session has room after it.
+abbrev pub most_steps : ℕ
+most_steps = max_session_steps + 2 ^ 41
+
+abbrev pub LeavesRoom : Moment → Moment → Type 0
+LeavesRoom old new = old.volume.steps ≤ most_steps → new.volume.steps ≤ most_steps
+
+-- the entries that were entered for requests
+abbrev pub entered_in : List RequestExchange → List Entry
+entered_in exchanges = flat_map (λ exchange. exchange.entered) exchanges
+
+-- requests that were answered add just the entries that were entered for them, in order and each once
+abbrev pub RequestsGrow : {R : Type 0} → (R → ReceiptState) → Type 0
+RequestsGrow state =
+    (exchanges : List RequestExchange) (old new : Moment) → AreRequestExchanges state exchanges old new
+    → Grows (entered_in exchanges) old new × LeavesRoom old new
+
+-- a session adds those, and at most one more, of a request whose reply was broken off
+abbrev pub SessionGrows : {R : Type 0} → (R → ReceiptState) → Type 0
+SessionGrows state =
+    (end : SessionEnd) (first last : LinkBytes) (old new : Moment) (session : Transmits state end first last old new)
+    → (more : List Entry) × (length more ≤ 1) × Grows (entered_in session.exchanges ++ more) old new × LeavesRoom old new

@@ -1,0 +1,157 @@
+ghost use Rattle.std.specs.Prelude.{◌≡◌, ◌<◌};
+ghost use Rattle.lsvd_fault.specs.Faults.{Counts};
+ghost use Rattle.nbd_wire.specs.Reading.{is_link_fault};
+ghost use Rattle.nbd_wire.specs.Writing.{WritesMessage};
+ghost use Rattle.nbd_session.specs.Exchanges.{request_reply_bytes, max_session_steps};
+ghost use Rattle.nbd_session.specs.Session.{Transmits, IsSession, ended_by_link, export_of};
+ghost use Rattle.nbd_session.specs.Steps.{ServesRequest};
+
+use crate::asking::asked_of;
+use crate::carrying_out::carry_out;
+use crate::content::read_content;
+use crate::outcome::ReplyError;
+use lsvd_base::{Body, SECTOR_BYTES};
+use lsvd_device::Disk;
+use lsvd_fault::{Link, Sink};
+use lsvd_objstore::{Receipt, Store};
+use nbd_options::{Export, NegotiationEnd, negotiate};
+use nbd_wire::{WireEnd, a_message_has_one_reading, read_request, write_simple};
+use std::alloc::Global;
+use volume_owner::Owner;
+
+/// The most requests of one session. The session ends before one more is read.
+pub const MAX_REQUESTS: u64 = 1 << 40;
+
+/// The most steps that the volume may have made since it was mounted before a request. Where it has made more, the session ends.
+pub const MAX_STEPS: u64 = 1 << 58;
+
+/// How a session ends.
+#[derive(Clone, Copy, Debug, PartialEq, Eq)]
+pub enum SessionEnd {
+    /// The client has ended it: by the request to disconnect, by the option to abort, or by the end of its input between two messages.
+    Ended,
+    /// The connection is to be closed: the input ends inside a message, or a message is out of form, or the negotiation closed it.
+    Closed,
+    /// It has answered `MAX_REQUESTS` requests, or the volume has made `MAX_STEPS` steps. A new session may go on with the first alone.
+    Spent,
+    /// A read or a write of the link failed, and was counted there.
+    LinkFault,
+    /// Memory ran out in the negotiation, for the data of an option.
+    OutOfMemory,
+}
+
+impl From<WireEnd> for SessionEnd {
+    ghost use Rattle.std.specs.Prelude.{◌≡◌};
+    ghost use Rattle.nbd_session.specs.Steps.{of_wire};
+
+    ghost from_gives = { λ w e. e ≡ of_wire w };
+
+    fn from(end: WireEnd) -> SessionEnd {
+        match end {
+            WireEnd::Ended => SessionEnd::Ended,
+            WireEnd::Closed => SessionEnd::Closed,
+            WireEnd::LinkFault => SessionEnd::LinkFault,
+            WireEnd::OutOfMemory => SessionEnd::OutOfMemory,
+        }
+    }
+}
+
+/// Serves a volume to a client, from the greeting to the end of the session.
+///
+/// Requests are answered in order, each before the next one is read. A write or a zeroing that is answered without an error is an entry
+/// of the volume's history, and no other is; a flush that is answered so, and a request that asks to be durable, has made durable all
+/// entries so far; a read gives the sectors of the history. A request that is out of form is refused, and the data of a refused write are
+/// read and dropped. Memory is bounded whatever the client sends, since lengths are judged before data are read.
+///
+/// The session's end says nothing of the volume, which stays with its owner, as all that was answered does.
+pub fn serve_session<D: Disk, R: Receipt, S: Store<Receipt = R>, K: Link>(
+    alloc: Global,
+    owner: &mut Owner<D, R>,
+    link: &mut K,
+    store: &mut S,
+) -> SessionEnd
+    ensures session { IsSession R.state (export_of owner.old) result
+        (record { left = K.remaining link.old; sent = K.contents link.old }) (record { left = K.remaining link.new; sent = K.contents link.new })
+        (record { volume = owner.old; store = S.state store.old }) (record { volume = owner.new; store = S.state store.new }) }
+    ensures count { Counts (ended_by_link result) (K.Source.faults link.old) (K.Source.faults link.new) }
+{
+    let geometry = owner.geometry();
+    let export = Export {
+        uuid: owner.uuid(),
+        size: geometry.sectors * SECTOR_BYTES,
+        max_transfer: (geometry.max_write * SECTOR_BYTES) as u32,
+    };
+    match negotiate(alloc, link, &export) {
+        NegotiationEnd::Entered => transmit(alloc, owner, link, store),
+        NegotiationEnd::Ended => SessionEnd::Ended,
+        NegotiationEnd::Closed => SessionEnd::Closed,
+        NegotiationEnd::LinkFault => SessionEnd::LinkFault,
+        NegotiationEnd::OutOfMemory => SessionEnd::OutOfMemory,
+    }
+}
+
+// Answers requests until the session ends.
+fn transmit<D: Disk, R: Receipt, S: Store<Receipt = R>, K: Link>(
+    alloc: Global,
+    owner: &mut Owner<D, R>,
+    link: &mut K,
+    store: &mut S,
+) -> SessionEnd
+    ensures transmits { Transmits R.state result
+        (record { left = K.remaining link.old; sent = K.contents link.old }) (record { left = K.remaining link.new; sent = K.contents link.new })
+        (record { volume = owner.old; store = S.state store.old }) (record { volume = owner.new; store = S.state store.new }) }
+    ensures count { Counts (ended_by_link result) (K.Source.faults link.old) (K.Source.faults link.new) }
+{
+    for _ in 0..MAX_REQUESTS {
+        if MAX_STEPS <= owner.steps() {
+            return SessionEnd::Spent;
+        }
+        match serve_request(alloc, owner, link, store) {
+            Ok(true) => {}
+            Ok(false) => return SessionEnd::Ended,
+            Err(end) => return SessionEnd::from(end),
+        }
+    }
+    SessionEnd::Spent
+}
+
+// ReadsSectors the next request and answers it, and says whether the session goes on: it does not where the client disconnects.
+fn serve_request<D: Disk, R: Receipt, S: Store<Receipt = R>, K: Link>(
+    alloc: Global,
+    owner: &mut Owner<D, R>,
+    link: &mut K,
+    store: &mut S,
+) -> Result<bool, WireEnd>
+    requires { owner.old.steps < max_session_steps }
+    ensures serves { ServesRequest R.state result
+        (record { left = K.remaining link.old; sent = K.contents link.old }) (record { left = K.remaining link.new; sent = K.contents link.new })
+        (record { volume = owner.old; store = S.state store.old }) (record { volume = owner.new; store = S.state store.new }) }
+    ensures count { Counts (is_link_fault result) (K.Source.faults link.old) (K.Source.faults link.new) }
+{
+    a_message_has_one_reading();
+    let request = read_request(link)?;
+    let asked = asked_of(&owner.geometry(), &request);
+    if asked.is_to_disconnect() {
+        return Ok(false);
+    }
+    let body = read_content(alloc, link, &request, asked)?;
+    let outcome = carry_out(alloc, owner, store, asked, body);
+    reply(link, request.cookie, &outcome)?;
+    Ok(true)
+}
+
+// Writes the reply to the request of a cookie.
+fn reply<K: Sink>(
+    link: &mut K,
+    cookie: u64,
+    outcome: &Result<Body, ReplyError>,
+) -> Result<(), WireEnd>
+    ensures bytes { WritesMessage (request_reply_bytes cookie outcome.now) (K.contents link.old) (K.contents link.new) result }
+    ensures other { K.unread link.new ≡ K.unread link.old }
+    ensures count { Counts (is_link_fault result) (K.faults link.old) (K.faults link.new) }
+{
+    match outcome {
+        Ok(content) => write_simple(link, 0, cookie, content.as_bytes()),
+        Err(error) => write_simple(link, error.code(), cookie, &[]),
+    }
+}

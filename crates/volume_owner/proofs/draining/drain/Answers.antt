@@ -1,0 +1,85 @@
+use Rattle.std.proofs.Common.{arith, ℕ, Bool, true, false, [], subst, Err}
+use Rattle.lsvd_objstore.specs.Store.{StoreState}
+use Rattle.vol_core.specs.Volume.{SteppedVolume}
+use Rattle.volume_owner.specs.Owner.{most_of_call}
+use Rattle.volume_owner.specs.Calls.{IsCall}
+use Rattle.volume_owner.specs.Errors.{is_eio}
+use Rattle.volume_owner.specs.Helping.{HasHelped}
+use Rattle.volume_owner.specs.declared.error.OwnerError.{OwnerError}
+use Rattle.volume_owner.specs.declared.error.OwnerError.TheVariants as errors
+use Rattle.volume_owner.proofs.CallLemmas.{call_ends_none, same_eio}
+use Rattle.volume_owner.proofs.LoopLemmas.{helped_first, helped_few, helped_ends, helped_more, one_help, help_and_flush}
+use Rattle.volume_owner.proofs.draining.drain.Goals as goal
+
+pub loop-init : goal.loop-init
+loop-init g c = helped_first c.args.volume.now (g.S.Store.state c.args.store.now) c.requires.idle
+
+pub help-requires-clause-steps : goal.help-requires-clause-steps
+help-requires-clause-steps g c =
+    let old : SteppedVolume = c.args.volume.now in
+    let now : SteppedVolume = c.loop.volume in
+    let first : StoreState = g.S.Store.state c.args.store.now in
+    let second : StoreState = g.S.Store.state c.loop.store in
+    let few = helped_few old now first second c.loop.invariant c.requires.steps c.is_volume.ensures c.is_ordered.ensures.uploads in
+    omega (arith, few)
+
+pub returns-in_err-help-clause-call : goal.returns-in_err-help-clause-call
+returns-in_err-help-clause-call g c =
+    let old : SteppedVolume = c.args.volume.now in
+    let now : SteppedVolume = c.loop.volume in
+    let new : SteppedVolume = c.help.new.volume in
+    let first : StoreState = g.S.Store.state c.args.store.now in
+    let second : StoreState = g.S.Store.state c.loop.store in
+    let third : StoreState = g.S.Store.state c.help.new.store in
+    let error : OwnerError = c.in_err-help.field-0.0 in
+    let failed = is_eio {T = Bool} (Err error) in
+    call_ends_none most_of_call c.from_residual.result error old new first third c.from_residual.ensures.1
+    (subst (λ b. IsCall most_of_call [] b old new first third) (same_eio Bool ℕ error)
+    (helped_ends old now first second c.loop.invariant [] failed new third c.is_volume.ensures c.is_ordered.ensures.uploads
+    (one_help failed now new second third c.in_err-help.ensures.help)))
+
+pub loop-preserved : goal.loop-preserved
+loop-preserved g c =
+    let old : SteppedVolume = c.args.volume.now in
+    let now : SteppedVolume = c.loop.volume in
+    let new : SteppedVolume = c.help.new.volume in
+    let first : StoreState = g.S.Store.state c.args.store.now in
+    let second : StoreState = g.S.Store.state c.loop.store in
+    let third : StoreState = g.S.Store.state c.help.new.store in
+    let less = subst (λ b. HasHelped b now.volume new.volume) c.if-branch.true c.in_ok-help.ensures.less in
+    helped_more old now first second c.loop.invariant new third (one_help false now new second third c.in_ok-help.ensures.help) less c.in_ok-help.ensures.idle
+
+pub flush-requires-clause-steps : goal.flush-requires-clause-steps
+flush-requires-clause-steps g c =
+    let old : SteppedVolume = c.args.volume.now in
+    let now : SteppedVolume = c.loop.volume in
+    let first : StoreState = g.S.Store.state c.args.store.now in
+    let second : StoreState = g.S.Store.state c.loop.store in
+    let few = helped_few old now first second c.loop.invariant c.requires.steps c.is_volume.ensures c.is_ordered.ensures.uploads in
+    let two = c.in_ok-help.ensures.help.steps.steps in
+    omega (arith, few, two)
+
+pub returns-in_err-flush-clause-call : goal.returns-in_err-flush-clause-call
+returns-in_err-flush-clause-call g c =
+    let old : SteppedVolume = c.args.volume.now in
+    let now : SteppedVolume = c.loop.volume in
+    let mid : SteppedVolume = c.help.new.volume in
+    let new : SteppedVolume = c.flush.new.volume in
+    let first : StoreState = g.S.Store.state c.args.store.now in
+    let second : StoreState = g.S.Store.state c.loop.store in
+    let third : StoreState = g.S.Store.state c.help.new.store in
+    call_ends_none most_of_call c.from_residual-in_err-flush.result errors.Eio old new first third c.from_residual-in_err-flush.ensures.1
+    (helped_ends old now first second c.loop.invariant [] true new third c.is_volume.ensures c.is_ordered.ensures.uploads
+    (help_and_flush true now mid new second third c.in_ok-help.ensures.help c.in_err-flush.ensures.steps c.in_err-flush.ensures.faults))
+
+pub returns-clause-call : goal.returns-clause-call
+returns-clause-call g c =
+    let old : SteppedVolume = c.args.volume.now in
+    let now : SteppedVolume = c.loop.volume in
+    let mid : SteppedVolume = c.help.new.volume in
+    let new : SteppedVolume = c.flush.new.volume in
+    let first : StoreState = g.S.Store.state c.args.store.now in
+    let second : StoreState = g.S.Store.state c.loop.store in
+    let third : StoreState = g.S.Store.state c.help.new.store in
+    helped_ends old now first second c.loop.invariant [] false new third c.is_volume.ensures c.is_ordered.ensures.uploads
+    (help_and_flush false now mid new second third c.in_ok-help.ensures.help c.in_ok-flush.ensures.steps c.in_ok-flush.ensures.faults)

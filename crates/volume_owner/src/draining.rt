@@ -1,0 +1,32 @@
+ghost use Rattle.std.specs.Prelude.{◌≤◌, [], IfOk, OnOk, IsErrOf};
+ghost use Rattle.volume_owner.specs.Owner.{IsIdle, max_steps, most_of_call};
+ghost use Rattle.volume_owner.specs.Calls.{IsCall, IsLengthOf, IsDrained};
+ghost use Rattle.volume_owner.specs.Errors.{is_eio};
+
+use crate::error::OwnerError;
+use crate::helping::help;
+use crate::reading::flush;
+use lsvd_device::Disk;
+use lsvd_objstore::{Receipt, Store};
+use std::alloc::Global;
+use vol_core::Volume;
+
+/// Helps until nothing is left to help with, and then commits each entry. Answers the length of the history.
+pub(crate) fn drain<D: Disk, R: Receipt, S: Store<Receipt = R>>(
+    alloc: Global,
+    volume: &mut Volume<D, R>,
+    store: &mut S,
+) -> Result<u64, OwnerError>
+    requires steps { volume.old.steps ≤ max_steps }
+    requires idle { IsIdle volume.old.volume }
+    ensures call { IsCall most_of_call [] (is_eio result) volume.old volume.new (S.state store.old) (S.state store.new) }
+    ensures count { IfOk result (λ count. IsLengthOf count volume.new.volume) }
+    ensures drained { OnOk result (IsDrained volume.new.volume) }
+    ensures range { IsErrOf result OwnerError.Range → ⊥ }
+    ensures idle { IsIdle volume.new.volume }
+{
+    volume.is_volume();
+    volume.is_ordered();
+    while help(alloc, volume, store)? {}
+    Ok(flush(volume)?)
+}

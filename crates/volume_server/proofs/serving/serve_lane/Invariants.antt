@@ -1,0 +1,12 @@
+use Rattle.std.proofs.Common.{◌≡◌}
+use Rattle.volume_server.specs.Serving.{given_with, AreClients}
+use Rattle.volume_server.proofs.serving.serve_lane.Given as goal
+
+abbrev pub invariant-loop-served : goal.invariant-loop-served
+invariant-loop-served g l = record {
+  given : g.L.Listener.given l.listener ≡ given_with (g.L.Listener.given l.fn.listener) l.served;
+  closed : g.L.Listener.closed l.listener ≡ g.L.Listener.closed l.fn.listener;
+  faults : g.L.Listener.faults l.listener ≡ g.L.Listener.faults l.fn.listener;
+  clients : AreClients g.R.Receipt.state l.served (record { volume = l.fn.owner; store = g.S.Store.state l.fn.store })
+      (record { volume = l.owner; store = g.S.Store.state l.store });
+}

@@ -1,0 +1,77 @@
+-- Contract: what a server does for its clients.
+use Rattle.std.specs.Prelude.{ℕ, ◌≡◌, ◌<◌, zero, suc, Bool, true, List}
+use Rattle.lsvd_base.specs.declared.entry.Entry.{Entry}
+use Rattle.lsvd_fault.specs.Faults.{CountsOne, counted_with}
+use Rattle.lsvd_objstore.specs.Store.{ReceiptState}
+use Rattle.nbd_session.specs.declared.session.SessionEnd.{SessionEnd}
+use Rattle.nbd_session.specs.Exchanges.{Moment}
+use Rattle.nbd_session.specs.History.{Grows, LeavesRoom}
+use Rattle.nbd_session.specs.Session.{LinkBytes, IsSession, export_of}
+use Rattle.volume_server.specs.declared.next.Next.{Next}
+use Rattle.volume_server.specs.declared.next.Next.TheVariants.{Served, NoLink, Failed}
+use Rattle.volume_server.specs.declared.serving.Lane.{Lane}
+use Rattle.volume_server.specs.declared.serving.LaneEnd.{LaneEnd}
+use Rattle.volume_server.specs.declared.serving.LaneEnd.TheVariants as ends
+
+-- ---- the listener
+
+-- how many links a listener gave, whether it is closed, and its count of faults
+pub record ListenerState : Type 0 where
+  pub given : ℕ
+  pub closed : Bool
+  pub faults : ℕ
+
+-- it gave the next client, or is closed, or failed
+abbrev pub GivesNext : {K : Type 0} → Next K → ListenerState → ListenerState → Type 0
+GivesNext (Served link end) old new = new ≡ record old { given = counted_with old.given 1 }
+GivesNext NoLink old new = new ≡ record old { closed = true }
+GivesNext Failed old new = (new.given ≡ old.given) × (new.closed ≡ old.closed) × CountsOne old.faults new.faults
+
+-- it gave so many clients, and then as many were served as were to be, or it is closed, or failed
+abbrev pub ClosesAs : LaneEnd → ListenerState → ListenerState → Type 0
+ClosesAs ends.Counted old new = (new.closed ≡ old.closed) × (new.faults ≡ old.faults)
+ClosesAs ends.Closed old new = (new.closed ≡ true) × (new.faults ≡ old.faults)
+ClosesAs ends.Failed old new = (new.closed ≡ old.closed) × CountsOne old.faults new.faults
+
+-- a count of links after so many more
+abbrev pub given_with : (given : ℕ) → (clients : ℕ) → ℕ
+given_with given zero = given
+given_with given (suc clients) = counted_with (given_with given clients) 1
+
+pub record GivesClients (lane : Lane) (old new : ListenerState) : Type 0 where
+  pub given : new.given ≡ given_with old.given lane.served
+  pub ends : ClosesAs lane.end old new
+
+-- ---- the volume
+
+-- a client was served by a session of the volume, on a link that told something when it came
+abbrev pub IsClient : {R : Type 0} → (R → ReceiptState) → SessionEnd → (last : LinkBytes) → (old new : Moment) → Type 0
+IsClient state end last old new = (first : LinkBytes) × IsSession state (export_of old.volume) end first last old new
+
+-- the client that came was served, or none came, and nothing becomes of the volume
+abbrev pub ServesNext : {R K : Type 0} → (R → ReceiptState) → (K → LinkBytes) → Next K → (old new : Moment) → Type 0
+ServesNext state told (Served link end) old new = IsClient state end (told link) old new
+ServesNext state told NoLink old new = new ≡ old
+ServesNext state told Failed old new = new ≡ old
+
+-- so many clients were served, one after the other
+abbrev pub AreClients : {R : Type 0} → (R → ReceiptState) → (count : ℕ) → (old new : Moment) → Type 0
+AreClients state zero old new = new ≡ old
+AreClients state (suc count) old new =
+    (mid : Moment) × AreClients state count old mid × (end : SessionEnd) × (last : LinkBytes) × IsClient state end last mid new
+
+-- the server ends where its clients are as many as they were to be, and else, before that, by its listener
+abbrev pub EndsAt : (share served : ℕ) → LaneEnd → Type 0
+EndsAt share served ends.Counted = served ≡ share
+EndsAt share served ends.Closed = served < share
+EndsAt share served ends.Failed = served < share
+
+abbrev pub EndsLane : (share : ℕ) → Lane → Type 0
+EndsLane share lane = EndsAt share lane.served lane.end
+
+-- ---- the history
+
+-- clients add entries to the history of their volume, and nothing else becomes of it
+abbrev pub ClientsGrow : {R : Type 0} → (R → ReceiptState) → Type 0
+ClientsGrow state =
+    (count : ℕ) (old new : Moment) → AreClients state count old new → ((added : List Entry) × Grows added old new) × LeavesRoom old new

@@ -1,0 +1,94 @@
+ghost use Rattle.std.specs.Prelude.{◌≡◌};
+ghost use Rattle.volume_owner.specs.Owner.{IsIdle};
+ghost use Rattle.volume_server.specs.Serving.{GivesClients, EndsLane, AreClients};
+
+use crate::next::{Next, serve_next};
+use lsvd_device::Disk;
+use lsvd_listen::Listener;
+use lsvd_objstore::{Receipt, Store};
+use std::alloc::Global;
+use vol_core::Volume;
+use volume_owner::Owner;
+
+/// Why a server ends.
+#[derive(Clone, Copy, Debug, PartialEq, Eq)]
+pub enum LaneEnd {
+    /// It has served as many clients as it was to.
+    Counted,
+    /// The listener is closed.
+    Closed,
+    /// The listener failed, which it counted.
+    Failed,
+}
+
+/// What a server has done.
+#[derive(Clone, Copy, Debug, PartialEq, Eq)]
+pub struct Lane {
+    /// How many clients it has served.
+    pub served: u64,
+    /// Why it ended.
+    pub end: LaneEnd,
+}
+
+/// What is left of a server that has ended.
+#[derive(Drop)]
+pub struct Closing<D: Disk, R: Receipt> {
+    /// The volume, with all that was entered.
+    pub volume: Volume<D, R>,
+    /// What was done.
+    pub lane: Lane,
+}
+
+/// Serves clients, one after the other, until so many were served, or the listener gives none.
+pub fn serve_lane<D: Disk, R: Receipt, S: Store<Receipt = R>, L: Listener>(
+    alloc: Global,
+    owner: &mut Owner<D, R>,
+    listener: &mut L,
+    store: &mut S,
+    share: u64,
+) -> Lane
+    ensures given { GivesClients result (record { given = L.given listener.old; closed = L.closed listener.old; faults = L.faults listener.old })
+        (record { given = L.given listener.new; closed = L.closed listener.new; faults = L.faults listener.new }) }
+    ensures end { EndsLane share result }
+    ensures clients { AreClients R.state result.served (record { volume = owner.old; store = S.state store.old })
+        (record { volume = owner.new; store = S.state store.new }) }
+{
+    for served in 0..share {
+        let end = match serve_next(alloc, owner, listener, store) {
+            Next::Served(_, _) => continue,
+            Next::NoLink => LaneEnd::Closed,
+            Next::Failed => LaneEnd::Failed,
+        };
+        return Lane { served, end };
+    }
+    Lane {
+        served: share,
+        end: LaneEnd::Counted,
+    }
+}
+
+/// Serves a volume to clients, one after the other, until so many were served, or the listener gives none, and gives the volume back. No
+/// put of an object is under way, and no plan of a read is out (a condition), as when it was just created or mounted; and so it is of the
+/// volume that is given back.
+pub fn serve_volume<D: Disk, R: Receipt, S: Store<Receipt = R>, L: Listener>(
+    alloc: Global,
+    volume: Volume<D, R>,
+    listener: &mut L,
+    store: &mut S,
+    sessions: u64,
+) -> Closing<D, R>
+    requires { IsIdle volume.volume }
+    ensures given { GivesClients result.lane (record { given = L.given listener.old; closed = L.closed listener.old; faults = L.faults listener.old })
+        (record { given = L.given listener.new; closed = L.closed listener.new; faults = L.faults listener.new }) }
+    ensures end { EndsLane sessions result.lane }
+    ensures clients { AreClients R.state result.lane.served (record { volume = volume; store = S.state store.old })
+        (record { volume = result.volume; store = S.state store.new }) }
+    ensures idle { IsIdle result.volume.volume }
+{
+    let mut owner = Owner::new(volume);
+    let lane = serve_lane(alloc, &mut owner, listener, store, sessions);
+    Closing {
+        volume: owner.into_volume(),
+        lane,
+    }
+}
