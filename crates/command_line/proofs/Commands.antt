@@ -8,8 +8,7 @@ use Rattle.clap.specs.declared.builder.arg.Arg.{Arg}
 use Rattle.clap.specs.declared.builder.command.Command.{Command}
 use Rattle.clap.specs.declared.builder.command.Command.TheViews.{out-Command}
 use Rattle.clap.specs.declared.builder.texts.Texts.TheVariants.{One}
-use Rattle.command_line.specs.Create.{optional}
-use Rattle.command_line.specs.Options.{rule_for, rule_named}
+use Rattle.command_line.specs.Options.{optional, rule_for, rule_named}
 
 abbrev app_with : Text → List Rule → App
 app_with name rules = record { top = record (new_shape name) { rules = rules }; subs = [] }
@@ -27,19 +26,19 @@ has_one_more name rules old new arg rule has adds local is = record {
   local = rw (adds.globals, has.local, local) refl;
 }
 
--- an argument that help tells more of, and one that has a default too
-pub rule_helped : (text : Bor Text) (plain arg : Arg) (rule : Rule) → rule_of plain ≡ rule → arg ≡ record plain { help = Some text }
-    → rule_of arg ≡ rule
-rule_helped text plain arg rule is helped = ap rule_of helped ∙ is
+-- the argument is one that help tells more of
+pub has_helped : (name : Text) (rules : List Rule) (old new : Command) (text : Bor Text) (plain arg : Arg) (rule : Rule)
+    → HasRules name rules old → AddsArg old arg new → plain.global ≡ false → rule_of plain ≡ rule
+    → arg ≡ record plain { help = Some text } → HasRules name (rules ++ rule ∷ []) new
+has_helped name rules old new text plain arg rule has adds local is helped =
+    has_one_more name rules old new arg rule has adds (ap (λ (a : Arg). a.global) helped ∙ local) (ap rule_of helped ∙ is)
 
-pub rule_defaulted : (name : Text) (value : Bor Text) (plain arg : Arg) → rule_of plain ≡ rule_named name
-    → arg ≡ record plain { default_vals = One value }
-    → rule_of arg ≡ rule_for (optional name (Some value.now))
-rule_defaulted name value plain arg named is = ap rule_of is ∙ ap (λ (r : Rule). record r { defaults = value.now ∷ [] }) named
-
-pub local_helped : (text : Bor Text) (plain arg : Arg) → plain.global ≡ false → arg ≡ record plain { help = Some text } → arg.global ≡ false
-local_helped text plain arg local is = ap (λ (a : Arg). a.global) is ∙ local
-
-pub local_defaulted : (value : Bor Text) (plain arg : Arg) → plain.global ≡ false → arg ≡ record plain { default_vals = One value }
-    → arg.global ≡ false
-local_defaulted value plain arg local is = ap (λ (a : Arg). a.global) is ∙ local
+-- and has a default too
+pub has_defaulted : (name : Text) (rules : List Rule) (old new : Command) (text value : Bor Text) (plain helped arg : Arg) (option : Text)
+    → HasRules name rules old → AddsArg old arg new → plain.global ≡ false → rule_of plain ≡ rule_named option
+    → helped ≡ record plain { help = Some text } → arg ≡ record helped { default_vals = One value }
+    → HasRules name (rules ++ rule_for (optional option (Some value.now)) ∷ []) new
+has_defaulted name rules old new text value plain helped arg option has adds local is helps defaults =
+    has_one_more name rules old new arg (rule_for (optional option (Some value.now))) has adds
+    (ap (λ (a : Arg). a.global) defaults ∙ ap (λ (a : Arg). a.global) helps ∙ local)
+    (ap rule_of defaults ∙ ap (λ (r : Rule). record r { defaults = value.now ∷ [] }) (ap rule_of helps ∙ is))

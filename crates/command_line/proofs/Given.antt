@@ -5,36 +5,48 @@ use Rattle.std.specs.List.{All, flat_map, list_all}
 use Rattle.std.specs.Str.{bytes_eq}
 use Rattle.std.proofs.lemmas.List.Elements.{All-head, All-tail}
 use Rattle.std.proofs.lemmas.Slice.Eq.{bytes_eq-Decides}
-use Rattle.clap.specs.Walk.{Held, Text, Walk, first_of, rows_after, walk_from, walked, with_default}
+use Rattle.clap.specs.Walk.{Held, Text, Walk, arg_by_long, first_of, rows_after, walk_from, walked, with_default}
 use Rattle.clap.specs.Faults.{walk_fault}
-use Rattle.command_line.specs.Options.{AreOptionsOf, EachOnce, Given, IsOptionOf, MayEnd, has_option, value_of, option_words}
+use Rattle.command_line.specs.Options.{AreOptionsOf, EachOnce, Given, IsOptionOf, MayEnd, alone, apart, has_option, joined, kind_named, name_in, option_name, option_words, value_of}
 use Rattle.command_line.proofs.Leaves.{end_faults, ends_as, leaf_faults, once_before}
 use Rattle.command_line.proofs.Rows.{value_at_end}
-use Rattle.command_line.proofs.Rules.{Found, Known, an_option, found_by_long, help, is_named, nothing, rules_for}
-use Rattle.command_line.proofs.Turns.{ComesTo, Names, Turns, held_for, joined, leaf_for, nothing_comes, turn_joined, turn_name, turn_value, value_comes}
+use Rattle.command_line.proofs.Rules.{Found, Known, a_flag, an_option, built_flag, found_by_long, help, nothing, rules_for}
+use Rattle.command_line.proofs.Turns.{ComesTo, Names, Turns, held_for, leaf_for, nothing_comes, turn_flag, turn_joined, turn_name, turn_value, value_comes}
 use Rattle.command_line.proofs.Words.{IsName, dashes, is_name, joined_no_dashes, long_alone, long_joined, name_from_test, no_dashes, stands_plain}
 
 -- each option of the command has a name
 abbrev pub HasNames : Known → Type 0
-HasNames known = (name : Text) → is_named known name ≡ true → IsName name
+HasNames known = (name : Text) (valued : Bool) → kind_named known name ≡ Some valued → IsName name
 
-pub has_names : (known : Known) → list_all (λ option. is_name option.name) known ≡ true → HasNames known
-has_names [] all name named = cc
-has_names (option ∷ rest) all name named = go (is_name option.name) (bytes_eq option.name name) refl refl (has_names rest)
+pub has_names : (known : Known) → list_all (λ option. is_name (option_name option)) known ≡ true → HasNames known
+has_names [] all name valued named = cc
+has_names (option ∷ rest) all name valued named =
+    go (is_name (option_name option)) (bytes_eq (option_name option) name) refl refl (has_names rest)
   where
-    go : (well same : Bool) → is_name option.name ≡ well → bytes_eq option.name name ≡ same
-        → (list_all (λ other. is_name other.name) rest ≡ true → HasNames rest) → IsName name
+    go : (well same : Bool) → is_name (option_name option) ≡ well → bytes_eq (option_name option) name ≡ same
+        → (list_all (λ other. is_name (option_name other)) rest ≡ true → HasNames rest) → IsName name
     go false same e f more = let bad : false ≡ true = rw e at all in cc
-    go true true e f more = subst IsName ((bytes_eq-Decides option.name name).0 f) (name_from_test option.name e)
-    go true false e f more = more (rw e at all) name (rw f at named)
+    go true true e f more = subst IsName ((bytes_eq-Decides (option_name option) name).0 f) (name_from_test (option_name option) e)
+    go true false e f more = more (rw e at all) name valued (rw f at named)
 
-names_of : (known : Known) (name : Text) → is_named known name ≡ true → Names known name
+names_of : (known : Known) (name : Text) → kind_named known name ≡ Some true → Names known name
 names_of known name named = go (found_by_long known name)
   where
     go : Found known name → Names known name
     go (an_option own same allowed found) = record { option = own; same = same; found = found }
-    go (help absent found) = let bad : true ≡ false = sym named ∙ absent in cc
-    go (nothing absent found) = let bad : true ≡ false = sym named ∙ absent in cc
+    go (a_flag absent found) = let bad : Some true ≡ Some false = sym named ∙ absent in cc
+    go (help absent found) = let bad : Some true ≡ None = sym named ∙ absent in cc
+    go (nothing absent found) = let bad : Some true ≡ None = sym named ∙ absent in cc
+
+flag_found : (known : Known) (name : Text) → kind_named known name ≡ Some false
+    → arg_by_long (rules_for known) name ≡ Some (built_flag name)
+flag_found known name named = go (found_by_long known name)
+  where
+    go : Found known name → arg_by_long (rules_for known) name ≡ Some (built_flag name)
+    go (an_option own same absent found) = let bad : Some false ≡ Some true = sym named ∙ absent in cc
+    go (a_flag allowed found) = found
+    go (help absent found) = let bad : Some false ≡ None = sym named ∙ absent in cc
+    go (nothing absent found) = let bad : Some false ≡ None = sym named ∙ absent in cc
 
 module _ (command : Text) (known : Known) (well_named : HasNames known) where
   -- the walk passes all words, and what it holds then comes to these options
@@ -68,27 +80,32 @@ module _ (command : Text) (known : Known) (well_named : HasNames known) where
   walks_ending h options words comes (inr one) = rw one (walks_dashes h options comes)
 
   -- one option, and then more
-  walks_option : (h : Held) (before : List Given) (name value : Text) (is_joined : Bool) (words : List Text) (options : List Given)
-      → let given : Given = record { name = name; value = value; is_joined = is_joined } in
-      ComesTo known h before → IsOptionOf known given → has_option name before ≡ false
+  walks_option : (h : Held) (before : List Given) (given : Given) (words : List Text) (options : List Given)
+      → ComesTo known h before → IsOptionOf known given → has_option (name_in given) before ≡ false
       → ((k : Held) → ComesTo known k (before ++ given ∷ []) → Walks (walk_from k) words options)
       → Walks (walk_from h) (option_words given ++ words) options
-  walks_option h before name value true words options comes allowed none next =
-      let name_is = well_named name allowed.named in
+  walks_option h before (joined name value) words options comes named none next =
+      let name_is = well_named name true named in
       let turns = turn_joined command known h before (dashes ++ name ++ codes "=" ++ value) name comes
       (joined_no_dashes name value name_is.some)
-      (names_of known name allowed.named) value (long_joined name value name_is) none in
+      (names_of known name named) value (long_joined name value name_is) none in
       walks_on _ _ _ words options turns (next (held_for (before ++ joined name value ∷ []) None)
       (nothing_comes known (before ++ joined name value ∷ [])))
-  walks_option h before name value false words options comes allowed none next =
-      let name_is = well_named name allowed.named in
-      let names = names_of known name allowed.named in
+  walks_option h before (apart name value) words options comes (named, stands) none next =
+      let name_is = well_named name true named in
+      let names = names_of known name named in
       let to_name = turn_name command known h before (dashes ++ name) name comes (no_dashes name name_is.some) names
       (long_alone name name_is) in
-      let to_value = turn_value command known before value name (stands_plain value (allowed.stands refl)) names in
+      let to_value = turn_value command known before value name (stands_plain value stands) names in
       walks_on _ _ _ (value ∷ words) options to_name
       (walks_on _ _ _ words options to_value (next (held_for before (Some (name, value ∷ [])))
       (value_comes known before name value names none)))
+  walks_option h before (alone name) words options comes named none next =
+      let name_is = well_named name false named in
+      let turns = turn_flag command known h before (dashes ++ name) name comes (no_dashes name name_is.some)
+      (flag_found known name named) (long_alone name name_is) none in
+      walks_on _ _ _ words options turns (next (held_for (before ++ alone name ∷ []) None)
+      (nothing_comes known (before ++ alone name ∷ [])))
 
   walks : (more : List Given) (before : List Given) (h : Held) (ending : List Text) → ComesTo known h before → All (IsOptionOf known) more
       → EachOnce (before ++ more) → IsEnding ending → Walks (walk_from h) (flat_map option_words more ++ ending) (before ++ more)
@@ -104,7 +121,7 @@ module _ (command : Text) (known : Known) (well_named : HasNames known) where
       (subst EachOnce (sym moved) once) ends) in
       subst (λ (words : List Text). Walks (walk_from h) words (before ++ given ∷ more))
       (sym (append_assoc (option_words given) (flat_map option_words more) ending))
-      (walks_option h before given.name given.value given.is_joined (flat_map option_words more ++ ending) (before ++ given ∷ more) comes
+      (walks_option h before given (flat_map option_words more ++ ending) (before ++ given ∷ more) comes
       (All-head (IsOptionOf known) given more each) (once_before before given more once) next)
 
   walks_all : (options : List Given) (words : List Text) → AreOptionsOf known options → MayEnd (flat_map option_words options) words

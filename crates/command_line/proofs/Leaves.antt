@@ -11,11 +11,11 @@ use Rattle.clap.specs.Walk.{Held, Rule, Text, Waiting, Walk, arg_by_long, arg_by
 use Rattle.clap.specs.Kinds.{Kinds, or_else}
 use Rattle.clap.specs.Faults.{flags_fault, long_fault, settle_fault, short_fault, turn_fault, walk_fault}
 use Rattle.clap.specs.declared.error.kind.ErrorKind.TheVariants.{DisplayHelp, MissingRequiredArgument, TooManyValues, UnknownArgument}
-use Rattle.command_line.specs.Options.{CommandOption, EachOnce, Given, IsOptionOf, MayEnd, has_option, has_required, option_words}
+use Rattle.command_line.specs.Options.{CommandOption, EachOnce, Given, IsOptionOf, MayEnd, has_option, has_required, name_in, option_words}
 use Rattle.command_line.proofs.Levels.{faults_from}
 use Rattle.command_line.proofs.Refusals.{IsRefusal, refusal_first}
 use Rattle.command_line.proofs.Rows.{given_at_end, lacks_required, rows_at_end}
-use Rattle.command_line.proofs.Rules.{Known, built_help, built_option, found_by_short, no_defaults_fault, nothing_by_index, rows_for, rules_for}
+use Rattle.command_line.proofs.Rules.{Known, built_flag, built_help, built_value, found_by_short, no_defaults_fault, nothing_by_index, rows_for, rules_for}
 use Rattle.command_line.proofs.Turns.{ComesTo, held_for, leaf_for, no_flag_fault, no_flag_met}
 use Rattle.command_line.proofs.Words.{IsPlain, dashes}
 
@@ -80,10 +80,21 @@ module _ (command : Text) (known : Known) (before : List Given) (pending : Optio
 
   -- an option, where what is held does not settle
   pub unsettled_refused : (own : CommandOption) (found : Option Rule) (value : Option Text) → IsRefusal settling
-      → found ≡ Some (built_option own)
+      → found ≡ Some (built_value own)
       → IsRefusal (long_fault (rules_for known) false found value h)
   unsettled_refused own found None refused is = rw is refused
   unsettled_refused own found (Some value) refused is = rw is (refusal_first settling _ refused)
+
+  pub unsettled_flag_refused : (name : Text) (found : Option Rule) (value : Option Text) → IsRefusal settling
+      → found ≡ Some (built_flag name)
+      → IsRefusal (long_fault (rules_for known) false found value h)
+  unsettled_flag_refused name found None refused is = rw is (refusal_first settling _ refused)
+  unsettled_flag_refused name found (Some value) refused is = rw is (inl (TooManyValues, refl))
+
+  -- a flag with a value
+  pub joined_flag_refused : (name : Text) (found : Option Rule) (value : Text) → found ≡ Some (built_flag name)
+      → IsRefusal (long_fault (rules_for known) false found (Some value) h)
+  joined_flag_refused name found value is = rw is (inl (TooManyValues, refl))
 
   short_refused : (rest : Text) (next : Held → Kinds) (found : Option Rule) → MayRefuse settling → IfSome found (λ rule. rule ≡ built_help)
       → IsRefusal (short_fault (rules_for known) false found rest h next)
@@ -146,24 +157,24 @@ neither : (a b : Bool) → (a || b) ≡ false → (a ≡ false) × (b ≡ false)
 neither true b both = cc
 neither false b both = (refl, both)
 
-pub once_more : (before : List Given) (given : Given) → EachOnce before → has_option given.name before ≡ false
+pub once_more : (before : List Given) (given : Given) → EachOnce before → has_option (name_in given) before ≡ false
     → EachOnce (before ++ given ∷ [])
 once_more [] given once none = (refl, tt)
 once_more (first ∷ rest) given once none =
-    let both = neither (bytes_eq first.name given.name) (has_option given.name rest) none in
-    let absent : has_option first.name (rest ++ given ∷ []) ≡ false =
-    list_any-append (λ (g : Given). bytes_eq g.name first.name) rest (given ∷ [])
-    ∙ ap₂ ◌||◌ once.0 (ap (λ b. b || false) (differs_both first.name given.name both.0)) in
+    let both = neither (bytes_eq (name_in first) (name_in given)) (has_option (name_in given) rest) none in
+    let absent : has_option (name_in first) (rest ++ given ∷ []) ≡ false =
+    list_any-append (λ (g : Given). bytes_eq (name_in g) (name_in first)) rest (given ∷ [])
+    ∙ ap₂ ◌||◌ once.0 (ap (λ b. b || false) (differs_both (name_in first) (name_in given) both.0)) in
     (absent, once_more rest given once.1 both.1)
 
 pub once_before : (before : List Given) (given : Given) (more : List Given) → EachOnce (before ++ given ∷ more)
-    → has_option given.name before ≡ false
+    → has_option (name_in given) before ≡ false
 once_before [] given more once = refl
 once_before (first ∷ rest) given more once =
-    let split : (has_option first.name rest || has_option first.name (given ∷ more)) ≡ false =
-    sym (list_any-append (λ (g : Given). bytes_eq g.name first.name) rest (given ∷ more)) ∙ once.0 in
-    let here = (neither _ _ (neither (has_option first.name rest) (has_option first.name (given ∷ more)) split).1).0 in
-    ap₂ ◌||◌ (differs_both given.name first.name here) (once_before rest given more once.1)
+    let split : (has_option (name_in first) rest || has_option (name_in first) (given ∷ more)) ≡ false =
+    sym (list_any-append (λ (g : Given). bytes_eq (name_in g) (name_in first)) rest (given ∷ more)) ∙ once.0 in
+    let here = (neither _ _ (neither (has_option (name_in first) rest) (has_option (name_in first) (given ∷ more)) split).1).0 in
+    ap₂ ◌||◌ (differs_both (name_in given) (name_in first) here) (once_before rest given more once.1)
 
 -- ---- words that are taken
 

@@ -11,4 +11,4 @@ pub mod Lines
 pub mod Numbers
 pub mod Taken
 pub mod Turns
-pub mod Values
+pub mod Spelled

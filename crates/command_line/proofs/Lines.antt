@@ -15,18 +15,19 @@ use Rattle.clap.specs.declared.error.kind.ErrorKind.TheVariants as errors
 use Rattle.clap.specs.declared.error.kind.ErrorKind.TheVariants.{DisplayHelp, DisplayVersion, InvalidSubcommand, MissingSubcommand, UnknownArgument}
 use Rattle.clap.specs.Faults.{check_fault, defaults_fault, entered_fault, level_fault, settle_fault, walk_fault}
 use Rattle.clap.proofs.OnLiterals.{clap_on_literals}
-use Rattle.command_line.specs.CommandLine.{AsksForHelp, IsHelpOption, IsVersionOption, Line, Spells, commands, create, faults_of, replay}
-use Rattle.command_line.specs.Create.{create_options, value_in}
-use Rattle.command_line.specs.Options.{AreOptionsOf, Given, MayEnd, option_words}
+use Rattle.command_line.specs.CommandLine.{AsksForHelp, IsHelpOption, IsVersionOption, Line, Spells, commands, create, faults_of, replay, serve}
+use Rattle.command_line.specs.Create.{create_options}
+use Rattle.command_line.specs.Options.{AreOptionsOf, Given, MayEnd, option_words, value_of}
 use Rattle.command_line.specs.Program.{bare, lsvdctl}
 use Rattle.command_line.specs.Program as program
+use Rattle.command_line.specs.Serve.{serve_options}
 use Rattle.command_line.proofs.Given.{HasNames, given_is_found, given_is_taken, has_names}
 use Rattle.command_line.proofs.Leaves.{Reads, leaf_faults}
 use Rattle.command_line.proofs.Levels.{IsByFirst, next_refused, stopped_fault, stopped_walk}
 use Rattle.command_line.proofs.Refusals.{HasRequestsOnly, IsRefusal, first_refused, refusal_first, trailing_refused}
-use Rattle.command_line.proofs.Rules.{rules_for}
+use Rattle.command_line.proofs.Rules.{Known, rules_for}
 use Rattle.command_line.proofs.Taken.{refused_or_read}
-use Rattle.command_line.proofs.Turns.{held_for, leaf_for}
+use Rattle.command_line.proofs.Turns.{held_for}
 
 -- where a walk stands after `--`
 abbrev trailing : Walk
@@ -62,27 +63,6 @@ after_replay (word ∷ rest) = go (bytes_eq word (codes "--")) refl
     go : (test : Bool) → bytes_eq word (codes "--") ≡ test → IsAfterReplay (word ∷ rest)
     go true e = subst (λ (w : Text). IsAfterReplay (w ∷ rest)) (sym ((bytes_eq-Decides word (codes "--")).0 e)) (leaf_dashes rest)
     go false e = inr (inr (next_refused leaf [] (walk_from nothing_held) word rest false [] (first_refused leaf [] word leaf_has refl e)))
-
--- ---- the words after `create`
-
-abbrev create_leaf : Shape
-create_leaf = built_leaf (inherited bare.top program.create)
-
-create_leaf_is : create_leaf ≡ leaf_for (codes "create") create_options
-create_leaf_is = refl
-
-abbrev create_faults : List Text → Kinds
-create_faults words = level_fault create_leaf [] nothing_held words false []
-
-same_faults : (words : List Text) → create_faults words ≡ leaf_faults (codes "create") create_options (walk_from (held_for [] None)) words
-same_faults words = refl
-
-create_has_names : HasNames create_options
-create_has_names = has_names create_options refl
-
--- the words after `create` are refused, or give it its options
-after_create : (words : List Text) → IsRefusal (create_faults words) ⊎ Reads create_options [] words
-after_create words = refused_or_read (codes "create") create_options words
 
 -- ---- the words of the program
 
@@ -124,30 +104,62 @@ replay_stops : (words : List Text) → faults_of (codes "replay" ∷ words) ≡ 
 unfolding faults_of lsvdctl walk_fault walked
 replay_stops words = top_stopped (codes "replay") words
 
-create_stops : (words : List Text) → faults_of (codes "create" ∷ words) ≡ top_at [] (stopped (codes "create") words)
-unfolding faults_of lsvdctl walk_fault walked
-create_stops words = top_stopped (codes "create") words
-
 replay_entered : (words : List Text) → entered_fault app (Some (codes "replay", words)) ≡ replay_faults words
 unfolding lsvdctl
 replay_entered words = refl
-
-create_entered : (words : List Text) → entered_fault app (Some (codes "create", words)) ≡ create_faults words
-unfolding lsvdctl
-create_entered words = refl
 
 after_replay_holds : (P : Kinds → Type 0) → IsByFirst P → (words : List Text) → P (replay_faults words)
     → P (faults_of (codes "replay" ∷ words))
 after_replay_holds P by_first words holds = subst P (sym (replay_stops words)) (by_first _ _ (subst P (sym (replay_entered words)) holds))
 
-after_create_holds : (P : Kinds → Type 0) → IsByFirst P → (words : List Text) → P (create_faults words)
-    → P (faults_of (codes "create" ∷ words))
-after_create_holds P by_first words holds = subst P (sym (create_stops words)) (by_first _ _ (subst P (sym (create_entered words)) holds))
+-- ---- the words after a command with options
 
--- where the command takes the words, so does the program
-after_create_quiet : (words : List Text) → create_faults words ≡ [] → faults_of (codes "create" ∷ words) ≡ []
-unfolding lsvdctl defaults_fault
-after_create_quiet words quiet = create_stops words ∙ (rw (create_entered words ∙ quiet) refl)
+abbrev faults_after : Text → Known → List Text → Kinds
+faults_after command known words = leaf_faults command known (walk_from (held_for [] None)) words
+
+-- the program has this command
+record Has (command : Text) (known : Known) : Type 0 where
+  pub names : HasNames known
+  pub stops : (words : List Text) → faults_of (command ∷ words) ≡ top_at [] (stopped command words)
+  pub enters : (words : List Text) → entered_fault app (Some (command, words)) ≡ faults_after command known words
+  -- where the command takes the words, so does the program
+  pub quiet : (words : List Text) → faults_after command known words ≡ [] → top_at [] (stopped command words) ≡ []
+  pub meets : (words : List Text) → subcommand_of lsvdctl (command ∷ words) ≡ Some (command, rows_after (rules_for known) [] words)
+  pub asks : (option : Text) (rest : List Text) → IsHelpOption option → IsAmong DisplayHelp (faults_after command known (option ∷ rest))
+
+stopped_at : (name : Text) (words : List Text)
+    → (fold (walked app.top.rules (names_of app)) (stopped name []) words).stopped ≡ Some (name, words)
+stopped_at name words = ap (λ (w : Walk). w.stopped) (stopped_walk app.top.rules (names_of app) (walk_from nothing_held) name [] words)
+
+has_create : Has (codes "create") create_options
+unfolding faults_of lsvdctl walk_fault walked defaults_fault clap_on_literals
+has_create = record {
+  names = has_names create_options refl;
+  stops = λ words. top_stopped (codes "create") words;
+  enters = λ words. refl;
+  quiet = λ words quiet. rw quiet refl;
+  meets = λ words. ap (entered app) (stopped_at (codes "create") words);
+  asks = λ option rest is. elim is [ inl short ↦ rw short (inl refl) | inr long ↦ rw long (inl refl) ];
+}
+
+has_serve : Has (codes "serve") serve_options
+unfolding faults_of lsvdctl walk_fault walked defaults_fault clap_on_literals
+has_serve = record {
+  names = has_names serve_options refl;
+  stops = λ words. top_stopped (codes "serve") words;
+  enters = λ words. refl;
+  quiet = λ words quiet. rw quiet refl;
+  meets = λ words. ap (entered app) (stopped_at (codes "serve") words);
+  asks = λ option rest is. elim is [ inl short ↦ rw short (inl refl) | inr long ↦ rw long (inl refl) ];
+}
+
+module _ (command : Text) (known : Known) (has : Has command known) where
+  after_holds : (P : Kinds → Type 0) → IsByFirst P → (words : List Text) → P (faults_after command known words)
+      → P (faults_of (command ∷ words))
+  after_holds P by_first words holds = subst P (sym (has.stops words)) (by_first _ _ (subst P (sym (has.enters words)) holds))
+
+  after_quiet : (words : List Text) → faults_after command known words ≡ [] → faults_of (command ∷ words) ≡ []
+  after_quiet words quiet = has.stops words ∙ has.quiet words quiet
 
 -- ---- other first words
 
@@ -171,9 +183,10 @@ first_word word rest none other =
     (first_refused app.top (names_of app) word top_has none other)
 
 no_command : (word : Text) → bytes_eq (codes "replay") word ≡ false → bytes_eq (codes "create") word ≡ false
+    → bytes_eq (codes "serve") word ≡ false
     → subcommand_met (names_of app) idle word ≡ None
 unfolding lsvdctl
-no_command word replays creates = rw (replays, creates) refl
+no_command word replays creates serves = rw (replays, creates, serves) refl
 
 top_first : (word : Text) (rest : List Text) → subcommand_met (names_of app) idle word ≡ None → bytes_eq word (codes "--") ≡ false
     → IsRefusal (faults_of (word ∷ rest))
@@ -195,19 +208,38 @@ replay_line words (inl none) = inl (replay, inl (ap (λ rest. codes "replay" ∷
 replay_line words (inr (inl one)) = inl (replay, inr (ap (λ rest. codes "replay" ∷ rest) one))
 replay_line words (inr (inr refused)) = inr (after_replay_holds IsRefusal refusal_first words refused)
 
-create_line : (words : List Text) → IsRefusal (create_faults words) ⊎ Reads create_options [] words → IsLine (codes "create" ∷ words)
-create_line words (inl refused) = inr (after_create_holds IsRefusal refusal_first words refused)
-create_line words (inr reads) =
-    inl (
-      create reads.more,
-      (
-        record { each = reads.each; once = reads.once; required = reads.required },
-        elim reads.ends [
-          | inl whole ↦ inl (ap (λ (rest : List Text). codes "create" ∷ rest) whole)
-          | inr whole ↦ inr (ap (λ (rest : List Text). codes "create" ∷ rest) whole)
-        ],
-      ),
-    )
+-- the words after a command are refused, or give it its options
+abbrev IsGiven : Text → Known → List Text → Type 0
+IsGiven command known words = (options : List Given) × AreOptionsOf known options × MayEnd (command ∷ flat_map option_words options) words
+
+given_or_refused : (command : Text) (known : Known) (has : Has command known) (words : List Text)
+    → IsGiven command known (command ∷ words) ⊎ IsRefusal (faults_of (command ∷ words))
+given_or_refused command known has words = go (refused_or_read command known words)
+  where
+    go : IsRefusal (faults_after command known words) ⊎ Reads known [] words
+        → IsGiven command known (command ∷ words) ⊎ IsRefusal (faults_of (command ∷ words))
+    go (inl refused) = inr (after_holds command known has IsRefusal refusal_first words refused)
+    go (inr reads) =
+        inl (
+          reads.more,
+          record { each = reads.each; once = reads.once; required = reads.required },
+          elim reads.ends [
+            | inl whole ↦ inl (ap (λ (rest : List Text). command ∷ rest) whole)
+            | inr whole ↦ inr (ap (λ (rest : List Text). command ∷ rest) whole)
+          ],
+        )
+
+create_line : (words : List Text) → IsLine (codes "create" ∷ words)
+create_line words = elim (given_or_refused (codes "create") create_options has_create words) [
+  | inl given ↦ inl (create given.0, (given.1, given.2))
+  | inr refused ↦ inr refused
+]
+
+serve_line : (words : List Text) → IsLine (codes "serve" ∷ words)
+serve_line words = elim (given_or_refused (codes "serve") serve_options has_serve words) [
+  | inl given ↦ inl (serve given.0, (given.1, given.2))
+  | inr refused ↦ inr refused
+]
 
 other_line : (word : Text) (rest : List Text) (test : Bool) → subcommand_met (names_of app) idle word ≡ None
     → bytes_eq word (codes "--") ≡ test → IsRefusal (faults_of (word ∷ rest))
@@ -215,19 +247,22 @@ other_line word rest true none is =
     subst (λ (w : Text). IsRefusal (faults_of (w ∷ rest))) (sym ((bytes_eq-Decides word (codes "--")).0 is)) (top_dashes rest)
 other_line word rest false none other = top_first word rest none other
 
-first_line : (word : Text) (rest : List Text) (replays creates : Bool) → bytes_eq (codes "replay") word ≡ replays
-    → bytes_eq (codes "create") word ≡ creates
+first_line : (word : Text) (rest : List Text) (replays creates serves : Bool) → bytes_eq (codes "replay") word ≡ replays
+    → bytes_eq (codes "create") word ≡ creates → bytes_eq (codes "serve") word ≡ serves
     → IsLine (word ∷ rest)
-first_line word rest true creates is other =
+first_line word rest true creates serves is other others =
     subst (λ (w : Text). IsLine (w ∷ rest)) ((bytes_eq-Decides (codes "replay") word).0 is) (replay_line rest (after_replay rest))
-first_line word rest false true other is =
-    subst (λ (w : Text). IsLine (w ∷ rest)) ((bytes_eq-Decides (codes "create") word).0 is) (create_line rest (after_create rest))
-first_line word rest false false replays creates =
-    inr (other_line word rest (bytes_eq word (codes "--")) (no_command word replays creates) refl)
+first_line word rest false true serves other is others =
+    subst (λ (w : Text). IsLine (w ∷ rest)) ((bytes_eq-Decides (codes "create") word).0 is) (create_line rest)
+first_line word rest false false true other others is =
+    subst (λ (w : Text). IsLine (w ∷ rest)) ((bytes_eq-Decides (codes "serve") word).0 is) (serve_line rest)
+first_line word rest false false false replays creates serves =
+    inr (other_line word rest (bytes_eq word (codes "--")) (no_command word replays creates serves) refl)
 
 pub each_line : (words : List Text) → IsLine words
 each_line [] = inr nothing_refused
-each_line (word ∷ rest) = first_line word rest (bytes_eq (codes "replay") word) (bytes_eq (codes "create") word) refl refl
+each_line (word ∷ rest) =
+    first_line word rest (bytes_eq (codes "replay") word) (bytes_eq (codes "create") word) (bytes_eq (codes "serve") word) refl refl refl
 
 -- the words after a command that may be ended
 after_command : (command : Text) (options words : List Text) → MayEnd (command ∷ options) words
@@ -235,54 +270,60 @@ after_command : (command : Text) (options words : List Text) → MayEnd (command
 after_command command options words (inl is) = (options, is, inl refl)
 after_command command options words (inr is) = (options ++ codes "--" ∷ [], is, inr refl)
 
+given_is_quiet : (command : Text) (known : Known) (has : Has command known) (words : List Text) → IsGiven command known words
+    → faults_of words ≡ []
+given_is_quiet command known has words (options, are, end) = go (after_command command (flat_map option_words options) words end)
+  where
+    go : (rest : List Text) × (words ≡ command ∷ rest) × MayEnd (flat_map option_words options) rest → faults_of words ≡ []
+    go (rest, is, ends) =
+        rw is (after_quiet command known has rest (given_is_taken command known has.names options rest are ends))
+
 pub spelled_is_taken : (words : List Text) (line : Line) → Spells words line → faults_of words ≡ []
 unfolding faults_of lsvdctl clap_on_literals
 spelled_is_taken words replay (inl is) = rw is refl
 spelled_is_taken words replay (inr is) = rw is refl
-spelled_is_taken words (create options) (are, end) = taken_create (after_command (codes "create") (flat_map option_words options) words end)
-  where
-    taken_create : (rest : List Text) × (words ≡ codes "create" ∷ rest) × MayEnd (flat_map option_words options) rest → faults_of words ≡ []
-    taken_create (rest, is, ends) = rw is (after_create_quiet rest
-        (given_is_taken (codes "create") create_options create_has_names options rest are ends))
+spelled_is_taken words (create options) (are, end) =
+    given_is_quiet (codes "create") create_options has_create words (options, are, end)
+spelled_is_taken words (serve options) (are, end) = given_is_quiet (codes "serve") serve_options has_serve words (options, are, end)
 
 -- ---- what clap finds
-
-stopped_at : (name : Text) (words : List Text)
-    → (fold (walked app.top.rules (names_of app)) (stopped name []) words).stopped ≡ Some (name, words)
-stopped_at name words = ap (λ (w : Walk). w.stopped) (stopped_walk app.top.rules (names_of app) (walk_from nothing_held) name [] words)
 
 replay_met : (words : List Text) → subcommand_of lsvdctl (codes "replay" ∷ words) ≡ Some (codes "replay", rows_after leaf.rules [] words)
 unfolding lsvdctl walked
 replay_met words = ap (entered app) (stopped_at (codes "replay") words)
 
-create_met : (words : List Text)
-    → subcommand_of lsvdctl (codes "create" ∷ words) ≡ Some (codes "create", rows_after (rules_for create_options) [] words)
-unfolding lsvdctl walked
-create_met words = ap (entered app) (stopped_at (codes "create") words)
+-- the command with these options is found, and their values
+abbrev FindsValues : Text → Known → List Given → Option (Text × List Row) → Type 0
+FindsValues command known options met = (rows : List Row) × (met ≡ Some (command, rows))
+    × ((name : Text) → first_of name rows ≡ value_of known options name)
 
 -- the command and the values that clap finds, where the words spell a line
 abbrev pub IsFound : Line → Option (Text × List Row) → Type 0
 IsFound replay met = (rows : List Row) × (met ≡ Some (codes "replay", rows))
-IsFound (create options) met = (rows : List Row) × (met ≡ Some (codes "create", rows))
-    × ((name : Text) → first_of name rows ≡ value_in options name)
+IsFound (create options) met = FindsValues (codes "create") create_options options met
+IsFound (serve options) met = FindsValues (codes "serve") serve_options options met
 
 replay_found : (words : List Text) → (rest : List Text) × (words ≡ codes "replay" ∷ rest) × MayEnd [] rest
     → IsFound replay (subcommand_of lsvdctl words)
 replay_found words (rest, is, end) = (rows_after leaf.rules [] rest, rw is (replay_met rest))
 
-create_found : (words : List Text) (options : List Given) → AreOptionsOf create_options options
-    → (rest : List Text) × (words ≡ codes "create" ∷ rest) × MayEnd (flat_map option_words options) rest
-    → IsFound (create options) (subcommand_of lsvdctl words)
-create_found words options are (rest, is, end) = (
-  rows_after (rules_for create_options) [] rest,
-  rw is (create_met rest),
-  given_is_found (codes "create") create_options create_has_names options rest are end,
-)
+given_finds : (command : Text) (known : Known) (has : Has command known) (words : List Text) (options : List Given) → AreOptionsOf known options
+    → MayEnd (command ∷ flat_map option_words options) words
+    → FindsValues command known options (subcommand_of lsvdctl words)
+given_finds command known has words options are end = go (after_command command (flat_map option_words options) words end)
+  where
+    go : (rest : List Text) × (words ≡ command ∷ rest) × MayEnd (flat_map option_words options) rest
+        → FindsValues command known options (subcommand_of lsvdctl words)
+    go (rest, is, ends) = (
+      rows_after (rules_for known) [] rest,
+      rw is (has.meets rest),
+      given_is_found command known has.names options rest are ends,
+    )
 
 pub spelled_is_found : (words : List Text) (line : Line) → Spells words line → IsFound line (subcommand_of lsvdctl words)
 spelled_is_found words replay end = replay_found words (after_command (codes "replay") [] words end)
-spelled_is_found words (create options) (are, end) =
-    create_found words options are (after_command (codes "create") (flat_map option_words options) words end)
+spelled_is_found words (create options) (are, end) = given_finds (codes "create") create_options has_create words options are end
+spelled_is_found words (serve options) (are, end) = given_finds (codes "serve") serve_options has_serve words options are end
 
 -- ---- what follows for a request, and for help
 
@@ -304,31 +345,39 @@ pub error_of_faulty : (kinds : Kinds) (error : Error) → HasKind kinds error �
 error_of_faulty kinds error (inl memory) other none = other memory
 error_of_faulty kinds error (inr among) other none = absurd (subst (IsAmong (kind_of error)) none among)
 
-first_of_line : (first : Text) (rest : List Text) (line : Line) → Spells (first ∷ rest) line
-    → (first ≡ codes "replay") ⊎ (first ≡ codes "create")
-first_of_line first rest replay end = go (after_command (codes "replay") [] (first ∷ rest) end)
+-- the first word of a line
+abbrev command_of : Line → Text
+command_of replay = codes "replay"
+command_of (create options) = codes "create"
+command_of (serve options) = codes "serve"
+
+first_is : (command : Text) (options : List Text) (first : Text) (rest : List Text) → MayEnd (command ∷ options) (first ∷ rest) → first ≡ command
+first_is command options first rest end = go (after_command command options (first ∷ rest) end)
   where
-    go : (more : List Text) × (first ∷ rest ≡ codes "replay" ∷ more) × MayEnd [] more → (first ≡ codes "replay") ⊎ (first ≡ codes "create")
-    go (more, is, ends) = inl cc
-first_of_line first rest (create options) (are, end) = go (after_command (codes "create") (flat_map option_words options) (first ∷ rest) end)
-  where
-    go : (more : List Text) × (first ∷ rest ≡ codes "create" ∷ more) × MayEnd (flat_map option_words options) more
-        → (first ≡ codes "replay") ⊎ (first ≡ codes "create")
-    go (more, is, ends) = inr cc
+    go : (more : List Text) × (first ∷ rest ≡ command ∷ more) × MayEnd options more → first ≡ command
+    go (more, is, ends) = cc
+
+first_of_line : (first : Text) (rest : List Text) (line : Line) → Spells (first ∷ rest) line → first ≡ command_of line
+first_of_line first rest replay end = first_is (codes "replay") [] first rest end
+first_of_line first rest (create options) (are, end) = first_is (codes "create") (flat_map option_words options) first rest end
+first_of_line first rest (serve options) (are, end) = first_is (codes "serve") (flat_map option_words options) first rest end
 
 pub spells_a_command : (first : Text) (rest : List Text) (line : Line) → Spells (first ∷ rest) line
     → All (λ command. command ≢ first) commands → ⊥
-spells_a_command first rest line spelled others = go (first_of_line first rest line spelled)
+spells_a_command first rest line spelled others = go line (first_of_line first rest line spelled)
   where
-    go : (first ≡ codes "replay") ⊎ (first ≡ codes "create") → ⊥
-    go (inl is) = others 0 [] (lit< tt) (sym is)
-    go (inr is) = others 1 [] (lit< tt) (sym is)
+    go : (line : Line) → first ≡ command_of line → ⊥
+    go replay is = others 0 [] (lit< tt) (sym is)
+    go (create options) is = others 1 [] (lit< tt) (sym is)
+    go (serve options) is = others 2 [] (lit< tt) (sym is)
 
 pub nothing_is_spelled : (line : Line) → Spells [] line → ⊥
 nothing_is_spelled replay (inl is) = cc
 nothing_is_spelled replay (inr is) = cc
 nothing_is_spelled (create options) (are, inl is) = cc
 nothing_is_spelled (create options) (are, inr is) = cc
+nothing_is_spelled (serve options) (are, inl is) = cc
+nothing_is_spelled (serve options) (are, inr is) = cc
 
 -- an error of words that ask for help is the answer to it
 abbrev AsksIn : Kinds → Type 0
@@ -377,15 +426,14 @@ unfolding clap_on_literals
 replay_asks option rest (inl is) = rw is (inl refl)
 replay_asks option rest (inr is) = rw is (inl refl)
 
-create_asks : (option : Text) (rest : List Text) → IsHelpOption option → IsAmong DisplayHelp (create_faults (option ∷ rest))
-unfolding clap_on_literals
-create_asks option rest (inl is) = rw is (inl refl)
-create_asks option rest (inr is) = rw is (inl refl)
-
 pub second_asks : (option : Text) (rest : List Text) → IsHelpOption option → All (λ command. AsksForHelp (command ∷ option ∷ rest)) commands
 second_asks option rest is =
-    All-cons (λ command. AsksForHelp (command ∷ option ∷ rest)) (codes "replay") (codes "create" ∷ [])
+    All-cons (λ command. AsksForHelp (command ∷ option ∷ rest)) (codes "replay") (codes "create" ∷ codes "serve" ∷ [])
     (inl (after_replay_holds (IsAmong DisplayHelp) (among_first DisplayHelp) (option ∷ rest) (replay_asks option rest is)))
-    (All-cons (λ command. AsksForHelp (command ∷ option ∷ rest)) (codes "create") []
-    (inl (after_create_holds (IsAmong DisplayHelp) (among_first DisplayHelp) (option ∷ rest) (create_asks option rest is)))
-    (All-nil (λ command. AsksForHelp (command ∷ option ∷ rest))))
+    (All-cons (λ command. AsksForHelp (command ∷ option ∷ rest)) (codes "create") (codes "serve" ∷ [])
+    (inl (after_holds (codes "create") create_options has_create (IsAmong DisplayHelp) (among_first DisplayHelp) (option ∷ rest)
+    (has_create.asks option rest is)))
+    (All-cons (λ command. AsksForHelp (command ∷ option ∷ rest)) (codes "serve") []
+    (inl (after_holds (codes "serve") serve_options has_serve (IsAmong DisplayHelp) (among_first DisplayHelp) (option ∷ rest)
+    (has_serve.asks option rest is)))
+    (All-nil (λ command. AsksForHelp (command ∷ option ∷ rest)))))

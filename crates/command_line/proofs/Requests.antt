@@ -1,51 +1,75 @@
 -- What a line asks for, by what clap finds in its words.
-use Rattle.std.proofs.Common.{◌≡◌, ◌≢◌, ◌⊎◌, ◌∙◌, ◌<◌, ◌+◌, ◌*◌, ◌&&◌, ℕ, Bool, true, false, List, [], Option, Some, None, inl, inr, ap, arith, codes, find, is_some, refl, subst, sym}
-use Rattle.std.specs.Prelude.{Err, IsErrOf, Ok, Result, decimal}
+use Rattle.std.proofs.Common.{◌≡◌, ◌≢◌, ◌⊎◌, ◌∙◌, ◌^◌, ◌<◌, ◌∷◌, ◌+◌, ◌*◌, ◌&&◌, ℕ, Bool, true, false, List, [], Option, Some, None, inl, inr, ap, arith, codes, find, is_some, option_map, refl, subst, sym}
+use Rattle.std.specs.Prelude.{Err, IsErrOf, Ok, Result}
+use Rattle.std.specs.List.{list_any}
 use Rattle.std.specs.Str.{bytes_eq}
 use Rattle.std.proofs.lemmas.Bool.{cases_lt}
 use Rattle.std.proofs.lemmas.Bool.Decides.{nat_tests}
-use Rattle.std.proofs.lemmas.Fmt.{decimal_injective}
+use Rattle.std.proofs.lemmas.Slice.Eq.{bytes_eq-Decides}
 use Rattle.std.proofs.Math.Path.{fun_ext}
+use Rattle.std.specs.Prelude.{Box}
+use Rattle.std.specs.Box.{box_value}
 use Rattle.clap.specs.Walk.{Row, Text}
+use Rattle.clap.specs.Matches.{subcommand_name_of}
+use Rattle.clap.specs.Simple.{subcommand_rows, subcommand_rows_of}
+use Rattle.clap.specs.declared.parser.matches.ArgMatches.{ArgMatches}
+use Rattle.clap.specs.declared.parser.matches.ArgMatches.TheViews.{out-ArgMatches, out-SubCommand}
+use Rattle.clap.specs.declared.parser.matches.SubCommand.{SubCommand}
 use Rattle.lsvd_base.specs.Limits.{is_within_limits}
 use Rattle.lsvd_base.specs.declared.geometry.Geometry.{Geometry}
-use Rattle.command_line.specs.CommandLine.{IsAskedBy, AsksForNothing, IsRead, Line, Spells, create, replay}
-use Rattle.command_line.specs.Create.{AreValid, AsksToCreate, HasBadUuid, HasBadValue, IsNumber, batch, create_options, limits, log, max_write, sectors, uuid, value_in}
-use Rattle.command_line.specs.Met.{IsMadeOf, LacksValue, MakesNone, value_among}
-use Rattle.command_line.specs.Options.{AreOptionsOf, Given, has_option}
+use Rattle.command_line.specs.CommandLine.{HasBadOptions, IsAskedBy, IsRead, Line, Spells, create, replay, serve}
+use Rattle.command_line.specs.Create.{AreValid, AsksToCreate, HasBadUuid, HasBadValue, batch, create_options, limits, log, max_write, sectors, uuid, value_in}
+use Rattle.command_line.specs.Met.{IsMadeOf, LacksRequired, LacksServeValue, LacksValue, MakesNone, value_among}
+use Rattle.command_line.specs.Options.{AreOptionsOf, Given, has_option, has_required, is_required, name_in, option_name, text_in, value_of}
+use Rattle.command_line.specs.Serve.{AreValidToServe, AsksToServe, HasBadServeValue, serve_options, serve_value}
+use Rattle.command_line.specs.Serve as serving
+use Rattle.command_line.specs.Values.{IsNoUuid, LacksBetween, MayBeBetween}
 use Rattle.command_line.specs.declared.request.CommandLineError.{CommandLineError}
 use Rattle.command_line.specs.declared.request.CommandLineError.TheVariants.{Usage, OutOfMemory}
 use Rattle.command_line.specs.declared.request.Request.{Request}
-use Rattle.command_line.specs.declared.request.Request.TheVariants.{Replay, Create}
+use Rattle.command_line.specs.declared.request.Request.TheVariants.{Replay, Create, Serve}
 use Rattle.command_line.proofs.Lines.{IsFound}
 use Rattle.command_line.proofs.Rows.{any_found}
+use Rattle.command_line.proofs.Rules.{Known}
+use Rattle.command_line.proofs.Spelled.{same_number}
 
 -- the values that clap found are those that are given
-same_values : (options : List Given) (rows : List Row) → ((name : Text) → value_among rows name ≡ value_in options name)
-    → value_among rows ≡ value_in options
-same_values options rows same = fun_ext same
+same_values : (known : Known) (options : List Given) (rows : List Row)
+    → ((name : Text) → value_among rows name ≡ value_of known options name)
+    → value_among rows ≡ value_of known options
+same_values known options rows same = fun_ext same
 
 -- an option that is given has a value
-has_value : (options : List Given) (name : Text) → has_option name options ≡ true → value_in options name ≢ None
-has_value options name has none = go (find (λ g. bytes_eq g.name name) options) refl
+has_value : (known : Known) (options : List Given) (name : Text) → has_option name options ≡ true → value_of known options name ≢ None
+has_value known options name has none = go (find (λ g. bytes_eq (name_in g) name) options) refl
   where
-    go : (found : Option Given) → find (λ g. bytes_eq g.name name) options ≡ found → ⊥
+    go : (found : Option Given) → find (λ g. bytes_eq (name_in g) name) options ≡ found → ⊥
     go None e =
-        let bad : false ≡ true = sym (any_found (λ (g : Given). bytes_eq g.name name) options ∙ ap is_some e) ∙ has in cc
-    go (Some given) e = let bad : Some given.value ≡ None = rw e at none in cc
+        let bad : false ≡ true = sym (any_found (λ (g : Given). bytes_eq (name_in g) name) options ∙ ap is_some e) ∙ has in cc
+    go (Some given) e = let bad : Some (text_in given) ≡ None = rw e at none in cc
 
-both_hold : (a b : Bool) → (a && b) ≡ true → (a ≡ true) × (b ≡ true)
-both_hold true b both = (refl, both)
-both_hold false b both = let bad : false ≡ true = both in cc
+-- those that the command asks for are given
+required_is_given : (known : Known) (options : List Given) (name : Text) → has_required known options ≡ true
+    → list_any (λ option. is_required option && bytes_eq (option_name option) name) known ≡ true
+    → has_option name options ≡ true
+required_is_given [] options name all wanted = cc
+required_is_given (option ∷ rest) options name all wanted =
+    go (is_required option) (bytes_eq (option_name option) name) (has_option (option_name option) options) refl refl refl
+    (required_is_given rest options name)
+  where
+    go : (required same has : Bool) → is_required option ≡ required → bytes_eq (option_name option) name ≡ same
+        → has_option (option_name option) options ≡ has
+        → (has_required rest options ≡ true
+        → list_any (λ other. is_required other && bytes_eq (option_name other) name) rest ≡ true → has_option name options ≡ true)
+        → has_option name options ≡ true
+    go false same has e f g more = more (rw e at all) (rw e at wanted)
+    go true true true e f g more =
+        ap (λ (n : Text). has_option n options) (sym ((bytes_eq-Decides (option_name option) name).0 f)) ∙ g
+    go true false true e f g more = more (rw (e, g) at all) (rw (e, f) at wanted)
+    go true same false e f g more = let bad : false ≡ true = rw (e, g) at all in cc
 
--- those that `create` asks for are
-store_is_given : (options : List Given) → AreOptionsOf create_options options → value_in options (codes "store") ≢ None
-store_is_given options are = has_value options (codes "store") (both_hold (has_option (codes "store") options) _ are.required).0
-
-cache_is_given : (options : List Given) → AreOptionsOf create_options options → value_in options (codes "cache") ≢ None
-cache_is_given options are =
-    has_value options (codes "cache")
-    (both_hold (has_option (codes "cache") options) _ (both_hold (has_option (codes "store") options) _ are.required).1).0
+lacks_none : (known : Known) (options : List Given) → AreOptionsOf known options → LacksRequired known (value_of known options) → ⊥
+lacks_none known options are (name, wanted, none) = has_value known options name (required_is_given known options name are.required wanted) none
 
 abbrev met_as : Text → List Row → Option (Text × List Row)
 met_as command rows = Some (command, rows)
@@ -58,31 +82,92 @@ abbrev rows_met : Option (Text × List Row) → List Row
 rows_met None = []
 rows_met (Some met) = met.1
 
-other_command : (rows others : List Row) → met_as (codes "replay") rows ≡ met_as (codes "create") others → ⊥
-other_command rows others same = let bad : false ≡ true = ap (λ met. bytes_eq (name_met met) (codes "create")) same in cc
+other_command : (first second : Text) (rows others : List Row) (met : Option (Text × List Row)) → bytes_eq first second ≡ false
+    → met ≡ met_as first rows → met ≡ met_as second others → ⊥
+other_command first second rows others met differ is also =
+    let same : first ≡ second = ap name_met (sym is ∙ also) in
+    let bad : true ≡ false = sym ((bytes_eq-Decides first second).1 same) ∙ differ in cc
+
+-- what holds of the values that the command has, where it was met with them
+values_met : (P : (Text → Option Text) → Type 0) (command : Text) (known : Known) (options : List Given) (met : Option (Text × List Row))
+    (rows others : List Row)
+    → met ≡ met_as command rows → met ≡ met_as command others → ((name : Text) → value_among rows name ≡ value_of known options name)
+    → P (value_among others) → P (value_of known options)
+values_met P command known options met rows others is also same holds =
+    let equal : others ≡ rows = ap rows_met (sym also ∙ is) in
+    subst P (ap value_among equal ∙ same_values known options rows same) holds
+
+-- ---- what a command makes
+
+module _ {Z : Type 0} where
+  met_at : (found : Option (Box SubCommand Z)) (command : Text) (rows : List Row)
+      → Some command ≡ option_map (λ b. (out-SubCommand (box_value b)).name.now) found
+      → Some rows ≡ option_map (λ p. p.1) (subcommand_rows found) → subcommand_rows found ≡ Some (command, rows)
+  met_at None command rows name values = cc
+  met_at (Some b) command rows name values = cc
+
+-- the command and its values, by what the code looked up
+pub met_is : (matches : ArgMatches) (command : Text) (rows : List Row) → Some command ≡ subcommand_name_of matches
+    → Some rows ≡ option_map (λ p. p.1) (subcommand_rows_of matches)
+    → subcommand_rows_of matches ≡ Some (command, rows)
+met_is matches command rows name values = met_at (out-ArgMatches matches).subcommand command rows name values
+
+-- values that ask the command for nothing make none
+pub creates_none : (met : Option (Text × List Row)) (rows : List Row) → met ≡ met_as (codes "create") rows → LacksValue (value_among rows)
+    → MakesNone met
+creates_none met rows is lacks = record {
+  replay = λ others also. other_command (codes "create") (codes "replay") rows others met refl is also;
+  create = λ others also. subst (λ (r : List Row). LacksValue (value_among r)) (ap rows_met (sym is ∙ also)) lacks;
+  serve = λ others also. absurd (other_command (codes "create") (codes "serve") rows others met refl is also);
+}
+
+pub serves_none : (met : Option (Text × List Row)) (rows : List Row) → met ≡ met_as (codes "serve") rows
+    → LacksServeValue (value_among rows)
+    → MakesNone met
+serves_none met rows is lacks = record {
+  replay = λ others also. other_command (codes "serve") (codes "replay") rows others met refl is also;
+  create = λ others also. absurd (other_command (codes "serve") (codes "create") rows others met refl is also);
+  serve = λ others also. subst (λ (r : List Row). LacksServeValue (value_among r)) (ap rows_met (sym is ∙ also)) lacks;
+}
+
+-- ---- what a line asks for
 
 pub found_asks : (line : Line) (met : Option (Text × List Row)) (request : Request) → IsFound line met → IsMadeOf met request
     → IsAskedBy line request
 found_asks replay met Replay found made = tt
-found_asks replay met (Create request) (rows, is) (others, also, asks) = absurd (other_command rows others (sym is ∙ also))
-found_asks (create options) met Replay (rows, is, same) (others, also) = absurd (other_command others rows (sym also ∙ is))
+found_asks replay met (Create request) (rows, is) (others, also, asks) =
+    absurd (other_command (codes "replay") (codes "create") rows others met refl is also)
+found_asks replay met (Serve request) (rows, is) (others, also, asks) =
+    absurd (other_command (codes "replay") (codes "serve") rows others met refl is also)
+found_asks (create options) met Replay (rows, is, same) (others, also) =
+    absurd (other_command (codes "create") (codes "replay") rows others met refl is also)
 found_asks (create options) met (Create request) (rows, is, same) (others, also, asks) =
-    let equal : others ≡ rows = ap rows_met (sym also ∙ is) in
-    subst (λ (value : Text → Option Text). AsksToCreate value request) (ap value_among equal ∙ same_values options rows same) asks
+    values_met (λ value. AsksToCreate value request) (codes "create") create_options options met rows others is also same asks
+found_asks (create options) met (Serve request) (rows, is, same) (others, also, asks) =
+    absurd (other_command (codes "create") (codes "serve") rows others met refl is also)
+found_asks (serve options) met Replay (rows, is, same) (others, also) =
+    absurd (other_command (codes "serve") (codes "replay") rows others met refl is also)
+found_asks (serve options) met (Create request) (rows, is, same) (others, also, asks) =
+    absurd (other_command (codes "serve") (codes "create") rows others met refl is also)
+found_asks (serve options) met (Serve request) (rows, is, same) (others, also, asks) =
+    values_met (λ value. AsksToServe value request) (codes "serve") serve_options options met rows others is also same asks
 
 pub found_asks_nothing : (words : List Text) (line : Line) (met : Option (Text × List Row)) → Spells words line → IsFound line met
     → MakesNone met
-    → AsksForNothing line
+    → HasBadOptions line
 found_asks_nothing words replay met spelled (rows, is) makes = makes.replay rows is
-found_asks_nothing words (create options) met (are, end) (rows, is, same) makes = go (makes.create rows is)
+found_asks_nothing words (create options) met (are, end) (rows, is, same) makes =
+    go (values_met LacksValue (codes "create") create_options options met rows rows is is same (makes.create rows is))
   where
-    values : value_among rows ≡ value_in options
-    values = same_values options rows same
-
-    go : LacksValue (value_among rows) → HasBadValue (value_in options)
-    go (inl bad) = subst HasBadValue values bad
-    go (inr (inl none)) = absurd (store_is_given options are (sym (same (codes "store")) ∙ none))
-    go (inr (inr none)) = absurd (cache_is_given options are (sym (same (codes "cache")) ∙ none))
+    go : LacksValue (value_in options) → HasBadValue (value_in options)
+    go (inl bad) = bad
+    go (inr lacks) = absurd (lacks_none create_options options are lacks)
+found_asks_nothing words (serve options) met (are, end) (rows, is, same) makes =
+    go (values_met LacksServeValue (codes "serve") serve_options options met rows rows is is same (makes.serve rows is))
+  where
+    go : LacksServeValue (serve_value options) → HasBadServeValue (serve_value options)
+    go (inl bad) = bad
+    go (inr lacks) = absurd (lacks_none serve_options options are lacks)
 
 -- ---- what follows of the way in which a line is read
 
@@ -92,14 +177,9 @@ Answer = Result Request CommandLineError
 pub replay_is_read : (result : Answer) → IsRead replay result → (result ≡ Ok Replay) ⊎ (result ≡ Err OutOfMemory)
 replay_is_read (Ok Replay) read = inl refl
 replay_is_read (Ok (Create request)) read = absurd read
+replay_is_read (Ok (Serve request)) read = absurd read
 replay_is_read (Err Usage) read = absurd read
 replay_is_read (Err OutOfMemory) read = inr refl
-
--- sizes are given in one way
-same_number : (value : Text → Option Text) (name : Text) (a b : ℕ) → IsNumber value name a → IsNumber value name b → a ≡ b
-same_number value name a b is_a is_b =
-    let both : Some (decimal a) ≡ Some (decimal b) = sym is_a.1 ∙ is_b.1 in
-    decimal_injective a b is_a.0 is_b.0 cc
 
 -- sizes that keep the limits that each has by itself
 short_log : (options : List Given) (sizes : Geometry) → AreValid options sizes → is_within_limits sizes ≡ false
@@ -130,3 +210,24 @@ pub valid_is_read : (options : List Given) (sizes : Geometry) (result : Answer) 
 valid_is_read options sizes (Ok request) valid read usage = let bad : Ok request ≡ Err Usage = usage in cc
 valid_is_read options sizes (Err OutOfMemory) valid read usage = let bad : Err OutOfMemory ≡ Err Usage = usage in cc
 valid_is_read options sizes (Err Usage) valid read usage = bad_valid options sizes valid read
+
+log_is_given : (value : Text → Option Text) (least most : ℕ) (sectors : Option ℕ) → value (codes "log") ≢ None
+    → MayBeBetween value (codes "log") least most sectors → LacksBetween value (codes "log") least most → ⊥
+log_is_given value least most None some none lacks = some none
+log_is_given value least most (Some n) some is lacks = lacks n is
+
+bad_serve_valid : (options : List Given) → AreValidToServe options → HasBadServeValue (serve_value options)
+    → IsNoUuid (serve_value options) (codes "volume")
+bad_serve_valid options valid (serving.volume bad) = bad
+bad_serve_valid options valid (serving.log some lacks) =
+    absurd (log_is_given (serve_value options) 0 (2 ^ 31) valid.log.0 some valid.log.1 lacks)
+bad_serve_valid options valid (serving.workers lacks) = absurd (lacks valid.workers.0 valid.workers.1)
+bad_serve_valid options valid (serving.lanes lacks) = absurd (lacks valid.lanes.0 valid.lanes.1)
+bad_serve_valid options valid (serving.sessions lacks) = absurd (lacks valid.sessions.0 valid.sessions.1)
+
+pub serve_valid_is_read : (options : List Given) (result : Answer) → AreValidToServe options → IsRead (serve options) result
+    → IsErrOf result Usage
+    → IsNoUuid (serve_value options) (codes "volume")
+serve_valid_is_read options (Ok request) valid read usage = let bad : Ok request ≡ Err Usage = usage in cc
+serve_valid_is_read options (Err OutOfMemory) valid read usage = let bad : Err OutOfMemory ≡ Err Usage = usage in cc
+serve_valid_is_read options (Err Usage) valid read usage = bad_serve_valid options valid read

@@ -12,7 +12,7 @@ use Rattle.clap.specs.Walk.{Row, Rule, Text, default_rows, first_of, has_row, mo
 use Rattle.clap.proofs.WalkLemmas.{find-map}
 use Rattle.clap.specs.declared.builder.value_parser.Reading.{Reading}
 use Rattle.clap.specs.declared.parser.matches.ValueSource.TheVariants.{DefaultValue}
-use Rattle.command_line.specs.Options.{Given, default_value, has_option, has_required, value_of}
+use Rattle.command_line.specs.Options.{Given, default_of, default_value, has_option, has_required, is_required, name_in, option_name, text_in, value_of}
 use Rattle.command_line.proofs.Rules.{Known, at_none, built_help, row_for, rows_for, rules_for}
 
 abbrev find_row : Text → List Row → Option Row
@@ -105,7 +105,7 @@ abbrev pub rows_at_end : Known → List Given → List Row
 rows_at_end known options = fold with_default (rows_for options) (rules_for known)
 
 found_at_end : (known : Known) (options : List Given) (id : Text)
-    → find_row id (rows_at_end known options) ≡ option_or (option_map row_for (find (λ g. bytes_eq g.name id) options))
+    → find_row id (rows_at_end known options) ≡ option_or (option_map row_for (find (λ g. bytes_eq (name_in g) id) options))
     (default_row id (rules_for known))
 found_at_end known options id =
     with_defaults id (rules_for known) (rows_for options)
@@ -125,21 +125,21 @@ help_has_none id = go (bytes_eq (codes "help") id) refl
 
 first_default : (known : Known) (id : Text) → first_value_of (default_row id (rules_for known)) ≡ default_value known id
 first_default [] id = rw (help_has_none id) refl
-first_default (option ∷ rest) id = go (bytes_eq option.name id) option.default refl refl (first_default rest id)
+first_default (option ∷ rest) id = go (bytes_eq (option_name option) id) (default_of option) refl refl (first_default rest id)
   where
-    go : (test : Bool) (default : Option Text) → bytes_eq option.name id ≡ test → option.default ≡ default
+    go : (test : Bool) (default : Option Text) → bytes_eq (option_name option) id ≡ test → default_of option ≡ default
         → first_value_of (default_row id (rules_for rest)) ≡ default_value rest id
         → first_value_of (default_row id (rules_for (option ∷ rest))) ≡ default_value (option ∷ rest) id
     go false default e d more = rw e more
     go true None e d more = rw (e, d) more
-    go true (Some value) e d more = rw (e, d) refl
+    go true (Some value) e d more = rw (e, d) (sym d)
 
 pub value_at_end : (known : Known) (options : List Given) (id : Text) → first_of id (rows_at_end known options) ≡ value_of known options id
 value_at_end known options id =
-    ap first_value_of (found_at_end known options id) ∙ go (find (λ g. bytes_eq g.name id) options)
+    ap first_value_of (found_at_end known options id) ∙ go (find (λ g. bytes_eq (name_in g) id) options)
   where
     go : (found : Option Given) → first_value_of (option_or (option_map row_for found) (default_row id (rules_for known)))
-        ≡ option_or (option_map (λ g. g.value) found) (default_value known id)
+        ≡ option_or (option_map text_in found) (default_value known id)
     go None = first_default known id
     go (Some given) = refl
 
@@ -150,9 +150,9 @@ is_explicit row = option_map_or (λ r. explicit_source r.source) row false
 
 default_not_given : (known : Known) (id : Text) → is_explicit (default_row id (rules_for known)) ≡ false
 default_not_given [] id = rw (help_has_none id) refl
-default_not_given (option ∷ rest) id = go (bytes_eq option.name id) option.default refl refl (default_not_given rest id)
+default_not_given (option ∷ rest) id = go (bytes_eq (option_name option) id) (default_of option) refl refl (default_not_given rest id)
   where
-    go : (test : Bool) (default : Option Text) → bytes_eq option.name id ≡ test → option.default ≡ default
+    go : (test : Bool) (default : Option Text) → bytes_eq (option_name option) id ≡ test → default_of option ≡ default
         → is_explicit (default_row id (rules_for rest)) ≡ false → is_explicit (default_row id (rules_for (option ∷ rest))) ≡ false
     go false default e d more = rw e more
     go true None e d more = rw (e, d) more
@@ -160,8 +160,8 @@ default_not_given (option ∷ rest) id = go (bytes_eq option.name id) option.def
 
 pub given_at_end : (known : Known) (options : List Given) (id : Text) → is_given id (rows_at_end known options) ≡ has_option id options
 given_at_end known options id =
-    ap is_explicit (found_at_end known options id) ∙ go (find (λ g. bytes_eq g.name id) options)
-    ∙ sym (any_found (λ (g : Given). bytes_eq g.name id) options)
+    ap is_explicit (found_at_end known options id) ∙ go (find (λ g. bytes_eq (name_in g) id) options)
+    ∙ sym (any_found (λ (g : Given). bytes_eq (name_in g) id) options)
   where
     go : (found : Option Given) → is_explicit (option_or (option_map row_for found) (default_row id (rules_for known))) ≡ is_some found
     go None = default_not_given known id
@@ -172,11 +172,11 @@ pub lacks_required : (known : Known) (options : List Given) (rows : List Row) �
     → list_any (λ a. a.required && not (is_given a.id rows)) (rules_for known) ≡ not (has_required known options)
 lacks_required [] options rows given = refl
 lacks_required (option ∷ rest) options rows given =
-    go option.is_required (has_option option.name options) refl refl (lacks_required rest options rows given)
+    go (is_required option) (has_option (option_name option) options) refl refl (lacks_required rest options rows given)
   where
-    go : (required has : Bool) → option.is_required ≡ required → has_option option.name options ≡ has
+    go : (required has : Bool) → is_required option ≡ required → has_option (option_name option) options ≡ has
         → list_any (λ a. a.required && not (is_given a.id rows)) (rules_for rest) ≡ not (has_required rest options)
         → list_any (λ a. a.required && not (is_given a.id rows)) (rules_for (option ∷ rest)) ≡ not (has_required (option ∷ rest) options)
     go false has e f more = rw e more
-    go true true e f more = rw (e, given option.name, f) more
-    go true false e f more = rw (e, given option.name, f) refl
+    go true true e f more = rw (e, given (option_name option), f) more
+    go true false e f more = rw (e, given (option_name option), f) refl

@@ -1,30 +1,73 @@
 -- The rules that clap makes of the options of a command, and what a use of one does.
 use Rattle.std.proofs.Common.{◌≡◌, ◌∙◌, ◌==◌, ℕ, Bool, true, false, List, [], ◌∷◌, ◌++◌, Option, Some, None, ap, append-nil, codes, map, refl, sym}
 use Rattle.std.specs.Prelude.{IfSome}
-use Rattle.std.specs.List.{list_any}
+use Rattle.std.specs.Option.{option_to_list}
 use Rattle.std.specs.Str.{bytes_eq}
 use Rattle.std.proofs.lemmas.List.{map-append}
 use Rattle.std.proofs.lemmas.Slice.Eq.{bytes_eq-Decides}
-use Rattle.clap.specs.Simple.{filled, help_rule}
+use Rattle.clap.specs.Simple.{filled, help_rule, new_rule}
+use Rattle.clap.specs.Values.{bool_text}
 use Rattle.clap.specs.Walk.{Row, Rule, Text, arg_by_id, arg_by_index, arg_by_long, arg_by_short, at_row, has_row, more_values, used, with_default, without}
 use Rattle.clap.specs.Faults.{default_fault, defaults_fault, use_fault}
 use Rattle.clap.proofs.WalkLemmas.{list_any-map}
-use Rattle.clap.specs.declared.builder.action.ArgAction.TheVariants.{Set}
+use Rattle.clap.specs.declared.builder.action.ArgAction.{ArgAction}
+use Rattle.clap.specs.declared.builder.action.ArgAction.TheVariants.{Set, SetTrue}
+use Rattle.clap.specs.declared.builder.value_parser.ValueParser.{ValueParser}
 use Rattle.clap.specs.declared.builder.value_parser.ValueParser.TheVariants as vp
 use Rattle.clap.specs.declared.builder.value_parser.Reading.TheVariants.{AsWritten}
-use Rattle.clap.specs.declared.error.kind.ErrorKind.TheVariants.{ArgumentConflict, InvalidValue}
+use Rattle.clap.specs.declared.error.kind.ErrorKind.TheVariants.{ArgumentConflict}
 use Rattle.clap.specs.declared.parser.matches.ValueSource.TheVariants.{CommandLine}
-use Rattle.command_line.specs.Options.{CommandOption, Given, has_option, rule_for}
+use Rattle.command_line.specs.Options.{CommandOption, Given, alone, default_of, flag, has_option, is_required, kind_named, name_in, option_name, optional, required, text_in}
 
 abbrev pub Known : Type 0
 Known = List CommandOption
 
--- an option as building fills it in
-abbrev pub built_option : CommandOption → Rule
-built_option option = record (rule_for option) {
+-- an option that takes a value, and a flag, as building fills them in
+abbrev pub built_value : CommandOption → Rule
+built_value option = record (new_rule (option_name option)) {
+  long = Some (option_name option);
+  value_names = 1;
+  required = is_required option;
+  defaults = option_to_list (default_of option);
   action = Some Set;
   range = Some (record { start_inclusive = 1; end_inclusive = 1 });
   parser = Some vp.String;
+}
+
+abbrev pub built_flag : Text → Rule
+built_flag name = record (new_rule name) {
+  long = Some name;
+  defaults = bool_text false ∷ [];
+  missing = bool_text true ∷ [];
+  action = Some SetTrue;
+  range = Some (record { start_inclusive = 0; end_inclusive = 0 });
+  parser = Some vp.Bool;
+}
+
+-- what of an option is by whether it takes a value
+abbrev value_names_of : CommandOption → ℕ
+value_names_of (flag name) = 0
+value_names_of _ = 1
+
+abbrev action_for : CommandOption → ArgAction
+action_for (flag name) = SetTrue
+action_for _ = Set
+
+abbrev parser_for : CommandOption → ValueParser
+parser_for (flag name) = vp.Bool
+parser_for _ = vp.String
+
+abbrev missing_for : CommandOption → List Text
+missing_for (flag name) = bool_text true ∷ []
+missing_for _ = []
+
+abbrev pub built_option : CommandOption → Rule
+built_option option = record (built_value option) {
+  value_names = value_names_of option;
+  missing = missing_for option;
+  action = Some (action_for option);
+  range = Some (record { start_inclusive = value_names_of option; end_inclusive = value_names_of option });
+  parser = Some (parser_for option);
 }
 
 abbrev pub built_help : Rule
@@ -35,15 +78,20 @@ rules_for known = map built_option known ++ built_help ∷ []
 
 -- ---- the rule of a name
 
-abbrev pub is_named : Known → Text → Bool
-is_named known name = list_any (λ option. bytes_eq option.name name) known
-
 -- the long name is that of an option, or that of help, or of nothing
 pub data Found (known : Known) (name : Text) : Type 0 where
-  an_option : (option : CommandOption) → option.name ≡ name → is_named known name ≡ true
-      → arg_by_long (rules_for known) name ≡ Some (built_option option) → Found known name
-  help : is_named known name ≡ false → arg_by_long (rules_for known) name ≡ Some built_help → Found known name
-  nothing : is_named known name ≡ false → arg_by_long (rules_for known) name ≡ None → Found known name
+  an_option : (option : CommandOption) → option_name option ≡ name → kind_named known name ≡ Some true
+      → arg_by_long (rules_for known) name ≡ Some (built_value option) → Found known name
+  a_flag : kind_named known name ≡ Some false → arg_by_long (rules_for known) name ≡ Some (built_flag name) → Found known name
+  help : kind_named known name ≡ None → arg_by_long (rules_for known) name ≡ Some built_help → Found known name
+  nothing : kind_named known name ≡ None → arg_by_long (rules_for known) name ≡ None → Found known name
+
+found_first : (option : CommandOption) (rest : Known) (name : Text) → bytes_eq (option_name option) name ≡ true → Found (option ∷ rest) name
+found_first (required own) rest name e = an_option (required own) ((bytes_eq-Decides own name).0 e) (rw e refl) (rw e refl)
+found_first (optional own default) rest name e =
+    an_option (optional own default) ((bytes_eq-Decides own name).0 e) (rw e refl) (rw e refl)
+found_first (flag own) rest name e =
+    a_flag (rw e refl) (rw e (ap (λ (n : Text). Some (built_flag n)) ((bytes_eq-Decides own name).0 e)))
 
 pub found_by_long : (known : Known) (name : Text) → Found known name
 found_by_long [] name = go (bytes_eq (codes "help") name) refl
@@ -51,11 +99,12 @@ found_by_long [] name = go (bytes_eq (codes "help") name) refl
     go : (test : Bool) → bytes_eq (codes "help") name ≡ test → Found [] name
     go true e = help refl (rw e refl)
     go false e = nothing refl (rw e refl)
-found_by_long (option ∷ rest) name = go (bytes_eq option.name name) refl (found_by_long rest name)
+found_by_long (option ∷ rest) name = go (bytes_eq (option_name option) name) refl (found_by_long rest name)
   where
-    go : (test : Bool) → bytes_eq option.name name ≡ test → Found rest name → Found (option ∷ rest) name
-    go true e more = an_option option ((bytes_eq-Decides option.name name).0 e) (rw e refl) (rw e refl)
+    go : (test : Bool) → bytes_eq (option_name option) name ≡ test → Found rest name → Found (option ∷ rest) name
+    go true e more = found_first option rest name e
     go false e (an_option other is named found) = an_option other is (rw e named) (rw e found)
+    go false e (a_flag named found) = a_flag (rw e named) (rw e found)
     go false e (help named found) = help (rw e named) (rw e found)
     go false e (nothing named found) = nothing (rw e named) (rw e found)
 
@@ -66,9 +115,9 @@ id_is_long [] name = go (bytes_eq (codes "help") name) refl
     go : (test : Bool) → bytes_eq (codes "help") name ≡ test → arg_by_id (rules_for []) name ≡ arg_by_long (rules_for []) name
     go true e = rw e refl
     go false e = rw e refl
-id_is_long (option ∷ rest) name = go (bytes_eq option.name name) refl (id_is_long rest name)
+id_is_long (option ∷ rest) name = go (bytes_eq (option_name option) name) refl (id_is_long rest name)
   where
-    go : (test : Bool) → bytes_eq option.name name ≡ test → arg_by_id (rules_for rest) name ≡ arg_by_long (rules_for rest) name
+    go : (test : Bool) → bytes_eq (option_name option) name ≡ test → arg_by_id (rules_for rest) name ≡ arg_by_long (rules_for rest) name
         → arg_by_id (rules_for (option ∷ rest)) name ≡ arg_by_long (rules_for (option ∷ rest)) name
     go true e more = rw e refl
     go false e more = rw e more
@@ -90,8 +139,8 @@ nothing_by_index (option ∷ rest) = nothing_by_index rest
 
 abbrev pub row_for : Given → Row
 row_for given = record {
-  id = given.name;
-  values = given.value ∷ [];
+  id = name_in given;
+  values = text_in given ∷ [];
   count = None;
   source = Some CommandLine;
   reading = AsWritten;
@@ -114,39 +163,67 @@ at_none id change missing (r ∷ rs) none = go (bytes_eq r.id id) refl (at_none 
     go true e more = let bad : true ≡ false = rw e at none in cc
     go false e more = rw e (ap (λ rows. r ∷ rows) (more (rw e at none)))
 
-pub used_once : (option : CommandOption) (given : Given) (before : List Given) → option.name ≡ given.name → has_option given.name before ≡ false
-    → used (built_option option) (given.value ∷ []) (rows_for before) ≡ rows_for (before ++ given ∷ [])
-used_once option given before is none =
+-- a use of an option that was not used adds its row
+with_one_more : (given : Given) (before : List Given) → has_option (name_in given) before ≡ false
+    → at_row (name_in given) (more_values CommandLine (text_in given ∷ [])) (row_for given ∷ []) (without (name_in given) (rows_for before))
+    ≡ rows_for (before ++ given ∷ [])
+with_one_more given before none =
     let rows = rows_for before in
-    let absent : has_row given.name rows ≡ false = has_row-rows given.name before ∙ none in
-    let same : without given.name rows ≡ rows = at_none given.name (λ _. []) [] rows absent ∙ append-nil rows in
-    rw (is, same)
-    (at_none given.name (more_values CommandLine (given.value ∷ [])) (row_for given ∷ []) rows absent
+    let absent : has_row (name_in given) rows ≡ false = has_row-rows (name_in given) before ∙ none in
+    let same : without (name_in given) rows ≡ rows = at_none (name_in given) (λ _. []) [] rows absent ∙ append-nil rows in
+    rw same
+    (at_none (name_in given) (more_values CommandLine (text_in given ∷ [])) (row_for given ∷ []) rows absent
     ∙ sym (map-append row_for before (given ∷ [])))
 
+pub used_once : (option : CommandOption) (given : Given) (before : List Given) → option_name option ≡ name_in given
+    → has_option (name_in given) before ≡ false
+    → used (built_value option) (text_in given ∷ []) (rows_for before) ≡ rows_for (before ++ given ∷ [])
+used_once option given before is none = rw is (with_one_more given before none)
+
+pub set_once : (name : Text) (before : List Given) → has_option name before ≡ false
+    → used (built_flag name) [] (rows_for before) ≡ rows_for (before ++ alone name ∷ [])
+set_once name before none = with_one_more (alone name) before none
+
 -- a use with one value is refused only where the option was used before, and one without a value always
-pub fault_of_repeat : (option : CommandOption) (value : Text) (rows : List Row) → has_row option.name rows ≡ true
-    → use_fault false (built_option option) (value ∷ []) rows ≡ ArgumentConflict ∷ []
+pub fault_of_repeat : (option : CommandOption) (value : Text) (rows : List Row) → has_row (option_name option) rows ≡ true
+    → use_fault false (built_value option) (value ∷ []) rows ≡ ArgumentConflict ∷ []
 fault_of_repeat option value rows has = rw has refl
 
-pub no_fault_of_use : (option : CommandOption) (value : Text) (rows : List Row) → has_row option.name rows ≡ false
-    → use_fault false (built_option option) (value ∷ []) rows ≡ []
+pub no_fault_of_use : (option : CommandOption) (value : Text) (rows : List Row) → has_row (option_name option) rows ≡ false
+    → use_fault false (built_value option) (value ∷ []) rows ≡ []
 no_fault_of_use option value rows none = rw none refl
 
-pub fault_of_no_value : (option : CommandOption) (rows : List Row) → use_fault false (built_option option) [] rows ≡ InvalidValue ∷ []
-fault_of_no_value option rows = refl
+-- and that of a flag only there
+pub fault_of_set : (name : Text) (rows : List Row) → has_row name rows ≡ true
+    → use_fault false (built_flag name) [] rows ≡ ArgumentConflict ∷ []
+fault_of_set name rows has = rw has refl
+
+pub no_fault_of_set : (name : Text) (rows : List Row) → has_row name rows ≡ false → use_fault false (built_flag name) [] rows ≡ []
+no_fault_of_set name rows none = rw none refl
 
 -- ---- defaults
 
-no_default_fault : (name : Text) (is_required : Bool) (default : Option Text) (rows : List Row)
-    → default_fault rows (built_option (record { name = name; is_required = is_required; default = default })) ≡ []
-no_default_fault name is_required default rows = go (has_row name rows) refl default
+value_default_fault : (option : CommandOption) (rows : List Row) (default : Option Text)
+    → default_fault rows (record (built_value option) { defaults = option_to_list default }) ≡ []
+value_default_fault option rows default = go (has_row (option_name option) rows) refl default
   where
-    go : (test : Bool) → has_row name rows ≡ test → (default : Option Text)
-        → default_fault rows (built_option (record { name = name; is_required = is_required; default = default })) ≡ []
+    go : (test : Bool) → has_row (option_name option) rows ≡ test → (default : Option Text)
+        → default_fault rows (record (built_value option) { defaults = option_to_list default }) ≡ []
     go true e default = rw e refl
     go false e None = rw e refl
     go false e (Some value) = rw e refl
+
+flag_default_fault : (name : Text) (rows : List Row) → default_fault rows (built_flag name) ≡ []
+flag_default_fault name rows = go (has_row name rows) refl
+  where
+    go : (test : Bool) → has_row name rows ≡ test → default_fault rows (built_flag name) ≡ []
+    go true e = rw e refl
+    go false e = rw e refl
+
+no_default_fault : (option : CommandOption) (rows : List Row) → default_fault rows (built_option option) ≡ []
+no_default_fault (required name) rows = value_default_fault (required name) rows None
+no_default_fault (optional name default) rows = value_default_fault (optional name default) rows default
+no_default_fault (flag name) rows = flag_default_fault name rows
 
 no_help_fault : (rows : List Row) → default_fault rows built_help ≡ []
 no_help_fault rows = go (has_row (codes "help") rows) refl
@@ -159,5 +236,5 @@ pub no_defaults_fault : (known : Known) (rows : List Row) → defaults_fault row
 unfolding defaults_fault
 no_defaults_fault [] rows = rw (no_help_fault rows) refl
 no_defaults_fault (option ∷ rest) rows =
-    rw (no_default_fault option.name option.is_required option.default rows)
+    rw (no_default_fault option rows)
     (no_defaults_fault rest (with_default rows (built_option option)))

@@ -7,12 +7,12 @@ use Rattle.clap.specs.Walk.{Held, Text, Waiting, Walk, arg_by_id, arg_by_long, h
 use Rattle.clap.specs.Kinds.{Kinds}
 use Rattle.clap.specs.Faults.{long_fault, settle_fault, turn_fault, use_fault, walk_fault}
 use Rattle.clap.specs.declared.error.kind.ErrorKind.TheVariants.{ArgumentConflict, InvalidValue, MissingRequiredArgument}
-use Rattle.command_line.specs.Options.{CommandOption, EachOnce, Given, IsOptionOf, MayEnd, StandsAlone, has_option, has_required}
+use Rattle.command_line.specs.Options.{CommandOption, EachOnce, Given, IsOptionOf, MayEnd, StandsAlone, alone, apart, has_option, has_required, joined, kind_named, option_name}
 use Rattle.command_line.proofs.Levels.{next_passes, next_refused}
-use Rattle.command_line.proofs.Leaves.{Reads, end_faults, leaf_faults, long_word_refused, no_option_refused, no_subcommand, once_more, one_more, short_word_refused, stray_refused, trailing_refused, unsettled_refused}
+use Rattle.command_line.proofs.Leaves.{Reads, end_faults, joined_flag_refused, leaf_faults, long_word_refused, no_option_refused, no_subcommand, once_more, one_more, short_word_refused, stray_refused, trailing_refused, unsettled_flag_refused, unsettled_refused}
 use Rattle.command_line.proofs.Refusals.{IsRefusal, refusal_first}
-use Rattle.command_line.proofs.Rules.{Found, Known, an_option, built_help, built_option, fault_of_repeat, found_by_long, has_row-rows, help, id_is_long, is_named, nothing, rows_for, rules_for}
-use Rattle.command_line.proofs.Turns.{ComesTo, Names, Turns, after_name, apart, held_for, joined, leaf_for, nothing_comes, turn_joined, turn_name, turn_value, value_comes}
+use Rattle.command_line.proofs.Rules.{Found, Known, a_flag, an_option, built_flag, built_help, built_value, fault_of_repeat, fault_of_set, found_by_long, has_row-rows, help, id_is_long, nothing, rows_for, rules_for}
+use Rattle.command_line.proofs.Turns.{ComesTo, Names, Turns, after_name, held_for, leaf_for, nothing_comes, turn_flag, turn_joined, turn_name, turn_value, value_comes}
 use Rattle.command_line.proofs.Words.{IsPlain, WordKind, dashes, ends, kind_of_word, long, plain, short, word_of_joined, word_of_long}
 
 -- where a walk stands between two words
@@ -122,6 +122,8 @@ module _ (command : Text) (known : Known) where
         → IsRefusal (long_fault (rules_for known) false (arg_by_long (rules_for known) name) value h)
     unsettled_long name value refused (an_option own same named found) =
         unsettled_refused command known before pending own (arg_by_long (rules_for known) name) value refused found
+    unsettled_long name value refused (a_flag named found) =
+        unsettled_flag_refused command known before pending name (arg_by_long (rules_for known) name) value refused found
     unsettled_long name value refused (help named found) =
         no_option_refused command known before pending (arg_by_long (rules_for known) name) value (inr refused) (inr found)
     unsettled_long name value refused (nothing named found) =
@@ -152,25 +154,36 @@ module _ (command : Text) (known : Known) where
     -- ---- flags, where it does
 
     long_repeated : (own : CommandOption) (options : List Given) (value : Text) → ComesTo known h options
-        → has_option own.name options ≡ true
-        → use_fault false (built_option own) (value ∷ []) (settled (rules_for known) h).rows ≡ ArgumentConflict ∷ []
+        → has_option (option_name own) options ≡ true
+        → use_fault false (built_value own) (value ∷ []) (settled (rules_for known) h).rows ≡ ArgumentConflict ∷ []
     long_repeated own options value comes has =
-        ap (λ (k : Held). use_fault false (built_option own) (value ∷ []) k.rows) comes.is
-        ∙ fault_of_repeat own value (rows_for options) (has_row-rows own.name options ∙ has)
+        ap (λ (k : Held). use_fault false (built_value own) (value ∷ []) k.rows) comes.is
+        ∙ fault_of_repeat own value (rows_for options) (has_row-rows (option_name own) options ∙ has)
 
-    repeated_refused : (own : CommandOption) (options : List Given) (name value : Text) → ComesTo known h options → own.name ≡ name
-        → arg_by_long (rules_for known) name ≡ Some (built_option own) → has_option name options ≡ true
+    repeated_refused : (own : CommandOption) (options : List Given) (name value : Text) → ComesTo known h options → option_name own ≡ name
+        → arg_by_long (rules_for known) name ≡ Some (built_value own) → has_option name options ≡ true
         → IsRefusal (long_fault (rules_for known) false (arg_by_long (rules_for known) name) (Some value) h)
     repeated_refused own options name value comes same found has =
         rw (found, comes.quiet, long_repeated own options value comes (ap (λ (n : Text). has_option n options) same ∙ has))
         (inl (ArgumentConflict, refl))
+
+    set_repeated : (options : List Given) (name : Text) → ComesTo known h options → has_option name options ≡ true
+        → use_fault false (built_flag name) [] (settled (rules_for known) h).rows ≡ ArgumentConflict ∷ []
+    set_repeated options name comes has =
+        ap (λ (k : Held). use_fault false (built_flag name) [] k.rows) comes.is
+        ∙ fault_of_set name (rows_for options) (has_row-rows name options ∙ has)
+
+    set_refused : (options : List Given) (name : Text) → ComesTo known h options
+        → arg_by_long (rules_for known) name ≡ Some (built_flag name) → has_option name options ≡ true
+        → IsRefusal (long_fault (rules_for known) false (arg_by_long (rules_for known) name) None h)
+    set_refused options name comes found has = rw (found, comes.quiet, set_repeated options name comes has) (inl (ArgumentConflict, refl))
 
     abbrev Next : List Text → Type 0
     Next more = (st : Stand) → IsStand known st → IsRefusal (faults (walk_at st) more) ⊎ GoesOn known st more
 
     long_option : (options : List Given) (word name : Text) (value : Option Text) (more : List Text) → ComesTo known h options
         → EachOnce options
-        → bytes_eq word dashes ≡ false → long_of word ≡ Some (name, value) → Names known name → is_named known name ≡ true → Next more
+        → bytes_eq word dashes ≡ false → long_of word ≡ Some (name, value) → Names known name → kind_named known name ≡ Some true → Next more
         → Judged (walk_from h) options (word ∷ more)
     long_option options word name None more comes once other is names allowed next = go (next (at_name options name) (once, names))
       where
@@ -181,7 +194,7 @@ module _ (command : Text) (known : Known) where
         go (inr (value, after, whole, stands, reads)) =
             inr (one_more known options (apart name value) (word ∷ more) after
             (ap₂ (λ (w : Text) (ws : List Text). w ∷ ws) (word_of_long word name is) whole)
-            (record { named = allowed; stands = λ _. stands }) reads)
+            (allowed, stands) reads)
     long_option options word name (Some value) more comes once other is names allowed next = by_use (has_option name options) refl
       where
         go : has_option name options ≡ false → IsRefusal (faults (walk_at (at_rest (options ++ joined name value ∷ []))) more)
@@ -193,13 +206,38 @@ module _ (command : Text) (known : Known) where
         go none (inr reads) =
             inr (one_more known options (joined name value) (word ∷ more) more
             (ap (λ (w : Text). w ∷ more) (word_of_joined word name value is))
-            (record { named = allowed; stands = λ bad. cc }) reads)
+            allowed reads)
 
         by_use : (test : Bool) → has_option name options ≡ test → Judged (walk_from h) options (word ∷ more)
         by_use true e =
             inl (refused_here idle word more (long_word_refused command known before pending idle word name (Some value) other is
             (repeated_refused names.option options name value comes names.same names.found e)))
         by_use false e = go e (next (at_rest (options ++ joined name value ∷ [])) (once_more options (joined name value) once e))
+
+    flag_word : (options : List Given) (word name : Text) (value : Option Text) (more : List Text) → ComesTo known h options
+        → EachOnce options
+        → bytes_eq word dashes ≡ false → long_of word ≡ Some (name, value) → kind_named known name ≡ Some false
+        → arg_by_long (rules_for known) name ≡ Some (built_flag name) → Next more → Judged (walk_from h) options (word ∷ more)
+    flag_word options word name (Some value) more comes once other is allowed found next =
+        inl (refused_here idle word more (long_word_refused command known before pending idle word name (Some value) other is
+        (joined_flag_refused command known before pending name (arg_by_long (rules_for known) name) value found)))
+    flag_word options word name None more comes once other is allowed found next = by_use (has_option name options) refl
+      where
+        go : has_option name options ≡ false → IsRefusal (faults (walk_at (at_rest (options ++ alone name ∷ []))) more)
+            ⊎ Reads known (options ++ alone name ∷ []) more
+            → Judged (walk_from h) options (word ∷ more)
+        go none (inl refused) =
+            inl (refused_on (walk_from h) (walk_at (at_rest (options ++ alone name ∷ []))) word more
+            (turn_flag command known h options word name comes other found is none) refused)
+        go none (inr reads) =
+            inr (one_more known options (alone name) (word ∷ more) more
+            (ap (λ (w : Text). w ∷ more) (word_of_long word name is)) allowed reads)
+
+        by_use : (test : Bool) → has_option name options ≡ test → Judged (walk_from h) options (word ∷ more)
+        by_use true e =
+            inl (refused_here idle word more (long_word_refused command known before pending idle word name None other is
+            (set_refused options name comes found e)))
+        by_use false e = go e (next (at_rest (options ++ alone name ∷ [])) (once_more options (alone name) once e))
 
     idle_word : (options : List Given) (word : Text) (more : List Text) → ComesTo known h options → EachOnce options → WordKind word
         → Next more
@@ -220,6 +258,7 @@ module _ (command : Text) (known : Known) where
             (no_option_refused command known before pending (arg_by_long (rules_for known) name) value (inl comes.quiet) none)))
 
         go : Found known name → Judged (walk_from h) options (word ∷ more)
+        go (a_flag allowed found) = flag_word options word name value more comes once other is allowed found next
         go (help absent found) = refused (inr found)
         go (nothing absent found) = refused (inl found)
         go (an_option own same allowed found) =
@@ -231,15 +270,15 @@ module _ (command : Text) (known : Known) where
   name_unsettled : (before : List Given) (name : Text) → Names known name
       → IsRefusal (settle_fault (rules_for known) false (held_for before (Some (name, []))))
   name_unsettled before name names =
-      let by_id : arg_by_id (rules_for known) name ≡ Some (built_option names.option) = id_is_long known name ∙ names.found in
+      let by_id : arg_by_id (rules_for known) name ≡ Some (built_value names.option) = id_is_long known name ∙ names.found in
       rw by_id (inl (InvalidValue, refl))
 
   -- nor does the value of an option that was used before
   value_unsettled : (before : List Given) (name value : Text) → Names known name → has_option name before ≡ true
       → IsRefusal (settle_fault (rules_for known) false (held_for before (Some (name, value ∷ []))))
   value_unsettled before name value names has =
-      let by_id : arg_by_id (rules_for known) name ≡ Some (built_option names.option) = id_is_long known name ∙ names.found in
-      let used : has_row names.option.name (rows_for before) ≡ true =
+      let by_id : arg_by_id (rules_for known) name ≡ Some (built_value names.option) = id_is_long known name ∙ names.found in
+      let used : has_row (option_name names.option) (rows_for before) ≡ true =
       ap (λ (n : Text). has_row n (rows_for before)) names.same ∙ has_row-rows name before ∙ has in
       rw (by_id, fault_of_repeat names.option value (rows_for before) used) (inl (ArgumentConflict, refl))
 

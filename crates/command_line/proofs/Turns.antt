@@ -8,9 +8,9 @@ use Rattle.clap.specs.Simple.{Shape, built_leaf, inherited, new_shape}
 use Rattle.clap.specs.Walk.{Held, Row, Rule, Text, Walk, arg_by_id, arg_by_long, bundle_met, has_row, idle, option, option_word, plain, reacted, settled, used, walk_from, walked}
 use Rattle.clap.specs.Kinds.{or_else}
 use Rattle.clap.specs.Faults.{flags_fault, react_fault, settle_fault, turn_fault, use_fault}
-use Rattle.command_line.specs.Options.{CommandOption, Given, has_option}
+use Rattle.command_line.specs.Options.{CommandOption, Given, alone, apart, has_option, joined, name_in, option_name, text_in}
 use Rattle.command_line.specs.Program.{bare}
-use Rattle.command_line.proofs.Rules.{Known, built_option, has_row-rows, id_is_long, no_fault_of_use, rows_for, rules_for, used_once}
+use Rattle.command_line.proofs.Rules.{Known, built_flag, built_value, has_row-rows, id_is_long, no_fault_of_set, no_fault_of_use, rows_for, rules_for, set_once, used_once}
 use Rattle.command_line.proofs.Words.{IsPlain, dashes}
 
 -- a command with these options, built
@@ -19,12 +19,6 @@ leaf_for command known = record (built_leaf (inherited bare.top (new_shape comma
 
 abbrev pub held_for : List Given → Option (Text × List Text) → Held
 held_for before pending = record { rows = rows_for before; pending = pending; skip = 0 }
-
-abbrev pub apart : Text → Text → Given
-apart name value = record { name = name; value = value; is_joined = false }
-
-abbrev pub joined : Text → Text → Given
-joined name value = record { name = name; value = value; is_joined = true }
 
 -- what is held comes to these options
 pub record ComesTo (known : Known) (h : Held) (options : List Given) : Type 0 where
@@ -40,46 +34,71 @@ pub record Turns (s : Shape) (from : Walk) (word : Text) (to : Walk) : Type 0 wh
 abbrev pub after_name : Held → Text → Walk
 after_name h name = record (walk_from h) { waiting = option name }
 
--- the name is that of an option
+-- the name is that of an option that takes a value
 pub record Names (known : Known) (name : Text) : Type 0 where
   pub option : CommandOption
-  pub same : option.name ≡ name
-  pub found : arg_by_long (rules_for known) name ≡ Some (built_option option)
+  pub same : option_name option ≡ name
+  pub found : arg_by_long (rules_for known) name ≡ Some (built_value option)
 
 -- ---- what is held
 
 pub nothing_comes : (known : Known) (before : List Given) → ComesTo known (held_for before None) before
 nothing_comes known before = record { quiet = refl; is = refl }
 
--- one more use of an option that was not used
-module _ (known : Known) (h : Held) (before : List Given) (given : Given) (names : Names known given.name) where
-  abbrev rule : Rule
-  rule = built_option names.option
+-- a use of the rule adds this option to those before
+pub record Adds (rule : Rule) (values : List Text) (before : List Given) (given : Given) : Type 0 where
+  pub quiet : use_fault false rule values (rows_for before) ≡ []
+  pub adds : used rule values (rows_for before) ≡ rows_for (before ++ given ∷ [])
 
-  use_passes : has_option given.name before ≡ false → use_fault false rule (given.value ∷ []) (rows_for before) ≡ []
-  use_passes none =
-      no_fault_of_use names.option given.value (rows_for before)
-      (ap (λ (name : Text). has_row name (rows_for before)) names.same ∙ has_row-rows given.name before ∙ none)
+adds_value : (known : Known) (before : List Given) (given : Given) (names : Names known (name_in given))
+    → has_option (name_in given) before ≡ false
+    → Adds (built_value names.option) (text_in given ∷ []) before given
+adds_value known before given names none = record {
+  quiet = no_fault_of_use names.option (text_in given) (rows_for before)
+      (ap (λ (name : Text). has_row name (rows_for before)) names.same ∙ has_row-rows (name_in given) before ∙ none);
+  adds = used_once names.option given before names.same none;
+}
 
-  pub reaction_passes : ComesTo known h before → has_option given.name before ≡ false
-      → react_fault (rules_for known) false rule (given.value ∷ []) h ≡ []
-  reaction_passes comes none =
-      ap₂ or_else comes.quiet (ap (λ (k : Held). use_fault false rule (given.value ∷ []) k.rows) comes.is ∙ use_passes none)
+adds_flag : (name : Text) (before : List Given) → has_option name before ≡ false → Adds (built_flag name) [] before (alone name)
+adds_flag name before none = record {
+  quiet = no_fault_of_set name (rows_for before) (has_row-rows name before ∙ none);
+  adds = set_once name before none;
+}
 
-  pub reaction_comes : ComesTo known h before → has_option given.name before ≡ false
-      → reacted (rules_for known) rule (given.value ∷ []) h ≡ held_for (before ++ given ∷ []) None
-  reaction_comes comes none =
-      ap (λ (k : Held). record k { rows = used rule (given.value ∷ []) k.rows; pending = None }) comes.is
-      ∙ ap (λ (rows : List Row). record (held_for [] None) { rows = rows }) (used_once names.option given before names.same none)
+module _ (known : Known) (h : Held) (before : List Given) (rule : Rule) (values : List Text) (given : Given) (comes : ComesTo known h before)
+    (one : Adds rule values before given) where
+  reaction_passes : react_fault (rules_for known) false rule values h ≡ []
+  reaction_passes = ap₂ or_else comes.quiet (ap (λ (k : Held). use_fault false rule values k.rows) comes.is ∙ one.quiet)
+
+  reaction_comes : reacted (rules_for known) rule values h ≡ held_for (before ++ given ∷ []) None
+  reaction_comes =
+      ap (λ (k : Held). record k { rows = used rule values k.rows; pending = None }) comes.is
+      ∙ ap (λ (rows : List Row). record (held_for [] None) { rows = rows }) one.adds
 
 pub value_comes : (known : Known) (before : List Given) (name value : Text) → Names known name → has_option name before ≡ false
     → ComesTo known (held_for before (Some (name, value ∷ []))) (before ++ apart name value ∷ [])
 value_comes known before name value names none =
-    let by_id : arg_by_id (rules_for known) name ≡ Some (built_option names.option) = id_is_long known name ∙ names.found in
+    let by_id : arg_by_id (rules_for known) name ≡ Some (built_value names.option) = id_is_long known name ∙ names.found in
+    let one = adds_value known before (apart name value) names none in
     record {
-      quiet = rw by_id (use_passes known (held_for before None) before (apart name value) names none);
-      is = rw by_id (reaction_comes known (held_for before None) before (apart name value) names (nothing_comes known before) none);
+      quiet = rw by_id one.quiet;
+      is = rw by_id (reaction_comes known (held_for before None) before _ _ (apart name value) (nothing_comes known before) one);
     }
+
+-- the word of a flag
+module _ (command : Text) (known : Known) (h : Held) (before : List Given) (word name : Text) (comes : ComesTo known h before)
+    (other : bytes_eq word dashes ≡ false) (found : arg_by_long (rules_for known) name ≡ Some (built_flag name))
+    (is : long_of word ≡ Some (name, None)) (none : has_option name before ≡ false) where
+  flag_goes : walked (rules_for known) [] (walk_from h) word ≡ walk_from (held_for (before ++ alone name ∷ []) None)
+  unfolding walked
+  flag_goes = rw (other, is, found)
+      (ap (λ (k : Held). walk_from k) (reaction_comes known h before _ _ (alone name) comes (adds_flag name before none)))
+
+  pub turn_flag : Turns (leaf_for command known) (walk_from h) word (walk_from (held_for (before ++ alone name ∷ []) None))
+  turn_flag = record {
+    passes = rw (other, is, found, reaction_passes known h before _ _ (alone name) comes (adds_flag name before none)) refl;
+    goes = flag_goes;
+  }
 
 -- the words of an option, with its value in the same word or in the next
 module _ (command : Text) (known : Known) (h : Held) (before : List Given) (word name : Text) (comes : ComesTo known h before)
@@ -88,12 +107,19 @@ module _ (command : Text) (known : Known) (h : Held) (before : List Given) (word
       → walked (rules_for known) [] (walk_from h) word ≡ walk_from (held_for (before ++ joined name value ∷ []) None)
   unfolding walked
   joined_goes value is none = rw (other, is, names.found)
-      (ap (λ (k : Held). walk_from k) (reaction_comes known h before (joined name value) names comes none))
+      (ap (λ (k : Held). walk_from k)
+      (reaction_comes known h before _ _ (joined name value) comes (adds_value known before (joined name value) names none)))
 
   pub turn_joined : (value : Text) → long_of word ≡ Some (name, Some value) → has_option name before ≡ false
       → Turns (leaf_for command known) (walk_from h) word (walk_from (held_for (before ++ joined name value ∷ []) None))
   turn_joined value is none = record {
-    passes = rw (other, is, names.found, reaction_passes known h before (joined name value) names comes none) refl;
+    passes = rw (
+      other,
+      is,
+      names.found,
+      reaction_passes known h before _ _ (joined name value) comes
+          (adds_value known before (joined name value) names none),
+    ) refl;
     goes = joined_goes value is none;
   }
 
@@ -126,8 +152,8 @@ module _ (command : Text) (known : Known) (before : List Given) (word name : Tex
 
   value_held : option_word (arg_by_id (rules_for known) name) name word named ≡ (held_for before (Some (name, word ∷ [])), idle)
   value_held =
-      let by_id : arg_by_id (rules_for known) name ≡ Some (built_option names.option) = id_is_long known name ∙ names.found in
-      let same : bytes_eq name names.option.name ≡ true = (bytes_eq-Decides name names.option.name).1 (sym names.same) in
+      let by_id : arg_by_id (rules_for known) name ≡ Some (built_value names.option) = id_is_long known name ∙ names.found in
+      let same : bytes_eq name (option_name names.option) ≡ true = (bytes_eq-Decides name (option_name names.option)).1 (sym names.same) in
       rw (by_id, same) refl
 
   value_passes : (short_of word ≡ None) ⊎ ((flags : Text) × (short_of word ≡ Some flags) × (slice_get (chars flags) 0 ≡ None))

@@ -8,10 +8,11 @@ use Rattle.clap.specs.declared.error.kind.ErrorKind.TheVariants.{DisplayHelp, Di
 use Rattle.command_line.specs.Create.{AsksToCreate, HasBadValue, create_options, value_in}
 use Rattle.command_line.specs.Options.{AreOptionsOf, Given, MayEnd, option_words}
 use Rattle.command_line.specs.Program.{lsvdctl}
+use Rattle.command_line.specs.Serve.{AsksToServe, HasBadServeValue, serve_options, serve_value}
 use Rattle.command_line.specs.declared.request.CommandLineError.{CommandLineError}
 use Rattle.command_line.specs.declared.request.CommandLineError.TheVariants.{Usage, OutOfMemory}
 use Rattle.command_line.specs.declared.request.Request.{Request}
-use Rattle.command_line.specs.declared.request.Request.TheVariants.{Replay, Create}
+use Rattle.command_line.specs.declared.request.Request.TheVariants.{Replay, Create, Serve}
 
 -- the kinds of error by which clap refuses the words after the program's name
 unfoldable pub faults_of : List Text → Kinds
@@ -27,7 +28,7 @@ AsksForHelp words = IsAmong DisplayHelp (faults_of words) ⊎ IsAmong DisplayVer
 
 -- the names of the commands
 abbrev pub commands : List Text
-commands = codes "replay" ∷ codes "create" ∷ []
+commands = codes "replay" ∷ codes "create" ∷ codes "serve" ∷ []
 
 -- the words are told to be no command line, or it is out of memory
 abbrev pub IsRefused : Result Request CommandLineError → Type 0
@@ -39,28 +40,31 @@ IsRefused result = (result ≡ Err Usage) ⊎ (result ≡ Err OutOfMemory)
 pub data Line : Type 0 where
   replay : Line
   create : List Given → Line
+  serve : List Given → Line
 
 -- the words that make a line: its command with its options, which `--` may end
 abbrev pub Spells : List Text → Line → Type 0
 Spells words replay = MayEnd (codes "replay" ∷ []) words
 Spells words (create options) = AreOptionsOf create_options options × MayEnd (codes "create" ∷ flat_map option_words options) words
+Spells words (serve options) = AreOptionsOf serve_options options × MayEnd (codes "serve" ∷ flat_map option_words options) words
 
 -- the line asks for this
 abbrev pub IsAskedBy : Line → Request → Type 0
 IsAskedBy replay Replay = Unit {0}
 IsAskedBy (create options) (Create request) = AsksToCreate (value_in options) request
-IsAskedBy replay (Create request) = ⊥
-IsAskedBy (create options) Replay = ⊥
+IsAskedBy (serve options) (Serve request) = AsksToServe (serve_value options) request
+IsAskedBy _ _ = ⊥
 
--- the line asks for nothing
-abbrev pub AsksForNothing : Line → Type 0
-AsksForNothing replay = ⊥
-AsksForNothing (create options) = HasBadValue (value_in options)
+-- the values of its options ask for nothing
+abbrev pub HasBadOptions : Line → Type 0
+HasBadOptions replay = ⊥
+HasBadOptions (create options) = HasBadValue (value_in options)
+HasBadOptions (serve options) = HasBadServeValue (serve_value options)
 
 -- how the line is read
 abbrev pub IsRead : Line → Result Request CommandLineError → Type 0
 IsRead line (Ok request) = IsAskedBy line request
-IsRead line (Err Usage) = AsksForNothing line
+IsRead line (Err Usage) = HasBadOptions line
 IsRead line (Err OutOfMemory) = Unit {0}
 
 -- an option that asks for help, and one that asks for the version

@@ -1,19 +1,13 @@
 -- Contract: what the options of `create` ask for.
-use Rattle.std.specs.Prelude.{◌≡◌, ◌≢◌, ◌<◌, ◌≤◌, ◌^◌, ℕ, true, false, List, [], ◌∷◌, Option, Some, None, IsTrue, codes, decimal, option_map, slice_get}
+use Rattle.std.specs.Prelude.{◌≡◌, ◌≤◌, ◌^◌, false, List, [], ◌∷◌, Option, Some, None, IsTrue, codes, option_map}
 use Rattle.std.specs.List.{All}
 use Rattle.clap.specs.Walk.{Text}
 use Rattle.uuid.specs.Text.{parsed}
 use Rattle.lsvd_base.specs.Limits.{is_within_limits}
 use Rattle.lsvd_base.specs.declared.geometry.Geometry.{Geometry}
-use Rattle.command_line.specs.Options.{AreOptionsOf, CommandOption, Given, value_of}
+use Rattle.command_line.specs.Options.{AreOptionsOf, CommandOption, Given, IsPlainOption, optional, required, value_of}
+use Rattle.command_line.specs.Values.{IsNoUuid, IsNumber, LacksNumber}
 use Rattle.command_line.specs.declared.create.CreateRequest.{CreateRequest}
-
--- an option that the command asks for, and one that may be left out
-abbrev pub required : Text → CommandOption
-required name = record { name = name; is_required = true; default = None }
-
-abbrev pub optional : Text → Option Text → CommandOption
-optional name default = record { name = name; is_required = false; default = default }
 
 abbrev pub create_options : List CommandOption
 create_options =
@@ -26,13 +20,6 @@ abbrev pub value_in : List Given → Text → Option Text
 value_in options name = value_of create_options options name
 
 -- ---- by the values of the options
-
--- the value is this number in decimal digits, without a sign or a needless zero
-abbrev pub IsNumber : (Text → Option Text) → Text → ℕ → Type 0
-IsNumber value name n = (n < 2 ^ 64) × (value name ≡ Some (decimal n))
-
-abbrev pub LacksNumber : (Text → Option Text) → Text → Type 0
-LacksNumber value name = (n : ℕ) → IsNumber value name n → ⊥
 
 -- the sizes of a volume and of its log
 pub record GivesSizes (value : Text → Option Text) (sizes : Geometry) : Type 0 where
@@ -54,7 +41,7 @@ pub record AsksToCreate (value : Text → Option Text) (request : CreateRequest)
   pub uuid : option_map parsed (value (codes "uuid")) ≡ option_map (λ u. Some u) request.uuid
 
 abbrev pub HasBadUuid : (Text → Option Text) → Type 0
-HasBadUuid value = (text : Text) × (value (codes "uuid") ≡ Some text) × (parsed text ≡ None)
+HasBadUuid value = IsNoUuid value (codes "uuid")
 
 -- why they ask for nothing
 pub data HasBadValue (value : Text → Option Text) : Type 0 where
@@ -67,14 +54,10 @@ pub data HasBadValue (value : Text → Option Text) : Type 0 where
 
 -- ---- plain options
 
--- the value is not empty, and does not begin with a hyphen
-abbrev pub IsPlainValue : Text → Type 0
-IsPlainValue value = (value ≢ []) × (slice_get value 0 ≢ Some 45)
-
--- each value is a plain word of its own, and each size keeps the limits that it has by itself
+-- plain options, of which each size keeps the limits that it has by itself
 pub record AreValid (options : List Given) (sizes : Geometry) : Type 0 where
   pub are : AreOptionsOf create_options options
-  pub plain : All (λ given. (given.is_joined ≡ false) × IsPlainValue given.value) options
+  pub plain : All IsPlainOption options
   pub gives : GivesSizes (value_in options) sizes
   pub sectors : (8 ≤ sizes.sectors) × (sizes.sectors ≤ 2 ^ 31)
   pub log : sizes.log ≤ 2 ^ 31

@@ -3,3 +3,5 @@ pub mod Create
 pub mod Met
 pub mod Options
 pub mod Program
+pub mod Serve
+pub mod Values

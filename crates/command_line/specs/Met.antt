@@ -1,9 +1,13 @@
 -- For this crate's own clauses: what a request is, by the command and the values that clap met in the words.
-use Rattle.std.specs.Prelude.{◌≡◌, ◌⊎◌, List, Option, Some, None, codes}
+use Rattle.std.specs.Prelude.{◌≡◌, ◌⊎◌, ◌&&◌, true, List, Option, Some, None, codes}
+use Rattle.std.specs.List.{list_any}
+use Rattle.std.specs.Str.{bytes_eq}
 use Rattle.clap.specs.Walk.{Row, Text, first_of}
-use Rattle.command_line.specs.Create.{AsksToCreate, HasBadValue}
+use Rattle.command_line.specs.Create.{AsksToCreate, HasBadValue, create_options}
+use Rattle.command_line.specs.Options.{CommandOption, is_required, option_name}
+use Rattle.command_line.specs.Serve.{AsksToServe, HasBadServeValue, serve_options}
 use Rattle.command_line.specs.declared.request.Request.{Request}
-use Rattle.command_line.specs.declared.request.Request.TheVariants.{Replay, Create}
+use Rattle.command_line.specs.declared.request.Request.TheVariants.{Replay, Create, Serve}
 
 -- the value of an option among those that clap found
 abbrev pub value_among : List Row → Text → Option Text
@@ -13,15 +17,25 @@ value_among rows name = first_of name rows
 abbrev pub IsMet : Option (Text × List Row) → Text → List Row → Type 0
 IsMet met command rows = met ≡ Some (command, rows)
 
--- the values ask `create` for nothing, or one that it always has is absent
+-- an option that the command asks for has no value
+abbrev pub LacksRequired : List CommandOption → (Text → Option Text) → Type 0
+LacksRequired command value = (name : Text)
+    × (list_any (λ option. is_required option && bytes_eq (option_name option) name) command ≡ true) × (value name ≡ None)
+
+-- the values ask `create` for nothing, and so `serve`
 abbrev pub LacksValue : (Text → Option Text) → Type 0
-LacksValue value = HasBadValue value ⊎ ((value (codes "store") ≡ None) ⊎ (value (codes "cache") ≡ None))
+LacksValue value = HasBadValue value ⊎ LacksRequired create_options value
+
+abbrev pub LacksServeValue : (Text → Option Text) → Type 0
+LacksServeValue value = HasBadServeValue value ⊎ LacksRequired serve_options value
 
 abbrev pub IsMadeOf : Option (Text × List Row) → Request → Type 0
 IsMadeOf met Replay = (rows : List Row) × IsMet met (codes "replay") rows
 IsMadeOf met (Create request) = (rows : List Row) × IsMet met (codes "create") rows × AsksToCreate (value_among rows) request
+IsMadeOf met (Serve request) = (rows : List Row) × IsMet met (codes "serve") rows × AsksToServe (value_among rows) request
 
 -- the command makes no request
 pub record MakesNone (met : Option (Text × List Row)) : Type 0 where
   pub replay : (rows : List Row) → IsMet met (codes "replay") rows → ⊥
   pub create : (rows : List Row) → IsMet met (codes "create") rows → LacksValue (value_among rows)
+  pub serve : (rows : List Row) → IsMet met (codes "serve") rows → LacksServeValue (value_among rows)

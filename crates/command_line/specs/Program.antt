@@ -3,6 +3,7 @@ use Rattle.std.specs.Prelude.{[], codes, map, true}
 use Rattle.clap.specs.Simple.{App, Shape, new_shape, with_subcommand}
 use Rattle.command_line.specs.Create.{create_options}
 use Rattle.command_line.specs.Options.{rule_for}
+use Rattle.command_line.specs.Serve.{serve_options}
 
 -- `replay` has no options
 abbrev pub replay : Shape
@@ -10,6 +11,9 @@ replay = new_shape (codes "replay")
 
 abbrev pub create : Shape
 create = record (new_shape (codes "create")) { rules = map rule_for create_options }
+
+abbrev pub serve : Shape
+serve = record (new_shape (codes "serve")) { rules = map rule_for serve_options }
 
 -- The program asks for one of its commands. It has a version, and no command `help`. Its own name is not
 -- among the words.
@@ -26,4 +30,4 @@ bare = record {
 
 -- the program with all its commands
 unfoldable pub lsvdctl : App
-lsvdctl = with_subcommand (with_subcommand bare replay) create
+lsvdctl = with_subcommand (with_subcommand (with_subcommand bare replay) create) serve

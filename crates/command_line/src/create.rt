@@ -1,15 +1,14 @@
-ghost use Rattle.std.specs.Prelude.{◌≡◌, IfOk, IfSome, IfNone, IsTrue, codes, false, option_map};
-ghost use Rattle.clap.specs.Words.{found_of, rows_of, rule_of, shape_of};
+ghost use Rattle.std.specs.Prelude.{◌≡◌, IfOk, IfSome, IfNone, IsTrue, false};
+ghost use Rattle.clap.specs.Words.{found_of, rows_of, shape_of};
 ghost use Rattle.clap.specs.declared.builder.command.Command.TheViews.{out-Command};
-ghost use Rattle.uuid.specs.Text.{parsed};
 ghost use Rattle.lsvd_base.specs.Limits.{is_within_limits};
-ghost use Rattle.command_line.specs.Create.{AsksToCreate, GivesSizes, HasBadUuid, HasBadValue, IsNumber, LacksNumber, required, sizes_of};
+ghost use Rattle.command_line.specs.Create.{AsksToCreate, GivesSizes, HasBadValue, sizes_of};
 ghost use Rattle.command_line.specs.Met.{LacksValue, value_among};
-ghost use Rattle.command_line.specs.Options.{rule_for, rule_named};
 ghost use Rattle.command_line.specs.Program.{create};
 
-use crate::number::number_of;
-use clap::{Arg, ArgMatches, Command};
+use crate::options::{option, required};
+use crate::values::{number_in, uuid_in};
+use clap::{ArgMatches, Command};
 use lsvd_base::Geometry;
 use std::alloc::{AllocError, Global};
 use uuid::Uuid;
@@ -77,22 +76,6 @@ pub(crate) fn create_command<'a>(alloc: Global) -> Result<Command<'a>, AllocErro
         .arg(option(alloc, "uuid", "UUID").help("UUID of the volume [default: a random one]"))
 }
 
-// An option that takes one value, which help calls `value`.
-fn option<'a>(alloc: Global, name: &'a str, value: &'a str) -> Arg<'a>
-    ensures rule { rule_of result ≡ rule_named name.entry.now }
-    ensures local { result.global ≡ false }
-{
-    Arg::new(alloc, name).long(name).value_name(value)
-}
-
-// An option that the command asks for.
-fn required<'a>(alloc: Global, name: &'a str, value: &'a str) -> Arg<'a>
-    ensures rule { rule_of result ≡ rule_for (required name.entry.now) }
-    ensures local { result.global ≡ false }
-{
-    option(alloc, name, value).required(true)
-}
-
 // What the values of the options ask for. None is for a size that is no number, for sizes past their limits, and for a
 // text that is no uuid.
 pub(crate) fn create_in<'a>(values: &ArgMatches<'a>) -> Option<CreateRequest<'a>>
@@ -107,7 +90,7 @@ pub(crate) fn create_in<'a>(values: &ArgMatches<'a>) -> Option<CreateRequest<'a>
         log: sizes.log,
         max_write: sizes.max_write,
         batch: sizes.batch,
-        uuid: uuid_in(values)?,
+        uuid: uuid_in(values, "uuid")?,
     })
 }
 
@@ -124,24 +107,4 @@ fn sizes_in(values: &ArgMatches<'_>) -> Option<Geometry>
         log: number_in(values, "log")?,
     };
     sizes.is_within_limits().then_some(sizes)
-}
-
-// The number that the value of an option spells.
-fn number_in(values: &ArgMatches<'_>, name: &str) -> Option<u64>
-    ensures found { IfSome result (IsNumber (value_among (rows_of (found_of values.now))) name.now) }
-    ensures none { IfNone result (LacksNumber (value_among (rows_of (found_of values.now))) name.now) }
-{
-    number_of(values.get_str(name)?)
-}
-
-// The uuid that the values give, if they give one. The outer None is for a text that is no uuid.
-fn uuid_in(values: &ArgMatches<'_>) -> Option<Option<Uuid>>
-    ensures found { IfSome result (λ uuid. option_map parsed (value_among (rows_of (found_of values.now)) (codes "uuid"))
-        ≡ option_map (λ u. Some u) uuid) }
-    ensures none { IfNone result (HasBadUuid (value_among (rows_of (found_of values.now)))) }
-{
-    let Some(text) = values.get_str("uuid") else {
-        return Some(None);
-    };
-    Some(Some(Uuid::parse_str(text).ok()?))
 }

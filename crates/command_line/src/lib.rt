@@ -9,12 +9,16 @@ mod create;
 mod help;
 mod laws;
 mod number;
+mod options;
 mod program;
 mod request;
+mod serve;
 #[cfg(test)]
 mod tests;
+mod values;
 
 pub use create::CreateRequest;
 pub use help::help_of;
 pub use laws::{a_command_line_spells_a_request, the_help_options_ask_for_help};
 pub use request::{CommandLineError, Request, request_of};
+pub use serve::ServeRequest;

@@ -5,6 +5,7 @@ ghost use Rattle.command_line.specs.Program.{lsvdctl, replay};
 ghost use Rattle.command_line.specs.CommandLine.{faults_of};
 
 use crate::create::create_command;
+use crate::serve::serve_command;
 use clap::{ArgMatches, Command, Error};
 use std::alloc::{AllocError, Global};
 
@@ -34,7 +35,8 @@ fn program<'a>(alloc: Global) -> Result<Command<'a>, AllocError>
         .subcommand_required(true)
         .disable_help_subcommand(true)
         .subcommand(replay_command(alloc))?
-        .subcommand(create_command(alloc)?)
+        .subcommand(create_command(alloc)?)?
+        .subcommand(serve_command(alloc)?)
 }
 
 // `replay`, which has no options.

@@ -3,13 +3,16 @@ ghost use Rattle.std.specs.List.{All, flat_map};
 ghost use Rattle.clap.specs.Words.{kind_of, subcommand_rows_of};
 ghost use Rattle.clap.specs.declared.error.kind.ErrorKind.TheVariants as kinds;
 ghost use Rattle.lsvd_base.specs.declared.geometry.Geometry.{Geometry};
-ghost use Rattle.command_line.specs.CommandLine.{IsAskedBy, AsksForNothing, IsFaulty, IsRead, IsRefused, Line, Spells, commands};
+ghost use Rattle.command_line.specs.CommandLine.{HasBadOptions, IsAskedBy, IsFaulty, IsRead, IsRefused, Line, Spells, commands};
 ghost use Rattle.command_line.specs.Create.{AreValid, HasBadUuid, value_in};
 ghost use Rattle.command_line.specs.Met.{IsMadeOf, MakesNone};
 ghost use Rattle.command_line.specs.Options.{Given, option_words};
+ghost use Rattle.command_line.specs.Serve.{AreValidToServe, serve_value};
+ghost use Rattle.command_line.specs.Values.{IsNoUuid};
 
 use crate::create::{CreateRequest, create_in};
 use crate::program::matches_of;
+use crate::serve::{ServeRequest, serve_in};
 use clap::ArgMatches;
 use clap::error::ErrorKind;
 use std::alloc::Global;
@@ -22,6 +25,8 @@ pub enum Request<'a> {
     Replay,
     /// Create a volume.
     Create(CreateRequest<'a>),
+    /// Serve a volume.
+    Serve(ServeRequest<'a>),
 }
 
 /// Why a command line was not read.
@@ -36,11 +41,11 @@ pub enum CommandLineError {
 }
 
 /// Reads the words after the program's name. `Usage` comes where clap refuses them, and where the values of the options
-/// of `create` ask for nothing; `OutOfMemory` where memory runs out while they are read.
+/// ask for nothing; `OutOfMemory` where memory runs out while they are read.
 pub fn request_of<'a>(alloc: Global, words: &'a [String]) -> Result<Request<'a>, CommandLineError>
     ensures ok { IfOk result (λ request. (line : Line) × Spells (map string_bytes words.now) line × IsAskedBy line request) }
     ensures usage { IsErrOf result CommandLineError.Usage → IsFaulty (map string_bytes words.now)
-        ⊎ ((line : Line) × Spells (map string_bytes words.now) line × AsksForNothing line) }
+        ⊎ ((line : Line) × Spells (map string_bytes words.now) line × HasBadOptions line) }
 
     // Words that clap takes are read by the line that they spell, and those that it refuses are none.
     ensures line { (line : Line) → Spells (map string_bytes words.now) line → IsRead line result }
@@ -58,6 +63,11 @@ pub fn request_of<'a>(alloc: Global, words: &'a [String]) -> Result<Request<'a>,
     ensures valid { (options : List Given) (sizes : Geometry) → AreValid options sizes
         → map string_bytes words.now ≡ codes "create" ∷ flat_map option_words options
         → IsErrOf result CommandLineError.Usage → HasBadUuid (value_in options) ⊎ (sizes.log < 2 * (sizes.max_write + 1)) }
+
+    // And plain options of `serve` for a text that is no uuid alone.
+    ensures serve_valid { (options : List Given) → AreValidToServe options
+        → map string_bytes words.now ≡ codes "serve" ∷ flat_map option_words options
+        → IsErrOf result CommandLineError.Usage → IsNoUuid (serve_value options) (codes "volume") }
 {
     let matches = match matches_of(alloc, words) {
         Ok(matches) => matches,
@@ -79,6 +89,10 @@ fn request_in<'a>(matches: &ArgMatches<'a>) -> Option<Request<'a>>
         "replay" => Some(Request::Replay),
         "create" => match create_in(values) {
             Some(request) => Some(Request::Create(request)),
+            None => None,
+        },
+        "serve" => match serve_in(values) {
+            Some(request) => Some(Request::Serve(request)),
             None => None,
         },
         _ => None,

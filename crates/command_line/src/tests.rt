@@ -1,5 +1,6 @@
 use crate::help::help_of;
 use crate::request::{CommandLineError, Request, request_of};
+use crate::serve::ServeRequest;
 use lsvd_base::Geometry;
 use std::alloc::{AllocError, Global};
 use std::test::Fail;
@@ -43,6 +44,7 @@ const PROGRAM: &[&str] = &[
     "Usage: lsvdctl <COMMAND>\n",
     "  replay  ",
     "  create  ",
+    "  serve   ",
     "  -h, --help     Print help\n",
     "  -V, --version  Print version\n",
 ];
@@ -58,6 +60,19 @@ const CREATE: &[&str] = &[
     "  --max-write <SECTORS>  Most sectors of one read or write: 8 to 65536 [default: 65536]\n",
     "  --batch <SECTORS>      Sectors that make a batch of writes full: 1 to 65536 [default: 16384]\n",
     "  --uuid <UUID>          UUID of the volume [default: a random one]\n",
+];
+
+const SERVE: &[&str] = &[
+    "Usage: lsvdctl serve [OPTIONS] --store <DIRECTORY> --volume <UUID> --cache <FILE> --socket <PATH>\n",
+    "  --store <DIRECTORY>    Directory of the store\n",
+    "  --volume <UUID>        UUID of the volume\n",
+    "  --cache <FILE>         File of the cache device\n",
+    "  --socket <PATH>        Path of the socket that clients connect to\n",
+    "  --lost                 The cache device is lost: serve what the store has\n",
+    "  --log <SECTORS>        With --lost, sectors of the log on a cache device made anew: 0 to 2147483648 [default: as it is]\n",
+    "  --workers <THREADS>    Threads that put objects into the store: 0 to 8, of which none runs yet [default: 2]\n",
+    "  --lanes <SESSIONS>     Sessions that are served at once: 1 to 16, of which one runs yet [default: 4]\n",
+    "  --sessions <SESSIONS>  Sessions after which the server ends: 1 to 4294967295 [default: 1048576]\n",
 ];
 
 const VERSION: &[&str] = &["lsvdctl 0.1.0\n"];
@@ -119,6 +134,8 @@ fn each_command_line_is_read(rt: HostRuntime) -> Result<(), Fail> {
         helped(&["replay", "-h"], REPLAY),
         helped(&["create", "--help"], CREATE),
         helped(&["create", "--store", "s", "-h"], CREATE),
+        helped(&["serve", "--help"], SERVE),
+        helped(&["serve", "--lost", "-h"], SERVE),
         helped(&["--version"], VERSION),
         helped(&["-V"], VERSION),
     ] {
@@ -253,6 +270,117 @@ fn each_form_of_a_uuid_is_read(rt: HostRuntime) -> Result<(), Fail> {
         assert_eq!(rt; request.store, "");
         assert_eq!(rt; request.cache, "-");
         assert_eq!(rt; request.uuid, Some(uuid));
+    }
+    Ok(())
+}
+
+// What the options of a line of `serve` have to give, beside those that it has to have.
+#[derive(Clone, Copy)]
+struct Served {
+    line: &'static str,
+    is_lost: bool,
+    log: Option<u64>,
+    workers: u64,
+    lanes: u64,
+    sessions: u64,
+}
+
+const SERVED: &[Served] = &[
+    Served {
+        line: "serve --store s --volume 67e55044-10b1-426f-9247-bb680e5fe0c8 --cache c --socket p",
+        is_lost: false,
+        log: None,
+        workers: 2,
+        lanes: 4,
+        sessions: 1_048_576,
+    },
+    Served {
+        line: "serve --lost --store s --volume 67E5504410B1426F9247BB680E5FE0C8 --cache c --socket p --log 0",
+        is_lost: true,
+        log: Some(0),
+        workers: 2,
+        lanes: 4,
+        sessions: 1_048_576,
+    },
+    Served {
+        line: "serve --workers 0 --lanes=1 --sessions 1 --socket p --cache=c --volume 67e5504410b1426f9247bb680e5fe0c8 --store s --lost --",
+        is_lost: true,
+        log: None,
+        workers: 0,
+        lanes: 1,
+        sessions: 1,
+    },
+    Served {
+        line: "serve --store s --volume 67e5504410b1426f9247bb680e5fe0c8 --cache c --socket p --log 2147483648 --workers 8 --lanes 16 --sessions 4294967295",
+        is_lost: false,
+        log: Some(2_147_483_648),
+        workers: 8,
+        lanes: 16,
+        sessions: 4_294_967_295,
+    },
+];
+
+#[test]
+fn each_line_of_serve_is_read(rt: HostRuntime) -> Result<(), Fail> {
+    let alloc = rt.alloc();
+    let volume = Uuid::from_bytes([
+        0x67, 0xe5, 0x50, 0x44, 0x10, 0xb1, 0x42, 0x6f, 0x92, 0x47, 0xbb, 0x68, 0x0e, 0x5f, 0xe0,
+        0xc8,
+    ]);
+    for served in SERVED {
+        let words = words_of_line(alloc, served.line)?;
+        let wanted = ServeRequest {
+            store: "s",
+            volume,
+            cache: "c",
+            socket: "p",
+            is_lost: served.is_lost,
+            log: served.log,
+            workers: served.workers,
+            lanes: served.lanes,
+            sessions: served.sessions,
+        };
+        let answer = request_of(alloc, words.as_slice());
+        assert_eq!(rt; answer, Ok(Request::Serve(wanted)), "at {}", served.line);
+    }
+    Ok(())
+}
+
+const REFUSED: &[&str] = &[
+    "serve",
+    "serve --volume 67e5504410b1426f9247bb680e5fe0c8 --cache c --socket p",
+    "serve --store s --cache c --socket p",
+    "serve --store s --volume 67e5504410b1426f9247bb680e5fe0c8 --socket p",
+    "serve --store s --volume 67e5504410b1426f9247bb680e5fe0c8 --cache c",
+    "serve --store s --volume v --cache c --socket p",
+    "serve --store s --volume 67e5504410b1426f9247bb680e5fe0c8 --cache c --socket p --lost --lost",
+    "serve --store s --volume 67e5504410b1426f9247bb680e5fe0c8 --cache c --socket p --lost=true",
+    "serve --store s --volume 67e5504410b1426f9247bb680e5fe0c8 --cache c --socket p --lost true",
+    "serve --store s --volume 67e5504410b1426f9247bb680e5fe0c8 --cache c --socket p -l",
+    "serve --store s --volume 67e5504410b1426f9247bb680e5fe0c8 --cache c --socket p --los",
+    "serve --store s --volume 67e5504410b1426f9247bb680e5fe0c8 --cache c --socket --lost",
+    "serve --store s --volume 67e5504410b1426f9247bb680e5fe0c8 --cache c --socket p -- --lost",
+    "serve --store s --volume 67e5504410b1426f9247bb680e5fe0c8 --cache c --socket p --log 2147483649",
+    "serve --store s --volume 67e5504410b1426f9247bb680e5fe0c8 --cache c --socket p --log 00",
+    "serve --store s --volume 67e5504410b1426f9247bb680e5fe0c8 --cache c --socket p --workers 9",
+    "serve --store s --volume 67e5504410b1426f9247bb680e5fe0c8 --cache c --socket p --workers +1",
+    "serve --store s --volume 67e5504410b1426f9247bb680e5fe0c8 --cache c --socket p --lanes 0",
+    "serve --store s --volume 67e5504410b1426f9247bb680e5fe0c8 --cache c --socket p --lanes 17",
+    "serve --store s --volume 67e5504410b1426f9247bb680e5fe0c8 --cache c --socket p --lanes 01",
+    "serve --store s --volume 67e5504410b1426f9247bb680e5fe0c8 --cache c --socket p --sessions 0",
+    "serve --store s --volume 67e5504410b1426f9247bb680e5fe0c8 --cache c --socket p --sessions 4294967296",
+    "serve --store s --volume 67e5504410b1426f9247bb680e5fe0c8 --cache c --socket p --sessions x",
+    "serve --store s --volume 67e5504410b1426f9247bb680e5fe0c8 --cache c --socket p --sectors 8",
+    "serve --store s --volume 67e5504410b1426f9247bb680e5fe0c8 --cache c --socket p create",
+];
+
+#[test]
+fn a_faulty_line_of_serve_is_refused(rt: HostRuntime) -> Result<(), Fail> {
+    let alloc = rt.alloc();
+    for line in REFUSED {
+        let words = words_of_line(alloc, line)?;
+        let answer = request_of(alloc, words.as_slice());
+        assert_eq!(rt; answer, Err(CommandLineError::Usage), "at {line}");
     }
     Ok(())
 }

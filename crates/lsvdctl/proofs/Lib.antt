@@ -1,2 +1,5 @@
-mod Reported
+mod Made
 mod Ran
+mod Reported
+mod Served
+mod Told

@@ -4,7 +4,7 @@ use Rattle.std.specs.Io.KnownBytes.{Appends}
 use Rattle.command_line.specs.CommandLine.{AsksForHelp}
 use Rattle.lsvd_fault.specs.Faults.{CountsOne}
 use Rattle.lsvdctl.specs.declared.report.Report.{Report}
-use Rattle.lsvdctl.specs.declared.report.Report.TheVariants.{Done, Fault, Usage, BadLine, Exists, Memory}
+use Rattle.lsvdctl.specs.declared.report.Report.TheVariants.{Done, Fault, Usage, BadLine, Refused, Memory}
 
 -- what the output took, and its count of faults, where the answer ended so
 abbrev pub IsAnswered : List (List ℕ) → Report → Option (List ℕ) → Option (List ℕ) → ℕ → ℕ → Type 0
@@ -16,4 +16,4 @@ IsAnswered words Fault old new before now = AsksForHelp words × CountsOne befor
 IsAnswered words Memory old new before now = (new ≡ old) × (now ≡ before)
 IsAnswered words Usage old new before now = ⊥
 IsAnswered words (BadLine number reason) old new before now = ⊥
-IsAnswered words Exists old new before now = ⊥
+IsAnswered words (Refused why) old new before now = ⊥

@@ -1,5 +1,7 @@
 pub mod Creating
 pub mod Help
+pub mod Refusal
 pub mod Report
 pub mod Run
+pub mod Serving
 pub mod World

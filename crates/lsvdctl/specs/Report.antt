@@ -3,8 +3,9 @@ use Rattle.std.specs.Prelude.{◌≡◌, ℕ, ◌≤◌, ◌⊎◌, Option, List
 use Rattle.std.specs.Io.KnownBytes.{Appends}
 use Rattle.lsvd_fault.specs.Faults.{CountsOne}
 use Rattle.transcript.specs.Reason.{code_of}
+use Rattle.lsvdctl.specs.Refusal.{refusal_line}
 use Rattle.lsvdctl.specs.declared.report.Report.{Report}
-use Rattle.lsvdctl.specs.declared.report.Report.TheVariants.{Done, Fault, Usage, BadLine, Exists, Memory}
+use Rattle.lsvdctl.specs.declared.report.Report.TheVariants.{Done, Fault, Usage, BadLine, Refused, Memory}
 
 -- the exit status
 abbrev pub status_of : Report → ℕ
@@ -12,7 +13,7 @@ status_of Done = 0
 status_of Fault = 1
 status_of Usage = 2
 status_of (BadLine number reason) = 3
-status_of Exists = 3
+status_of (Refused why) = 3
 status_of Memory = 4
 
 -- the line on the error stream, with its newline; there is none for a run that is done
@@ -21,7 +22,7 @@ line_of Done = []
 line_of Fault = codes "fault\n"
 line_of Usage = codes "usage\n"
 line_of (BadLine number reason) = codes "line " ++ decimal number ++ codes " reason " ++ decimal (code_of reason) ++ codes "\n"
-line_of Exists = codes "refused 11\n"
+line_of (Refused why) = refusal_line why
 line_of Memory = codes "memory\n"
 
 -- the sink took the line; or a write failed, which was counted, and it took a front of the line

@@ -5,15 +5,18 @@ use Rattle.lsvd_fault.specs.Faults.{CountsOne}
 use Rattle.clap.specs.Walk.{Text}
 use Rattle.transcript.specs.Answers.{State}
 use Rattle.transcript.specs.Transcript.{AllAnswered, Stopped, IsTranscript, IsFrontOfTranscript}
-use Rattle.command_line.specs.CommandLine.{IsFaulty, Spells, replay, create}
+use Rattle.command_line.specs.CommandLine.{IsFaulty, Spells, replay, create, serve}
 use Rattle.command_line.specs.Create.{AsksToCreate, HasBadValue, value_in}
 use Rattle.command_line.specs.Options.{Given}
+use Rattle.command_line.specs.Serve.{AsksToServe, HasBadServeValue, serve_value}
 use Rattle.command_line.specs.declared.create.CreateRequest.{CreateRequest}
+use Rattle.command_line.specs.declared.serve.ServeRequest.{ServeRequest}
 use Rattle.vol_replay.specs.declared.outcome.Outcome.{Outcome}
 use Rattle.vol_replay.specs.declared.outcome.Outcome.TheVariants as outcomes
 use Rattle.lsvdctl.specs.Creating.{TellsCreation}
+use Rattle.lsvdctl.specs.Serving.{TellsServing}
 use Rattle.lsvdctl.specs.declared.report.Report.{Report}
-use Rattle.lsvdctl.specs.declared.report.Report.TheVariants.{Done, Fault, Usage, BadLine, Exists, Memory}
+use Rattle.lsvdctl.specs.declared.report.Report.TheVariants.{Done, Fault, Usage, BadLine, Refused, Memory}
 
 -- ---- replays
 
@@ -36,7 +39,7 @@ IsReported script text Fault = IsFrontOfTranscript script text
 IsReported script text Memory = IsFrontOfTranscript script text
 -- a replay does not end so
 IsReported script text Usage = ⊥
-IsReported script text Exists = ⊥
+IsReported script text (Refused why) = ⊥
 
 -- the output took what the script on the input is answered with
 abbrev pub RunsReplay : Report → (input : Option (List ℕ)) → (old new : Option (List ℕ)) → Type 0
@@ -53,17 +56,31 @@ RunsCreate options Memory old new = new ≡ old
 RunsCreate options report old new =
     (request : CreateRequest) × AsksToCreate (value_in options) request × TellsCreation request report old new
 
+-- ---- servers
+
+-- the values of these options ask for a volume to be served, and the output took what is told of that; or they ask for nothing, or memory
+-- ran out before they were read
+abbrev pub RunsServe : List Given → Report → (old new : Option (List ℕ)) → Type 0
+RunsServe options Usage old new = HasBadServeValue (serve_value options) × (new ≡ old)
+RunsServe options Memory old new = TellsServing Memory old new
+RunsServe options report old new =
+    (request : ServeRequest) × AsksToServe (serve_value options) request × TellsServing report old new
+
 -- ---- runs
 
--- What the output took for the words, where the run ended so: each words that are no faulty ones spell a command.
+-- What the output took for the words, where the run ended so. Words that are not faulty spell a command.
 pub record Runs (words : List Text) (report : Report) (input old new : Option (List ℕ)) : Type 0 where
   pub replay : Spells words replay → RunsReplay report input old new
   pub create : (options : List Given) → Spells words (create options) → RunsCreate options report old new
+  pub serve : (options : List Given) → Spells words (serve options) → RunsServe options report old new
   pub faulty : IsFaulty words → ((report ≡ Usage) ⊎ (report ≡ Memory)) × (new ≡ old)
 
--- why words are refused: they are faulty, or the values of the options of `create` ask for nothing
+-- why words are refused: they are faulty, or the values of the options of `create` or `serve` ask for nothing
 abbrev pub AreRefused : List Text → Type 0
-AreRefused words = IsFaulty words ⊎ ((options : List Given) × Spells words (create options) × HasBadValue (value_in options))
+AreRefused words =
+    IsFaulty words
+    ⊎ (((options : List Given) × Spells words (create options) × HasBadValue (value_in options))
+    ⊎ ((options : List Given) × Spells words (serve options) × HasBadServeValue (serve_value options)))
 
 -- ---- faults
 

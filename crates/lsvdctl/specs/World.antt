@@ -24,10 +24,14 @@ IsGiven None disk = IsDisk disk
 
 -- ---- counts
 
--- No call of such a disk or store is ever counted: its count is one number, below the greatest of its type.
+-- No call of such a disk, store or listener is ever counted: its count is one number, below the greatest of its type.
 abbrev pub IsConstant : {T : Type 0} → (T → ℕ) → Type 0
 IsConstant faults = (count : ℕ) × (count < 2 ^ 64 - 1) × ((value : _) → faults value ≡ count)
 
 -- a disk of so many bytes that never fails, and tells nothing of what it holds
 abbrev pub quiet_state : ℕ → DiskState
 quiet_state size = silent size 0
+
+-- a listener that never fails
+abbrev pub quiet_faults : {T : Type 0} → T → ℕ
+quiet_faults listener = 0

@@ -4,27 +4,31 @@ ghost use Rattle.lsvd_base.specs.Limits.{is_within_limits};
 ghost use Rattle.lsvd_fault.specs.Faults.{Counts, CountsOne};
 ghost use Rattle.commit_slot.specs.Slots.{log_of};
 ghost use Rattle.command_line.specs.Create.{sizes_of};
-ghost use Rattle.lsvdctl.specs.Creating.{IsUuidFor, TellsCreation, created_line};
+ghost use Rattle.lsvdctl.specs.Creating.{IsUuidFor, IsVolumeFor, TellsCreation, created_line};
 ghost use Rattle.lsvdctl.specs.Run.{CountsOneOf, CountsNone};
 ghost use Rattle.lsvdctl.specs.World.{IsConstant};
 
 use crate::error::CommandError;
+use crate::refusal::Refusal;
 use crate::report::Report;
 use crate::world::World;
 use arrayvec::ArrayString;
 use command_line::CreateRequest;
 use commit_slot::LOG_START;
 use lsvd_base::SECTOR_BYTES;
+use lsvd_device::Disk;
 use lsvd_fault::{Failed, Sink, write_all};
+use lsvd_objstore::Store;
 use std::alloc::Global;
 use super_recovery::has_super;
 use uuid::{Builder, Uuid};
+use vol_core::Volume;
 use vol_recover::create;
 
 /// Creates the volume that is asked for, whose sizes are in their limits (a condition), and writes its uuid to `out`, in a
 /// line of its own.
 ///
-/// `Exists` comes where the store has a super object of the volume, and nothing was changed then; `Fault` where a call of the
+/// The refusal `Exists` comes where the store has a super object of the volume, and nothing was changed then; `Fault` where a call of the
 /// world failed, or of the store and the disk that it gave, or of `out`; `Memory` where memory ran out. The first call that fails ends it.
 pub fn answer_create<W: World>(
     alloc: Global,
@@ -38,27 +42,36 @@ pub fn answer_create<W: World>(
         → CountsOneOf (W.faults world.old) (W.faults world.new) (W.Out.faults out.old) (W.Out.faults out.new) }
     ensures no_fault { result ≢ Report.Fault → CountsNone (W.faults world.old) (W.faults world.new) (W.Out.faults out.old) (W.Out.faults out.new) }
 {
-    let uuid = match create_volume(alloc, request, world) {
-        Ok(uuid) => uuid,
-        Err(CommandError::Exists) => return Report::Exists,
+    let created = match create_volume(alloc, request, world) {
+        Ok(created) => created,
+        Err(CommandError::Refused(why)) => return Report::Refused(why),
         Err(CommandError::Fault) => return Report::Fault,
         Err(CommandError::OutOfMemory) => return Report::Memory,
     };
-    match tell_created(out, uuid) {
+    match tell_created(out, created.uuid) {
         Ok(()) => Report::Done,
         Err(Failed) => Report::Fault,
     }
 }
 
-// Creates a volume, and answers its uuid. Whether there is one already is asked before its cache is made, since what a
-// cache held is lost then.
+// A volume that was created, on the disk and with the store that the world gave for it.
+#[derive(Drop)]
+struct Created<D: Disk + Drop, S: Store + Drop> {
+    uuid: Uuid,
+    volume: Volume<D, S::Receipt>,
+    store: S,
+}
+
+// Creates a volume, and answers it with its disk and its store as they stand then. Whether there is one already is asked
+// before its cache is made, since what a cache held is lost then.
 fn create_volume<W: World>(
     alloc: Global,
     request: &CreateRequest<'_>,
     world: &mut W,
-) -> Result<Uuid, CommandError>
+) -> Result<Created<W::Disk, W::Store>, CommandError>
     requires { IsTrue (is_within_limits (sizes_of request.now)) }
-    ensures named { IfOk result (IsUuidFor request.now) }
+    ensures refused { (why : Refusal) → IsErrOf result (CommandError.Refused why) → why ≡ Refusal.Exists }
+    ensures made { IfOk result (λ created. IsVolumeFor request.now created.uuid created.volume (W.Store.state created.store).objects) }
     ensures fault { IsErrOf result CommandError.Fault
         → IsConstant (λ disk. (W.Disk.state disk).faults) → IsConstant (λ store. (W.Store.state store).faults)
         → CountsOne (W.faults world.old) (W.faults world.new) }
@@ -67,11 +80,15 @@ fn create_volume<W: World>(
     let uuid = uuid_for(request, world)?;
     let mut store = world.store(request.store, true)?;
     if has_super(alloc, &mut store, uuid)? {
-        return Err(CommandError::Exists);
+        return Err(CommandError::Refused(Refusal::Exists));
     }
     let disk = world.disk(request.cache, Some(device_bytes(request.log)))?;
     match create(alloc, disk, &mut store, uuid, request.geometry()) {
-        Ok(_) => Ok(uuid),
+        Ok(volume) => Ok(Created {
+            uuid,
+            volume,
+            store,
+        }),
         Err((_, error)) => Err(error.into()),
     }
 }
@@ -79,6 +96,7 @@ fn create_volume<W: World>(
 // The uuid that is asked for, or a new one.
 fn uuid_for<W: World>(request: &CreateRequest<'_>, world: &mut W) -> Result<Uuid, CommandError>
     ensures named { IfOk result (IsUuidFor request.now) }
+    ensures refused { (why : Refusal) → IsErrOf result (CommandError.Refused why) → ⊥ }
     ensures fault { IsErrOf result CommandError.Fault → CountsOne (W.faults world.old) (W.faults world.new) }
     ensures no_fault { result ≢ Err CommandError.Fault → W.faults world.new ≡ W.faults world.old }
 {
@@ -89,7 +107,7 @@ fn uuid_for<W: World>(request: &CreateRequest<'_>, world: &mut W) -> Result<Uuid
 }
 
 // The bytes of a device whose log has so many sectors.
-fn device_bytes(log: u64) -> u64
+pub(crate) fn device_bytes(log: u64) -> u64
     requires { log ≤ 2 ^ 31 }
     ensures log { log_of result ≡ log }
 {

@@ -1,8 +1,8 @@
 //! The program `lsvdctl`.
 //!
 //! Its contract is that of `run`: what it writes and how it ends, for each command line and input. Words that ask for
-//! help are answered before, by `answer_help`. It stands on `command_line` for the words, on `vol_replay` and `vol_recover` for
-//! the commands, and on `lsvd_device`, `lsvd_objstore` and `lsvd_fault` for what it reaches outside itself.
+//! help are answered before, by `answer_help`. It stands on `command_line` for the words, on `vol_replay`, `vol_recover` and
+//! `vol_core` for the commands, and on `lsvd_device`, `lsvd_objstore` and `lsvd_fault` for what it reaches outside itself.
 #![tactic(auto)]
 
 mod creating;
@@ -12,7 +12,9 @@ mod mem_world;
 mod program;
 mod quiet_world;
 mod real_world;
+mod refusal;
 mod report;
+mod serving;
 mod shared;
 #[cfg(test)]
 mod tests;

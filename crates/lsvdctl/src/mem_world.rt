@@ -5,10 +5,12 @@ ghost use Rattle.lsvdctl.specs.World.{world_failed};
 use crate::shared::{PlannedStore, SharedDisk, SharedStore};
 use crate::world::{World, WorldError};
 use lsvd_device::{FuseDisk, MemDisk};
-use lsvd_fault::{MemSink, MemSource};
+use lsvd_fault::{MemLink, MemSink, MemSource};
+use lsvd_listen::MemListener;
 use lsvd_objstore::{MemStore, PlannedFault};
 use std::alloc::{AllocError, Global};
 use std::cell::RefCell;
+use std::mem;
 use std::rc::Rc;
 
 // What has a path in the world.
@@ -31,6 +33,10 @@ pub struct MemWorld {
     fuse: Option<u64>,
     /// The call of each store that is to fail.
     store_fault: Option<PlannedFault>,
+    /// The clients that connect to the next listener.
+    links: Vec<MemLink>,
+    /// The accept of each listener that is to fail: 0 is the first.
+    accept_fault: Option<u64>,
     calls: u64,
     faults: u64,
 }
@@ -45,6 +51,8 @@ impl MemWorld {
             failing: None,
             fuse: None,
             store_fault: None,
+            links: Vec::new(alloc),
+            accept_fault: None,
             calls: 0,
             faults: 0,
         }
@@ -65,6 +73,18 @@ impl MemWorld {
     /// The world in which this call of each store that it gives fails.
     pub fn with_store_fault(mut self, planned: PlannedFault) -> MemWorld {
         self.store_fault = Some(planned);
+        self
+    }
+
+    /// The world in which these clients connect to the next listener that it gives, the first of them first.
+    pub fn with_links(mut self, links: Vec<MemLink>) -> MemWorld {
+        self.links = links;
+        self
+    }
+
+    /// The world in which this accept of each listener that it gives fails; 0 is the first.
+    pub fn with_accept_fault(mut self, call: u64) -> MemWorld {
+        self.accept_fault = Some(call);
         self
     }
 
@@ -100,6 +120,8 @@ impl World for MemWorld {
 
     type Store = PlannedStore;
 
+    type Clients = MemListener;
+
     ghost faults = { λ w. w.faults };
 
     fn disk(&mut self, path: &str, len: Option<u64>) -> Result<FuseDisk<SharedDisk>, WorldError> {
@@ -112,7 +134,9 @@ impl World for MemWorld {
         let Some(disk) = find(&self.disks, path)? else {
             return Err(self.fail());
         };
-        let size = SharedDisk::size_of(&disk);
+        let Some(size) = SharedDisk::size_of(&disk) else {
+            return Err(self.fail());
+        };
         Ok(FuseDisk::new(SharedDisk::new(disk, size), self.fuse))
     }
 
@@ -130,6 +154,16 @@ impl World for MemWorld {
         };
         let store = SharedStore::new(store);
         Ok(PlannedStore::new(self.alloc, store, self.store_fault)?)
+    }
+
+    fn listen(&mut self, _path: &str) -> Result<MemListener, WorldError> {
+        self.begin()?;
+        let links = mem::replace(&mut self.links, Vec::new(self.alloc));
+        let listener = MemListener::new(links);
+        match self.accept_fault {
+            Some(call) => Ok(listener.failing_at(call)),
+            None => Ok(listener),
+        }
     }
 
     // A test can foretell them: they are the number of the call.

@@ -2,11 +2,14 @@ ghost use Rattle.std.specs.Prelude.{◌≡◌, IfOk};
 ghost use Rattle.lsvd_fault.specs.Faults.{CountsOne};
 ghost use Rattle.lsvd_device.specs.Device.{IsDisk};
 ghost use Rattle.lsvd_objstore.specs.Memory.{told_state};
-ghost use Rattle.lsvdctl.specs.World.{IsConstant, quiet_state};
+ghost use Rattle.lsvdctl.specs.Run.{CountsOneOfAll};
+ghost use Rattle.lsvdctl.specs.World.{IsConstant, quiet_faults, quiet_state};
 
+use crate::program::run;
 use crate::world::{World, WorldError};
 use lsvd_device::Disk;
-use lsvd_fault::{Failed, MemSink, MemSource};
+use lsvd_fault::{Failed, MemLink, MemSink, MemSource};
+use lsvd_listen::Listener;
 use lsvd_objstore::MemStore;
 use std::alloc::{AllocError, Global};
 use std::marker::Model;
@@ -74,12 +77,63 @@ impl Disk for QuietDisk {
     }
 }
 
-/// A law: no call of the quiet world's disks and stores is ever counted. So a run in it ends by a fault only where a call of
+/// A listener to which nobody connects. No call of it fails.
+#[derive(Drop)]
+pub struct QuietListener {
+    closed: bool,
+}
+
+impl Listener for QuietListener {
+    type Link = MemLink;
+
+    ghost given = { λ _. 0 };
+
+    ghost closed = { λ l. l.closed };
+
+    ghost faults = { quiet_faults };
+
+    fn accept(&mut self) -> Result<Option<MemLink>, Failed> {
+        self.closed = true;
+        Ok(None)
+    }
+
+    fn given(&self) -> u64 {
+        0
+    }
+
+    fn closed(&self) -> bool {
+        self.closed
+    }
+
+    fn faults(&self) -> u64 {
+        0
+    }
+}
+
+/// A law: no call of the quiet world's disks, stores and listeners is ever counted. So a run in it ends by a fault only where a call of
 /// the world itself, of the input or of the output failed.
 pub fn a_quiet_world_counts_no_fault()
     ensures disk { IsConstant (λ disk. (quiet_state disk).faults) }
     ensures store { IsConstant (λ store. (told_state store).faults) }
+    ensures clients { IsConstant (quiet_faults {T = QuietListener}) }
 {}
+
+/// Runs the program in the quiet world, as `run` does. Status 1 comes only where one call of the world itself, of the input or of
+/// the output failed, which was counted once.
+pub fn run_quietly(
+    alloc: Global,
+    words: &[String],
+    world: &mut QuietWorld,
+    input: &mut MemSource,
+    out: &mut MemSink,
+    err: &mut MemSink,
+) -> u8
+    ensures fault { result ≡ 1
+        → CountsOneOfAll world.old.faults world.new.faults input.old.faults input.new.faults out.old.faults out.new.faults }
+{
+    a_quiet_world_counts_no_fault();
+    run(alloc, words, world, input, out, err)
+}
 
 /// A world in memory for one run. Its disks and stores are new ones, and what a run makes of them is let go with it. No call of
 /// them is ever counted as a fault.
@@ -116,6 +170,8 @@ impl World for QuietWorld {
 
     type Store = MemStore;
 
+    type Clients = QuietListener;
+
     ghost faults = { λ w. w.faults };
 
     fn disk(&mut self, _path: &str, len: Option<u64>) -> Result<QuietDisk, WorldError> {
@@ -131,6 +187,10 @@ impl World for QuietWorld {
         } else {
             Err(self.fail())
         }
+    }
+
+    fn listen(&mut self, _path: &str) -> Result<QuietListener, WorldError> {
+        Ok(QuietListener { closed: false })
     }
 
     // They are always the same.

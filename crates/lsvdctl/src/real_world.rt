@@ -1,10 +1,11 @@
-ghost use Rattle.std.specs.Prelude.{◌≡◌};
+ghost use Rattle.std.specs.Prelude.{◌≡◌, false};
 ghost use Rattle.lsvd_fault.specs.Faults.{CountsOne};
 
 use crate::world::{World, WorldError};
 use lsvd_base::ObjectBytes;
 use lsvd_device::{Disk, FileDisk, FileError};
 use lsvd_fault::{Failed, ReadSource, WriteSink};
+use lsvd_listen::{ListenError, Listener, SocketLink, SocketListener};
 use lsvd_names::ObjName;
 use lsvd_objstore::{DirReceipt, DirStore, DirectoryError, Names, Store, StoreError};
 use std::alloc::{AllocError, Global};
@@ -54,6 +55,8 @@ impl<'a, R: Read + Drop, O: Write + Drop, E: Write + Drop> World for RealWorld<'
 
     type Store = RealStore<'a>;
 
+    type Clients = RealListener<'a>;
+
     ghost faults = { λ w. w.faults };
 
     fn disk(&mut self, path: &str, len: Option<u64>) -> Result<RealDisk<'a>, WorldError> {
@@ -92,6 +95,18 @@ impl<'a, R: Read + Drop, O: Write + Drop, E: Write + Drop> World for RealWorld<'
             Ok(()) => Ok(store),
             Err(StoreError::OutOfMemory) => Err(WorldError::OutOfMemory),
             Err(StoreError::Failed) => Err(self.count()),
+        }
+    }
+
+    fn listen(&mut self, path: &str) -> Result<RealListener<'a>, WorldError> {
+        let place = Place::new(self.rt, path)?;
+        match SocketListener::bind(self.rt, path) {
+            Ok(socket) => Ok(RealListener { place, socket }),
+            Err(ListenError::OutOfMemory) => Err(WorldError::OutOfMemory),
+            Err(error) => {
+                place.tell(error);
+                Err(self.count())
+            }
         }
     }
 
@@ -254,5 +269,44 @@ impl Store for RealStore<'_> {
 
     fn faults(&self) -> u64 {
         self.directory.faults()
+    }
+}
+
+/// A listener at a socket, which tells each of its faults.
+#[derive(Drop)]
+pub struct RealListener<'a> {
+    place: Place<'a>,
+    socket: SocketListener,
+}
+
+impl Listener for RealListener<'_> {
+    type Link = SocketLink;
+
+    ghost given = { λ l. l.socket.given };
+
+    ghost closed = { λ _. false };
+
+    ghost faults = { λ l. l.socket.faults };
+
+    fn accept(&mut self) -> Result<Option<SocketLink>, Failed> {
+        let outcome = self.socket.accept();
+        if outcome.is_err()
+            && let Some(error) = self.socket.last_error()
+        {
+            self.place.tell(error);
+        }
+        outcome
+    }
+
+    fn given(&self) -> u64 {
+        self.socket.given()
+    }
+
+    fn closed(&self) -> bool {
+        false
+    }
+
+    fn faults(&self) -> u64 {
+        self.socket.faults()
     }
 }

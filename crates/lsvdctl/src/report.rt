@@ -1,6 +1,7 @@
 ghost use Rattle.std.specs.Prelude.{◌≡◌};
 ghost use Rattle.lsvdctl.specs.Report.{status_of, line_of, IsTold};
 
+use crate::refusal::Refusal;
 use arrayvec::ArrayString;
 use itoa::Buffer;
 use lsvd_fault::{Sink, write_all};
@@ -17,44 +18,44 @@ pub enum Report {
     Usage,
     /// This line of the script, counted from 1, is bad.
     BadLine { number: u64, reason: Reason },
-    /// The volume that was to be created exists: refusal 11.
-    Exists,
+    /// The volume is not created or not mounted, for this reason.
+    Refused(Refusal),
     /// Memory ran out.
     Memory,
 }
 
 impl Report {
     /// The exit status: 0 done, 1 a fault, 2 usage, 3 a refusal, 4 out of memory.
-    pub fn status(self) -> u8
-        ensures { result ≡ status_of self }
+    pub fn status(&self) -> u8
+        ensures { result ≡ status_of self.now }
     {
         match self {
             Report::Done => 0,
             Report::Fault => 1,
             Report::Usage => 2,
-            Report::BadLine { .. } | Report::Exists => 3,
+            Report::BadLine { .. } | Report::Refused(_) => 3,
             Report::Memory => 4,
         }
     }
 
     /// Writes the line that tells it, which a run that is done does not have. Where a write fails, a
     /// front of the line stands there, and nothing else is done about it.
-    pub fn tell<E: Sink>(self, err: &mut E)
-        ensures told { IsTold (E.contents err.old) (E.contents err.new) (E.faults err.old) (E.faults err.new) (line_of self) }
+    pub fn tell<E: Sink>(&self, err: &mut E)
+        ensures told { IsTold (E.contents err.old) (E.contents err.new) (E.faults err.old) (E.faults err.new) (line_of self.now) }
     {
         match self {
             Report::Done => {}
             Report::Fault => tell_line(err, b"fault\n"),
             Report::Usage => tell_line(err, b"usage\n"),
-            Report::BadLine { number, reason } => tell_bad_line(err, number, reason),
-            Report::Exists => tell_line(err, b"refused 11\n"),
+            Report::BadLine { number, reason } => tell_bad_line(err, *number, *reason),
+            Report::Refused(refusal) => refusal.tell(err),
             Report::Memory => tell_line(err, b"memory\n"),
         }
     }
 }
 
-// Writes a line, or a front of it.
-fn tell_line<E: Sink>(err: &mut E, line: &[u8])
+/// Writes a line, or a front of it.
+pub(crate) fn tell_line<E: Sink>(err: &mut E, line: &[u8])
     ensures told { IsTold (E.contents err.old) (E.contents err.new) (E.faults err.old) (E.faults err.new) line.now }
 {
     let _ = write_all(err, line);

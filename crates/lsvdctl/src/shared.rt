@@ -47,11 +47,11 @@ impl SharedDisk {
         }
     }
 
-    /// How many bytes a disk has; 0 where it is in use.
-    pub fn size_of(disk: &Rc<RefCell<MemDisk>>) -> u64 {
+    /// How many bytes a disk has. None while it is in use.
+    pub fn size_of(disk: &Rc<RefCell<MemDisk>>) -> Option<u64> {
         match disk.try_borrow() {
-            Ok(disk) => disk.len(),
-            Err(_) => 0,
+            Ok(disk) => Some(disk.len()),
+            Err(_) => None,
         }
     }
 

@@ -1,8 +1,8 @@
 use crate::mem_world::MemWorld;
 use crate::program::run;
-use crate::quiet_world::QuietWorld;
+use crate::quiet_world::{QuietWorld, run_quietly};
 use crate::world::World;
-use lsvd_fault::{MemSink, MemSource};
+use lsvd_fault::{MemLink, MemSink, MemSource};
 use lsvd_objstore::PlannedFault;
 use std::alloc::{AllocError, Global};
 use std::process::Abort;
@@ -153,6 +153,122 @@ fn a_creation_ends_by_a_call_that_fails(rt: HostRuntime) -> Result<(), Fail> {
             Failing::Device(fuse) => world.with_fuse(fuse),
         };
         check(&rt, alloc, &mut world, CREATE, end)?;
+    }
+    Ok(())
+}
+
+// The status of a creation in the quiet world.
+fn status_in_quiet(alloc: Global, out: &mut MemSink) -> Result<u8, AllocError> {
+    let words = words_of(alloc, CREATE)?;
+    let mut world = QuietWorld::new(alloc);
+    let mut input = MemSource::new(Vec::new(alloc));
+    let mut err = MemSink::new(alloc);
+    Ok(run_quietly(
+        alloc,
+        words.as_slice(),
+        &mut world,
+        &mut input,
+        out,
+        &mut err,
+    ))
+}
+
+#[test]
+fn a_quiet_run_ends_by_its_output(rt: HostRuntime) -> Result<(), Fail> {
+    let alloc = rt.alloc();
+    let mut out = MemSink::new(alloc).failing_at(0);
+    let status = status_in_quiet(alloc, &mut out)?;
+    assert_eq!(rt; status, 1);
+    drop(out);
+    Ok(())
+}
+
+// What a client sends that enters the export, writes a sector durably and leaves.
+const CLIENT: [&[u8]; 4] = [
+    b"\x00\x00\x00\x03IHAVEOPT\x00\x00\x00\x07\x00\x00\x00\x06\x00\x00\x00\x00\x00\x00",
+    b"\x25\x60\x95\x13\x00\x01\x00\x01\x00\x00\x00\x00\x00\x00\x00\x07\x00\x00\x00\x00\x00\x00\x00\x00\x00\x00\x02\x00",
+    &[0x41; 512],
+    b"\x25\x60\x95\x13\x00\x00\x00\x02\x00\x00\x00\x00\x00\x00\x00\x09\x00\x00\x00\x00\x00\x00\x00\x00\x00\x00\x00\x00",
+];
+
+// The link of such a client.
+fn client(alloc: Global) -> Result<MemLink, AllocError> {
+    let mut input = Vec::new(alloc);
+    for message in CLIENT {
+        input.extend_from_slice(message)?;
+    }
+    Ok(MemLink::new(MemSource::new(input), MemSink::new(alloc)))
+}
+
+// Lines that serve the volume of the tests, each with the client that comes and its end. The cache that is made anew has another epoch
+// than the old one.
+const SERVERS: [(&str, bool, End); 6] = [
+    (
+        "serve --store S --volume 00000000-0000-4000-8000-000000000001 --cache A --socket K --lanes 1 --workers 0",
+        true,
+        (0, "mounted 0 1\nwrites 1\n", ""),
+    ),
+    (
+        "serve --store S --volume 00000000-0000-4000-8000-000000000001 --cache A --socket K",
+        false,
+        (0, "mounted 1 2\nwrites 1\n", ""),
+    ),
+    (
+        "serve --store S --volume 00000000-0000-4000-8000-000000000001 --cache B --socket K --lost --log 64 --sessions 1",
+        true,
+        (0, "mounted 1 2\nwrites 2\n", ""),
+    ),
+    (
+        "serve --store S --volume 00000000-0000-4000-8000-000000000001 --cache A --socket K",
+        false,
+        (3, "", "refused 5 0 1\n"),
+    ),
+    (
+        "serve --store S --volume 00000000-0000-4000-8000-000000000002 --cache A --socket K",
+        false,
+        (3, "", "refused 1\n"),
+    ),
+    (
+        "serve --store S --volume 00000000-0000-4000-8000-00000000000 --cache A --socket K",
+        false,
+        USAGE,
+    ),
+];
+
+#[test]
+fn a_volume_is_served(rt: HostRuntime) -> Result<(), Fail> {
+    let alloc = rt.alloc();
+    let mut world = MemWorld::new(alloc);
+    check(&rt, alloc, &mut world, CREATE, DONE)?;
+    for (line, comes, end) in SERVERS {
+        let mut links = Vec::new(alloc);
+        if comes {
+            links.push(client(alloc)?)?;
+        }
+        world = world.with_links(links);
+        check(&rt, alloc, &mut world, line, end)?;
+    }
+    Ok(())
+}
+
+// Worlds in which a call of a server fails: of the world, after the two of the creation, or an accept; and what was told before.
+const SERVER_FAULTS: [(u64, u64, &str); 4] = [
+    (3, 9, ""),
+    (4, 9, ""),
+    (5, 9, ""),
+    (9, 0, "mounted 0 1\nwrites 0\n"),
+];
+
+#[test]
+fn a_server_ends_by_a_call_that_fails(rt: HostRuntime) -> Result<(), Fail> {
+    let alloc = rt.alloc();
+    for (call, accept, told) in SERVER_FAULTS {
+        let mut world = MemWorld::new(alloc)
+            .failing_at(call)
+            .with_accept_fault(accept);
+        check(&rt, alloc, &mut world, CREATE, DONE)?;
+        let (line, _, _) = SERVERS[0];
+        check(&rt, alloc, &mut world, line, (1, told, "fault\n"))?;
     }
     Ok(())
 }

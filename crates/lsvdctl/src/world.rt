@@ -5,6 +5,7 @@ ghost use Rattle.lsvdctl.specs.World.{IsGiven, world_failed};
 
 use lsvd_device::Disk;
 use lsvd_fault::{Sink, Source};
+use lsvd_listen::Listener;
 use lsvd_objstore::Store;
 use std::alloc::AllocError;
 use thiserror::Error;
@@ -40,6 +41,8 @@ pub trait World {
     type Disk: Disk + Drop;
     /// The stores that it is given.
     type Store: Store + Drop;
+    /// What gives it the clients that it serves.
+    type Clients: Listener + Drop;
 
     /// How often a call has failed. At the greatest number of its type the count stands.
     ghost faults: { Self → ℕ };
@@ -52,6 +55,10 @@ pub trait World {
 
     /// The store at a path, with its objects. Where there is none, it is made if it is to be, and else the call fails.
     fn store(&mut self, path: &str, make: bool) -> Result<Self::Store, WorldError>
+        ensures count { Counts (world_failed result) (faults self.old) (faults self.new) };
+
+    /// The listener at a path, which clients can connect to from now on.
+    fn listen(&mut self, path: &str) -> Result<Self::Clients, WorldError>
         ensures count { Counts (world_failed result) (faults self.old) (faults self.new) };
 
     /// Sixteen bytes that nobody can foretell.

@@ -4,9 +4,9 @@ use Rattle.std.proofs.lemmas.Result.{IfOk-weaker}
 use Rattle.clap.specs.Simple.{App, app_of_fields}
 use Rattle.clap.specs.declared.builder.command.Command.{Command}
 use Rattle.clap.specs.declared.builder.command.Command.TheOpen.{Command-F}
-use Rattle.command_line.specs.Create.{create_options}
 use Rattle.command_line.specs.Options.{rule_for}
-use Rattle.command_line.proofs.Commands.{HasRules, has_one_more, local_defaulted, local_helped, rule_defaulted, rule_helped}
+use Rattle.command_line.specs.Create.{create_options}
+use Rattle.command_line.proofs.Commands.{HasRules, has_defaulted, has_helped}
 use Rattle.command_line.proofs.create.create_command.Goals as goal
 use Rattle.command_line.proofs.create.create_command.Goals.{After-arg-7}
 
@@ -17,33 +17,20 @@ made c =
       app = ap app_of_fields c.about.ensures ∙ c.new.ensures.app;
       local = ap (λ (f : Command-F Command). f.has_globals) c.about.ensures ∙ c.new.ensures.local;
     } in
-    let store = has_one_more name _ _ _ c.help.result _ none c.in_ok-arg.ensures
-    (local_helped _ c.required.result c.help.result c.required.ensures.local c.help.ensures)
-    (rule_helped _ c.required.result c.help.result _ c.required.ensures.rule c.help.ensures) in
-    let cache = has_one_more name _ _ _ c.help-2.result _ store c.in_ok-arg-2.ensures
-    (local_helped _ c.required-2.result c.help-2.result c.required-2.ensures.local c.help-2.ensures)
-    (rule_helped _ c.required-2.result c.help-2.result _ c.required-2.ensures.rule c.help-2.ensures) in
-    let sectors = has_one_more name _ _ _ c.help-3.result _ cache c.in_ok-arg-3.ensures
-    (local_helped _ c.required-3.result c.help-3.result c.required-3.ensures.local c.help-3.ensures)
-    (rule_helped _ c.required-3.result c.help-3.result _ c.required-3.ensures.rule c.help-3.ensures) in
-    let log = has_one_more name _ _ _ c.help-4.result _ sectors c.in_ok-arg-4.ensures
-    (local_helped _ c.required-4.result c.help-4.result c.required-4.ensures.local c.help-4.ensures)
-    (rule_helped _ c.required-4.result c.help-4.result _ c.required-4.ensures.rule c.help-4.ensures) in
-    let max_write = has_one_more name _ _ _ c.default_value.result _ log c.in_ok-arg-5.ensures
-    (local_defaulted _ c.help-5.result c.default_value.result
-    (local_helped _ c.option.result c.help-5.result c.option.ensures.local c.help-5.ensures) c.default_value.ensures)
-    (rule_defaulted (codes "max-write") _ c.help-5.result c.default_value.result
-    (rule_helped _ c.option.result c.help-5.result _ c.option.ensures.rule c.help-5.ensures)
-    c.default_value.ensures) in
-    let batch = has_one_more name _ _ _ c.default_value-2.result _ max_write c.in_ok-arg-6.ensures
-    (local_defaulted _ c.help-6.result c.default_value-2.result
-    (local_helped _ c.option-2.result c.help-6.result c.option-2.ensures.local c.help-6.ensures) c.default_value-2.ensures)
-    (rule_defaulted (codes "batch") _ c.help-6.result c.default_value-2.result
-    (rule_helped _ c.option-2.result c.help-6.result _ c.option-2.ensures.rule c.help-6.ensures)
-    c.default_value-2.ensures) in
-    IfOk-weaker c.arg-7.result _ _ (λ command adds. has_one_more name _ _ command c.help-7.result _ batch adds
-    (local_helped _ c.option-3.result c.help-7.result c.option-3.ensures.local c.help-7.ensures)
-    (rule_helped _ c.option-3.result c.help-7.result _ c.option-3.ensures.rule c.help-7.ensures))
+    let store = has_helped name _ _ _ _ c.required.result c.help.result _ none c.in_ok-arg.ensures
+    c.required.ensures.local c.required.ensures.rule c.help.ensures in
+    let cache = has_helped name _ _ _ _ c.required-2.result c.help-2.result _ store c.in_ok-arg-2.ensures
+    c.required-2.ensures.local c.required-2.ensures.rule c.help-2.ensures in
+    let sectors = has_helped name _ _ _ _ c.required-3.result c.help-3.result _ cache c.in_ok-arg-3.ensures
+    c.required-3.ensures.local c.required-3.ensures.rule c.help-3.ensures in
+    let log = has_helped name _ _ _ _ c.required-4.result c.help-4.result _ sectors c.in_ok-arg-4.ensures
+    c.required-4.ensures.local c.required-4.ensures.rule c.help-4.ensures in
+    let max_write = has_defaulted name _ _ _ _ _ c.option.result c.help-5.result c.default_value.result (codes "max-write") log c.in_ok-arg-5.ensures
+    c.option.ensures.local c.option.ensures.rule c.help-5.ensures c.default_value.ensures in
+    let batch = has_defaulted name _ _ _ _ _ c.option-2.result c.help-6.result c.default_value-2.result (codes "batch") max_write c.in_ok-arg-6.ensures
+    c.option-2.ensures.local c.option-2.ensures.rule c.help-6.ensures c.default_value-2.ensures in
+    IfOk-weaker c.arg-7.result _ _ (λ command adds. has_helped name _ _ command _ c.option-3.result c.help-7.result _ batch adds
+    c.option-3.ensures.local c.option-3.ensures.rule c.help-7.ensures)
     c.arg-7.ensures
 
 pub returns-clause-shape : goal.returns-clause-shape

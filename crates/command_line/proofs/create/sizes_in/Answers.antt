@@ -1,6 +1,6 @@
 use Rattle.clap.specs.Words.{found_of, rows_of}
 use Rattle.command_line.specs.Met.{value_among}
-use Rattle.command_line.proofs.Values.{past_limits}
+use Rattle.command_line.proofs.Spelled.{past_limits}
 use Rattle.command_line.proofs.create.sizes_in.Goals as goal
 
 pub returns-clause-none : goal.returns-clause-none

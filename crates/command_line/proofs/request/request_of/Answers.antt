@@ -2,12 +2,12 @@ use Rattle.std.proofs.Common.{List, inl, inr, map, string_bytes, subst, sym}
 use Rattle.std.specs.Prelude.{Err, Ok}
 use Rattle.clap.specs.Walk.{Text}
 use Rattle.clap.specs.Simple.{subcommand_of}
-use Rattle.command_line.specs.CommandLine.{IsRead, Line, Spells, create, faults_of, replay}
+use Rattle.command_line.specs.CommandLine.{IsRead, Line, Spells, create, faults_of, replay, serve}
 use Rattle.command_line.specs.Program.{lsvdctl}
 use Rattle.command_line.specs.declared.request.CommandLineError.{CommandLineError}
 use Rattle.command_line.specs.declared.request.CommandLineError.TheVariants.{Usage}
 use Rattle.command_line.proofs.Lines.{IsFound, error_of_taken, spelled_is_found, spelled_is_taken, spells_a_command, taken_is_spelled}
-use Rattle.command_line.proofs.Requests.{found_asks, found_asks_nothing, replay_is_read, valid_is_read}
+use Rattle.command_line.proofs.Requests.{found_asks, found_asks_nothing, replay_is_read, serve_valid_is_read, valid_is_read}
 use Rattle.command_line.proofs.request.request_of.Goals as goal
 use Rattle.command_line.proofs.request.request_of.Goals.{Joined-error, Joined-matches, Joined-matches-2}
 
@@ -33,6 +33,10 @@ returns-in-Err-clause-replay c is = replay_is_read (Err c.cause_of.result) (read
 pub returns-in-Err-clause-valid : goal.returns-in-Err-clause-valid
 returns-in-Err-clause-valid c options sizes valid is =
     valid_is_read options sizes (Err c.cause_of.result) valid (read_of_error c (create options) (valid.are, inl is))
+
+pub returns-in-Err-clause-serve_valid : goal.returns-in-Err-clause-serve_valid
+returns-in-Err-clause-serve_valid c options valid is =
+    serve_valid_is_read options (Err c.cause_of.result) valid (read_of_error c (serve options) (valid.are, inl is))
 
 -- ---- the matches make a request
 
@@ -80,3 +84,7 @@ returns-clause-replay c is = replay_is_read (Err Usage) (read_of_none c replay (
 pub returns-clause-valid : goal.returns-clause-valid
 returns-clause-valid c options sizes valid is =
     valid_is_read options sizes (Err Usage) valid (read_of_none c (create options) (valid.are, inl is))
+
+pub returns-clause-serve_valid : goal.returns-clause-serve_valid
+returns-clause-serve_valid c options valid is =
+    serve_valid_is_read options (Err Usage) valid (read_of_none c (serve options) (valid.are, inl is))

@@ -1,7 +1,7 @@
 use Rattle.clap.specs.Words.{found_of, rows_of}
 use Rattle.command_line.specs.Met.{value_among}
-use Rattle.command_line.proofs.Values.{got_none, got_some, has_number, lacks_absent, lacks_other}
-use Rattle.command_line.proofs.create.number_in.Goals as goal
+use Rattle.command_line.proofs.Spelled.{got_none, got_some, has_number, lacks_absent, lacks_other}
+use Rattle.command_line.proofs.values.number_in.Goals as goal
 
 pub returns-in_err-get_str-clause-none : goal.returns-in_err-get_str-clause-none
 returns-in_err-get_str-clause-none c =

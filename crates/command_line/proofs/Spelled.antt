@@ -1,17 +1,21 @@
 -- What the code reads of the values of options.
-use Rattle.std.proofs.Common.{◌≡◌, ◌≢◌, ◌∙◌, ◌^◌, ◌<◌, ℕ, Bool, true, false, List, Option, Some, None, ap, refl, sym, option_map, codes}
+use Rattle.std.proofs.Common.{◌≡◌, ◌≢◌, ◌∙◌, ◌⊎◌, ◌^◌, ◌<◌, ◌≤◌, ℕ, arith, inl, inr, Bool, true, false, List, Option, Some, None, ap, is_some, refl, sym, option_map}
 use Rattle.std.specs.Prelude.{◌↔◌, Err, IfNone, IfOk, IfSome, IsOk, Ok, Result, decimal}
 use Rattle.std.specs.Bool.{then_some}
 use Rattle.std.specs.Borrow.{Bor}
 use Rattle.std.specs.Result.{result_ok}
 use Rattle.uuid.specs.Text.{parsed}
+use Rattle.std.specs.Str.{bytes_eq}
+use Rattle.std.proofs.lemmas.Fmt.{decimal_injective}
+use Rattle.clap.specs.Values.{bool_text}
 use Rattle.clap.specs.Walk.{Text, rows_of}
 use Rattle.clap.specs.Matches.{first_value}
 use Rattle.clap.specs.declared.parser.matches.Found.{Found}
 use Rattle.clap.proofs.WalkLemmas.{first_value-rows}
 use Rattle.lsvd_base.specs.Limits.{is_within_limits}
 use Rattle.lsvd_base.specs.declared.geometry.Geometry.{Geometry}
-use Rattle.command_line.specs.Create.{GivesSizes, HasBadUuid, HasBadValue, IsNumber, LacksNumber, limits}
+use Rattle.command_line.specs.Create.{GivesSizes, HasBadValue, limits}
+use Rattle.command_line.specs.Values.{IsNoUuid, IsNumber, LacksBetween, LacksNumber, is_set}
 use Rattle.command_line.specs.Met.{value_among}
 
 abbrev Texts : Type 0
@@ -33,6 +37,17 @@ pub got_none : (found : Found) (name : Text) (text : Texts) → text_of text ≡
     → value_among (rows_of found) name ≡ None
 got_none found name text is has = got found name text is ∙ ap text_of has
 
+pub got_absent : (found : Found) (name : Text) (text : Texts) → text_of text ≡ first_value found name → is_some text ≡ false
+    → value_among (rows_of found) name ≡ None
+got_absent found name None is absent = got_none found name None is refl
+got_absent found name (Some text) is absent = cc
+
+pub got_present : (found : Found) (name : Text) (text : Texts) → text_of text ≡ first_value found name → is_some text ≡ true
+    → value_among (rows_of found) name ≢ None
+got_present found name None is present = cc
+got_present found name (Some text) is present = λ none.
+    let both : Some text.now ≡ None = sym (got_some found name (Some text) text is refl) ∙ none in cc
+
 -- ---- numbers
 
 pub lacks_absent : (value : Text → Option Text) (name : Text) → value name ≡ None → LacksNumber value name
@@ -48,6 +63,23 @@ pub has_number : (value : Text → Option Text) (name text : Text) (number : Opt
 has_number value name text (Some n) some is = (is.0, some ∙ ap (λ (t : Text). Some t) is.1)
 has_number value name text None some is = tt
 
+-- an option has one number
+pub same_number : (value : Text → Option Text) (name : Text) (a b : ℕ) → IsNumber value name a → IsNumber value name b → a ≡ b
+same_number value name a b is_a is_b =
+    let both : Some (decimal a) ≡ Some (decimal b) = sym is_a.1 ∙ is_b.1 in
+    decimal_injective a b is_a.0 is_b.0 cc
+
+-- a number that is not between these
+pub lacks_beyond : (value : Text → Option Text) (name : Text) (least most number : ℕ) → IsNumber value name number
+    → (number < least) ⊎ ((least ≤ number) × (most < number)) → LacksBetween value name least most
+lacks_beyond value name least most number is (inl below) n (other, from, to) =
+    let same = same_number value name n number other is in omega (arith, below, from, same)
+lacks_beyond value name least most number is (inr above) n (other, from, to) =
+    let same = same_number value name n number other is in omega (arith, above.1, to, same)
+
+pub lacks_between : (value : Text → Option Text) (name : Text) (least most : ℕ) → LacksNumber value name → LacksBetween value name least most
+lacks_between value name least most lacks n is = lacks n is.0
+
 -- sizes that do not keep the limits
 pub past_limits : (value : Text → Option Text) (sizes : Geometry) (test : Bool) → test ≡ is_within_limits sizes → GivesSizes value sizes
     → IfNone (then_some test sizes) (HasBadValue value)
@@ -57,9 +89,9 @@ past_limits value sizes false is gives = limits sizes gives (sym is)
 -- ---- uuids
 
 module _ {E : Type 0} where
-  pub bad_uuid : (value : Text → Option Text) (text : Text) (read : Result (List ℕ) E) → value (codes "uuid") ≡ Some text
-      → IsOk read ↔ ((u : List ℕ) × (parsed text ≡ Some u)) → result_ok read ≡ None → HasBadUuid value
-  bad_uuid value text read some ok none = (text, some, go read (parsed text) refl ok none)
+  pub bad_uuid : (value : Text → Option Text) (name text : Text) (read : Result (List ℕ) E) → value name ≡ Some text
+      → IsOk read ↔ ((u : List ℕ) × (parsed text ≡ Some u)) → result_ok read ≡ None → IsNoUuid value name
+  bad_uuid value name text read some ok none = (text, some, go read (parsed text) refl ok none)
     where
       go : (r : Result (List ℕ) E) (found : Option (List ℕ)) → parsed text ≡ found → IsOk r ↔ ((u : List ℕ) × (parsed text ≡ Some u))
           → result_ok r ≡ None → parsed text ≡ None
@@ -71,3 +103,12 @@ module _ {E : Type 0} where
       → Some (parsed text) ≡ Some (Some u)
   parsed_to text u (Ok v) is some = let same : parsed text ≡ Some u = sym is ∙ some in ap (λ (p : Option (List ℕ)). Some p) same
   parsed_to text u (Err e) is some = cc
+
+-- ---- flags
+
+pub set_by : (value : Text → Option Text) (name text : Text) → value name ≡ Some text
+    → bytes_eq text (bool_text true) ≡ is_set value name
+set_by value name text some = rw some refl
+
+pub not_set : (value : Text → Option Text) (name : Text) → value name ≡ None → false ≡ is_set value name
+not_set value name none = rw none refl
