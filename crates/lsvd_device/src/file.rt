@@ -63,6 +63,8 @@ pub struct FileDisk {
     file: File,
     size: u64,
     faults: u64,
+    /// The window that the last write outside of the first page ended in: the system was asked for it and for the next one.
+    window: Option<u64>,
     /// Why the last call that failed did.
     last_error: Option<io::Error>,
     /// Why a sync failed, if one did.
@@ -94,6 +96,7 @@ impl FileDisk {
             return Err(error);
         }
         sync_directory_of(rt, path)?;
+        forget_pages(&file);
         Ok(FileDisk::over(file, len))
     }
 
@@ -116,9 +119,25 @@ impl FileDisk {
             file,
             size: len,
             faults: 0,
+            window: None,
             last_error: None,
             sync_error: None,
         }
+    }
+
+    // Asks the system for the pages that later writes will change, where they go on from the end of this one. The first page is
+    // written too often to be out of memory, and between others.
+    fn read_ahead(&mut self, end: u64)
+        ensures { self.new ≡ self.old }
+    {
+        let window = end / WINDOW;
+        if end <= PAGE || self.window == Some(window) {
+            return;
+        }
+        let is_next = window > 0 && self.window == Some(window - 1);
+        let first = if is_next { window + 1 } else { window };
+        read_soon(&self.file, first, window + 2 - first);
+        self.window = Some(window);
     }
 
     /// Why the last call that failed did; None is where none has failed.
@@ -158,6 +177,7 @@ impl Disk for FileDisk {
     }
 
     fn write(&mut self, at: u64, piece: &[u8]) -> Result<(), Failed> {
+        self.read_ahead(at.saturating_add(piece.len() as u64));
         let outcome = self.file.write_all_at(piece, at);
         self.judge(outcome)
     }
@@ -207,6 +227,26 @@ fn above_standard_streams(file: File) -> io::Result<File> {
         return file.try_clone();
     }
     Ok(file)
+}
+
+// The bytes of a page, the unit in which the system has a file in memory.
+const PAGE: u64 = 4096;
+
+// How many bytes of the file are asked for at a time.
+const WINDOW: u64 = 1 << 20;
+
+// Asks the system to read windows of the file, from the first one on, without waiting for them. It is advice, so nothing is
+// made of a refusal.
+fn read_soon(file: &File, first: u64, windows: u64) {
+    let at = first.saturating_mul(WINDOW).cast_signed();
+    let len = windows.saturating_mul(WINDOW).cast_signed();
+    let _ = libc::posix_fadvise(file.as_raw_fd(), at, len, libc::POSIX_FADV_WILLNEED);
+}
+
+// Lets the system forget what it has of a file in memory. After long writes it has it in large pieces, in which short ones cost
+// several times as much as in pages.
+fn forget_pages(file: &File) {
+    let _ = libc::posix_fadvise(file.as_raw_fd(), 0, 0, libc::POSIX_FADV_DONTNEED);
 }
 
 // How many zeros are written at a time.

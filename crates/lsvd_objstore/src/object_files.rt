@@ -291,9 +291,30 @@ fn write_whole(rt: &HostRuntime, path: &str, bytes: &[u8]) -> io::Result<File> {
         file = file.try_clone()?;
     }
     let _ = file.try_lock();
-    file.write_all(bytes)?;
+    write_pieces(&mut file, bytes)?;
     file.sync_all()?;
     Ok(file)
+}
+
+// How many bytes of an object are written at a time.
+const PIECE: usize = 1 << 20;
+
+// Writes the bytes piece by piece, and lets the system send each to its device while the next is written, so that less is left
+// for the sync. Linux begins to write a part of a file that it is told not to keep.
+fn write_pieces(file: &mut File, bytes: &[u8]) -> io::Result<()> {
+    let mut at: u64 = 0;
+    for piece in bytes.chunks(PIECE) {
+        file.write_all(piece)?;
+        send(file, at, piece.len() as u64);
+        at = at.saturating_add(piece.len() as u64);
+    }
+    Ok(())
+}
+
+// Lets the system send a part of a file to its device. It is advice, so nothing is made of a refusal.
+fn send(file: &File, at: u64, len: u64) {
+    let (at, len) = (at.cast_signed(), len.cast_signed());
+    let _ = libc::posix_fadvise(file.as_raw_fd(), at, len, libc::POSIX_FADV_DONTNEED);
 }
 
 // Syncs the directory that has the name of this one, wherever links lead to it.

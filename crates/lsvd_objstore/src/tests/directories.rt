@@ -146,6 +146,7 @@ fn third_use(host: &HostRuntime, rt: &impl Abort) -> Result<(), Fail> {
     let mut store = DirStore::create(host, PATH)?;
     many_objects(host, rt, &mut store)?;
     replaced_object(host, rt, &mut store)?;
+    long_object(host, rt, &mut store)?;
     no_directory(host, rt, &mut store)?;
     drop(store);
     Ok(())
@@ -201,6 +202,16 @@ fn replaced_object(host: &HostRuntime, rt: &impl Abort, store: &mut DirStore) ->
     store.remove(&newer)?;
     assert!(rt; !is_read(store, &newer));
     assert_eq!(rt; store.faults(), 2);
+    Ok(())
+}
+
+// An object that is written in two whole pieces and a part of one has its bytes in their order.
+fn long_object(host: &HostRuntime, rt: &impl Abort, store: &mut DirStore) -> Result<(), Fail> {
+    let mut bytes = vec![in host.alloc(); 0x41; 1 << 20]?;
+    bytes.resize(2 << 20, 0x42)?;
+    bytes.resize((2 << 20) + 5, 0x43)?;
+    drop(put(host.alloc(), store, OBJECT, bytes.as_slice())?);
+    assert!(rt; holds(host.alloc(), store, OBJECT, Some(bytes.as_slice()))?);
     Ok(())
 }
 

@@ -1,4 +1,4 @@
-use Rattle.std.proofs.Common.{◌-◌, ◌≤◌, ℕ}
+use Rattle.std.proofs.Common.{◌-◌, ◌≤◌}
 use Rattle.lsvd_device.proofs.file.fill_with_zeros.Given as goal
 
 abbrev pub invariant-loop-at : goal.invariant-loop-at
