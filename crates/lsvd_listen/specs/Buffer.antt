@@ -11,8 +11,8 @@ abbrev pub empty_buffer : BufferState
 empty_buffer = record { waiting = []; room = 65536 }
 
 -- the bytes of a list from one place up to another
-abbrev pub between : List ℕ → ℕ → ℕ → List ℕ
-between bytes from to = take (to - from) (drop from bytes)
+abbrev pub bytes_between : List ℕ → ℕ → ℕ → List ℕ
+bytes_between bytes from to = take (to - from) (drop from bytes)
 
 -- bytes end with these
 pub record EndsWith (bytes last : List ℕ) : Type 0 where

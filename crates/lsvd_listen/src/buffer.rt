@@ -1,5 +1,5 @@
 ghost use Rattle.std.specs.Prelude.{◌≡◌, ℕ, ◌+◌, ◌≤◌, ◌++◌, [], length, take, drop, min, IfOk, OnErr};
-ghost use Rattle.lsvd_listen.specs.Buffer.{empty_buffer, between};
+ghost use Rattle.lsvd_listen.specs.Buffer.{empty_buffer, bytes_between};
 
 use crate::calls;
 use std::alloc::{AllocError, Global};
@@ -21,11 +21,11 @@ pub(crate) struct Buffer {
 
 impl Model for Buffer {
     ghost use Rattle.std.specs.Prelude.{◌≡◌, ◌≤◌, ◌-◌, length};
-    ghost use Rattle.lsvd_listen.specs.Buffer.{BufferState, between};
+    ghost use Rattle.lsvd_listen.specs.Buffer.{BufferState, bytes_between};
 
     ghost Value = { BufferState };
 
-    ghost view = { λ b. record { waiting = between b.bytes.items b.from b.to; room = 65536 - b.to } };
+    ghost view = { λ b. record { waiting = bytes_between b.bytes.items b.from b.to; room = 65536 - b.to } };
 
     ghost invariant = { λ b. (b.from ≤ b.to) × (b.to ≤ 65536) × (length b.bytes.items ≡ 65536) × (b.from ≡ b.to → b.to ≡ 0) };
 }
@@ -108,7 +108,7 @@ impl Buffer {
 // Puts a piece into the bytes at a place.
 fn put_at(bytes: &mut [u8], at: usize, piece: &[u8])
     requires { at + length piece.now ≤ length bytes.old }
-    ensures { (from : ℕ) → from ≤ at → between bytes.new from (at + length piece.now) ≡ between bytes.old from at ++ piece.now }
+    ensures { (from : ℕ) → from ≤ at → bytes_between bytes.new from (at + length piece.now) ≡ bytes_between bytes.old from at ++ piece.now }
 {
     bytes[at..at + piece.len()].copy_from_slice(piece);
 }

@@ -1,5 +1,5 @@
 use Rattle.std.proofs.Common.{ℕ, List, ◌+◌, ◌-◌, ◌++◌, length, take, drop, ◌∙◌, ap, arith}
-use Rattle.lsvd_listen.specs.Buffer.{between}
+use Rattle.lsvd_listen.specs.Buffer.{bytes_between}
 use Rattle.lsvd_listen.proofs.Waiting.{put_behind}
 use Rattle.lsvd_listen.proofs.buffer.put_at.Goals as goal
 
@@ -9,5 +9,5 @@ returns c = λ from ordered.
     let piece : List ℕ = c.args.piece.now in
     let at : ℕ = c.args.at in
     let rest : List ℕ = drop (at + length piece - at) (drop at bytes) in
-    ap (λ (xs : List ℕ). between (take at bytes ++ (xs ++ rest)) from (at + length piece)) c.copy_from_slice.ensures.after
+    ap (λ (xs : List ℕ). bytes_between (take at bytes ++ (xs ++ rest)) from (at + length piece)) c.copy_from_slice.ensures.after
     ∙ put_behind bytes piece rest from at ordered (omega (arith, c.requires))
