@@ -18,7 +18,7 @@ use Rattle.nbd_session.specs.declared.session.SessionEnd.{SessionEnd}
 use Rattle.nbd_session.specs.declared.session.SessionEnd.TheVariants as ends
 use Rattle.nbd_session.specs.Exchanges.{Outcome, Moment, Calls, Flushes, ReadsSectors, as_list, EntersIt, FlushesIf, EntersEntry, FlushesAll, CarriesOut, write_of, zero_of, asked_at, RequestExchange, IsRequestExchange, AreRequestExchanges}
 use Rattle.nbd_session.specs.Session.{LinkBytes, EndsSession, Transmits}
-use Rattle.nbd_session.specs.History.{Grows, LeavesRoom, entered_in}
+use Rattle.nbd_session.specs.History.{Grows, LeavesRoom, MayAdd, entered_in}
 
 -- ---- one after the other
 
@@ -132,8 +132,11 @@ flush_grows (Err (errors.Refused why)) added old new flushes = absurd flushes
 flush_grows (Err errors.Io) added old new flushes = none_more added old new flushes.0 (flushed true old new flushes.1)
 flush_grows (Err errors.NoMemory) added old new flushes = absurd flushes
 
+stays : (old new : Moment) → new ≡ old → Grows [] old new
+stays old new same = subst (Grows [] old) (sym same) (grows_nothing old)
+
 unchanged : (added : List Entry) (old new : Moment) → added ≡ [] → new ≡ old → GrowsByOne added old new
-unchanged added old new none same = none_more added old new none (subst (Grows [] old) (sym same) (grows_nothing old))
+unchanged added old new none same = none_more added old new none (stays old new same)
 
 request_grows : {R : Type 0} (state : R → ReceiptState) (asked : Asked) (content : List ℕ) (outcome : Outcome) (added : List Entry) (old new : Moment)
     → CarriesOut state asked content outcome added old new → GrowsByOne added old new
@@ -228,14 +231,20 @@ pub requests_grow : {R : Type 0} (state : R → ReceiptState) (exchanges : List 
     → AreRequestExchanges state exchanges old new → Grows (entered_in exchanges) old new × LeavesRoom old new
 requests_grow state exchanges old new done = (requests_add state exchanges old new done, requests_leave state exchanges old new done)
 
--- how it ends adds an entry at most
+-- how it ends adds an entry at most, and only where a reply was broken off
+record GrowsAtEnd (end : SessionEnd) (more : List Entry) (old new : Moment) : Type 0 where
+  few : MayAdd end more
+  grows : Grows more old new
+
 end_grows : {R : Type 0} (state : R → ReceiptState) (end : SessionEnd) (count : ℕ) (now last : LinkBytes) (old new : Moment)
-    → EndsSession state end count now last old new → (more : List Entry) × GrowsByOne more old new
-end_grows state ends.Ended count now last old new by = ([], unchanged [] old new refl by.0)
-end_grows state ends.Closed count now last old new by = ([], unchanged [] old new refl by.0)
-end_grows state ends.Spent count now last old new by = ([], unchanged [] old new refl by.0)
-end_grows state ends.LinkFault count now last old new (inl by) = ([], unchanged [] old new refl by.0)
-end_grows state ends.LinkFault count now last old new (inr by) = (by.exchange.entered, exchange_grows state by.exchange old new by.is_exchange)
+    → EndsSession state end count now last old new → (more : List Entry) × GrowsAtEnd end more old new
+end_grows state ends.Ended count now last old new by = ([], record { few = refl; grows = stays old new by.0 })
+end_grows state ends.Closed count now last old new by = ([], record { few = refl; grows = stays old new by.0 })
+end_grows state ends.Spent count now last old new by = ([], record { few = refl; grows = stays old new by.0 })
+end_grows state ends.LinkFault count now last old new (inl by) = ([], record { few = omega arith; grows = stays old new by.0 })
+end_grows state ends.LinkFault count now last old new (inr by) =
+    let one = exchange_grows state by.exchange old new by.is_exchange in
+    (by.exchange.entered, record { few = one.few; grows = one.grows })
 end_grows state ends.OutOfMemory count now last old new by = absurd by
 
 end_leaves : {R : Type 0} (state : R → ReceiptState) (end : SessionEnd) (count : ℕ) (now last : LinkBytes) (old new : Moment)
@@ -249,7 +258,7 @@ end_leaves state ends.OutOfMemory count now last old new by = absurd by
 
 pub session_grows : {R : Type 0} (state : R → ReceiptState) (end : SessionEnd) (first last : LinkBytes) (old new : Moment)
     (session : Transmits state end first last old new)
-    → (more : List Entry) × (length more ≤ 1) × Grows (entered_in session.exchanges ++ more) old new × LeavesRoom old new
+    → (more : List Entry) × MayAdd end more × Grows (entered_in session.exchanges ++ more) old new × LeavesRoom old new
 session_grows state end first last old new session =
     let ended = end_grows state end (length session.exchanges) session.now last session.then new session.ends in (
       ended.0,

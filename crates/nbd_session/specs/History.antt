@@ -1,11 +1,12 @@
 -- Contract: what a session makes of the history of its volume.
-use Rattle.std.specs.Prelude.{ℕ, ◌+◌, ◌^◌, ◌≤◌, List, ◌++◌, length, flat_map}
+use Rattle.std.specs.Prelude.{◌≡◌, ℕ, ◌+◌, ◌^◌, ◌≤◌, List, [], ◌++◌, length, flat_map}
 use Rattle.lsvd_base.specs.declared.entry.Entry.{Entry}
 use Rattle.lsvd_objstore.specs.Store.{ReceiptState, Becomes}
 use Rattle.vol_core.specs.Step.{HasSameSizes}
 use Rattle.vol_core.specs.Stops.{HasOwnCommits}
 use Rattle.volume_owner.specs.Calls.{Adds, KeepsOtherNames}
 use Rattle.nbd_session.specs.declared.session.SessionEnd.{SessionEnd}
+use Rattle.nbd_session.specs.declared.session.SessionEnd.TheVariants.{Ended, Closed, Spent, LinkFault, OutOfMemory}
 use Rattle.nbd_session.specs.Exchanges.{Moment, RequestExchange, AreRequestExchanges, max_session_steps}
 use Rattle.nbd_session.specs.Session.{LinkBytes, Transmits}
 
@@ -35,8 +36,16 @@ RequestsGrow state =
     (exchanges : List RequestExchange) (old new : Moment) → AreRequestExchanges state exchanges old new
     → Grows (entered_in exchanges) old new × LeavesRoom old new
 
--- a session adds those, and at most one more, of a request whose reply was broken off
+-- what a session adds beside those: one entry at most, of a request whose reply was broken off, and else none
+abbrev pub MayAdd : SessionEnd → List Entry → Type 0
+MayAdd LinkFault more = length more ≤ 1
+MayAdd Ended more = more ≡ []
+MayAdd Closed more = more ≡ []
+MayAdd Spent more = more ≡ []
+MayAdd OutOfMemory more = more ≡ []
+
+-- a session adds those, and nothing else but that
 abbrev pub SessionGrows : {R : Type 0} → (R → ReceiptState) → Type 0
 SessionGrows state =
     (end : SessionEnd) (first last : LinkBytes) (old new : Moment) (session : Transmits state end first last old new)
-    → (more : List Entry) × (length more ≤ 1) × Grows (entered_in session.exchanges ++ more) old new × LeavesRoom old new
+    → (more : List Entry) × MayAdd end more × Grows (entered_in session.exchanges ++ more) old new × LeavesRoom old new

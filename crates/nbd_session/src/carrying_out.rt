@@ -58,7 +58,7 @@ fn without_data(alloc: Global, done: Result<(), ReplyError>) -> Result<Body, Rep
     Ok(Body::from_bytes(Vec::new(alloc)))
 }
 
-// ReadsSectors so many sectors, or none.
+// Reads so many sectors, or none.
 fn read<D: Disk, R: Receipt, S: Store<Receipt = R>>(
     alloc: Global,
     owner: &mut Owner<D, R>,

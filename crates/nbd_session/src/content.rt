@@ -11,7 +11,7 @@ use lsvd_fault::Source;
 use nbd_wire::{Request, WireEnd, drop_data, read_data};
 use std::alloc::{AllocError, Global};
 
-/// ReadsSectors the data that come after a request: those of a write that is taken, which are whole sectors (a condition), where there is memory
+/// Reads the data that come after a request: those of a write that is taken, which are whole sectors (a condition), where there is memory
 /// for them. Those of any other write are dropped, and no other request has any.
 pub(crate) fn read_content<K: Source>(
     alloc: Global,
@@ -35,7 +35,7 @@ pub(crate) fn read_content<K: Source>(
     }
 }
 
-// ReadsSectors the data of a write, which are whole sectors (a condition). Where there is no memory for them, they are dropped.
+// Reads the data of a write, which are whole sectors (a condition). Where there is no memory for them, they are dropped.
 fn read_body<K: Source>(alloc: Global, link: &mut K, size: u32) -> Result<Option<Body>, WireEnd>
     requires { size % 512 ≡ 0 }
     ensures bytes { ReadsData size IsContent (K.remaining link.old) (K.remaining link.new) result }
@@ -50,7 +50,7 @@ fn read_body<K: Source>(alloc: Global, link: &mut K, size: u32) -> Result<Option
     Ok(Some(Body::from_bytes(bytes)))
 }
 
-// ReadsSectors the data of a write and drops them.
+// Reads the data of a write and drops them.
 fn drop_body<K: Source>(link: &mut K, size: u32) -> Result<Option<Body>, WireEnd>
     ensures bytes { ReadsData size IsContent (K.remaining link.old) (K.remaining link.new) result }
     ensures memory { HasMemory result }

@@ -115,7 +115,7 @@ fn transmit<D: Disk, R: Receipt, S: Store<Receipt = R>, K: Link>(
     SessionEnd::Spent
 }
 
-// ReadsSectors the next request and answers it, and says whether the session goes on: it does not where the client disconnects.
+// Reads the next request and answers it, and says whether the session goes on: it does not where the client disconnects.
 fn serve_request<D: Disk, R: Receipt, S: Store<Receipt = R>, K: Link>(
     alloc: Global,
     owner: &mut Owner<D, R>,

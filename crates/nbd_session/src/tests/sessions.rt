@@ -95,10 +95,10 @@ fn add_bytes(bytes: &mut Vec<u8>, byte: u8, count: usize) -> Result<(), AllocErr
     Ok(())
 }
 
-// All that the client sends in the session.
-fn input_of(alloc: Global) -> Result<Vec<u8>, AllocError> {
+// All that the client sends in a session with these requests.
+fn input_of(alloc: Global, askings: &[Asking]) -> Result<Vec<u8>, AllocError> {
     let mut input = ENTERING.to_vec(alloc)?;
-    for (k, asking) in ASKINGS.iter().enumerate() {
+    for (k, asking) in askings.iter().enumerate() {
         ask(&mut input, k as u64, *asking)?;
     }
     input.extend_from_slice(DISCONNECTING)?;
@@ -106,9 +106,9 @@ fn input_of(alloc: Global) -> Result<Vec<u8>, AllocError> {
 }
 
 // All that the server sends in it.
-fn output_of(alloc: Global) -> Result<Vec<u8>, AllocError> {
+fn output_of(alloc: Global, askings: &[Asking]) -> Result<Vec<u8>, AllocError> {
     let mut output = ENTERED.to_vec(alloc)?;
-    for (k, asking) in ASKINGS.iter().enumerate() {
+    for (k, asking) in askings.iter().enumerate() {
         reply(&mut output, k as u64, *asking)?;
     }
     Ok(output)
@@ -116,13 +116,13 @@ fn output_of(alloc: Global) -> Result<Vec<u8>, AllocError> {
 
 type TestOwner = Owner<FuseDisk<MemDisk>, MemReceipt>;
 
-// The owner of a new volume.
-fn owner_of(alloc: Global) -> Result<TestOwner, Fail> {
+// The owner of a new volume, on a disk that passes so many calls, or all.
+fn owner_of(alloc: Global, fuse: Option<u64>) -> Result<TestOwner, Fail> {
     let disk = MemDisk::new(alloc, SIZE)?;
     let _ = disk.len();
     let volume = match create(
         alloc,
-        FuseDisk::new(disk, None),
+        FuseDisk::new(disk, fuse),
         Uuid::from_bytes(UUID),
         GEOMETRY,
     ) {
@@ -134,8 +134,8 @@ fn owner_of(alloc: Global) -> Result<TestOwner, Fail> {
 }
 
 // Serves a new volume on the link.
-fn serve(alloc: Global, link: &mut MemLink) -> Result<SessionEnd, Fail> {
-    let mut owner = owner_of(alloc)?;
+fn serve(alloc: Global, link: &mut MemLink, fuse: Option<u64>) -> Result<SessionEnd, Fail> {
+    let mut owner = owner_of(alloc, fuse)?;
     let mut store = MemStore::new(alloc);
     let end = serve_session(alloc, &mut owner, link, &mut store);
     drop(owner);
@@ -155,13 +155,40 @@ fn link_of(alloc: Global, input: &[u8], most: usize) -> Result<MemLink, AllocErr
 
 #[test]
 fn requests_are_answered_in_order(rt: HostRuntime) -> Result<(), Fail> {
-    let input = input_of(rt.alloc())?;
-    let output = output_of(rt.alloc())?;
+    let input = input_of(rt.alloc(), ASKINGS)?;
+    let output = output_of(rt.alloc(), ASKINGS)?;
     for most in [0, 1, 27] {
         let mut link = link_of(rt.alloc(), input.as_slice(), most)?;
-        assert_eq!(rt; serve(rt.alloc(), &mut link)?, SessionEnd::Ended);
+        assert_eq!(rt; serve(rt.alloc(), &mut link, None)?, SessionEnd::Ended);
         assert!(rt; link.bytes() == output.as_slice());
     }
+    Ok(())
+}
+
+// The calls of a disk that make a new volume.
+const CREATING: u64 = 7;
+
+// Requests on a disk of which one call more passes, which writes the first one's record: what needs the disk is answered by an error of
+// its own, and the session goes on.
+const FAILING: &[Asking] = &[
+    (0, 1, 0, 512, 0x41, 0, b""),
+    (0, 3, 0, 0, 0, 5, b""),
+    (0, 1, 512, 512, 0x42, 5, b""),
+    (0, 0, 0, 512, 0, 5, b""),
+    (0, 0, 512, 512, 0, 0, b"\x00"),
+    (0, 4, 512, 512, 0, 5, b""),
+];
+
+#[test]
+fn a_disk_that_fails_is_told_to_the_client(rt: HostRuntime) -> Result<(), Fail> {
+    let input = input_of(rt.alloc(), FAILING)?;
+    let output = output_of(rt.alloc(), FAILING)?;
+    let mut link = link_of(rt.alloc(), input.as_slice(), 0)?;
+    assert_eq!(rt;
+        serve(rt.alloc(), &mut link, Some(CREATING + 1))?,
+        SessionEnd::Ended
+    );
+    assert!(rt; link.bytes() == output.as_slice());
     Ok(())
 }
 
@@ -174,7 +201,7 @@ fn serve_front(
 ) -> Result<(SessionEnd, bool), Fail> {
     let front = input.get(..size).unwrap_or(input);
     let mut link = link_of(alloc, front, 0)?;
-    let end = serve(alloc, &mut link)?;
+    let end = serve(alloc, &mut link, None)?;
     let sent = link.bytes();
     Ok((end, output.get(..sent.len()) == Some(sent)))
 }
@@ -197,8 +224,8 @@ const CUTS: [(usize, SessionEnd); 12] = [
 
 #[test]
 fn input_that_is_cut_off_closes_the_session(rt: HostRuntime) -> Result<(), Fail> {
-    let input = input_of(rt.alloc())?;
-    let output = output_of(rt.alloc())?;
+    let input = input_of(rt.alloc(), ASKINGS)?;
+    let output = output_of(rt.alloc(), ASKINGS)?;
     for (size, end) in CUTS {
         let served = serve_front(rt.alloc(), input.as_slice(), output.as_slice(), size)?;
         assert_eq!(rt; served, (end, true), "after {size} bytes");
@@ -221,15 +248,15 @@ fn serve_failing(
     } else {
         MemLink::new(source, sink.failing_at(call))
     };
-    let end = serve(alloc, &mut link)?;
+    let end = serve(alloc, &mut link, None)?;
     let sent = link.bytes();
     Ok((end, output.get(..sent.len()) == Some(sent)))
 }
 
 #[test]
 fn a_link_that_fails_ends_the_session(rt: HostRuntime) -> Result<(), Fail> {
-    let input = input_of(rt.alloc())?;
-    let output = output_of(rt.alloc())?;
+    let input = input_of(rt.alloc(), ASKINGS)?;
+    let output = output_of(rt.alloc(), ASKINGS)?;
     for call in 0..20 {
         for is_read in [false, true] {
             let served = serve_failing(
