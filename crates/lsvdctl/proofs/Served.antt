@@ -1,15 +1,18 @@
 -- Where no disk, store and listener count a fault, none of them ends a command by one.
-use Rattle.std.proofs.Common.{arith, ◌≡◌, ℕ, ◌<◌, ◌-◌, ◌^◌, ◌⊎◌, Bool, true, false, not, refl, sym, ◌∙◌, ap, subst, inl, inr}
-use Rattle.std.specs.Prelude.{IsErrOf, Result, Ok, Err}
+use Rattle.std.proofs.Common.{arith, ◌≡◌, ℕ, ◌+◌, ◌<◌, ◌-◌, ◌^◌, ◌⊎◌, Bool, true, false, not, List, [], length, append-nil, refl, sym, ◌∙◌, ap, subst, inl, inr}
+use Rattle.std.specs.Prelude.{IsErrOf, OnOk, Result, Ok, Err}
+use Rattle.lsvd_base.specs.declared.entry.Entry.{Entry}
 use Rattle.lsvd_device.specs.Device.{DiskState}
 use Rattle.lsvd_fault.specs.Faults.{Counts, CountsOne}
+use Rattle.plain_disk.specs.State.{history_length}
+use Rattle.vol_core.specs.Volume.{VolumeState}
 use Rattle.vol_mount.specs.Costs.{CostsMount}
 use Rattle.vol_mount.specs.Refusals.{is_device_fault, is_store_fault_of}
 use Rattle.vol_mount.specs.declared.error.MountError.{MountError}
 use Rattle.vol_mount.specs.declared.error.MountError.TheVariants as mounts
 use Rattle.volume_owner.specs.declared.error.OwnerError.{OwnerError}
 use Rattle.volume_owner.specs.declared.error.OwnerError.TheVariants as owners
-use Rattle.volume_owner.specs.Calls.{CountsEitherFault}
+use Rattle.volume_owner.specs.Calls.{Adds, IsLengthOf, CountsEitherFault}
 use Rattle.volume_owner.specs.Errors.{is_eio}
 use Rattle.volume_server.specs.declared.serving.LaneEnd.{LaneEnd}
 use Rattle.volume_server.specs.declared.serving.LaneEnd.TheVariants as lanes
@@ -20,7 +23,8 @@ use Rattle.lsvdctl.specs.declared.refusal.Refusal.{Refusal}
 use Rattle.lsvdctl.specs.Creating.{of_world}
 use Rattle.lsvdctl.specs.declared.world.WorldError.{WorldError}
 use Rattle.lsvdctl.specs.declared.world.WorldError.TheVariants as worlds
-use Rattle.lsvdctl.specs.Serving.{of_mount, of_owner}
+use Rattle.lsvdctl.specs.declared.report.Report.TheVariants as reports
+use Rattle.lsvdctl.specs.Serving.{of_mount, of_owner, judged}
 use Rattle.lsvdctl.specs.Run.{CountsOneOf}
 use Rattle.lsvdctl.specs.World.{IsConstant, world_failed}
 
@@ -64,6 +68,17 @@ pub world_quiet : {T : Type 0} (U : Type 0) (error : WorldError) (first before n
     → (IsErrOf {T = T} (Err (of_world error)) errors.Fault → ⊥) → now ≡ first
 world_quiet U worlds.Failed first before now same counted quiet = absurd (quiet refl)
 world_quiet U worlds.OutOfMemory first before now same counted quiet = counted ∙ same
+
+-- a call of the world refuses no volume
+pub world_refuses_none : {T : Type 0} (error : WorldError) (why : Refusal) → IsErrOf {T = T} (Err (of_world error)) (errors.Refused why) → ⊥
+world_refuses_none {T} worlds.Failed why is = other (same_error {T = T} errors.Fault (errors.Refused why) is)
+  where
+    other : errors.Fault ≡ errors.Refused why → ⊥
+    other is = cc
+world_refuses_none {T} worlds.OutOfMemory why is = other (same_error {T = T} errors.OutOfMemory (errors.Refused why) is)
+  where
+    other : errors.OutOfMemory ≡ errors.Refused why → ⊥
+    other is = cc
 
 -- ---- a mount
 
@@ -118,7 +133,25 @@ drain_counts_none disk_faults store_faults first last old new owners.Eio n m is_
 drain_counts_none disk_faults store_faults first last old new owners.OutOfMemory n m is_first is_last no_range counted is disks stores =
     let bad : ⊥ = cc in bad
 
+-- a history that nothing is added to has the length that it has then
+pub length_stays : (count : ℕ) (old new : VolumeState) → Adds [] old new → IsLengthOf count new → IsLengthOf count old
+length_stays count old new adds counted plain shows =
+    let then = adds plain shows in
+    counted then.0 then.1 ∙ ap history_length then.2.opens
+    ∙ ap (λ (entries : List Entry). plain.end + length entries) (append-nil plain.entries)
+
 -- ---- clients
+
+-- a server that is done has done what is so, and one that is not refuses no volume
+pub on_judged : {P : Type 0} (end : LaneEnd) → P → OnOk (judged end) P
+on_judged lanes.Counted is = is
+on_judged lanes.Closed is = is
+on_judged lanes.Failed is = tt
+
+pub judged_refuses_none : (end : LaneEnd) (why : Refusal) → IsErrOf (judged end) (errors.Refused why) → ⊥
+judged_refuses_none lanes.Counted why is = let bad : ⊥ = cc in bad
+judged_refuses_none lanes.Closed why is = let bad : ⊥ = cc in bad
+judged_refuses_none lanes.Failed why is = let bad : ⊥ = cc in bad
 
 pub lane_counts_none : {L : Type 0} (faults : L → ℕ) (first last : L) (old new : ListenerState) (end : LaneEnd) → old.faults ≡ faults first
     → new.faults ≡ faults last → ClosesAs end old new → end ≡ lanes.Failed → IsConstant faults → ⊥
@@ -129,9 +162,9 @@ lane_counts_none faults first last old new lanes.Failed is_old is_new closes is 
     (subst (λ a. CountsOne a (faults last)) is_old (subst (λ b. CountsOne old.faults b) is_new closes.1))
 
 -- what a result with such an error tells
-pub mount_fault : {T : Type 0} (told : CommandError) (error : MountError) → told ≡ of_mount error → IsErrOf {T = T} (Err told) errors.Fault
-    → of_mount error ≡ errors.Fault
-mount_fault {T} told error is fault = sym is ∙ same_error {T = T} told errors.Fault fault
+pub mount_error : {T : Type 0} (told other : CommandError) (error : MountError) → told ≡ of_mount error → IsErrOf {T = T} (Err told) other
+    → of_mount error ≡ other
+mount_error {T} told other error is same = sym is ∙ same_error {T = T} told other same
 
 pub owner_error : {T : Type 0} (error : OwnerError) (other : CommandError) → IsErrOf {T = T} (Err (of_owner error)) other → of_owner error ≡ other
 owner_error {T} error other is = same_error {T = T} (of_owner error) other is
@@ -148,3 +181,9 @@ no_error value error is = cc
 pub output_counts : (world_before world_now first mid last : ℕ) → world_now ≡ world_before → mid ≡ first → CountsOne mid last
     → CountsOneOf world_before world_now first last
 output_counts world_before world_now first mid last same quiet counted = inr (same, subst (λ n. CountsOne n last) quiet counted)
+
+-- a report of a refusal is that of the error
+pub same_refusal : {T : Type 0} (error : CommandError) (first second : Refusal) → error ≡ errors.Refused first
+    → reports.Refused first ≡ reports.Refused second → IsErrOf {T = T} (Err error) (errors.Refused second)
+same_refusal error first second told is =
+    let one : first ≡ second = cc in ap (λ e. Err e) (told ∙ ap (λ why. errors.Refused why) one)

@@ -5,12 +5,21 @@ use Rattle.std.proofs.lemmas.List.{take-append-le}
 use Rattle.std.proofs.Math.Seq.{take-append-add, take-append_seam, take-length}
 use Rattle.std.specs.Io.KnownBytes.{Appends}
 use Rattle.std.specs.Prelude.{Option, Err}
+use Rattle.lsvd_device.specs.Device.{DiskState}
+use Rattle.lsvd_objstore.specs.Objects.{Objects}
+use Rattle.lsvd_objstore.specs.Store.{StoreState, ReceiptState}
+use Rattle.command_line.specs.declared.serve.ServeRequest.{ServeRequest}
+use Rattle.vol_mount.specs.Mounted.{MountedState}
+use Rattle.volume_owner.specs.Calls.{IsLengthOf}
+use Rattle.nbd_session.specs.Exchanges.{Moment}
+use Rattle.volume_server.specs.Serving.{AreClients}
 use Rattle.volume_server.specs.declared.serving.LaneEnd.{LaneEnd}
 use Rattle.volume_server.specs.declared.serving.LaneEnd.TheVariants as lanes
 use Rattle.lsvdctl.specs.declared.error.CommandError.{CommandError}
 use Rattle.lsvdctl.specs.declared.error.CommandError.TheVariants as errors
 use Rattle.lsvdctl.specs.declared.refusal.Refusal.{Refusal}
-use Rattle.lsvdctl.specs.Serving.{mounted_line, writes_line, serving_text, IsFrontOf, IsServingFront, TellsServed, judged}
+use Rattle.lsvdctl.specs.Mounting.{MountsFor, Serves}
+use Rattle.lsvdctl.specs.Serving.{mounted_line, writes_line, serving_text, AppendsFront, IsServingFront, TellsServed, judged}
 
 -- nothing is a front of what a server tells
 pub nothing_told : (old : Option (List ℕ)) → IsServingFront old old
@@ -22,7 +31,7 @@ nothing_served errors.Fault old = nothing_told old
 nothing_served errors.OutOfMemory old = nothing_told old
 
 -- a front of the first line
-pub first_broken : (kept number : ℕ) (old new : Option (List ℕ)) → IsFrontOf (mounted_line kept number) old new → TellsServed (Err errors.Fault) old new
+pub first_broken : (kept number : ℕ) (old new : Option (List ℕ)) → AppendsFront (mounted_line kept number) old new → TellsServed (Err errors.Fault) old new
 first_broken kept number old new front =
     let a = mounted_line kept number in
     let b = writes_line 0 in (
@@ -60,7 +69,7 @@ only_first kept number errors.OutOfMemory old new not_refused told = first_told 
 
 -- a front of the second line after it
 pub second_broken : (kept number entries : ℕ) (old mid new : Option (List ℕ)) → Appends old mid (mounted_line kept number)
-    → IsFrontOf (writes_line entries) mid new → TellsServed (Err errors.Fault) old new
+    → AppendsFront (writes_line entries) mid new → TellsServed (Err errors.Fault) old new
 second_broken kept number entries old mid new first front =
     let a = mounted_line kept number in
     let b = writes_line entries in (
@@ -95,3 +104,23 @@ both_told kept number entries lanes.Failed old mid new first second = (
   where
     whole : take (length (serving_text kept number entries)) (serving_text kept number entries) ≡ serving_text kept number entries
     whole = take-length (serving_text kept number entries)
+
+-- what stands behind both lines
+pub serves_with : {D S R : Type 0} (disk_state : D → DiskState) (objects_of : S → Option Objects) (receipt_state : R → ReceiptState)
+    (request : ServeRequest) (shown mounted : MountedState) (store : StoreState) (entries : ℕ) (old mid new : Option (List ℕ))
+    → shown ≡ mounted → MountsFor disk_state objects_of receipt_state request mounted
+    → ((clients : ℕ) × (last : Moment) × AreClients receipt_state clients (record { volume = shown.volume; store = store }) last
+    × IsLengthOf entries last.volume.volume)
+    → Appends old mid (mounted_line shown.entries shown.number) → Appends mid new (writes_line entries)
+    → Serves disk_state objects_of receipt_state request old new
+serves_with disk_state objects_of receipt_state request shown mounted store entries old mid new same mounts served first second = record {
+  mounted = shown;
+  mounts = subst (λ m. MountsFor disk_state objects_of receipt_state request m) (sym same) mounts;
+  store = store;
+  clients = served.0;
+  last = served.1;
+  served = served.2;
+  entries = entries;
+  count = served.3;
+  told = Appends-trans old mid new (mounted_line shown.entries shown.number) (writes_line entries) first second;
+}

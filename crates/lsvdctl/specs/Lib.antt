@@ -1,5 +1,6 @@
 pub mod Creating
 pub mod Help
+pub mod Mounting
 pub mod Refusal
 pub mod Report
 pub mod Run

@@ -68,12 +68,12 @@ abbrev pub serving_text : (kept number entries : ℕ) → List ℕ
 serving_text kept number entries = mounted_line kept number ++ writes_line entries
 
 -- a front of a text was added
-abbrev pub IsFrontOf : List ℕ → Option (List ℕ) → Option (List ℕ) → Type 0
-IsFrontOf text old new = (n : ℕ) × (n ≤ length text) × Appends old new (take n text)
+abbrev pub AppendsFront : List ℕ → Option (List ℕ) → Option (List ℕ) → Type 0
+AppendsFront text old new = (n : ℕ) × (n ≤ length text) × Appends old new (take n text)
 
 -- some front of some text was added: none of it, or some of its lines
 abbrev pub IsServingFront : Option (List ℕ) → Option (List ℕ) → Type 0
-IsServingFront old new = (kept : ℕ) × (number : ℕ) × (entries : ℕ) × IsFrontOf (serving_text kept number entries) old new
+IsServingFront old new = (kept : ℕ) × (number : ℕ) × (entries : ℕ) × AppendsFront (serving_text kept number entries) old new
 
 -- what the output took, where the run ended so
 abbrev pub TellsServing : Report → (old new : Option (List ℕ)) → Type 0

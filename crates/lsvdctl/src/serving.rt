@@ -1,10 +1,15 @@
-ghost use Rattle.std.specs.Prelude.{◌≡◌, ◌≢◌, ◌≤◌, ℕ, IfOk, OnOk, OnErr, Err, IsErrOf, is_err, length, take};
+ghost use Rattle.std.specs.Prelude.{◌≡◌, ◌≢◌, ◌≤◌, ℕ, true, false, IfOk, OnOk, OnErr, Err, IsErrOf, is_err, length, take};
 ghost use Rattle.std.specs.Io.KnownBytes.{Appends};
 ghost use Rattle.lsvd_device.specs.Device.{IsDisk};
 ghost use Rattle.lsvd_fault.specs.Faults.{Counts, CountsOne};
+ghost use Rattle.nbd_session.specs.Exchanges.{Moment};
 ghost use Rattle.nbd_session.specs.History.{most_steps};
+ghost use Rattle.volume_owner.specs.Calls.{IsLengthOf};
+ghost use Rattle.volume_server.specs.Serving.{AreClients};
 ghost use Rattle.volume_owner.specs.Owner.{IsIdle};
-ghost use Rattle.lsvdctl.specs.Serving.{HasLogLength, TellsServing, TellsServed, judged, mounted_line, writes_line, IsFrontOf};
+ghost use Rattle.object_recovery.specs.Faults.{TellsBytes};
+ghost use Rattle.lsvdctl.specs.Mounting.{IsMountedFrom, IsWhyRefused, IsWhyAbsent, RefusesFor, MountsFor, Serves};
+ghost use Rattle.lsvdctl.specs.Serving.{HasLogLength, TellsServing, TellsServed, judged, mounted_line, writes_line, AppendsFront};
 ghost use Rattle.lsvdctl.specs.Run.{CountsOneOf, CountsNone};
 ghost use Rattle.lsvdctl.specs.World.{IsConstant};
 
@@ -21,6 +26,7 @@ use lsvd_fault::{Failed, Sink, write_all};
 use lsvd_listen::Listener;
 use lsvd_objstore::Store;
 use std::alloc::Global;
+use super_recovery::has_super;
 use uuid::Uuid;
 use vol_core::Volume;
 use vol_recover::{Mounted, mount_kept, mount_lost};
@@ -30,7 +36,9 @@ use volume_server::{LaneEnd, clients_add_to_one_history, serve_volume};
 /// Serves the volume that is asked for: mounts it, writes a line to `out` as soon as clients can connect, and serves them; with the last
 /// session it puts into the store what is not yet there, and writes a line again.
 ///
-/// A volume that is not mounted is `Refused`, and nothing is written then. `Fault` comes where a call of the world failed, or of the store,
+/// The first line tells how many entries the history of the volume that was mounted has, and the number of its last object; the second how
+/// many it has at the end. A volume that is not mounted is `Refused`, for the reason that its store and its cache give, and nothing is
+/// written then. `Fault` comes where a call of the world failed, or of the store,
 /// the disk or the listener that it gave, or of `out`; `Memory` where memory ran out. The first call that fails ends it, but for one of the
 /// listener: then no more clients come, and it ends as with the last session.
 pub fn answer_serve<W: World>(
@@ -41,6 +49,10 @@ pub fn answer_serve<W: World>(
 ) -> Report
     requires { HasLogLength request.now }
     ensures told { TellsServing result (W.Out.contents out.old) (W.Out.contents out.new) }
+    ensures serves { result ≡ Report.Done → Serves (λ disk. W.Disk.state disk) (λ store. (W.Store.state store).objects) W.Store.Receipt.state request.now
+        (W.Out.contents out.old) (W.Out.contents out.new) }
+    ensures why { (why : Refusal) → result ≡ Report.Refused why
+        → RefusesFor (λ disk. W.Disk.state disk) (λ store. (W.Store.state store).objects) W.Store.Receipt.state request.now why }
     ensures fault { result ≡ Report.Fault → IsConstant (λ disk. (W.Disk.state disk).faults) → IsConstant (λ store. (W.Store.state store).faults)
         → IsConstant W.Clients.faults → CountsOneOf (W.faults world.old) (W.faults world.new) (W.Out.faults out.old) (W.Out.faults out.new) }
     ensures no_fault { result ≢ Report.Fault → CountsNone (W.faults world.old) (W.faults world.new) (W.Out.faults out.old) (W.Out.faults out.new) }
@@ -62,6 +74,10 @@ fn serve<W: World>(
 ) -> Result<(), CommandError>
     requires { HasLogLength request.now }
     ensures told { TellsServed result (W.Out.contents out.old) (W.Out.contents out.new) }
+    ensures serves { OnOk result (Serves (λ disk. W.Disk.state disk) (λ store. (W.Store.state store).objects) W.Store.Receipt.state request.now
+        (W.Out.contents out.old) (W.Out.contents out.new)) }
+    ensures why { (why : Refusal) → IsErrOf result (CommandError.Refused why)
+        → RefusesFor (λ disk. W.Disk.state disk) (λ store. (W.Store.state store).objects) W.Store.Receipt.state request.now why }
     ensures fault { IsErrOf result CommandError.Fault
         → IsConstant (λ disk. (W.Disk.state disk).faults) → IsConstant (λ store. (W.Store.state store).faults) → IsConstant W.Clients.faults
         → CountsOneOf (W.faults world.old) (W.faults world.new) (W.Out.faults out.old) (W.Out.faults out.new) }
@@ -99,7 +115,8 @@ struct Opened<D: Disk + Drop, S: Store + Drop, L: Listener + Drop> {
     clients: L,
 }
 
-// Mounts the volume that is asked for, and begins to listen.
+// Mounts the volume that is asked for, and begins to listen. Whether there is one is asked before its cache is made anew, since what a
+// cache held is lost then.
 fn open<W: World>(
     alloc: Global,
     request: &ServeRequest<'_>,
@@ -108,13 +125,21 @@ fn open<W: World>(
     requires { HasLogLength request.now }
     ensures idle { IfOk result (λ opened. IsIdle opened.mounted.volume.volume) }
     ensures steps { IfOk result (λ opened. opened.mounted.volume.steps ≤ most_steps) }
+    ensures mounts { IfOk result (λ opened.
+        MountsFor (λ disk. W.Disk.state disk) (λ store. (W.Store.state store).objects) W.Store.Receipt.state request.now opened.mounted) }
+    ensures why { (why : Refusal) → IsErrOf result (CommandError.Refused why)
+        → RefusesFor (λ disk. W.Disk.state disk) (λ store. (W.Store.state store).objects) W.Store.Receipt.state request.now why }
     ensures fault { IsErrOf result CommandError.Fault
         → IsConstant (λ disk. (W.Disk.state disk).faults) → IsConstant (λ store. (W.Store.state store).faults)
         → CountsOne (W.faults world.old) (W.faults world.new) }
     ensures no_fault { result ≢ Err CommandError.Fault → W.faults world.new ≡ W.faults world.old }
 {
     let mut store = world.store(request.store, false)?;
-    let disk = world.disk(request.cache, length_of(request))?;
+    let length = length_of(request);
+    if length.is_some() {
+        expect_volume(alloc, &mut store, request.volume)?;
+    }
+    let disk = world.disk(request.cache, length)?;
     let mounted = mount(alloc, disk, &mut store, request)?;
     let clients = world.listen(request.socket)?;
     Ok(Opened {
@@ -134,6 +159,18 @@ fn length_of(request: &ServeRequest<'_>) -> Option<u64>
     }
 }
 
+// Refuses a volume of which the store has no super object.
+fn expect_volume<S: Store>(alloc: Global, store: &mut S, uuid: Uuid) -> Result<(), CommandError>
+    ensures why { (why : Refusal) → IsErrOf result (CommandError.Refused why) → IsWhyAbsent uuid (S.state store.old).objects why }
+    ensures same { (S.state store.new).objects ≡ (S.state store.old).objects }
+    ensures fault { IsErrOf result CommandError.Fault → IsConstant (λ store. (S.state store).faults) → ⊥ }
+{
+    if has_super(alloc, store, uuid)? {
+        return Ok(());
+    }
+    Err(CommandError::Refused(Refusal::NoVolume))
+}
+
 // Mounts the volume that is asked for, with the cache that it had or without it.
 fn mount<D: Disk + Drop, S: Store>(
     alloc: Global,
@@ -144,6 +181,10 @@ fn mount<D: Disk + Drop, S: Store>(
     requires { IsDisk (D.state disk) }
     ensures idle { IfOk result (λ mounted. IsIdle mounted.volume.volume) }
     ensures steps { IfOk result (λ mounted. mounted.volume.steps ≤ most_steps) }
+    ensures mounts { TellsBytes S.Receipt.state → IfOk result (λ mounted.
+        IsMountedFrom request.now.is_lost request.now.volume (D.state disk) (S.state store.old).objects mounted) }
+    ensures why { TellsBytes S.Receipt.state → (why : Refusal) → IsErrOf result (CommandError.Refused why)
+        → IsWhyRefused request.now.is_lost request.now.volume (D.state disk) (S.state store.old).objects why }
     ensures fault { IsErrOf result CommandError.Fault
         → IsConstant (λ disk. (D.state disk).faults) → IsConstant (λ store. (S.state store).faults) → ⊥ }
 {
@@ -163,6 +204,10 @@ fn mount_again<D: Disk + Drop, S: Store>(
     requires { IsDisk (D.state disk) }
     ensures idle { IfOk result (λ mounted. IsIdle mounted.volume.volume) }
     ensures steps { IfOk result (λ mounted. mounted.volume.steps ≤ most_steps) }
+    ensures mounts { TellsBytes S.Receipt.state → IfOk result (λ mounted.
+        IsMountedFrom false uuid (D.state disk) (S.state store.old).objects mounted) }
+    ensures why { TellsBytes S.Receipt.state → (why : Refusal) → IsErrOf result (CommandError.Refused why)
+        → IsWhyRefused false uuid (D.state disk) (S.state store.old).objects why }
     ensures fault { IsErrOf result CommandError.Fault
         → IsConstant (λ disk. (D.state disk).faults) → IsConstant (λ store. (S.state store).faults) → ⊥ }
 {
@@ -185,6 +230,10 @@ fn mount_anew<D: Disk + Drop, S: Store>(
     requires { IsDisk (D.state disk) }
     ensures idle { IfOk result (λ mounted. IsIdle mounted.volume.volume) }
     ensures steps { IfOk result (λ mounted. mounted.volume.steps ≤ most_steps) }
+    ensures mounts { TellsBytes S.Receipt.state → IfOk result (λ mounted.
+        IsMountedFrom true uuid (D.state disk) (S.state store.old).objects mounted) }
+    ensures why { TellsBytes S.Receipt.state → (why : Refusal) → IsErrOf result (CommandError.Refused why)
+        → IsWhyRefused true uuid (D.state disk) (S.state store.old).objects why }
     ensures fault { IsErrOf result CommandError.Fault
         → IsConstant (λ disk. (D.state disk).faults) → IsConstant (λ store. (S.state store).faults) → ⊥ }
 {
@@ -214,6 +263,9 @@ fn serve_clients<D: Disk + Drop, S: Store, L: Listener>(
 ) -> Result<Served, CommandError>
     requires idle { IsIdle volume.volume }
     requires steps { volume.steps ≤ most_steps }
+    ensures count { IfOk result (λ served. (clients : ℕ) × (last : Moment)
+        × AreClients S.Receipt.state clients (record { volume = volume; store = S.state store.old }) last
+        × IsLengthOf served.entries last.volume.volume) }
     ensures refused { (why : Refusal) → IsErrOf result (CommandError.Refused why) → ⊥ }
     ensures fault { IsErrOf result CommandError.Fault
         → IsConstant (λ disk. (D.state disk).faults) → IsConstant (λ store. (S.state store).faults) → ⊥ }
@@ -236,6 +288,7 @@ fn drain<D: Disk + Drop, S: Store>(
 ) -> Result<u64, CommandError>
     requires idle { IsIdle volume.volume }
     requires steps { volume.steps ≤ most_steps }
+    ensures count { IfOk result (λ entries. IsLengthOf entries volume.volume) }
     ensures refused { (why : Refusal) → IsErrOf result (CommandError.Refused why) → ⊥ }
     ensures fault { IsErrOf result CommandError.Fault
         → IsConstant (λ disk. (D.state disk).faults) → IsConstant (λ store. (S.state store).faults) → ⊥ }
@@ -254,7 +307,7 @@ const LINE_BYTES: usize = 64;
 // The line that tells a volume that was mounted, as one write.
 fn tell_mounted<O: Sink>(out: &mut O, entries: u64, number: u64) -> Result<(), Failed>
     ensures ok { OnOk result (Appends (O.contents out.old) (O.contents out.new) (mounted_line entries number)) }
-    ensures front { OnErr result (IsFrontOf (mounted_line entries number) (O.contents out.old) (O.contents out.new)) }
+    ensures front { OnErr result (AppendsFront (mounted_line entries number) (O.contents out.old) (O.contents out.new)) }
     ensures count { Counts (is_err result) (O.faults out.old) (O.faults out.new) }
 {
     let mut line = ArrayString::<LINE_BYTES>::new();
@@ -269,7 +322,7 @@ fn tell_mounted<O: Sink>(out: &mut O, entries: u64, number: u64) -> Result<(), F
 // The line that tells how many entries the history has at the end, as one write.
 fn tell_writes<O: Sink>(out: &mut O, entries: u64) -> Result<(), Failed>
     ensures ok { OnOk result (Appends (O.contents out.old) (O.contents out.new) (writes_line entries)) }
-    ensures front { OnErr result (IsFrontOf (writes_line entries) (O.contents out.old) (O.contents out.new)) }
+    ensures front { OnErr result (AppendsFront (writes_line entries) (O.contents out.old) (O.contents out.new)) }
     ensures count { Counts (is_err result) (O.faults out.old) (O.faults out.new) }
 {
     let mut line = ArrayString::<LINE_BYTES>::new();

@@ -200,13 +200,18 @@ fn client(alloc: Global) -> Result<MemLink, AllocError> {
     Ok(MemLink::new(MemSource::new(input), MemSink::new(alloc)))
 }
 
-// Lines that serve the volume of the tests, each with the client that comes and its end. The cache that is made anew has another epoch
-// than the old one.
-const SERVERS: [(&str, bool, End); 6] = [
+// Lines that serve the volume of the tests, each with the client that comes and its end. For a volume that is not there no cache is made
+// anew. One that is has another epoch than the old one.
+const SERVERS: [(&str, bool, End); 7] = [
     (
         "serve --store S --volume 00000000-0000-4000-8000-000000000001 --cache A --socket K --lanes 1 --workers 0",
         true,
         (0, "mounted 0 1\nwrites 1\n", ""),
+    ),
+    (
+        "serve --store S --volume 00000000-0000-4000-8000-000000000002 --cache A --socket K --lost --log 64",
+        false,
+        (3, "", "refused 1\n"),
     ),
     (
         "serve --store S --volume 00000000-0000-4000-8000-000000000001 --cache A --socket K",

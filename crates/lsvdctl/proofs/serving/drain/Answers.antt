@@ -1,8 +1,9 @@
-use Rattle.std.proofs.Common.{◌∙◌, sym, ap}
+use Rattle.std.proofs.Common.{◌∙◌, sym, ap, subst}
 use Rattle.std.proofs.lemmas.Result.{err_from_is_err_and}
 use Rattle.lsvd_device.specs.Device.{DiskState}
 use Rattle.vol_core.specs.Volume.{SteppedVolume}
-use Rattle.lsvdctl.proofs.Served.{drain_refuses_none, drain_counts_none, owner_error}
+use Rattle.volume_owner.specs.Calls.{IsLengthOf}
+use Rattle.lsvdctl.proofs.Served.{drain_refuses_none, drain_counts_none, owner_error, length_stays}
 use Rattle.lsvdctl.proofs.serving.drain.Goals as goal
 
 pub returns-in_err-drained-clause-refused : goal.returns-in_err-drained-clause-refused
@@ -20,3 +21,9 @@ returns-in_err-drained-clause-fault g c =
     (ap (λ (d : DiskState). d.faults) c.disk-2.ensures
     ∙ ap (λ (v : SteppedVolume). v.volume.log.commits.disk.faults) c.into_volume-volume.ensures.volume) c.in_err-drained.ensures.range c.in_err-drained.ensures.call.faults
     (owner_error c.in_err-drained.field-0.0 _ is) disks stores)
+
+pub returns-clause-count : goal.returns-clause-count
+returns-clause-count g c =
+    let count = c.in_ok-drained.field-0 in
+    subst (λ (v : SteppedVolume). IsLengthOf count v.volume) c.new-owner.ensures
+    (length_stays count _ _ c.drain-drained.ensures.call.steps.adds c.in_ok-drained.ensures.count)

@@ -1,7 +1,8 @@
-use Rattle.std.proofs.Common.{refl}
+use Rattle.std.proofs.Common.{refl, ap}
 use Rattle.std.proofs.lemmas.Result.{err_from_is_err_and}
-use Rattle.lsvdctl.proofs.Served.{refused_in, no_error, output_counts}
-use Rattle.lsvdctl.proofs.Told.{nothing_served, first_broken, only_first, second_broken, both_told}
+use Rattle.lsvdctl.specs.declared.serving.Opened.{Opened}
+use Rattle.lsvdctl.proofs.Served.{refused_in, no_error, output_counts, on_judged}
+use Rattle.lsvdctl.proofs.Told.{nothing_served, first_broken, only_first, second_broken, both_told, serves_with}
 use Rattle.lsvdctl.proofs.serving.serve.Goals as goal
 
 pub returns-in_err-opened-clause-told : goal.returns-in_err-opened-clause-told
@@ -13,6 +14,10 @@ pub returns-in_err-tell_mounted-clause-told : goal.returns-in_err-tell_mounted-c
 returns-in_err-tell_mounted-clause-told g c =
     let p = err_from_is_err_and c.from_residual-in_err-tell_mounted.result c.from_residual-in_err-tell_mounted.ensures.1 in
     rw (p.1, p.2) (first_broken c.opened.inside.0.0.entries c.opened.inside.0.0.number _ _ c.in_err-tell_mounted.ensures.front)
+
+pub returns-in_err-tell_mounted-clause-fault : goal.returns-in_err-tell_mounted-clause-fault
+returns-in_err-tell_mounted-clause-fault g c is disks stores clients =
+    output_counts _ _ _ _ _ (c.in_ok-opened.ensures.no_fault (no_error c.in_ok-opened.opened _)) refl c.in_err-tell_mounted.ensures.count
 
 pub returns-in_err-tell_mounted-clause-no_fault : goal.returns-in_err-tell_mounted-clause-no_fault
 returns-in_err-tell_mounted-clause-no_fault g c =
@@ -40,3 +45,10 @@ pub returns-clause-told : goal.returns-clause-told
 returns-clause-told g c =
     rw c.judge.ensures (both_told c.opened.inside.0.0.entries c.opened.inside.0.0.number c.in_ok-served.served.entries
     c.in_ok-served.served.end _ _ _ c.in_ok-tell_mounted.ensures.ok c.in_ok-tell_writes.ensures.ok)
+
+pub returns-clause-serves : goal.returns-clause-serves
+returns-clause-serves g c =
+    rw c.judge.ensures (on_judged c.in_ok-served.served.end
+    (serves_with _ _ _ c.args.request.now _ _ _ c.in_ok-served.served.entries _ _ _
+    (ap (λ (opened : Opened g.row.W-Disk.Denot g.row.W-Store.Denot g.row.W-Clients.Denot g.row.W-Store-Receipt.Denot g.row.W-Clients-Link.Denot). opened.mounted) c.opened.view_is)
+    c.in_ok-opened.ensures.mounts c.in_ok-served.ensures.count c.in_ok-tell_mounted.ensures.ok c.in_ok-tell_writes.ensures.ok))
