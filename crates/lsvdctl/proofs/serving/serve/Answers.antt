@@ -13,7 +13,7 @@ returns-in_err-opened-clause-told g c =
 pub returns-in_err-tell_mounted-clause-told : goal.returns-in_err-tell_mounted-clause-told
 returns-in_err-tell_mounted-clause-told g c =
     let p = err_from_is_err_and c.from_residual-in_err-tell_mounted.result c.from_residual-in_err-tell_mounted.ensures.1 in
-    rw (p.1, p.2) (first_broken c.opened.inside.0.0.entries c.opened.inside.0.0.number _ _ c.in_err-tell_mounted.ensures.front)
+    rw (p.1, p.2) (first_broken _ _ _ _ c.in_err-tell_mounted.ensures.front)
 
 pub returns-in_err-tell_mounted-clause-fault : goal.returns-in_err-tell_mounted-clause-fault
 returns-in_err-tell_mounted-clause-fault g c is disks stores clients =
@@ -27,13 +27,13 @@ returns-in_err-tell_mounted-clause-no_fault g c =
 pub returns-in_err-served-clause-told : goal.returns-in_err-served-clause-told
 returns-in_err-served-clause-told g c =
     let p = err_from_is_err_and c.from_residual-in_err-served.result c.from_residual-in_err-served.ensures.1 in
-    rw (p.1, p.2) (only_first c.opened.inside.0.0.entries c.opened.inside.0.0.number c.in_err-served.field-0.0 _ _
+    rw (p.1, p.2) (only_first _ _ c.in_err-served.field-0.0 _ _
     (λ why is. c.in_err-served.ensures.refused why (refused_in c.in_err-served.field-0.0 why is)) c.in_ok-tell_mounted.ensures.ok)
 
 pub returns-in_err-tell_writes-clause-told : goal.returns-in_err-tell_writes-clause-told
 returns-in_err-tell_writes-clause-told g c =
     let p = err_from_is_err_and c.from_residual-in_err-tell_writes.result c.from_residual-in_err-tell_writes.ensures.1 in
-    rw (p.1, p.2) (second_broken c.opened.inside.0.0.entries c.opened.inside.0.0.number c.in_ok-served.served.entries _ _ _
+    rw (p.1, p.2) (second_broken _ _ c.in_ok-served.served.entries _ _ _
     c.in_ok-tell_mounted.ensures.ok c.in_err-tell_writes.ensures.front)
 
 pub returns-in_err-tell_writes-clause-fault : goal.returns-in_err-tell_writes-clause-fault
@@ -43,7 +43,7 @@ returns-in_err-tell_writes-clause-fault g c is disks stores clients =
 
 pub returns-clause-told : goal.returns-clause-told
 returns-clause-told g c =
-    rw c.judge.ensures (both_told c.opened.inside.0.0.entries c.opened.inside.0.0.number c.in_ok-served.served.entries
+    rw c.judge.ensures (both_told _ _ c.in_ok-served.served.entries
     c.in_ok-served.served.end _ _ _ c.in_ok-tell_mounted.ensures.ok c.in_ok-tell_writes.ensures.ok)
 
 pub returns-clause-serves : goal.returns-clause-serves
