@@ -35,11 +35,11 @@ IsWhyNotMounted false uuid disk objects error =
 IsWhyNotMounted true uuid disk objects error = IsWhyOf uuid (log_of disk.size) objects (λ geometry epoch. IsWhyLost uuid geometry epoch objects) error
 
 -- a refusal is told for such an error alone
-abbrev pub IsWhyRefused : (is_lost : Bool) → (uuid : List ℕ) → DiskState → Option Objects → Refusal → Type 0
-IsWhyRefused is_lost uuid disk objects why =
+abbrev pub IsRefusalFor : (is_lost : Bool) → (uuid : List ℕ) → DiskState → Option Objects → Refusal → Type 0
+IsRefusalFor is_lost uuid disk objects why =
     (error : MountError) × (of_mount error ≡ errors.Refused why) × IsWhyNotMounted is_lost uuid disk objects error
 
--- ---- what the world gave for it
+-- ---- of some store and some disk of the world
 
 -- the store has no volume of this name
 abbrev pub IsWhyAbsent : (uuid : List ℕ) → Option Objects → Refusal → Type 0
@@ -48,14 +48,14 @@ IsWhyAbsent uuid objects why = (errors.Refused why ≡ of_mount mounts.NoVolume)
 -- why the volume that is asked for is refused: the store has none, or it is not mounted with the disk
 abbrev pub IsWhyNone : {D : Type 0} → (D → DiskState) → ServeRequest → Option Objects → Refusal → Type 0
 IsWhyNone {D} state request objects why =
-    IsWhyAbsent request.volume objects why ⊎ ((disk : D) × IsWhyRefused request.is_lost request.volume (state disk) objects why)
+    IsWhyAbsent request.volume objects why ⊎ ((disk : D) × IsRefusalFor request.is_lost request.volume (state disk) objects why)
 
--- so it is with some store of the world, where receipts tell what they stand for
+-- so it is of some store, where receipts tell what they stand for
 abbrev pub RefusesFor : {D S R : Type 0} → (D → DiskState) → (S → Option Objects) → (R → ReceiptState) → ServeRequest → Refusal → Type 0
 RefusesFor {D} {S} disk_state objects_of receipt_state request why =
     (store : S) × (TellsBytes receipt_state → IsWhyNone disk_state request (objects_of store) why)
 
--- and a volume that is served was mounted of a store and a disk of the world
+-- and a volume that is served was mounted of some store and some disk
 abbrev pub MountsFor : {D S R : Type 0} → (D → DiskState) → (S → Option Objects) → (R → ReceiptState) → ServeRequest → MountedState → Type 0
 MountsFor {D} {S} disk_state objects_of receipt_state request mounted =
     (disk : D) × (store : S) × (TellsBytes receipt_state → IsMountedFrom request.is_lost request.volume (disk_state disk) (objects_of store) mounted)

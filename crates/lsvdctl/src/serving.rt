@@ -8,7 +8,7 @@ ghost use Rattle.volume_owner.specs.Calls.{IsLengthOf};
 ghost use Rattle.volume_server.specs.Serving.{AreClients};
 ghost use Rattle.volume_owner.specs.Owner.{IsIdle};
 ghost use Rattle.object_recovery.specs.Faults.{TellsBytes};
-ghost use Rattle.lsvdctl.specs.Mounting.{IsMountedFrom, IsWhyRefused, IsWhyAbsent, RefusesFor, MountsFor, Serves};
+ghost use Rattle.lsvdctl.specs.Mounting.{IsMountedFrom, IsRefusalFor, IsWhyAbsent, RefusesFor, MountsFor, Serves};
 ghost use Rattle.lsvdctl.specs.Serving.{HasLogLength, TellsServing, TellsServed, judged, mounted_line, writes_line, AppendsFront};
 ghost use Rattle.lsvdctl.specs.Run.{CountsOneOf, CountsNone};
 ghost use Rattle.lsvdctl.specs.World.{IsConstant};
@@ -184,7 +184,7 @@ fn mount<D: Disk + Drop, S: Store>(
     ensures mounts { TellsBytes S.Receipt.state → IfOk result (λ mounted.
         IsMountedFrom request.now.is_lost request.now.volume (D.state disk) (S.state store.old).objects mounted) }
     ensures why { TellsBytes S.Receipt.state → (why : Refusal) → IsErrOf result (CommandError.Refused why)
-        → IsWhyRefused request.now.is_lost request.now.volume (D.state disk) (S.state store.old).objects why }
+        → IsRefusalFor request.now.is_lost request.now.volume (D.state disk) (S.state store.old).objects why }
     ensures fault { IsErrOf result CommandError.Fault
         → IsConstant (λ disk. (D.state disk).faults) → IsConstant (λ store. (S.state store).faults) → ⊥ }
 {
@@ -207,7 +207,7 @@ fn mount_again<D: Disk + Drop, S: Store>(
     ensures mounts { TellsBytes S.Receipt.state → IfOk result (λ mounted.
         IsMountedFrom false uuid (D.state disk) (S.state store.old).objects mounted) }
     ensures why { TellsBytes S.Receipt.state → (why : Refusal) → IsErrOf result (CommandError.Refused why)
-        → IsWhyRefused false uuid (D.state disk) (S.state store.old).objects why }
+        → IsRefusalFor false uuid (D.state disk) (S.state store.old).objects why }
     ensures fault { IsErrOf result CommandError.Fault
         → IsConstant (λ disk. (D.state disk).faults) → IsConstant (λ store. (S.state store).faults) → ⊥ }
 {
@@ -233,7 +233,7 @@ fn mount_anew<D: Disk + Drop, S: Store>(
     ensures mounts { TellsBytes S.Receipt.state → IfOk result (λ mounted.
         IsMountedFrom true uuid (D.state disk) (S.state store.old).objects mounted) }
     ensures why { TellsBytes S.Receipt.state → (why : Refusal) → IsErrOf result (CommandError.Refused why)
-        → IsWhyRefused true uuid (D.state disk) (S.state store.old).objects why }
+        → IsRefusalFor true uuid (D.state disk) (S.state store.old).objects why }
     ensures fault { IsErrOf result CommandError.Fault
         → IsConstant (λ disk. (D.state disk).faults) → IsConstant (λ store. (S.state store).faults) → ⊥ }
 {

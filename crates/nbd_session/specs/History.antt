@@ -36,7 +36,7 @@ RequestsGrow state =
     (exchanges : List RequestExchange) (old new : Moment) → AreRequestExchanges state exchanges old new
     → Grows (entered_in exchanges) old new × LeavesRoom old new
 
--- what a session adds beside those: one entry at most, of a request whose reply was broken off, and else none
+-- what a session adds beside those: one entry at most where its link failed, and else none
 abbrev pub MayAdd : SessionEnd → List Entry → Type 0
 MayAdd LinkFault more = length more ≤ 1
 MayAdd Ended more = more ≡ []
