@@ -16,8 +16,6 @@ mod log;
 mod opening;
 mod release;
 mod row;
-#[cfg(test)]
-mod tests;
 mod transfer;
 
 pub use error::{AppendError, OpenError, ReadError};

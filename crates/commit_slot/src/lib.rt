@@ -31,8 +31,6 @@ mod halves;
 mod loading;
 mod reading;
 mod slot;
-#[cfg(test)]
-mod tests;
 
 pub use commits::Commits;
 pub use error::LoadError;

@@ -17,8 +17,6 @@ mod laws;
 mod look;
 mod part;
 mod place;
-#[cfg(test)]
-mod tests;
 
 pub use extent::Extent;
 pub use extent_map::ExtentMap;

@@ -8,8 +8,6 @@ ghost use Rattle.lsvd_device.specs.Stop.{put_by, change_by, left_in_order, IsSto
 
 use crate::change::Change;
 use crate::disk::Disk;
-#[cfg(test)]
-use crate::disk::StoppedDisk;
 use crate::fate::Fate;
 use crate::memory::MemDisk;
 use lsvd_fault::Failed;
@@ -171,48 +169,5 @@ fn sync(disk: &mut MemDisk) -> Result<(), AllocError>
     match disk.sync() {
         Ok(()) => Ok(()),
         Err(Failed) => Err(AllocError),
-    }
-}
-
-#[cfg(test)]
-mod tests {
-    use super::*;
-    use std::process::Abort;
-    use std::test::Fail;
-
-    // A disk of eight bytes, with two writes that were synced and three that were not.
-    fn written(alloc: Global, rt: &impl Abort) -> Result<MemDisk, Fail> {
-        let mut disk = MemDisk::new(alloc, 8)?;
-        assert_eq!(rt; disk.len(), 8);
-        disk.write(0, b"abcd")?;
-        disk.write(2, b"ef")?;
-        disk.sync()?;
-        disk.write(0, b"ABC")?;
-        disk.write(2, b"DEF")?;
-        disk.write(7, b"H")?;
-        Ok(disk)
-    }
-
-    #[test]
-    fn each_write_meets_its_fate(rt: HostRuntime) -> Result<(), Fail> {
-        let alloc = rt.alloc();
-        let disk = written(alloc, &rt)?;
-        assert_eq!(rt; disk.pending(), 3);
-        for (fates, wanted) in [
-            ([Fate::Old, Fate::Old, Fate::Old], *b"abef\0\0\0\0"),
-            ([Fate::Kept, Fate::Kept, Fate::Kept], *b"ABDEF\0\0H"),
-            ([Fate::Kept, Fate::Old, Fate::Zeros], *b"ABCf\0\0\0\0"),
-            ([Fate::Old, Fate::Kept, Fate::Torn], *b"abDEF\0\0\0"),
-            ([Fate::Torn, Fate::Zeros, Fate::Kept], *b"Ab\0\0\0\0\0H"),
-            ([Fate::Zeros, Fate::Torn, Fate::Old], *b"\0\0Df\0\0\0\0"),
-        ] {
-            assert_eq!(rt; fates.len(), disk.pending());
-            let mut left = disk.stopped(alloc, &fates)?;
-            assert_eq!(rt; (left.len(), left.pending()), (8, 0));
-            let mut held = [0xff; 8];
-            left.read(0, &mut held)?;
-            assert_eq!(rt; held, wanted, "{fates:?}");
-        }
-        Ok(())
     }
 }

@@ -8,8 +8,6 @@
 mod adapter;
 mod memory;
 mod stream;
-#[cfg(test)]
-mod tests;
 mod transfer;
 
 pub use adapter::{ReadSource, WriteSink};

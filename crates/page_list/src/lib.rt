@@ -14,8 +14,6 @@ mod page;
 mod page_list;
 mod search;
 mod steps;
-#[cfg(test)]
-mod tests;
 
 pub use cursor::Cursor;
 pub use page_list::PageList;
