@@ -1,0 +1,31 @@
+//! The formats of docs/FORMATS.md, byte by byte: what is written of each is told in hexadecimal and read
+//! again, and what is refused is told with its reason.
+//!
+//! Its contract is its output, of which each value is the document's; it says no other. It stands on the
+//! crates of the formats, and on the kit's `hex`, `uuid` and `thiserror`.
+#![tactic(auto)]
+
+mod bodies;
+mod case;
+mod chains;
+mod epochs;
+mod error;
+mod lines;
+mod names;
+mod objects;
+mod records;
+mod refused_objects;
+mod supers;
+
+use error::TestError;
+
+fn main(rt: HostRuntime) -> Result<(), TestError> {
+    records::tell_all(&rt)?;
+    bodies::tell_all(&rt)?;
+    names::tell_all(&rt)?;
+    chains::tell_all(&rt)?;
+    supers::tell_all(&rt)?;
+    epochs::tell_all(&rt)?;
+    objects::tell_all(&rt)?;
+    refused_objects::tell_all(&rt)
+}
