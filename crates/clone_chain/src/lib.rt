@@ -9,8 +9,6 @@
 mod ancestor;
 mod chain;
 mod laws;
-#[cfg(test)]
-mod tests;
 
 pub use ancestor::Ancestor;
 pub use chain::{Chain, ExtendError};

@@ -9,8 +9,6 @@ mod body;
 mod decoding;
 mod encoding;
 mod laws;
-#[cfg(test)]
-mod tests;
 
 pub use body::{CommitBody, Mark, is_within};
 pub use decoding::read_body;

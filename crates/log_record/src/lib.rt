@@ -13,8 +13,6 @@ mod encoding;
 mod head;
 mod laws;
 mod reason;
-#[cfg(test)]
-mod tests;
 
 pub use decoding::decode;
 pub use encoding::{encode_into, encode_pad};

@@ -56,20 +56,3 @@ impl ObjectBytes {
         self.bytes.len() as u64
     }
 }
-
-#[cfg(test)]
-mod tests {
-    use super::*;
-    use std::test::Fail;
-
-    #[test]
-    fn its_owners_have_its_bytes(rt: HostRuntime) -> Result<(), Fail> {
-        let object = ObjectBytes::from_bytes([1, 2, 3].to_vec(rt.alloc())?)?;
-        let shared = object.share()?;
-        assert!(rt; shared == object);
-        drop(object);
-        assert_eq!(rt; shared.as_bytes(), [1, 2, 3].as_slice());
-        assert_eq!(rt; shared.len(), 3);
-        Ok(())
-    }
-}

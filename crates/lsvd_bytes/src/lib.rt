@@ -9,8 +9,6 @@
 
 mod laws;
 mod reading;
-#[cfg(test)]
-mod tests;
 mod window;
 mod writing;
 

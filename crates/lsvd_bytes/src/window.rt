@@ -15,27 +15,3 @@ pub fn paste(window: &mut [u8], from: u64, at: u64, piece: &[u8])
         window[start..end].copy_from_slice(&piece[skipped..skipped + (end - start)]);
     }
 }
-
-#[cfg(test)]
-mod tests {
-    use super::*;
-
-    #[test]
-    fn a_piece_takes_its_place(rt: HostRuntime) {
-        let table: [(u64, u64, &[u8], [u8; 4]); 8] = [
-            (10, 10, b"abcd", *b"abcd"),
-            (10, 8, b"abcdefgh", *b"cdef"),
-            (10, 8, b"abc", *b"c..."),
-            (10, 11, b"ab", *b".ab."),
-            (10, 12, b"abc", *b"..ab"),
-            (10, 14, b"abc", *b"...."),
-            (10, 7, b"abc", *b"...."),
-            (10, 11, b"", *b"...."),
-        ];
-        for (from, at, piece, wanted) in table {
-            let mut window = *b"....";
-            paste(&mut window, from, at, piece);
-            assert_eq!(rt; window, wanted, "{at}");
-        }
-    }
-}

@@ -14,8 +14,6 @@ mod memory;
 mod names;
 mod object_files;
 mod store;
-#[cfg(test)]
-mod tests;
 
 pub use directory::{DirReceipt, DirStore};
 pub use error::StoreError;

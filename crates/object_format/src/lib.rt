@@ -16,8 +16,6 @@ mod reading;
 mod reason;
 mod rows;
 mod rows_reading;
-#[cfg(test)]
-mod tests;
 mod writing;
 
 pub use copy_row::{CopyRow, Source};

@@ -14,8 +14,6 @@ mod laws;
 mod object;
 mod owner;
 mod plain_stream;
-#[cfg(test)]
-mod tests;
 mod value;
 
 pub use change::Change;

@@ -12,8 +12,6 @@ mod laws;
 mod reading;
 mod reason;
 mod super_object;
-#[cfg(test)]
-mod tests;
 mod writing;
 
 pub use epoch::{BadEpoch, Epoch};
