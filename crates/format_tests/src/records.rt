@@ -94,7 +94,7 @@ fn read(sector: &[u8], seq: u64, place: &Place) -> Result<Head, Reason> {
     decode(sector, seq, &GEOMETRY, place).map_err(|bad| bad.reason)
 }
 
-// Places: what each is, its sector, the sectors up to the committed head, and whether the last record is there.
+// Places: what each is, its sector, the sectors up to the head, and whether the last record is there.
 const WRITE_AT: &[(&str, u64, u64, bool)] = &[
     ("the first sector of a full log", 0, 64, false),
     (
