@@ -1,0 +1,171 @@
+ghost use Rattle.std.specs.Prelude.{◌≡◌, ◌%◌, length, IfOk};
+
+use crate::answer::filled_with;
+use crate::error::TestError;
+use crate::step::Byte;
+use lsvd_base::{Body, Geometry};
+use lsvd_device::MemDisk;
+use lsvd_objstore::{FaultStore, MemReceipt, MemStore, PlannedFault, Store};
+use std::alloc::{AllocError, Global};
+use uuid::Uuid;
+use vol_core::create;
+use volume_owner::{Owner, OwnerError, a_new_volume_is_idle};
+
+// The volume: a batch has two writes of eight sectors, and the log four.
+const GEOMETRY: Geometry = Geometry {
+    sectors: 64,
+    max_write: 8,
+    batch: 16,
+    log: 40,
+};
+
+// The bytes of its device.
+const SIZE: u64 = 4_096 + 512 * 40;
+
+// No run here makes as many steps.
+const MOST: u64 = 1_000;
+
+type MemOwner = Owner<MemDisk, MemReceipt>;
+
+type Faulty = FaultStore<MemStore>;
+
+// The calls of the store that fail, of which two are done all the same.
+const FAULTS: [PlannedFault; 3] = [
+    PlannedFault {
+        call: 1,
+        lands: false,
+    },
+    PlannedFault {
+        call: 3,
+        lands: true,
+    },
+    PlannedFault {
+        call: 4,
+        lands: true,
+    },
+];
+
+/// Shows an owner whose batch and log are full time and again, over a store of which calls fail.
+pub fn tell_owner(rt: &HostRuntime) -> Result<(), TestError> {
+    println!(rt; "# An owner of a small log, over a store that fails")?;
+    let mut store = FaultStore::new(rt.alloc(), MemStore::new(rt.alloc()), &FAULTS)?;
+    let mut owner = created(rt.alloc())?;
+    let told = tell_requests(rt, &mut owner, &mut store);
+    drop(owner);
+    drop(store);
+    told
+}
+
+fn created(alloc: Global) -> Result<MemOwner, TestError> {
+    let mut disk = MemDisk::new(alloc, SIZE)?;
+    disk.reserve(200, 100_000)?;
+    let volume = create(alloc, disk, Uuid::from_bytes([1; 16]), GEOMETRY).map_err(|(
+        _,
+        failed,
+    )| failed)?;
+    a_new_volume_is_idle();
+    Ok(Owner::new(volume))
+}
+
+fn tell_requests(
+    rt: &HostRuntime,
+    owner: &mut MemOwner,
+    store: &mut Faulty,
+) -> Result<(), TestError> {
+    for number in 1..13 {
+        let answer = write(rt.alloc(), owner, store, number)?;
+        println!(rt; "write {number:>2}: {answer:?}")?;
+    }
+    println!(rt; "the store counted {} faults", store.faults())?;
+    tell_drains(rt, owner, store)?;
+    tell_image(rt, owner, store)
+}
+
+// Writes a number in eight sectors, the next ones for each, and from the ninth on again.
+fn write(
+    alloc: Global,
+    owner: &mut MemOwner,
+    store: &mut Faulty,
+    number: u8,
+) -> Result<Result<u64, OwnerError>, TestError> {
+    if MOST < owner.steps() {
+        return Err(TestError::TooMany);
+    }
+    let body = Body::filled(alloc, 8, number)?;
+    let lba = 8 * u64::from(number.wrapping_sub(1) % 8);
+    match owner.write(alloc, store, lba, body) {
+        Err(OwnerError::OutOfMemory) => Err(TestError::Memory),
+        answer => Ok(answer),
+    }
+}
+
+// Zeroes eight sectors.
+fn zero(alloc: Global, owner: &mut MemOwner, store: &mut Faulty) -> Result<u64, TestError> {
+    if MOST < owner.steps() {
+        return Err(TestError::TooMany);
+    }
+    Ok(owner.zero(alloc, store, 8, 8)?)
+}
+
+// Drains: what is left is put, and no more than that.
+fn tell_drains(
+    rt: &HostRuntime,
+    owner: &mut MemOwner,
+    store: &mut Faulty,
+) -> Result<(), TestError> {
+    tell_drain(rt, owner, store)?;
+    tell_drain(rt, owner, store)?;
+    zero(rt.alloc(), owner, store)?;
+    println!(rt; "a zeroing")?;
+    tell_drain(rt, owner, store)
+}
+
+fn tell_drain(rt: &HostRuntime, owner: &mut MemOwner, store: &mut Faulty) -> Result<(), TestError> {
+    let (count, objects) = drain(rt.alloc(), owner, store)?;
+    println!(rt; "drained: {count} entries in {objects} objects").map_err(TestError::from)
+}
+
+// How many entries the history has after a drain, and how many objects the store.
+fn drain(
+    alloc: Global,
+    owner: &mut MemOwner,
+    store: &mut Faulty,
+) -> Result<(u64, usize), TestError> {
+    if MOST < owner.steps() {
+        return Err(TestError::TooMany);
+    }
+    let count = owner.drain(alloc, store)?;
+    let names = store.list(alloc, owner.uuid())?;
+    Ok((count, names.as_slice().len()))
+}
+
+fn tell_image(rt: &HostRuntime, owner: &mut MemOwner, store: &mut Faulty) -> Result<(), TestError> {
+    for part in 0..8u8 {
+        let lba = 8 * u64::from(part);
+        let byte = read(rt.alloc(), owner, store, lba)?;
+        println!(rt; "eight sectors from {lba:>2} on: {byte:?}")?;
+    }
+    Ok(())
+}
+
+// The byte that eight sectors are filled with.
+fn read(
+    alloc: Global,
+    owner: &mut MemOwner,
+    store: &mut Faulty,
+    lba: u64,
+) -> Result<Byte, TestError> {
+    if MOST < owner.steps() {
+        return Err(TestError::TooMany);
+    }
+    let mut buf = eight_sectors(alloc)?;
+    owner.read(store, lba, buf.as_mut_slice())?;
+    Ok(Byte(filled_with(buf.as_slice())))
+}
+
+// Eight sectors of a byte that no one writes.
+fn eight_sectors(alloc: Global) -> Result<Vec<u8>, AllocError>
+    ensures { IfOk result (λ bytes. length bytes.items % 512 ≡ 0) }
+{
+    Ok(vec![in alloc; 0xee; 4_096]?)
+}

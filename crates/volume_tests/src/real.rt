@@ -1,0 +1,276 @@
+ghost use Rattle.lsvd_names.specs.Spelling.{IsName};
+ghost use Rattle.lsvd_objstore.specs.Memory.{told_receipt};
+ghost use Rattle.vol_core.specs.Step.{HasItsReceipt};
+
+use crate::answer::{Answer, Objects, Sectors};
+use crate::error::TestError;
+use crate::step::{Byte, Step};
+use batcher::Full;
+use lsvd_base::{Body, Entry, Geometry};
+use lsvd_device::MemDisk;
+use lsvd_names::{Kind, ObjName};
+use lsvd_objstore::{MemReceipt, MemStore, Store};
+use object_uploads::Job;
+use read_plan::Plan;
+use std::alloc::Global;
+use uuid::Uuid;
+use vol_core::{Event, Refusal, Reply, Volume, create};
+
+/// The volume of the rows.
+pub const GEOMETRY: Geometry = Geometry {
+    sectors: 64,
+    max_write: 8,
+    batch: 16,
+    log: 64,
+};
+
+// The bytes of its device.
+const SIZE: u64 = 4_096 + 512 * 64;
+
+// No run here makes as many steps.
+const MOST: u64 = 1_000;
+
+const UUID: [u8; 16] = [1; 16];
+
+type MemVolume = Volume<MemDisk, MemReceipt>;
+
+/// The real volume with its store, the puts that are out, and the read that is planned.
+#[derive(Drop)]
+pub struct Real {
+    volume: MemVolume,
+    store: MemStore,
+    jobs: Vec<Job>,
+    plan: Option<Plan<MemReceipt>>,
+}
+
+impl Real {
+    /// A new one.
+    pub fn new(alloc: Global) -> Result<Real, TestError> {
+        Ok(Real {
+            volume: created(alloc)?,
+            store: MemStore::new(alloc),
+            jobs: Vec::new(alloc),
+            plan: None,
+        })
+    }
+
+    /// Makes a step, and once more where memory ran out for it.
+    pub fn make(&mut self, alloc: Global, made: Step) -> Result<Answer, TestError> {
+        match self.make_once(alloc, made)? {
+            Answer::OutOfMemory => self.make_once(alloc, made),
+            answer => Ok(answer),
+        }
+    }
+
+    fn make_once(&mut self, alloc: Global, made: Step) -> Result<Answer, TestError> {
+        match made {
+            Step::Write(lba, sectors, Byte(byte)) => {
+                write(alloc, &mut self.volume, lba, sectors, byte)
+            }
+            Step::Look(lba, sectors) => look(&mut self.volume, &mut self.plan, lba, sectors),
+            Step::Fetch => fetch(alloc, &self.plan, &mut self.store),
+            Step::Release => release(&mut self.volume, &mut self.plan),
+            Step::Read(lba, sectors) => self.read(alloc, lba, sectors),
+            Step::Take => take(&mut self.volume, &mut self.jobs),
+            Step::Done(number) => self.done(alloc, number),
+            Step::Failed(number) => failed(&mut self.volume, &mut self.jobs, number),
+            _ => make(&mut self.volume, made),
+        }
+    }
+
+    fn read(&mut self, alloc: Global, lba: u64, sectors: u64) -> Result<Answer, TestError> {
+        let looked = look(&mut self.volume, &mut self.plan, lba, sectors)?;
+        if !matches!(looked, Answer::Planned(..)) {
+            return Ok(looked);
+        }
+        let read = fetch(alloc, &self.plan, &mut self.store)?;
+        release(&mut self.volume, &mut self.plan)?;
+        Ok(read)
+    }
+
+    fn done(&mut self, alloc: Global, number: u64) -> Result<Answer, TestError> {
+        match job_of(&mut self.jobs, number) {
+            Some(job) => put(alloc, &mut self.volume, &mut self.store, job),
+            None => Ok(Answer::NotAsked),
+        }
+    }
+}
+
+fn created(alloc: Global) -> Result<MemVolume, TestError> {
+    let mut disk = MemDisk::new(alloc, SIZE)?;
+    disk.reserve(200, 100_000)?;
+    Ok(create(alloc, disk, Uuid::from_bytes(UUID), GEOMETRY).map_err(|(_, failed)| failed)?)
+}
+
+fn step(volume: &mut MemVolume, event: Event<MemReceipt>) -> Result<Reply<MemReceipt>, TestError>
+    requires { HasItsReceipt told_receipt event }
+{
+    if MOST < volume.steps() {
+        return Err(TestError::TooMany);
+    }
+    Ok(volume.step(event))
+}
+
+// Makes a step of no owned parts.
+fn make(volume: &mut MemVolume, made: Step) -> Result<Answer, TestError> {
+    match made {
+        Step::Zero(lba, sectors) => answered(volume, Event::Zero { lba, sectors }),
+        Step::Flush => answered(volume, Event::Flush),
+        Step::Seal => answered(volume, Event::Seal),
+        Step::Status => answered(volume, Event::Status),
+        _ => Ok(Answer::NotAsked),
+    }
+}
+
+fn answered(volume: &mut MemVolume, event: Event<MemReceipt>) -> Result<Answer, TestError>
+    requires { HasItsReceipt told_receipt event }
+{
+    let reply = step(volume, event)?;
+    Ok(answer_of(&reply))
+}
+
+fn write(
+    alloc: Global,
+    volume: &mut MemVolume,
+    lba: u64,
+    sectors: u64,
+    byte: u8,
+) -> Result<Answer, TestError> {
+    let body = Body::filled(alloc, sectors, byte)?;
+    answered(volume, Event::Write { lba, body })
+}
+
+fn look(
+    volume: &mut MemVolume,
+    plan: &mut Option<Plan<MemReceipt>>,
+    lba: u64,
+    sectors: u64,
+) -> Result<Answer, TestError> {
+    match step(volume, Event::Look { lba, sectors })? {
+        Reply::Planned(planned) => {
+            let answer = Answer::Planned(planned.front(), Objects::of(planned.objects()));
+            *plan = Some(planned);
+            Ok(answer)
+        }
+        reply => Ok(answer_of(&reply)),
+    }
+}
+
+fn fetch(
+    alloc: Global,
+    plan: &Option<Plan<MemReceipt>>,
+    store: &mut MemStore,
+) -> Result<Answer, TestError> {
+    let Some(plan) = plan else {
+        return Ok(Answer::Nothing);
+    };
+    let mut read = vec![in alloc; 9; plan.len()]?;
+    plan.fetch(store, read.as_mut_slice())?;
+    Ok(Answer::Data(Sectors::of(read.as_slice())))
+}
+
+fn release(
+    volume: &mut MemVolume,
+    plan: &mut Option<Plan<MemReceipt>>,
+) -> Result<Answer, TestError> {
+    match plan.take() {
+        Some(plan) => answered(volume, Event::Release(plan)),
+        None => Ok(Answer::Nothing),
+    }
+}
+
+// Begins a put, which is kept until it is done.
+fn take(volume: &mut MemVolume, jobs: &mut Vec<Job>) -> Result<Answer, TestError> {
+    jobs.reserve(1)?;
+    match step(volume, Event::TakeJob)? {
+        Reply::Taken(job) => {
+            let number = job.name().number;
+            jobs.push_reserved(job);
+            Ok(Answer::Taken(number))
+        }
+        reply => Ok(answer_of(&reply)),
+    }
+}
+
+// The put of an object, where it is out.
+fn job_of(jobs: &mut Vec<Job>, number: u64) -> Option<Job> {
+    let index = jobs.iter().position(|job| job.name().number == number)?;
+    Some(jobs.remove(index))
+}
+
+// Makes a put.
+fn put(
+    alloc: Global,
+    volume: &mut MemVolume,
+    store: &mut MemStore,
+    job: Job,
+) -> Result<Answer, TestError> {
+    let receipt = store.put(alloc, &name_of(job.name().number), job.object())?;
+    answered(volume, Event::JobDone { job, receipt })
+}
+
+fn failed(volume: &mut MemVolume, jobs: &mut Vec<Job>, number: u64) -> Result<Answer, TestError> {
+    match job_of(jobs, number) {
+        Some(job) => answered(volume, Event::JobFailed(job)),
+        None => Ok(Answer::NotAsked),
+    }
+}
+
+// The name of the object of a number.
+fn name_of(number: u64) -> ObjName
+    ensures { IsName result }
+{
+    ObjName {
+        uuid: Uuid::from_bytes(UUID),
+        kind: Kind::Object,
+        number,
+    }
+}
+
+// What a reply says.
+fn answer_of(reply: &Reply<MemReceipt>) -> Answer {
+    match reply {
+        Reply::Entered(count) => Answer::Entered(*count),
+        Reply::NotEntered { why, .. } => refusal_of(*why),
+        Reply::Flushed(count) => Answer::Flushed(*count),
+        Reply::Released => Answer::Released,
+        Reply::Sealed(number) => Answer::Sealed(*number),
+        Reply::Done(frontier) => Answer::Done(*frontier),
+        Reply::Returned => Answer::Returned,
+        Reply::Told {
+            writes,
+            sealed,
+            frontier,
+            checkpoint,
+        } => Answer::Told {
+            writes: *writes,
+            sealed: *sealed,
+            frontier: *frontier,
+            checkpoint: *checkpoint,
+        },
+        _ => other_answer_of(reply),
+    }
+}
+
+fn other_answer_of(reply: &Reply<MemReceipt>) -> Answer {
+    match reply {
+        Reply::Range => Answer::Range,
+        Reply::Nothing => Answer::Nothing,
+        Reply::Busy => Answer::Busy,
+        Reply::Fault => Answer::Fault,
+        Reply::OutOfMemory => Answer::OutOfMemory,
+        _ => Answer::Back,
+    }
+}
+
+// Why an entry was not entered.
+fn refusal_of(why: Refusal) -> Answer {
+    match why {
+        Refusal::Range => Answer::Range,
+        Refusal::Full(Full::Sectors(sectors)) => Answer::BatchFull(sectors),
+        Refusal::Full(Full::Entries(entries)) => Answer::EntriesFull(entries),
+        Refusal::NoRoom { need, free } => Answer::NoRoom { need, free },
+        Refusal::Fault => Answer::Fault,
+        Refusal::OutOfMemory => Answer::OutOfMemory,
+    }
+}
