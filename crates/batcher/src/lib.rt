@@ -12,8 +12,6 @@ mod place;
 mod plan;
 mod rows;
 mod sealing;
-#[cfg(test)]
-mod tests;
 
 pub use batch::Batch;
 pub use full::{Full, MAX_ENTRIES, data_sectors, fullness, sum_data_sectors};

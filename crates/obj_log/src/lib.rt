@@ -8,8 +8,6 @@
 mod error;
 mod laws;
 mod obj_log;
-#[cfg(test)]
-mod tests;
 
 pub use error::SealError;
 pub use laws::{the_list_stays_a_stream, the_objects_have_an_image};

@@ -11,8 +11,6 @@ mod job;
 mod laws;
 mod queue;
 mod sealed;
-#[cfg(test)]
-mod tests;
 mod uploads;
 
 pub use job::Job;

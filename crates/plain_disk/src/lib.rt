@@ -18,8 +18,6 @@ mod plain_laws;
 mod plans;
 mod puts;
 mod sealing;
-#[cfg(test)]
-mod tests;
 mod volume;
 mod window;
 mod writers;

@@ -7,4 +7,3 @@ mod NumberLemmas
 mod PlanLemmas
 mod FetchLemmas
 pub mod GivenLemmas
-mod TestLemmas

@@ -4,4 +4,3 @@ pub mod Places
 pub mod Rows
 pub mod Look
 pub mod Laws
-pub mod Tests

@@ -14,8 +14,6 @@ mod piece;
 mod pins;
 mod plan;
 mod rows;
-#[cfg(test)]
-mod tests;
 
 pub use error::LookError;
 pub use laws::a_plan_gives_its_sectors;

@@ -7,8 +7,6 @@
 
 mod laws;
 mod object;
-#[cfg(test)]
-mod tests;
 mod window;
 
 pub use laws::{a_started_number_was_started, the_frontier_is_below_the_lowest_open};

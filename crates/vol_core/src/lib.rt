@@ -12,8 +12,6 @@ mod entering;
 mod event;
 mod putting;
 mod reply;
-#[cfg(test)]
-mod tests;
 mod volume;
 
 pub use creating::create;

@@ -10,8 +10,6 @@ mod laws;
 mod look;
 mod maps;
 mod place;
-#[cfg(test)]
-mod tests;
 
 pub use laws::{settling_is_a_replay, the_log_keeps_later_entries};
 pub use maps::VolumeMaps;

@@ -15,8 +15,6 @@ mod laws;
 mod owner;
 mod reading;
 mod replies;
-#[cfg(test)]
-mod tests;
 
 pub use error::OwnerError;
 pub use laws::a_new_volume_is_idle;

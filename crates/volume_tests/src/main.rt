@@ -15,6 +15,7 @@ mod plain;
 mod plain_rows;
 mod real;
 mod rows;
+mod sealing;
 mod step;
 mod texts;
 
@@ -26,11 +27,13 @@ use plain::Plain;
 use plain_rows::PLAIN_ROWS;
 use real::Real;
 use rows::ROWS;
+use sealing::tell_seals;
 use step::{Row, Step};
 use texts::tell_texts;
 
 fn main(rt: HostRuntime) -> Result<(), TestError> {
     tell_fullness(&rt)?;
+    tell_seals(&rt)?;
     println!(rt; "# The plain volume beside the real one")?;
     for row in ROWS {
         tell_row(&rt, row)?;
