@@ -59,10 +59,10 @@ pub fn tell_owner(rt: &HostRuntime) -> Result<(), TestError> {
 fn created(alloc: Global) -> Result<MemOwner, TestError> {
     let mut disk = MemDisk::new(alloc, SIZE)?;
     disk.reserve(200, 100_000)?;
-    let volume = create(alloc, disk, Uuid::from_bytes([1; 16]), GEOMETRY).map_err(|(
-        _,
-        failed,
-    )| failed)?;
+    let volume = match create(alloc, disk, Uuid::from_bytes([1; 16]), GEOMETRY) {
+        Ok(volume) => volume,
+        Err((_, failed)) => return Err(failed)?,
+    };
     a_new_volume_is_idle();
     Ok(Owner::new(volume))
 }

@@ -194,8 +194,12 @@ fn take(volume: &mut MemVolume, jobs: &mut Vec<Job>) -> Result<Answer, TestError
 
 // The put of an object, where it is out.
 fn job_of(jobs: &mut Vec<Job>, number: u64) -> Option<Job> {
-    let index = jobs.iter().position(|job| job.name().number == number)?;
-    Some(jobs.remove(index))
+    for index in 0..jobs.len() {
+        if jobs[index].name().number == number {
+            return Some(jobs.swap_remove(index));
+        }
+    }
+    None
 }
 
 // Makes a put.

@@ -2,7 +2,7 @@ ghost use Rattle.batcher.specs.Sealing.{IsExpectedOf};
 
 use crate::error::TestError;
 use Change::{Write, Zero};
-use batcher::{Batch, SealedBatch};
+use batcher::{Batch, SealedBatch, data_sectors};
 use lsvd_base::{Body, Entry, Geometry, in_range};
 use object_format::Expected;
 use std::alloc::{AllocError, Global};
@@ -14,6 +14,9 @@ const GEOMETRY: Geometry = Geometry {
     batch: 12,
     log: 64,
 };
+
+// No batch here has as many entries.
+const MOST: u64 = 100;
 
 // A change of sectors from the first number on.
 #[derive(Clone, Copy, Debug)]
@@ -73,8 +76,10 @@ fn entry_of(alloc: Global, change: Change) -> Result<Entry, AllocError> {
 // Adds an entry that the volume takes.
 fn add(batch: &mut Batch, entry: Entry) -> Result<(), TestError> {
     batch.reserve()?;
-    let is_taken = in_range(&entry, &batch.geometry());
-    if !is_taken || 100 < batch.next_seq() || 100 < batch.sectors() {
+    if !in_range(&entry, &batch.geometry()) || MOST < batch.next_seq() {
+        return Err(TestError::TooMany);
+    }
+    if batch.sectors().checked_add(data_sectors(&entry)).is_none() {
         return Err(TestError::TooMany);
     }
     batch.add(entry);
