@@ -1,5 +1,4 @@
-use lsvd_objstore::StoreError;
-use obj_log::SealError;
+use lsvd_fault::Failed;
 use std::alloc::AllocError;
 use std::io;
 use thiserror::Error;
@@ -7,11 +6,11 @@ use thiserror::Error;
 /// Why a round was not made.
 #[derive(Clone, Copy, Debug, Error)]
 pub enum BenchError {
-    /// A size is past what the volume or a map takes.
+    /// A size is past what a volume takes.
     #[error("a size past the limits")]
     Refused,
-    /// A seal, a put or a look did not do what it should.
-    #[error("a call answered otherwise")]
+    /// A step did not do what it should.
+    #[error("a step answered otherwise")]
     Answer,
     /// The clock or the output failed.
     #[error("the clock or the output failed")]
@@ -27,14 +26,8 @@ impl From<AllocError> for BenchError {
     }
 }
 
-impl From<SealError> for BenchError {
-    fn from(_error: SealError) -> BenchError {
-        BenchError::Answer
-    }
-}
-
-impl From<StoreError> for BenchError {
-    fn from(_error: StoreError) -> BenchError {
+impl From<Failed> for BenchError {
+    fn from(_error: Failed) -> BenchError {
         BenchError::Answer
     }
 }

@@ -18,9 +18,4 @@ impl Numbers {
             .wrapping_add(1_442_695_040_888_963_407);
         (self.state >> 33) % limit.max(1)
     }
-
-    /// An odd sector below twice a number.
-    pub fn odd_sector(&mut self, extents: u64) -> u64 {
-        self.below(extents).wrapping_mul(2).wrapping_add(1)
-    }
 }

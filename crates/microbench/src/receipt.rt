@@ -4,8 +4,8 @@ use lsvd_names::ObjName;
 use lsvd_objstore::Receipt;
 use std::alloc::{AllocError, Global};
 
-/// A receipt that keeps no bytes, as that of a directory keeps none. A volume has one for each object, so that else its memory would
-/// grow by all that was ever written.
+/// A receipt that keeps no bytes, as that of a directory. A volume has one for each object, so that
+/// else its memory would grow by all that was ever written.
 #[derive(Drop)]
 pub struct PlainReceipt {
     name: ObjName,
@@ -25,8 +25,8 @@ impl PlainReceipt {
 impl Receipt for PlainReceipt {
     ghost use Rattle.std.specs.Prelude.{◌≡◌};
     ghost use Rattle.std.proofs.Common.{ap};
-    ghost use Rattle.step_bench.specs.Receipts.{untold_receipt};
-    ghost use Rattle.step_bench.specs.declared.receipt.PlainReceipt.{PlainReceipt};
+    ghost use Rattle.microbench.specs.Receipts.{untold_receipt};
+    ghost use Rattle.microbench.specs.declared.receipt.PlainReceipt.{PlainReceipt};
 
     ghost state = { untold_receipt };
 

@@ -6,8 +6,8 @@ use lsvd_fault::Failed;
 use std::alloc::{AllocError, Global};
 use std::marker::Model;
 
-/// A disk that is just its bytes. No call of it fails, and it tells nothing of what it holds: it keeps no changes, as a file keeps
-/// none, so that its memory does not grow.
+/// A disk that is just its bytes. No call of it fails, and it tells nothing of what it holds: it keeps no
+/// changes, as a file keeps none, so that its memory does not grow.
 #[derive(Drop)]
 pub struct PlainBytes {
     bytes: Vec<u8>,

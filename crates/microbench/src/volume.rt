@@ -1,17 +1,12 @@
-ghost use Rattle.lsvd_names.specs.Spelling.{IsName};
 ghost use Rattle.vol_core.specs.Step.{HasItsReceipt};
-ghost use Rattle.step_bench.specs.Receipts.{untold_receipt};
+ghost use Rattle.microbench.specs.Receipts.{untold_receipt};
 
 use crate::disk::PlainBytes;
 use crate::error::BenchError;
+use crate::numbers::Numbers;
 use crate::receipt::PlainReceipt;
-use bench_clock::Numbers;
 use commit_slot::LOG_START;
 use lsvd_base::{Body, Geometry, SECTOR_BYTES};
-use lsvd_names::{Kind, ObjName};
-use lsvd_objstore::{MemStore, Store};
-use object_uploads::Job;
-use read_plan::Plan;
 use std::alloc::Global;
 use uuid::Uuid;
 use vol_core::{Event, Reply, Volume, create};
@@ -25,11 +20,10 @@ const MOST: u64 = 1 << 40;
 // The uuid of the volume.
 const UUID: [u8; 16] = [1; 16];
 
-/// A volume on a disk in memory, with a store, and what was asked of it.
+/// A volume on a disk in memory, and what was asked of it.
 #[derive(Drop)]
 pub struct TimedVolume {
     volume: Volume<PlainBytes, PlainReceipt>,
-    store: MemStore,
     numbers: Numbers,
     // The writes so far, and the sectors of those that are in no object.
     writes: u64,
@@ -47,7 +41,6 @@ impl TimedVolume {
         let volume = created.map_err(|(_, failed)| failed)?;
         Ok(TimedVolume {
             volume,
-            store: MemStore::new(alloc),
             numbers: Numbers::new(0),
             writes: 0,
             batched: 0,
@@ -76,24 +69,28 @@ impl TimedVolume {
     }
 
     /// Seals an object of all entries that are in none, and puts it, where there are any.
-    pub fn upload(&mut self, alloc: Global) -> Result<(), BenchError> {
+    pub fn upload(&mut self) -> Result<(), BenchError> {
         if self.batched == 0 {
             return Ok(());
         }
+        self.seal()?;
+        self.put()
+    }
+
+    /// Seals an object of the entries that are in none, of which there are some.
+    pub fn seal(&mut self) -> Result<(), BenchError> {
         let Reply::Sealed(_) = self.step(Event::Seal)? else {
             return Err(BenchError::Answer);
         };
-        self.put(alloc)?;
         self.batched = 0;
         Ok(())
     }
 
-    // Puts the lowest ready object.
-    fn put(&mut self, alloc: Global) -> Result<(), BenchError> {
+    /// Takes the lowest ready object and has it put at once. No store keeps it, so memory does not grow.
+    pub fn put(&mut self) -> Result<(), BenchError> {
         let Reply::Taken(job) = self.step(Event::TakeJob)? else {
             return Err(BenchError::Answer);
         };
-        self.keep_and_remove(alloc, &job)?;
         let receipt = PlainReceipt::new(*job.name(), job.object().len());
         match self.step(Event::JobDone { job, receipt })? {
             Reply::Done(_) => Ok(()),
@@ -101,26 +98,12 @@ impl TimedVolume {
         }
     }
 
-    // Puts the object of a job into the store, and removes it at once, so that memory does not grow by it.
-    fn keep_and_remove(&mut self, alloc: Global, job: &Job) -> Result<(), BenchError> {
-        let name = name_of(job.name().number);
-        let receipt = self.store.put(alloc, &name, job.object())?;
-        self.store.remove(&receipt)?;
-        Ok(())
-    }
-
-    /// Looks at so many sectors at a place in no order, gives the plan back, and answers how many objects it needs.
-    pub fn look(&mut self, sectors: u64) -> Result<u64, BenchError> {
+    /// Looks at so many sectors at a place in no order, and gives the plan back.
+    pub fn look(&mut self, sectors: u64) -> Result<(), BenchError> {
         let lba = self.place(sectors);
         let Reply::Planned(plan) = self.step(Event::Look { lba, sectors })? else {
             return Err(BenchError::Answer);
         };
-        let objects = plan.objects().len() as u64;
-        self.release(plan)?;
-        Ok(objects)
-    }
-
-    fn release(&mut self, plan: Plan<PlainReceipt>) -> Result<(), BenchError> {
         match self.step(Event::Release(plan))? {
             Reply::Released => Ok(()),
             _ => Err(BenchError::Answer),
@@ -140,16 +123,5 @@ impl TimedVolume {
             return Err(BenchError::Refused);
         }
         Ok(self.volume.step(event))
-    }
-}
-
-// The name of the object of a number.
-fn name_of(number: u64) -> ObjName
-    ensures { IsName result }
-{
-    ObjName {
-        uuid: Uuid::from_bytes(UUID),
-        kind: Kind::Object,
-        number,
     }
 }
