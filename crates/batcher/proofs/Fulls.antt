@@ -1,9 +1,11 @@
 -- Plans of entries, one entry after the other.
-use Rattle.std.proofs.Common.{◌≡◌, ℕ, suc, ◌+◌, ◌-◌, ◌<◌, ◌≤◌, inl, inr, true, false, Option, Some, None, List, [], ◌∷◌, ◌++◌, length, get_or, take, drop, length-append, length-drop, refl, sym, ap, subst, ◌∙◌, arith}
+use Rattle.std.proofs.Common.{◌≡◌, ℕ, suc, ◌+◌, ◌-◌, ◌<◌, ◌≤◌, inl, inr, true, false, Option, Some, None, List, [], ◌∷◌, ◌++◌}
+use Rattle.std.proofs.Common.{length, get_or, take, drop, length-append, length-drop, refl, sym, ap, subst, ◌∙◌, arith}
 use Rattle.std.specs.Option.{option_or}
 use Rattle.std.specs.Prelude.{◌^◌, IsTrue, is_some, IsNone}
 use Rattle.std.specs.List.{sum_by}
-use Rattle.std.proofs.lemmas.List.{take_more, get_or-drop, take-append-le, take-append-drop, length-take-le, take_all, length_push}
+use Rattle.std.proofs.lemmas.List.{take_more, get_or-drop, take-append-le, take-append-drop, length-take-le, take_all}
+use Rattle.std.proofs.lemmas.List.{length_push}
 use Rattle.std.proofs.lemmas.List.Elements.{All-push, All-same, All-drop}
 use Rattle.std.proofs.lemmas.List.Sums.{sum_by_push}
 use Rattle.std.proofs.lemmas.Bool.{cases_lt, cases_Bool, both_ways}
@@ -37,13 +39,15 @@ place_by_push index [] entry at k is =
     let same : index ≡ at = omega arith in
     ap (λ i. place_from (extent_of i entry) k) same ∙ sym (or_none (place_from (extent_of at entry) k))
 place_by_push index (first ∷ entries) entry at k is =
-    ap (λ place. option_or place (place_from (extent_of index first) k)) (place_by_push (suc index) entries entry at k (omega arith))
+    ap (λ place. option_or place (place_from (extent_of index first) k))
+    (place_by_push (suc index) entries entry at k (omega arith))
     ∙ or_twice (place_from (extent_of at entry) k) (place_by (suc index) entries k) (place_from (extent_of index first) k)
 
 -- ---- counts
 
 -- what is not full has fewer sectors than the batch, and fewer entries than the most
-pub not_full : (batch sectors entries : ℕ) → is_some (fullness batch sectors entries) ≡ false → (sectors < batch) × (entries < max_entries)
+pub not_full : (batch sectors entries : ℕ) → is_some (fullness batch sectors entries) ≡ false → (sectors < batch)
+    × (entries < max_entries)
 not_full batch sectors entries none = grind (arith, nat_tests)
 
 -- what is full of no entries has a batch of no sectors
@@ -60,8 +64,10 @@ first_same batch entries more n within =
 pub full_stays : (batch : ℕ) (entries more : List Entry) (plan : Plan) → IsPlanOf batch entries plan
     → is_some (fullness batch plan.sectors plan.entries) ≡ true → IsPlanOf batch (entries ++ more) plan
 full_stays batch entries more plan is full =
-    let same : take plan.entries (entries ++ more) ≡ take plan.entries entries = take-append-le plan.entries entries more is.count.within in
-    let sum : plan.sectors ≡ sum_by data_sectors (take plan.entries (entries ++ more)) = is.sum ∙ ap (sum_by data_sectors) (sym same) in
+    let same : take plan.entries (entries ++ more) ≡ take plan.entries entries =
+    take-append-le plan.entries entries more is.count.within in
+    let sum : plan.sectors ≡ sum_by data_sectors (take plan.entries (entries ++ more)) = is.sum
+    ∙ ap (sum_by data_sectors) (sym same) in
     record {
       count = record {
         within = omega (arith, is.count.within, length-append entries more);
@@ -79,13 +85,15 @@ pub not_full_has_all : (batch : ℕ) (entries : List Entry) (plan : Plan) → Is
     → is_some (fullness batch plan.sectors plan.entries) ≡ false → plan.entries ≡ length entries
 not_full_has_all batch entries plan is none =
     elim is.count.full_or_all [
-      | inl full ↦ absurd (both_ways (is_some (fullness batch plan.sectors plan.entries)) none (ap (λ s. is_some (fullness batch s plan.entries)) is.sum ∙ full))
+      | inl full ↦ absurd (both_ways (is_some (fullness batch plan.sectors plan.entries)) none
+          (ap (λ s. is_some (fullness batch s plan.entries)) is.sum ∙ full))
       | inr all ↦ all
     ]
 
 -- a plan that is not full, with the next entry put into it, is the plan of the longer list
 pub put_is_plan : (batch : ℕ) (entries : List Entry) (entry : Entry) (old new : Plan) → IsPlanOf batch entries old
-    → is_some (fullness batch old.sectors old.entries) ≡ false → IsPutInPlan old entry new → IsPlanOf batch (entries ++ entry ∷ []) new
+    → is_some (fullness batch old.sectors old.entries) ≡ false → IsPutInPlan old entry new
+    → IsPlanOf batch (entries ++ entry ∷ []) new
 put_is_plan batch entries entry old new is none put =
     let longer = entries ++ entry ∷ [] in
     let all : old.entries ≡ length entries = not_full_has_all batch entries old is none in
@@ -109,7 +117,8 @@ put_is_plan batch entries entry old new is none put =
             ];
         full_or_all = inr whole;
       };
-      sum = put.sum ∙ ap (λ s. s + data_sectors entry) sum ∙ sym (sum_by_push data_sectors entries entry) ∙ ap (sum_by data_sectors) (sym has);
+      sum = put.sum ∙ ap (λ s. s + data_sectors entry) sum ∙ sym (sum_by_push data_sectors entries entry)
+          ∙ ap (sum_by data_sectors) (sym has);
       changes = λ k.
           put.changes k
           ∙ ap (option_or (place_from (extent_of old.entries entry) k)) (is.changes k ∙ ap (λ list. place_by 0 list k) had)
@@ -127,20 +136,24 @@ pub offered_is_plan : (batch : ℕ) (entries : List Entry) (entry : Entry) (old 
     → IsOffered batch old entry new → IsPlanOf batch (entries ++ entry ∷ []) new
 offered_is_plan batch entries entry old new is offered =
     elim (cases_Bool (is_some (fullness batch old.sectors old.entries))) [
-      | inl full ↦ subst (IsPlanOf batch (entries ++ entry ∷ [])) (sym (offered.full full)) (full_stays batch entries (entry ∷ []) old is full)
+      | inl full ↦ subst (IsPlanOf batch (entries ++ entry ∷ [])) (sym (offered.full full))
+          (full_stays batch entries (entry ∷ []) old is full)
       | inr none ↦ put_is_plan batch entries entry old new is none (offered.put none)
     ]
 
 -- an offer takes at most the room of one entry
-pub offered_room : (batch : ℕ) (entry : Entry) (old new : Plan) → IsOffered batch old entry new → old.changes.spare ≤ new.changes.spare + 1
+pub offered_room : (batch : ℕ) (entry : Entry) (old new : Plan) → IsOffered batch old entry new
+    → old.changes.spare ≤ new.changes.spare + 1
 offered_room batch entry old new offered =
     elim (cases_Bool (is_some (fullness batch old.sectors old.entries))) [
-      | inl full ↦ let same : new.changes.spare ≡ old.changes.spare = ap (λ plan. plan.changes.spare) (offered.full full) in omega arith
+      | inl full ↦ let same : new.changes.spare ≡ old.changes.spare = ap (λ plan. plan.changes.spare) (offered.full full) in
+          omega arith
       | inr none ↦ (offered.put none).room
     ]
 
 -- the plan for as many entries as an object takes at most is that for all
-pub most_is_plan : (batch : ℕ) (entries : List Entry) (plan : Plan) → IsPlanOf batch (take max_entries entries) plan → IsPlanOf batch entries plan
+pub most_is_plan : (batch : ℕ) (entries : List Entry) (plan : Plan) → IsPlanOf batch (take max_entries entries) plan
+    → IsPlanOf batch entries plan
 most_is_plan batch entries plan is =
     elim (cases_lt (length entries) max_entries) [
       | inl short ↦ subst (λ list. IsPlanOf batch list plan) (take_all max_entries entries (omega arith)) is
@@ -150,21 +163,27 @@ most_is_plan batch entries plan is =
                 subst (λ list. IsPlanOf batch list plan) (take-append-drop max_entries entries)
                 (full_stays batch (take max_entries entries) (drop max_entries entries) plan is full)
             | inr none ↦
-                let all : plan.entries ≡ length (take max_entries entries) = not_full_has_all batch (take max_entries entries) plan is none in
+                let all : plan.entries ≡ length (take max_entries entries) =
+                not_full_has_all batch (take max_entries entries) plan is none in
                 let few : plan.entries < max_entries = (not_full batch plan.sectors plan.entries none).1 in
                 absurd (omega (arith, all, few, length-take-le max_entries entries long))
           ]
     ]
 
 -- what the volume takes is short, and ends by the greatest volume's end
-pub entry_is_short : (geometry : Geometry) (entry : Entry) → IsTrue (is_within_limits geometry) → IsTrue (is_in_range geometry entry)
-    → (data_sectors entry ≤ geometry.max_write) × (geometry.max_write ≤ 65536) × EndsBy geometry.sectors entry × (geometry.sectors ≤ 2 ^ 31)
-entry_is_short geometry (Write lba body) limits in_range = (grind (arith, nat_tests), grind (arith, nat_tests), grind (arith, nat_tests), grind (arith, nat_tests))
-entry_is_short geometry (Zero lba sectors) limits in_range = (grind (arith, nat_tests), grind (arith, nat_tests), grind (arith, nat_tests), grind (arith, nat_tests))
+pub entry_is_short : (geometry : Geometry) (entry : Entry) → IsTrue (is_within_limits geometry)
+    → IsTrue (is_in_range geometry entry)
+    → (data_sectors entry ≤ geometry.max_write) × (geometry.max_write ≤ 65536) × EndsBy geometry.sectors entry
+    × (geometry.sectors ≤ 2 ^ 31)
+entry_is_short geometry (Write lba body) limits in_range =
+    (grind (arith, nat_tests), grind (arith, nat_tests), grind (arith, nat_tests), grind (arith, nat_tests))
+entry_is_short geometry (Zero lba sectors) limits in_range =
+    (grind (arith, nat_tests), grind (arith, nat_tests), grind (arith, nat_tests), grind (arith, nat_tests))
 
 -- ---- what holds of every batch
 
-pub batch_added : (geometry : Geometry) (first : ℕ) (entries longer : List Entry) (sectors added : ℕ) (old new : Plan) (entry : Entry)
+pub batch_added : (geometry : Geometry) (first : ℕ) (entries longer : List Entry) (sectors added : ℕ) (old new : Plan)
+    (entry : Entry)
     → IsBatch geometry first entries sectors old → IsTrue (is_in_range geometry entry) → first + length entries < 2 ^ 64 - 1
     → added ≡ data_sectors entry → longer ≡ entries ++ entry ∷ [] → IsOffered geometry.batch old entry new
     → IsBatch geometry first longer (sectors + added) new
@@ -187,7 +206,8 @@ batch_released geometry first entries left sectors removed n old new is within l
     record {
       limits = is.limits;
       seqs = omega (arith, is.seqs, within, shorter);
-      in_range = All-same (λ e. IsTrue (is_in_range geometry e)) left (drop n entries) leaves (All-drop (λ e. IsTrue (is_in_range geometry e)) n entries is.in_range);
+      in_range = All-same (λ e. IsTrue (is_in_range geometry e)) left (drop n entries) leaves
+          (All-drop (λ e. IsTrue (is_in_range geometry e)) n entries is.in_range);
       counted = omega (arith, is.counted, sum);
       planned = subst (λ list. IsPlanOf geometry.batch list new) (sym leaves) planned;
     }

@@ -1,5 +1,6 @@
 -- The data of extents, one after the other.
-use Rattle.std.proofs.Common.{◌≡◌, ℕ, zero, suc, ◌+◌, ◌*◌, ◌<◌, ◌≤◌, List, [], ◌∷◌, ◌++◌, length, get_or, take, drop, refl, sym, ap, subst, ◌∙◌, arith, length-take, length-drop, length-append}
+use Rattle.std.proofs.Common.{◌≡◌, ℕ, zero, suc, ◌+◌, ◌*◌, ◌<◌, ◌≤◌, List, [], ◌∷◌, ◌++◌, length, get_or, take, drop, refl, sym}
+use Rattle.std.proofs.Common.{ap, subst, ◌∙◌, arith, length-take, length-drop, length-append}
 use Rattle.std.specs.List.{sum_by}
 use Rattle.std.proofs.lemmas.List.{take_more, flat_map_more}
 use Rattle.std.proofs.lemmas.List.Sums.{sum_by-cons, sum_by_more, sum_by-take-le}
@@ -13,7 +14,8 @@ use Rattle.batcher.specs.Rows.{row_place, piece_at, piece_of, payload_bytes, ext
 
 -- ---- bodies
 
-pub body_here : (entries : List Entry) (index : ℕ) (d : Entry) → index < length entries → body_at entries index ≡ body_of (get_or entries index d)
+pub body_here : (entries : List Entry) (index : ℕ) (d : Entry) → index < length entries
+    → body_at entries index ≡ body_of (get_or entries index d)
 unfolding body_at
 body_here [] index d inside = absurd (omega arith)
 body_here (entry ∷ entries) zero d inside = refl
@@ -23,13 +25,15 @@ pub body_read : (entries : List Entry) (index : ℕ) (entry : Entry) → index <
     → body_at entries index ≡ body_of entry
 body_read entries index entry inside reads = body_here entries index entry inside ∙ ap body_of (sym reads)
 
-pub bodies_at : (entries : List Entry) (extents : List (Extent BatchPlace)) (index : ℕ) (d : Extent BatchPlace) → AreInBodies entries extents
+pub bodies_at : (entries : List Entry) (extents : List (Extent BatchPlace)) (index : ℕ) (d : Extent BatchPlace)
+    → AreInBodies entries extents
     → index < length extents → IsInBody entries (get_or extents index d).sectors (get_or extents index d).place
 bodies_at entries [] index d are inside = absurd (omega arith)
 bodies_at entries (extent ∷ extents) zero d are inside = are.0
 bodies_at entries (extent ∷ extents) (suc index) d are inside = bodies_at entries extents index d are.1 (omega arith)
 
-bodies_take : (entries : List Entry) (n : ℕ) (extents : List (Extent BatchPlace)) → AreInBodies entries extents → AreInBodies entries (take n extents)
+bodies_take : (entries : List Entry) (n : ℕ) (extents : List (Extent BatchPlace)) → AreInBodies entries extents
+    → AreInBodies entries (take n extents)
 bodies_take entries zero extents are = tt
 bodies_take entries (suc n) [] are = tt
 bodies_take entries (suc n) (extent ∷ extents) are = (are.0, bodies_take entries n extents are.1)
@@ -60,7 +64,8 @@ length-payload entries (extent ∷ extents) are =
     )
 
 -- the pieces of the first extents, and one more
-module _ (entries : List Entry) (extents : List (Extent BatchPlace)) (index : ℕ) (extent d : Extent BatchPlace) (inside : index < length extents)
+module _ (entries : List Entry) (extents : List (Extent BatchPlace)) (index : ℕ) (extent d : Extent BatchPlace)
+    (inside : index < length extents)
     (reads : extent ≡ get_or extents index d) where
   first_more : take (index + 1) extents ≡ take index extents ++ extent ∷ []
   first_more = take_more extents index d inside ∙ ap (λ e. take index extents ++ e ∷ []) (sym reads)
@@ -73,7 +78,8 @@ module _ (entries : List Entry) (extents : List (Extent BatchPlace)) (index : �
       ∙ ap (λ list. front ++ payload_bytes entries list) (sym first_more)
 
   -- there is room for it
-  pub room_more : (front bytes : List ℕ) (size : ℕ) → AreInBodies entries extents → bytes ≡ front ++ payload_bytes entries (take index extents)
+  pub room_more : (front bytes : List ℕ) (size : ℕ) → AreInBodies entries extents
+      → bytes ≡ front ++ payload_bytes entries (take index extents)
       → length front + 512 * sum_by extent_payload extents ≤ size → length bytes + length (piece_of entries extent) ≤ size
   room_more front bytes size are is room =
       let here : extent_payload extent ≡ extent_payload (get_or extents index d) = ap extent_payload reads in
@@ -82,7 +88,8 @@ module _ (entries : List Entry) (extents : List (Extent BatchPlace)) (index : �
         ap length is,
         length-append front (payload_bytes entries (take index extents)),
         length-payload entries (take index extents) (bodies_take entries index extents are),
-        length-piece_at entries extent.sectors extent.place (subst (λ e. IsInBody entries e.sectors e.place) (sym reads) (bodies_at entries extents index d are inside)),
+        length-piece_at entries extent.sectors extent.place (subst (λ e. IsInBody entries e.sectors e.place) (sym reads)
+            (bodies_at entries extents index d are inside)),
         sum_by_more extent_payload extents index d inside,
         sum_by-take-le extent_payload extents (index + 1),
         here,

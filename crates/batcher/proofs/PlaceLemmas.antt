@@ -1,5 +1,7 @@
 -- What sectors get from entries: places of data that they have, and their changes.
-use Rattle.std.proofs.Common.{◌≡◌, ℕ, suc, ◌+◌, ◌-◌, ◌*◌, ◌/◌, ◌<◌, ◌≤◌, ◌⊎◌, inl, inr, Bool, true, false, cond, leb, ltb, Option, Some, None, List, [], ◌∷◌, ◌++◌, length, refl, sym, ap, subst, ◌∙◌, arith, append_assoc, length-append}
+use Rattle.std.proofs.Common.{◌≡◌, ℕ, suc, ◌+◌, ◌-◌, ◌*◌, ◌/◌, ◌<◌, ◌≤◌, ◌⊎◌, inl, inr, Bool, true, false, cond, leb, ltb, Option}
+use Rattle.std.proofs.Common.{Some, None, List, [], ◌∷◌, ◌++◌, length, refl, sym, ap, subst, ◌∙◌, arith, append_assoc}
+use Rattle.std.proofs.Common.{length-append}
 use Rattle.std.specs.Option.{option_or}
 use Rattle.std.specs.Option.{option_map}
 use Rattle.std.specs.List.{All}
@@ -27,7 +29,8 @@ within_parts lba sectors k is =
 
 -- ---- entries in the midst of others
 
-pub body_past : (front more : List Entry) (entry : Entry) (index : ℕ) → index ≡ length front → body_at (front ++ (entry ∷ more)) index ≡ body_of entry
+pub body_past : (front more : List Entry) (entry : Entry) (index : ℕ) → index ≡ length front
+    → body_at (front ++ (entry ∷ more)) index ≡ body_of entry
 unfolding body_at
 body_past [] more entry index is = ap (body_at (entry ∷ more)) is
 body_past (first ∷ front) more entry index is =
@@ -65,7 +68,8 @@ place_has front (entry ∷ entries) more index k at sector is gives =
     elim (or_parts (place_by (suc index) entries k) (place_from (extent_of index entry) k) (Data at sector) gives) [
       | inl later ↦
           subst (λ all. HasSector all at sector) (append_assoc front (entry ∷ []) (entries ++ more))
-          (place_has (front ++ entry ∷ []) entries more (suc index) k at sector (omega (arith, is, length-append front (entry ∷ []))) later)
+          (place_has (front ++ entry ∷ []) entries more (suc index) k at sector
+          (omega (arith, is, length-append front (entry ∷ []))) later)
       | inr here ↦ here_has front (entries ++ more) entry index k at sector is here
     ]
 
@@ -80,18 +84,21 @@ here_inside geometry (Zero lba sectors) index k place ends gives =
     let parts = cond_some (is_within lba sectors k) Zeros place gives in
     omega (arith, within_parts lba sectors k parts.0)
 
-pub place_inside : (geometry : Geometry) (entries : List Entry) (index k : ℕ) (place : BatchPlace) → All (EndsBy geometry.sectors) entries
+pub place_inside : (geometry : Geometry) (entries : List Entry) (index k : ℕ) (place : BatchPlace)
+    → All (EndsBy geometry.sectors) entries
     → place_by index entries k ≡ Some place → k < geometry.sectors
 place_inside geometry [] index k place ends gives = cc
 place_inside geometry (entry ∷ entries) index k place ends gives =
     elim (or_parts (place_by (suc index) entries k) (place_from (extent_of index entry) k) place gives) [
-      | inl later ↦ place_inside geometry entries (suc index) k place (All-tail (EndsBy geometry.sectors) entry entries ends) later
+      | inl later ↦ place_inside geometry entries (suc index) k place (All-tail (EndsBy geometry.sectors) entry entries ends)
+          later
       | inr here ↦ here_inside geometry entry index k place (All-head (EndsBy geometry.sectors) entry entries ends) here
     ]
 
 -- ---- places make the changes of the entries
 
-map_or : (f : BatchPlace → Change) (a b : Option BatchPlace) → option_map f (option_or a b) ≡ option_or (option_map f a) (option_map f b)
+map_or : (f : BatchPlace → Change) (a b : Option BatchPlace)
+    → option_map f (option_or a b) ≡ option_or (option_map f a) (option_map f b)
 map_or f None b = refl
 map_or f (Some place) b = refl
 
@@ -106,8 +113,10 @@ here_changes front more (Write lba body) index k is =
     let from : 0 + (k - lba) ≡ k - lba = omega arith in
     map_cond (change_of all) (is_within lba (length body / 512) k) (Data index (0 + (k - lba)))
     ∙ ap (λ n. cond (is_within lba (length body / 512) k) (Some (Put (sector_of n (body_at all index)))) None) from
-    ∙ ap (λ b. cond (is_within lba (length body / 512) k) (Some (Put (sector_of (k - lba) b))) None) (body_past front more (Write lba body) index is)
-here_changes front more (Zero lba sectors) index k is = map_cond (change_of (front ++ (Zero lba sectors ∷ more))) (is_within lba sectors k) Zeros
+    ∙ ap (λ b. cond (is_within lba (length body / 512) k) (Some (Put (sector_of (k - lba) b))) None)
+    (body_past front more (Write lba body) index is)
+here_changes front more (Zero lba sectors) index k is =
+    map_cond (change_of (front ++ (Zero lba sectors ∷ more))) (is_within lba sectors k) Zeros
 
 pub places_change : (front entries more : List Entry) (index k : ℕ) → index ≡ length front
     → option_map (change_of (front ++ (entries ++ more))) (place_by index entries k) ≡ change_at entries k
@@ -115,7 +124,8 @@ places_change front [] more index k is = refl
 places_change front (entry ∷ entries) more index k is =
     let all = front ++ (entry ∷ (entries ++ more)) in
     let later : option_map (change_of all) (place_by (suc index) entries k) ≡ change_at entries k =
-    subst (λ list. option_map (change_of list) (place_by (suc index) entries k) ≡ change_at entries k) (append_assoc front (entry ∷ []) (entries ++ more))
+    subst (λ list. option_map (change_of list) (place_by (suc index) entries k) ≡ change_at entries k)
+    (append_assoc front (entry ∷ []) (entries ++ more))
     (places_change (front ++ entry ∷ []) entries more (suc index) k (omega (arith, is, length-append front (entry ∷ [])))) in
     map_or (change_of all) (place_by (suc index) entries k) (place_from (extent_of index entry) k)
     ∙ ap (λ o. option_or o (option_map (change_of all) (place_from (extent_of index entry) k))) later

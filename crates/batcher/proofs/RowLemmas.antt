@@ -1,5 +1,6 @@
 -- The rows of extents, one after the other.
-use Rattle.std.proofs.Common.{◌≡◌, ℕ, ◌+◌, ◌≤◌, ◌==◌, true, false, ◌&&◌, cond, Option, Some, None, List, [], ◌∷◌, ◌++◌, length, refl, sym, ap, ◌∙◌, inl, inr, append_assoc, arith}
+use Rattle.std.proofs.Common.{◌≡◌, ℕ, ◌+◌, ◌≤◌, ◌==◌, true, false, ◌&&◌, cond, Option, Some, None, List, [], ◌∷◌, ◌++◌, length}
+use Rattle.std.proofs.Common.{refl, sym, ap, ◌∙◌, inl, inr, append_assoc, arith}
 use Rattle.std.specs.Prelude.{is_some, option_to_list}
 use Rattle.std.specs.List.{sum_by}
 use Rattle.std.proofs.lemmas.Bool.{cases_Bool, and_parts, eqb-true, false≢true}
@@ -19,7 +20,8 @@ rows_end None payload = refl
 rows_end (Some row) payload = refl
 
 pub rows_start : (payload : ℕ) (extent : Extent BatchPlace) (extents : List (Extent BatchPlace))
-    → rows_from None payload (extent ∷ extents) ≡ rows_from (Some (row_of payload extent)) (payload + data_payload (row_of payload extent)) extents
+    → rows_from None payload (extent ∷ extents) ≡ rows_from (Some (row_of payload extent))
+    (payload + data_payload (row_of payload extent)) extents
 unfolding rows_from
 rows_start payload extent extents = refl
 
@@ -30,7 +32,8 @@ pub rows_on : (row : DataRow) (payload : ℕ) (extent : Extent BatchPlace) (exte
 unfolding rows_from
 rows_on row payload extent extents goes =
     let after = payload + data_payload (row_of payload extent) in
-    ap (λ b. cond b (rows_from (Some (joined row (row_of payload extent))) after extents) (row ∷ rows_from (Some (row_of payload extent)) after extents)) goes
+    ap (λ b. cond b (rows_from (Some (joined row (row_of payload extent))) after extents)
+    (row ∷ rows_from (Some (row_of payload extent)) after extents)) goes
 
 pub rows_off : (row : DataRow) (payload : ℕ) (extent : Extent BatchPlace) (extents : List (Extent BatchPlace))
     → joins row (row_of payload extent) ≡ false
@@ -39,7 +42,8 @@ pub rows_off : (row : DataRow) (payload : ℕ) (extent : Extent BatchPlace) (ext
 unfolding rows_from
 rows_off row payload extent extents stops =
     let after = payload + data_payload (row_of payload extent) in
-    ap (λ b. cond b (rows_from (Some (joined row (row_of payload extent))) after extents) (row ∷ rows_from (Some (row_of payload extent)) after extents)) stops
+    ap (λ b. cond b (rows_from (Some (joined row (row_of payload extent))) after extents)
+    (row ∷ rows_from (Some (row_of payload extent)) after extents)) stops
 
 -- ---- one extent more in the making
 
@@ -48,7 +52,8 @@ module _ (front : List DataRow) (last : Option DataRow) (payload added : ℕ) (e
   after_is : payload + added ≡ payload + data_payload (row_of payload extent)
   after_is = ap (λ n. payload + n) (adds ∙ ap data_payload is)
 
-  pub made_first : last ≡ None → front ++ rows_from (Some row) (payload + added) more ≡ front ++ rows_from last payload (extent ∷ more)
+  pub made_first : last ≡ None → front ++ rows_from (Some row) (payload + added) more ≡ front ++ rows_from last payload
+      (extent ∷ more)
   made_first none =
       ap (λ rows. front ++ rows)
       (ap (λ r. rows_from (Some r) (payload + added) more) is
@@ -65,7 +70,8 @@ module _ (front : List DataRow) (last : Option DataRow) (payload added : ℕ) (e
       ∙ sym (rows_on before payload extent more (ap (joins before) (sym is) ∙ goes))
       ∙ ap (λ l. rows_from l payload (extent ∷ more)) (sym some))
 
-  pub made_off : (before : DataRow) (rows : List DataRow) → last ≡ Some before → joins before row ≡ false → rows ≡ front ++ before ∷ []
+  pub made_off : (before : DataRow) (rows : List DataRow) → last ≡ Some before → joins before row ≡ false
+      → rows ≡ front ++ before ∷ []
       → rows ++ rows_from (Some row) (payload + added) more ≡ front ++ rows_from last payload (extent ∷ more)
   made_off before rows some stops pushed =
       ap (λ list. list ++ rows_from (Some row) (payload + added) more) pushed
@@ -78,7 +84,8 @@ module _ (front : List DataRow) (last : Option DataRow) (payload added : ℕ) (e
 
 -- ---- how many there are, and their payload
 
-same_payload : (payload sectors : ℕ) (place : BatchPlace) → payload_at sectors (row_place payload place) ≡ payload_at sectors (row_place 0 place)
+same_payload : (payload sectors : ℕ) (place : BatchPlace) → payload_at sectors (row_place payload place) ≡ payload_at sectors
+    (row_place 0 place)
 same_payload payload sectors (Data entry from) = refl
 same_payload payload sectors Zeros = refl
 
@@ -98,7 +105,8 @@ pub has_payload : (sectors : ℕ) (place : Option ℕ) → is_some place ≡ tru
 has_payload sectors None some = absurd (false≢true some)
 has_payload sectors (Some place) some = refl
 
-pub joined_payload : (row next : DataRow) → joins row next ≡ true → data_payload (joined row next) ≡ data_payload row + data_payload next
+pub joined_payload : (row next : DataRow) → joins row next ≡ true
+    → data_payload (joined row next) ≡ data_payload row + data_payload next
 joined_payload row next goes =
     let parts = goes_parts row next goes in
     omega (
@@ -108,7 +116,8 @@ joined_payload row next goes =
       has_payload next.sectors next.place parts.2,
     )
 
-pub rows_few : (row : DataRow) (payload : ℕ) (extents : List (Extent BatchPlace)) → length (rows_from (Some row) payload extents) ≤ 1 + length extents
+pub rows_few : (row : DataRow) (payload : ℕ) (extents : List (Extent BatchPlace))
+    → length (rows_from (Some row) payload extents) ≤ 1 + length extents
 rows_few row payload [] = omega (arith, ap length (rows_end (Some row) payload))
 rows_few row payload (extent ∷ extents) =
     let next = row_of payload extent in
@@ -121,7 +130,12 @@ rows_few row payload (extent ∷ extents) =
 pub rows_of_few : (extents : List (Extent BatchPlace)) → length (rows_of extents) ≤ length extents
 rows_of_few [] = omega (arith, ap length (rows_end None 0))
 rows_of_few (extent ∷ extents) =
-    omega (arith, ap length (rows_start 0 extent extents), rows_few (row_of 0 extent) (0 + data_payload (row_of 0 extent)) extents)
+    omega (
+      arith,
+      ap length (rows_start 0 extent extents),
+      rows_few (row_of 0 extent)
+          (0 + data_payload (row_of 0 extent)) extents,
+    )
 
 rows_sum : (row : DataRow) (payload : ℕ) (extents : List (Extent BatchPlace))
     → sum_by data_payload (rows_from (Some row) payload extents) ≡ data_payload row + sum_by extent_payload extents
@@ -133,7 +147,15 @@ rows_sum row payload (extent ∷ extents) =
     let more = sum_by-cons extent_payload extent extents in
     elim (cases_Bool (joins row next)) [
       | inl goes ↦
-          omega (arith, ap (sum_by data_payload) (rows_on row payload extent extents goes), rows_sum (joined row next) after extents, joined_payload row next goes, same, more)
+          omega (
+            arith,
+            ap (sum_by data_payload) (rows_on row payload extent extents goes),
+            rows_sum (joined row next) after
+                extents,
+            joined_payload row next goes,
+            same,
+            more,
+          )
       | inr stops ↦
           omega (
             arith,

@@ -1,5 +1,6 @@
 -- A plan of a batch may be sealed, and what is written of it is sealed.
-use Rattle.std.proofs.Common.{◌≡◌, ℕ, ◌+◌, ◌-◌, ◌*◌, ◌^◌, ◌<◌, ◌≤◌, inl, inr, Some, None, List, [], ◌++◌, length, get_or, take, drop, refl, sym, ap, subst, ◌∙◌, arith, length-append}
+use Rattle.std.proofs.Common.{◌≡◌, ℕ, ◌+◌, ◌-◌, ◌*◌, ◌^◌, ◌<◌, ◌≤◌, inl, inr, Some, None, List, [], ◌++◌, length, get_or, take}
+use Rattle.std.proofs.Common.{drop, refl, sym, ap, subst, ◌∙◌, arith, length-append}
 use Rattle.std.specs.Prelude.{IsTrue, is_some}
 use Rattle.std.specs.List.{All, sum_by}
 use Rattle.std.specs.Option.{option_map}
@@ -54,26 +55,30 @@ use Rattle.batcher.proofs.Written.{payload_is, may_be_written}
 ends_by : (geometry : Geometry) (entries : List Entry) → IsTrue (is_within_limits geometry) → AreInRange geometry entries
     → All (EndsBy geometry.sectors) entries
 ends_by geometry entries limits in_range =
-    All-weaker (λ entry. IsTrue (is_in_range geometry entry)) (EndsBy geometry.sectors) (λ entry is. (entry_is_short geometry entry limits is).2) entries in_range
+    All-weaker (λ entry. IsTrue (is_in_range geometry entry)) (EndsBy geometry.sectors)
+    (λ entry is. (entry_is_short geometry entry limits is).2) entries in_range
 
 has_batch : (geometry : Geometry) → IsTrue (is_within_limits geometry) → (0 < geometry.batch) × (geometry.batch ≤ 65536)
 has_batch geometry limits = (grind (arith, nat_tests), grind (arith, nat_tests))
 
 -- an object takes at least one entry
-pub takes_some : (batch : ℕ) (entries : List Entry) (n : ℕ) → 0 < batch → 0 < length entries → IsSealedCount batch entries n → 0 < n
+pub takes_some : (batch : ℕ) (entries : List Entry) (n : ℕ) → 0 < batch → 0 < length entries
+    → IsSealedCount batch entries n → 0 < n
 takes_some batch entries n positive some is =
     elim (cases_lt 0 n) [
       | inl takes ↦ takes
       | inr bare ↦
           let none : n ≡ 0 = omega arith in
           elim is.full_or_all [
-            | inl full ↦ absurd (both_ways (is_some (fullness batch 0 0)) (full_has_some batch positive) (ap (λ m. is_some (fullness_of_first batch entries m)) (sym none) ∙ full))
+            | inl full ↦ absurd (both_ways (is_some (fullness batch 0 0)) (full_has_some batch positive)
+                (ap (λ m. is_some (fullness_of_first batch entries m)) (sym none) ∙ full))
             | inr all ↦ absurd (omega (arith, all, some, none))
           ]
     ]
 
 -- an object takes at most the most entries, and fewer sectors of data than the batch and one write
-pub takes_few : (geometry : Geometry) (entries : List Entry) (n : ℕ) → IsTrue (is_within_limits geometry) → AreInRange geometry entries
+pub takes_few : (geometry : Geometry) (entries : List Entry) (n : ℕ) → IsTrue (is_within_limits geometry)
+    → AreInRange geometry entries
     → IsSealedCount geometry.batch entries n → 0 < n → (n ≤ max_entries) × (sum_by data_sectors (take n entries) ≤ 131071)
 takes_few geometry entries n limits in_range is some =
     let m = n - 1 in
@@ -82,15 +87,18 @@ takes_few geometry entries n limits in_range is some =
     let before = not_full geometry.batch (sum_by data_sectors (take m entries)) m (is.fewest m (omega (arith, some))) in
     let d : Entry = Zero 0 0 in
     let last = get_or entries m d in
-    let short = entry_is_short geometry last limits (All-get_or (λ entry. IsTrue (is_in_range geometry entry)) entries m d low in_range) in
+    let short = entry_is_short geometry last limits (All-get_or (λ entry. IsTrue (is_in_range geometry entry)) entries m d low
+    in_range) in
     let sum : sum_by data_sectors (take n entries) ≡ sum_by data_sectors (take m entries) + data_sectors last =
     ap (λ k. sum_by data_sectors (take k entries)) next ∙ sum_by_more data_sectors entries m d low in
     (omega (arith, before.1, next), omega (arith, sum, before.0, short.0, short.1, (has_batch geometry limits).1))
 
 -- ---- a plan may be sealed
 
-module _ (geometry : Geometry) (first : ℕ) (entries : List Entry) (sectors : ℕ) (plan : Plan) (is : IsBatch geometry first entries sectors plan)
-    (some : 0 < length entries) (extents : List (Extent BatchPlace)) (are : extents ≡ plan.changes.rows) (shortest : IsShortest place_on extents)
+module _ (geometry : Geometry) (first : ℕ) (entries : List Entry) (sectors : ℕ) (plan : Plan)
+    (is : IsBatch geometry first entries sectors plan)
+    (some : 0 < length entries) (extents : List (Extent BatchPlace)) (are : extents ≡ plan.changes.rows)
+    (shortest : IsShortest place_on extents)
   where
     gets : (k : ℕ) → place_at place_on extents k ≡ place_by 0 (take plan.entries entries) k
     gets k = ap (λ list. place_at place_on list k) are ∙ is.planned.changes k
@@ -124,7 +132,8 @@ module _ (geometry : Geometry) (first : ℕ) (entries : List Entry) (sectors : �
     rows_few : length (rows_of extents) ≤ 65536
     rows_few = omega (arith, rows_of_few extents, ap length are, is.planned.few, few.0)
 
-    pub may_be_sealed : (expected : Expected) → AllFit place_number extents → expected.sectors ≡ geometry.sectors → expected.end_before ≡ Some first
+    pub may_be_sealed : (expected : Expected) → AllFit place_number extents → expected.sectors ≡ geometry.sectors
+        → expected.end_before ≡ Some first
         → MayBeSealed expected first (first + plan.entries) entries extents
     may_be_sealed expected fits volume end_before = record {
       some = omega (arith, takes);
@@ -145,7 +154,8 @@ module _ (geometry : Geometry) (first : ℕ) (entries : List Entry) (sectors : �
         ap (λ list. change_in list (payload_bytes entries extents) k) is_rows
         ∙ rows_of_change entries extents bodies k
         ∙ ap (option_map (change_of entries)) (gets k)
-        ∙ subst (λ all. option_map (change_of all) (place_by 0 (take plan.entries entries) k) ≡ change_at (take plan.entries entries) k)
+        ∙ subst (λ all. option_map (change_of all) (place_by 0 (take plan.entries entries) k)
+        ≡ change_at (take plan.entries entries) k)
         (take-append-drop plan.entries entries)
         (places_change [] (take plan.entries entries) (drop plan.entries entries) 0 k refl)
 
@@ -155,10 +165,12 @@ module _ (geometry : Geometry) (first : ℕ) (entries : List Entry) (sectors : �
 payload_after : (bytes front payload : List ℕ) (n : ℕ) → bytes ≡ front ++ payload → length front ≡ n → payload ≡ drop n bytes
 payload_after bytes front payload n is size = sym (ap (drop n) is ∙ drop_at front payload n size)
 
-pub has_parts : WritesObjects → (expected : Expected) (first end : ℕ) (entries : List Entry) (extents : List (Extent BatchPlace)) (written : WrittenObject)
+pub has_parts : WritesObjects → (expected : Expected) (first end : ℕ) (entries : List Entry) (extents : List (Extent BatchPlace))
+    (written : WrittenObject)
     → IsWritten expected first end entries extents written → MayBeSealed expected first end entries extents
     → length expected.uuid ≡ 16 → expected.number < 2 ^ 64 → end < 2 ^ 64
-    → HasParts expected written.object (header_of expected first end (Data written.rows)) (Data written.rows) (payload_bytes entries extents)
+    → HasParts expected written.object (header_of expected first end (Data written.rows)) (Data written.rows)
+    (payload_bytes entries extents)
 has_parts writes expected first end entries extents written is may uuid number fits =
     let rows = Data written.rows in
     let header = header_of expected first end rows in
@@ -175,7 +187,8 @@ has_parts writes expected first end entries extents written is may uuid number f
       rows = omega (arith, few);
       payload = omega (arith, sum, may.payload);
     } in
-    let object = writes expected first end rows payload widths (may_be_written expected first end entries extents written.rows is.rows may) size in
+    let object = writes expected first end rows payload widths (may_be_written expected first end entries extents written.rows
+    is.rows may) size in
     let whole = object.head.has_size in
     record {
       is_object = subst (λ bytes. IsObject bytes (length bytes) expected header rows) (sym is.bytes) object;
@@ -185,23 +198,32 @@ has_parts writes expected first end entries extents written is may uuid number f
     }
 
 -- what is written of a plan, with the plan of the rest, is the sealed batch
-pub is_sealed : (batch : BatchState) (sectors : ℕ) (plan : Plan) (is : IsBatch batch.geometry batch.first batch.entries sectors plan)
+pub is_sealed : (batch : BatchState) (sectors : ℕ) (plan : Plan)
+    (is : IsBatch batch.geometry batch.first batch.entries sectors plan)
     → 0 < length batch.entries → (extents : List (Extent BatchPlace)) → extents ≡ plan.changes.rows → IsShortest place_on extents
     → (expected : Expected) → AllFit place_number extents → IsExpectedOf batch expected
     → (written : WrittenObject) → IsWritten expected batch.first (batch.first + plan.entries) batch.entries extents written
     → length expected.uuid ≡ 16 → expected.number < 2 ^ 64
     → (rest : Plan) → IsPlanOf batch.geometry.batch (drop plan.entries batch.entries) rest → batch.reserved ≤ rest.changes.spare
     → IsSealed batch expected
-    (record { object = written.object; rows = written.rows; entries = plan.entries; rest = record { after = plan.entries; plan = rest } })
+    (record {
+      object = written.object;
+      rows = written.rows;
+      entries = plan.entries;
+      rest = record { after = plan.entries; plan = rest };
+    })
 is_sealed batch sectors plan is some extents are shortest expected fits due written wrote uuid number rest planned room =
-    let may = may_be_sealed batch.geometry batch.first batch.entries sectors plan is some extents are shortest expected fits due.sectors due.end_before in
+    let may = may_be_sealed batch.geometry batch.first batch.entries sectors plan is some extents are shortest expected fits
+    due.sectors due.end_before in
     record {
       count = is.planned.count;
       payload = payload_bytes batch.entries extents;
       parts =
-          has_parts writes_objects expected batch.first (batch.first + plan.entries) batch.entries extents written wrote may uuid number
+          has_parts writes_objects expected batch.first (batch.first + plan.entries) batch.entries extents written wrote may
+          uuid number
           (omega (arith, is.seqs, is.planned.count.within));
-      changes = changes_are batch.geometry batch.first batch.entries sectors plan is some extents are shortest written.rows.items wrote.rows;
+      changes = changes_are batch.geometry batch.first batch.entries sectors plan is some extents are shortest written.rows.items
+          wrote.rows;
       after = refl;
       rest = record { within = is.planned.count.within; planned = planned };
       room = room;

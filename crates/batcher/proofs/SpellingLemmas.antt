@@ -1,5 +1,6 @@
 -- The rows of extents keep the one spelling of an object's rows.
-use Rattle.std.proofs.Common.{◌≡◌, ℕ, ◌+◌, ◌<◌, ◌≤◌, ◌==◌, inl, inr, Bool, true, false, ◌&&◌, leb, ltb, Option, Some, None, List, [], ◌∷◌, refl, sym, ap, subst, ◌∙◌, arith}
+use Rattle.std.proofs.Common.{◌≡◌, ℕ, ◌+◌, ◌<◌, ◌≤◌, ◌==◌, inl, inr, Bool, true, false, ◌&&◌, leb, ltb, Option, Some, None, List}
+use Rattle.std.proofs.Common.{[], ◌∷◌, refl, sym, ap, subst, ◌∙◌, arith}
 use Rattle.std.specs.Prelude.{IsTrue, is_some}
 use Rattle.std.specs.List.{sum_by}
 use Rattle.std.proofs.lemmas.Bool.{cases_Bool, cases_lt, and_from, or_left, or_right, lt-ltb, le-leb, eq-eqb, both_ways}
@@ -30,16 +31,19 @@ zeros_place payload Zeros none = refl
 zeros_on : (sectors : ℕ) (place next : BatchPlace) → place ≡ Zeros → next ≡ Zeros → place_on sectors place ≡ next
 zeros_on sectors place next is goes = ap (place_on sectors) is ∙ sym goes
 
-row_follow : (payload : ℕ) (extent : Extent BatchPlace) (extents : List (Extent BatchPlace)) → ComesBeforeFirst place_on extent extents
+row_follow : (payload : ℕ) (extent : Extent BatchPlace) (extents : List (Extent BatchPlace))
+    → ComesBeforeFirst place_on extent extents
     → Follow (row_of payload extent) extents
 row_follow payload extent [] before = tt
 row_follow payload extent (next ∷ extents) before = (
   before.in_order,
-  λ touch none zeros. before.apart touch (zeros_on extent.sectors extent.place next.place (zeros_place payload extent.place none) zeros),
+  λ touch none zeros. before.apart touch (zeros_on extent.sectors extent.place next.place
+      (zeros_place payload extent.place none) zeros),
 )
 
 joined_follow : (row : DataRow) (payload : ℕ) (extent : Extent BatchPlace) (extents : List (Extent BatchPlace))
-    → joins row (row_of payload extent) ≡ true → ComesBeforeFirst place_on extent extents → Follow (joined row (row_of payload extent)) extents
+    → joins row (row_of payload extent) ≡ true → ComesBeforeFirst place_on extent extents
+    → Follow (joined row (row_of payload extent)) extents
 joined_follow row payload extent [] goes before = tt
 joined_follow row payload extent (next ∷ extents) goes before =
     let parts = goes_parts row (row_of payload extent) goes in (
@@ -50,10 +54,12 @@ joined_follow row payload extent (next ∷ extents) goes before =
 -- ---- tests of one row
 
 inside_is : (volume lba sectors : ℕ) → 0 < sectors → lba + sectors ≤ volume → IsTrue (is_inside volume lba sectors)
-inside_is volume lba sectors some ends = and_from (ltb 0 sectors) (leb (lba + sectors) volume) (lt-ltb 0 sectors some) (le-leb (lba + sectors) volume ends)
+inside_is volume lba sectors some ends = and_from (ltb 0 sectors) (leb (lba + sectors) volume) (lt-ltb 0 sectors some)
+    (le-leb (lba + sectors) volume ends)
 
 -- a row may follow whatever its sectors are
-follows_longer : (before : Option DataRow) (row next : DataRow) → IsTrue (data_may_follow before row) → IsTrue (data_may_follow before (joined row next))
+follows_longer : (before : Option DataRow) (row next : DataRow) → IsTrue (data_may_follow before row)
+    → IsTrue (data_may_follow before (joined row next))
 follows_longer None row next follows = follows
 follows_longer (Some before) row next follows = follows
 
@@ -73,7 +79,8 @@ not_both : (a b c : Bool) → a ≡ true → (a && b && c) ≡ false → (b && c
 not_both a b c is neither = sym (ap (λ x. x && b && c) is) ∙ neither
 
 -- an extent after a row that it does not go on with may follow it
-may_follow : (row : DataRow) (payload : ℕ) (extent : Extent BatchPlace) (extents : List (Extent BatchPlace)) → Follow row (extent ∷ extents)
+may_follow : (row : DataRow) (payload : ℕ) (extent : Extent BatchPlace) (extents : List (Extent BatchPlace))
+    → Follow row (extent ∷ extents)
     → joins row (row_of payload extent) ≡ false → IsTrue (data_may_follow (Some row) (row_of payload extent))
 may_follow row payload extent extents follow stops =
     let end = row.lba + row.sectors in
@@ -87,7 +94,8 @@ may_follow row payload extent extents follow stops =
           let both : (is_some row.place && is_some next.place) ≡ false =
           not_both (end == extent.lba) (is_some row.place) (is_some next.place) (eq-eqb end extent.lba touch) stops in
           or_right far near
-          (and_from (end == extent.lba) (differ row.place next.place) (eq-eqb end extent.lba touch) (differ_is payload row.place extent.place both (follow.1 touch)))
+          (and_from (end == extent.lba) (differ row.place next.place) (eq-eqb end extent.lba touch)
+          (differ_is payload row.place extent.place both (follow.1 touch)))
     ]
 
 -- ---- all rows
@@ -99,7 +107,8 @@ module _ (volume total : ℕ) where
   stands before at row inside follows placed room =
       let first = is_inside volume row.lba row.sectors && data_may_follow before row in
       and_from (first && is_at at row.place) (leb (at + data_payload row) total)
-      (and_from first (is_at at row.place) (and_from (is_inside volume row.lba row.sectors) (data_may_follow before row) inside follows) placed)
+      (and_from first (is_at at row.place) (and_from (is_inside volume row.lba row.sectors) (data_may_follow before row) inside
+      follows) placed)
       (le-leb (at + data_payload row) total room)
 
   rows_stand : (before : Option DataRow) (at payload : ℕ) (row : DataRow) (extents : List (Extent BatchPlace))
@@ -121,17 +130,20 @@ module _ (volume total : ℕ) where
       elim (cases_Bool (joins row next)) [
         | inl goes ↦
             let parts = goes_parts row next goes in
-            subst (λ list. IsTrue (data_rows_may_stand volume total before at list)) (sym (rows_on row payload extent extents goes))
+            subst (λ list. IsTrue (data_rows_may_stand volume total before at list))
+            (sym (rows_on row payload extent extents goes))
             (rows_stand before at after (joined row next) extents
             (inside_is volume row.lba (row.sectors + extent.sectors) (omega (arith, shortest.0)) (omega (arith, parts.0, ends.0)))
             (follows_longer before row next follows) placed (omega (arith, joined_payload row next goes, adds)) sums_after
             (joined_follow row payload extent extents goes shortest.1) shortest.2 ends.1)
         | inr stops ↦
-            subst (λ list. IsTrue (data_rows_may_stand volume total before at list)) (sym (rows_off row payload extent extents stops))
+            subst (λ list. IsTrue (data_rows_may_stand volume total before at list))
+            (sym (rows_off row payload extent extents stops))
             (and_from (data_may_stand volume total before at row)
             (data_rows_may_stand volume total (Some row) (at + data_payload row) (rows_from (Some next) after extents))
             (stands before at row inside follows placed (omega (arith, adds, sums)))
-            (subst (λ place. IsTrue (data_rows_may_stand volume total (Some row) place (rows_from (Some next) after extents))) (sym adds)
+            (subst (λ place. IsTrue (data_rows_may_stand volume total (Some row) place (rows_from (Some next) after extents)))
+            (sym adds)
             (rows_stand (Some row) payload after next extents (inside_is volume extent.lba extent.sectors shortest.0 ends.0)
             (may_follow row payload extent extents follow stops) (place_at_payload payload extent.place) refl sums_after
             (row_follow payload extent extents shortest.1) shortest.2 ends.1)))
@@ -146,6 +158,8 @@ rows_of_stand volume (extent ∷ extents) shortest ends =
     let row = row_of 0 extent in
     let total = sum_by extent_payload (extent ∷ extents) in
     subst (λ list. IsTrue (data_rows_may_stand volume total None 0 list)) (sym (rows_start 0 extent extents))
-    (rows_stand volume total None 0 (0 + data_payload row) row extents (inside_is volume extent.lba extent.sectors shortest.0 ends.0) refl
-    (place_at_payload 0 extent.place) refl (omega (arith, sum_by-cons extent_payload extent extents)) (row_follow 0 extent extents shortest.1)
+    (rows_stand volume total None 0 (0 + data_payload row) row extents (inside_is volume extent.lba extent.sectors shortest.0
+    ends.0) refl
+    (place_at_payload 0 extent.place) refl (omega (arith, sum_by-cons extent_payload extent extents))
+    (row_follow 0 extent extents shortest.1)
     shortest.2 ends.1)

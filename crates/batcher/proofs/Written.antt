@@ -22,7 +22,8 @@ pub payload_is : (extents : List (Extent BatchPlace)) (rows : Vec DataRow Global
     → payload_of (Data rows) ≡ sum_by extent_payload extents
 payload_is extents rows is = ap (sum_by data_payload) is ∙ rows_of_sum extents
 
-pub may_be_written : (expected : Expected) (first end : ℕ) (entries : List Entry) (extents : List (Extent BatchPlace)) (rows : Vec DataRow Global)
+pub may_be_written : (expected : Expected) (first end : ℕ) (entries : List Entry) (extents : List (Extent BatchPlace))
+    (rows : Vec DataRow Global)
     → rows.items ≡ rows_of extents → MayBeSealed expected first end entries extents
     → MayBeWritten expected (header_of expected first end (Data rows)) (Data rows)
 may_be_written expected first end entries extents rows is may =

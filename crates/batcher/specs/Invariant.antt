@@ -28,6 +28,7 @@ pub record IsBatch (geometry : Geometry) (first : ℕ) (entries : List Entry) (s
 pub record IsPutInPlan (old : Plan) (entry : Entry) (new : Plan) : Type 0 where
   pub count : new.entries ≡ old.entries + 1
   pub sum : new.sectors ≡ old.sectors + data_sectors entry
-  pub changes : (k : ℕ) → place_at place_on new.changes.rows k ≡ option_or (place_from (extent_of old.entries entry) k) (place_at place_on old.changes.rows k)
+  pub changes : (k : ℕ) → place_at place_on new.changes.rows k ≡ option_or (place_from (extent_of old.entries entry) k)
+      (place_at place_on old.changes.rows k)
   pub few : length new.changes.rows ≤ length old.changes.rows + 2
   pub room : old.changes.spare ≤ new.changes.spare + 1

@@ -1,5 +1,6 @@
 -- For this crate's own clauses: the rows and the payload of an object, by the extents of what it changes.
-use Rattle.std.specs.Prelude.{ℕ, ◌+◌, ◌*◌, ◌^◌, ◌<◌, ◌≤◌, ◌==◌, ◌&&◌, Bool, is_some, Option, Some, None, option_to_list, List, [], ◌∷◌, ◌++◌, length, take, drop, if◌then◌else◌}
+use Rattle.std.specs.Prelude.{ℕ, ◌+◌, ◌*◌, ◌^◌, ◌<◌, ◌≤◌, ◌==◌, ◌&&◌, Bool, is_some, Option, Some, None, option_to_list, List, []}
+use Rattle.std.specs.Prelude.{◌∷◌, ◌++◌, length, take, drop, if◌then◌else◌}
 use Rattle.std.specs.List.{flat_map}
 use Rattle.lsvd_base.specs.declared.entry.Entry.{Entry}
 use Rattle.extent_map.specs.declared.extent.Extent.{Extent}

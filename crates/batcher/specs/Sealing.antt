@@ -26,7 +26,8 @@ pub record IsRestOf (batch : BatchState) (rest : Rest) : Type 0 where
 pub record IsSealed (batch : BatchState) (expected : Expected) (sealed : SealedBatch) : Type 0 where
   pub count : IsSealedCount batch.geometry.batch batch.entries sealed.entries
   pub payload : List ℕ
-  pub parts : HasParts expected sealed.object (header_of expected batch.first (batch.first + sealed.entries) (Data sealed.rows)) (Data sealed.rows) payload
+  pub parts : HasParts expected sealed.object (header_of expected batch.first (batch.first + sealed.entries) (Data sealed.rows))
+      (Data sealed.rows) payload
   pub changes : (k : ℕ) → change_in sealed.rows.items payload k ≡ change_at (take sealed.entries batch.entries) k
   -- what is left, with memory for as many further entries as there is
   pub after : sealed.rest.after ≡ sealed.entries

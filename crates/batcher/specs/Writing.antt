@@ -14,7 +14,8 @@ use Rattle.batcher.specs.Places.{place_number}
 use Rattle.batcher.specs.Rows.{rows_of, payload_bytes, extent_payload, AreInBodies}
 
 -- These changes, by entries with seqs from the first one up to the end, may be written as the expected object.
-pub record MayBeSealed (expected : Expected) (first end : ℕ) (entries : List Entry) (extents : List (Extent BatchPlace)) : Type 0 where
+pub record MayBeSealed (expected : Expected) (first end : ℕ) (entries : List Entry) (extents : List (Extent BatchPlace)) :
+    Type 0 where
   pub some : first < end
   pub end_before : expected.end_before ≡ Some first
   pub fits : AllFit place_number extents
@@ -24,6 +25,8 @@ pub record MayBeSealed (expected : Expected) (first end : ℕ) (entries : List E
   pub bodies : AreInBodies entries extents
 
 -- an object with its rows is these changes
-pub record IsWritten (expected : Expected) (first end : ℕ) (entries : List Entry) (extents : List (Extent BatchPlace)) (written : WrittenObject) : Type 0 where
+pub record IsWritten (expected : Expected) (first end : ℕ) (entries : List Entry) (extents : List (Extent BatchPlace))
+    (written : WrittenObject) : Type 0 where
   pub rows : written.rows.items ≡ rows_of extents
-  pub bytes : written.object ≡ front_bytes (header_of expected first end (Data written.rows)) (Data written.rows) ++ payload_bytes entries extents
+  pub bytes : written.object ≡ front_bytes (header_of expected first end (Data written.rows)) (Data written.rows) ++ payload_bytes
+      entries extents

@@ -1,4 +1,5 @@
-ghost use Rattle.std.specs.Prelude.{◌≡◌, ◌+◌, ◌-◌, ◌^◌, ◌<◌, ◌≤◌, min, IsTrue, [], ◌∷◌, ◌++◌, length, drop, IfOk, OnOk};
+ghost use Rattle.std.specs.Prelude.{◌≡◌, ◌+◌, ◌-◌, ◌^◌, ◌<◌, ◌≤◌, min, IsTrue, [], ◌∷◌, ◌++◌, length, drop};
+ghost use Rattle.std.specs.Prelude.{IfOk, OnOk};
 ghost use Rattle.std.specs.List.{sum_by};
 ghost use Rattle.std.specs.VecDeque.{deque_capacity};
 ghost use Rattle.lsvd_base.specs.Limits.{is_within_limits};
@@ -47,8 +48,8 @@ impl Model for Batch {
 }
 
 impl Batch {
-    /// The batch without entries of a volume whose geometry is within the limits (a condition), which goes on with this seq. It
-    /// takes no memory.
+    /// The batch without entries of a volume whose geometry is within the limits (a condition), which goes on
+    /// with this seq. It takes no memory.
     pub fn new(alloc: Global, geometry: Geometry, first_seq: u64) -> Batch
         requires { IsTrue (is_within_limits geometry) }
         ensures { result ≡ record { geometry = geometry; first = first_seq; entries = []; reserved = 0 } }
@@ -99,13 +100,14 @@ impl Batch {
 
     /// Why it takes no further entry. None is for a batch that takes one.
     pub fn full(&self) -> Option<Full>
-        ensures { result ≡ fullness self.now.geometry.batch (sum_by data_sectors self.now.entries) (length self.now.entries) }
+        ensures { result ≡ fullness self.now.geometry.batch (sum_by data_sectors self.now.entries)
+            (length self.now.entries) }
     {
         fullness(self.geometry.batch, self.sectors, self.entries())
     }
 
-    /// Takes memory for one entry more. The one error is that memory ran out. The entries are as before, and no memory that was
-    /// taken before is lost.
+    /// Takes memory for one entry more. The one error is that memory ran out. The entries are as before, and
+    /// no memory that was taken before is lost.
     pub fn reserve(&mut self) -> Result<(), AllocError>
         ensures ok { OnOk result (1 ≤ self.new.reserved) }
         ensures geometry { self.new.geometry ≡ self.old.geometry }
@@ -117,8 +119,8 @@ impl Batch {
         self.plan.changes.reserve(1)
     }
 
-    /// Adds an entry at the end, also to a batch that is full, as a mount does. Memory was taken for it, the volume takes it, and its
-    /// seq and the sectors of data with it fit (conditions). It takes no memory.
+    /// Adds an entry at the end, also to a batch that is full, as a mount does. Memory was taken for it, the
+    /// volume takes it, and its seq and the sectors of data with it fit (conditions). It takes no memory.
     pub fn add(&mut self, entry: Entry)
         requires room { 1 ≤ self.old.reserved }
         requires range { IsTrue (is_in_range self.old.geometry entry) }
@@ -134,9 +136,9 @@ impl Batch {
         self.entries.push_back_reserved(entry);
     }
 
-    /// Makes the expected object of its first entries: the fewest that are full, or all where they are never full. There is an
-    /// entry, and what is expected is of this batch (conditions). It changes nothing: `release` does that, with the rest that
-    /// comes with the object. The one error is that memory ran out.
+    /// Makes the expected object of its first entries: the fewest that are full, or all where they are never
+    /// full. There is an entry, and what is expected is of this batch (conditions). It changes nothing:
+    /// `release` does that, with the rest that comes with the object. The one error is that memory ran out.
     pub fn seal(&self, alloc: Global, expected: &Expected) -> Result<SealedBatch, AllocError>
         requires some { 0 < length self.now.entries }
         requires expected { IsExpectedOf self.now expected.now }
@@ -167,8 +169,8 @@ impl Batch {
         })
     }
 
-    /// Removes the entries of an object, and goes on with the rest. The rest is of this batch (a condition). It takes no memory,
-    /// and there is memory for as many further entries as before, where the rest has it.
+    /// Removes the entries of an object, and goes on with the rest. The rest is of this batch (a condition).
+    /// It takes no memory, and there is memory for as many further entries as before, where the rest has it.
     pub fn release(&mut self, rest: Rest)
         requires { IsRestOf self.old rest }
         ensures geometry { self.new.geometry ≡ self.old.geometry }

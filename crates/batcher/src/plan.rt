@@ -42,14 +42,17 @@ impl Plan {
         fullness(batch, self.sectors, self.entries as u64).is_some()
     }
 
-    /// Takes the next entry where it is not full. There is room for it, and a volume whose batch this is takes it (conditions).
+    /// Takes the next entry where it is not full. There is room for it, and a volume whose batch this is
+    /// takes it (conditions).
     pub(crate) fn offer(&mut self, batch: u64, entry: &Entry)
         requires room { 1 ≤ self.old.changes.spare }
         requires batch { batch ≤ 65536 }
         requires sectors { data_sectors entry.now ≤ 65536 }
         requires ends { EndsBy (2 ^ 31) entry.now }
-        ensures full { IsTrue (is_some (fullness batch self.old.sectors self.old.entries)) → self.new ≡ self.old }
-        ensures put { IsNone (fullness batch self.old.sectors self.old.entries) → IsPutInPlan self.old entry.now self.new }
+        ensures full { IsTrue (is_some (fullness batch self.old.sectors self.old.entries))
+            → self.new ≡ self.old }
+        ensures put { IsNone (fullness batch self.old.sectors self.old.entries)
+            → IsPutInPlan self.old entry.now self.new }
     {
         if !self.is_full(batch) {
             self.put(entry);
@@ -75,7 +78,8 @@ impl Plan {
     }
 }
 
-/// The plan for the entries from an index on, with room for `spare` further entries. The one error is that memory ran out.
+/// The plan for the entries from an index on, with room for `spare` further entries. The one error is that
+/// memory ran out.
 pub(crate) fn plan_from(
     alloc: Global,
     geometry: &Geometry,

@@ -28,7 +28,8 @@ impl RowMaker {
         requires last { EndsInTime self.old.last }
         requires extent { extent.now.lba + extent.now.sectors < 2 ^ 63 }
         requires payload { self.old.payload + extent.now.sectors < 2 ^ 64 }
-        ensures rows { OnOk result ((more : List (Extent BatchPlace)) → rows_with self.new more ≡ rows_with self.old (extent.now ∷ more)) }
+        ensures rows { OnOk result ((more : List (Extent BatchPlace))
+            → rows_with self.new more ≡ rows_with self.old (extent.now ∷ more)) }
         ensures last { OnOk result (EndsInTime self.new.last) }
         ensures payload { OnOk result (self.new.payload ≡ self.old.payload + extent_payload extent.now) }
     {
@@ -85,8 +86,8 @@ fn joins(row: &DataRow, next: &DataRow) -> bool
     row.lba + row.sectors == next.lba && row.place.is_some() && next.place.is_some()
 }
 
-/// The rows of a data object that makes these changes, which have fewer than 2^63 sectors of data (a condition). The one error is
-/// that memory ran out.
+/// The rows of a data object that makes these changes, which have fewer than 2^63 sectors of data (a
+/// condition). The one error is that memory ran out.
 pub(crate) fn data_rows(
     alloc: Global,
     extents: &[Extent<BatchPlace>],

@@ -29,7 +29,8 @@ pub struct SealedBatch {
     pub rest: Rest,
 }
 
-/// What the entries after those of an object are planned to become, so that a batch goes on with them and takes no memory.
+/// What the entries after those of an object are planned to become, so that a batch goes on with them and
+/// takes no memory.
 #[derive(Drop)]
 pub struct Rest {
     // How many entries the object has.
@@ -45,8 +46,8 @@ pub(crate) struct WrittenObject {
     pub(crate) rows: Vec<DataRow>,
 }
 
-/// The expected object of entries with seqs from the first one up to the end, which makes these changes. They may be written so (a
-/// condition). The one error is that memory ran out.
+/// The expected object of entries with seqs from the first one up to the end, which makes these changes. They
+/// may be written so (a condition). The one error is that memory ran out.
 pub(crate) fn write_object(
     alloc: Global,
     expected: &Expected,
@@ -94,7 +95,10 @@ fn append_payload(
 )
     requires bodies { AreInBodies entries.now.items extents.now }
     requires size { length writer.old.bytes + 512 * sum_by extent_payload extents.now ≤ writer.old.size }
-    ensures { writer.new ≡ record { bytes = writer.old.bytes ++ payload_bytes entries.now.items extents.now; size = writer.old.size } }
+    ensures { writer.new ≡ record {
+      bytes = writer.old.bytes ++ payload_bytes entries.now.items extents.now;
+      size = writer.old.size;
+    } }
 {
     for extent in extents {
         writer.append(piece(entries, extent));

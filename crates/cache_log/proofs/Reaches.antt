@@ -21,7 +21,8 @@ pub record ReachWithin (place : Room) (from most : ℕ) (rows : List Row) : Type
 stands_own : (log : ℕ) (row : Row) → position_of row + record_size row ≤ log → StandsFrom log (position_of row) row
 stands_own log row fits = inl (refl, fits)
 
-restart_in : (place : Room) (from used : ℕ) (row : Row) (rows : List Row) → IsRoom place → used ≤ place.log → Reach place from used (row ∷ rows) → StandsFrom place.log from row
+restart_in : (place : Room) (from used : ℕ) (row : Row) (rows : List Row) → IsRoom place → used ≤ place.log
+    → Reach place from used (row ∷ rows) → StandsFrom place.log from row
     → ReachWithin place (position_of row) used (row ∷ rows)
 restart_in place from used row rows room most reach (inl here) =
     let P : ℕ → Type 0 = λ p. ReachWithin place p used (row ∷ rows) in
@@ -34,7 +35,8 @@ restart_in place from used row rows room most reach (inr round) =
     let some = some_size row in
     let enough = reach.follow.1 in
     let own = taken_here log (position_of row) row refl in
-    let left : used - sectors_taken log from row ≡ (used - (log - from)) - sectors_taken log (position_of row) row = omega (arith, takes, own) in
+    let left : used - sectors_taken log from row ≡ (used - (log - from)) - sectors_taken log (position_of row) row =
+    omega (arith, takes, own) in
     let P : ℕ → Type 0 = λ u. Follow log (next log row) u rows in
     record {
       used = used - (log - from);
@@ -45,22 +47,34 @@ restart_in place from used row rows room most reach (inr round) =
           | inl e ↦ absurd (omega (arith, e, takes, enough, some, head, inside))
           | inr e ↦ inl (omega (arith, e, round.0, takes, enough, inside))
         ];
-        follow = (stands_own log row (omega (arith, round.0, round.2)), omega (arith, own, takes, enough), subst P left reach.follow.2);
+        follow = (
+          stands_own log row (omega (arith, round.0, round.2)),
+          omega (arith, own, takes, enough),
+          subst P left
+              reach.follow.2,
+        );
       };
     }
 
-pub restart : (place : Room) (from used : ℕ) (row : Row) (rows : List Row) → IsRoom place → used ≤ place.log → Reach place from used (row ∷ rows) → ReachWithin place (position_of row) used (row ∷ rows)
+pub restart : (place : Room) (from used : ℕ) (row : Row) (rows : List Row) → IsRoom place → used ≤ place.log
+    → Reach place from used (row ∷ rows) → ReachWithin place (position_of row) used (row ∷ rows)
 restart place from used row rows room most reach = restart_in place from used row rows room most reach reach.follow.0
 
-pub have_restart : (row : Row) (rows : List Row) (log from seq : ℕ) (bytes : List ℕ) → HaveRecords log from seq (row ∷ rows) bytes → HaveRecords log (position_of row) seq (row ∷ rows) bytes
+pub have_restart : (row : Row) (rows : List Row) (log from seq : ℕ) (bytes : List ℕ) → HaveRecords log from seq (row ∷ rows) bytes
+    → HaveRecords log (position_of row) seq (row ∷ rows) bytes
 have_restart row rows log from seq bytes (pad, here, more) = ((λ less. absurd (omega (arith, less))), here, more)
 
 -- ---- without the first
 
 none_reach : (place : Room) (most : ℕ) → IsRoom place → ReachWithin place place.head most []
-none_reach place most room = record { used = 0; within = omega arith; reach = record { inside = room.head; further = inl (omega arith); follow = refl } }
+none_reach place most room = record {
+  used = 0;
+  within = omega arith;
+  reach = record { inside = room.head; further = inl (omega arith); follow = refl };
+}
 
-pub drop_reach : (rows : List Row) (n : ℕ) (place : Room) (from used : ℕ) → IsRoom place → used ≤ place.log → Reach place from used rows
+pub drop_reach : (rows : List Row) (n : ℕ) (place : Room) (from used : ℕ) → IsRoom place → used ≤ place.log
+    → Reach place from used rows
     → ReachWithin place (start_of place.head (drop n rows)) used (drop n rows)
 drop_reach [] zero place from used room most reach = none_reach place used room
 drop_reach [] (suc n) place from used room most reach = none_reach place used room
@@ -79,7 +93,8 @@ drop_reach (row ∷ rows) (suc n) place from used room most reach =
     let w = more.within in
     record { used = more.used; within = omega (arith, w); reach = more.reach }
 
-pub drop_have : (rows : List Row) (n log from seq head : ℕ) (bytes : List ℕ) → HaveRecords log from seq rows bytes → HaveRecords log (start_of head (drop n rows)) (seq + n) (drop n rows) bytes
+pub drop_have : (rows : List Row) (n log from seq head : ℕ) (bytes : List ℕ) → HaveRecords log from seq rows bytes
+    → HaveRecords log (start_of head (drop n rows)) (seq + n) (drop n rows) bytes
 drop_have [] zero log from seq head bytes have = tt
 drop_have [] (suc n) log from seq head bytes have = tt
 drop_have (row ∷ rows) zero log from seq head bytes have =
@@ -101,14 +116,16 @@ drop_numbered (row ∷ rows) (suc n) seq are =
 
 -- ---- how many sectors that is
 
-reach_some : (log from used head : ℕ) (rows : List Row) → from < log → head < log → used ≤ log → 1 ≤ used → IsFurther log from used head → used ≡ distance log from head
+reach_some : (log from used head : ℕ) (rows : List Row) → from < log → head < log → used ≤ log → 1 ≤ used
+    → IsFurther log from used head → used ≡ distance log from head
 reach_some log from used head rows inside head_inside most some (inl e) = grind (arith, nat_tests, e, some)
 reach_some log from used head rows inside head_inside most some (inr e) =
     let no : head ≤ from = omega (arith, e, most) in
     let is : distance log from head ≡ log - from + head = grind (arith, nat_tests, no) in
     omega (arith, e, is, inside)
 
-pub reach_is : (place : Room) (from used : ℕ) (rows : List Row) → IsRoom place → used ≤ place.log → Reach place from used rows → used ≡ sectors_from place.log from place.head rows
+pub reach_is : (place : Room) (from used : ℕ) (rows : List Row) → IsRoom place → used ≤ place.log → Reach place from used rows
+    → used ≡ sectors_from place.log from place.head rows
 reach_is place from used [] room most reach = reach.follow
 reach_is place from used (row ∷ rows) room most reach =
     let run = run_of (row ∷ rows) place.log from used reach.inside most reach.follow in

@@ -30,11 +30,21 @@ nothing_taken None = refl
 nothing_taken (Some budget) = (budget, refl, λ calls bytes. nothing_within budget.fuse budget refl)
   where
     nothing_within : (fuse : Fuse) (budget : Budget) → budget.fuse ≡ fuse → TakesWithin (reads_cost 0) true budget budget
-    nothing_within None budget is = record { made = ap (λ f. passes f 0) (sym is); fuse = is ∙ ap (λ f. fuse_after f 0) (sym is); calls = omega arith; bytes = omega arith }
+    nothing_within None budget is = record {
+      made = ap (λ f. passes f 0) (sym is);
+      fuse = is ∙ ap (λ f. fuse_after f 0) (sym is);
+      calls = omega arith;
+      bytes = omega arith;
+    }
     nothing_within (Some left) budget is =
         let made : true ≡ passes (Some left) 0 = grind arith in
         let lower : Some left ≡ fuse_after (Some left) 0 = ap Some (omega arith) in
-        record { made = made ∙ ap (λ f. passes f 0) (sym is); fuse = is ∙ lower ∙ ap (λ f. fuse_after f 0) (sym is); calls = omega arith; bytes = omega arith }
+        record {
+          made = made ∙ ap (λ f. passes f 0) (sym is);
+          fuse = is ∙ lower ∙ ap (λ f. fuse_after f 0) (sym is);
+          calls = omega arith;
+          bytes = omega arith;
+        }
 
 pub read_none : (commits : CommitsState) → AreOnDisk commits → AreReadTimes 0 commits commits
 read_none commits on_disk = record {
@@ -44,7 +54,8 @@ read_none commits on_disk = record {
   on_disk = on_disk;
 }
 
-pub times_then : (a b : ℕ) (old middle new : CommitsState) → AreReadTimes a old middle → AreReadTimes b middle new → AreReadTimes (a + b) old new
+pub times_then : (a b : ℕ) (old middle new : CommitsState) → AreReadTimes a old middle → AreReadTimes b middle new
+    → AreReadTimes (a + b) old new
 times_then a b old middle new first second = record {
   same = as_before_then old middle new first.same second.same;
   moments = second.moments ∙ first.moments;
@@ -54,7 +65,8 @@ times_then a b old middle new first second = record {
 
 -- ---- at most this many
 
-pub only_of_times : (count most : ℕ) (old new : CommitsState) → AreReadTimes count old new → count ≤ most → AreReadOnly most true old new
+pub only_of_times : (count most : ℕ) (old new : CommitsState) → AreReadTimes count old new → count ≤ most
+    → AreReadOnly most true old new
 only_of_times count most old new times within = record {
   same = times.same;
   moments = times.moments;
@@ -62,7 +74,8 @@ only_of_times count most old new times within = record {
   on_disk = times.on_disk;
 }
 
-pub only_then : (a b most : ℕ) (is_made : Bool) (old middle new : CommitsState) → AreReadOnly a true old middle → AreReadOnly b is_made middle new → a + b ≤ most → AreReadOnly most is_made old new
+pub only_then : (a b most : ℕ) (is_made : Bool) (old middle new : CommitsState) → AreReadOnly a true old middle
+    → AreReadOnly b is_made middle new → a + b ≤ most → AreReadOnly most is_made old new
 only_then a b most is_made old middle new first second within = record {
   same = as_before_then old middle new first.same second.same;
   moments = second.moments ∙ first.moments;
@@ -72,34 +85,46 @@ only_then a b most is_made old middle new first second within = record {
       record {
         count = first.reads.count + second.reads.count;
         within = omega (arith, m, n, within);
-        calls = made_then (reads_cost first.reads.count) (reads_cost second.reads.count) is_made old.disk middle.disk new.disk first.reads.calls second.reads.calls;
+        calls = made_then (reads_cost first.reads.count) (reads_cost second.reads.count) is_made old.disk middle.disk new.disk
+            first.reads.calls second.reads.calls;
       };
   on_disk = second.on_disk;
 }
 
-pub only_more : (a most : ℕ) (is_made : Bool) (old new : CommitsState) → AreReadOnly a is_made old new → a ≤ most → AreReadOnly most is_made old new
+pub only_more : (a most : ℕ) (is_made : Bool) (old new : CommitsState) → AreReadOnly a is_made old new → a ≤ most
+    → AreReadOnly most is_made old new
 only_more a most is_made old new only within = record {
   same = only.same;
   moments = only.moments;
-  reads = (let n = only.reads.within in record { count = only.reads.count; within = omega (arith, n, within); calls = only.reads.calls });
+  reads = (let n = only.reads.within in record {
+    count = only.reads.count;
+    within = omega (arith, n, within);
+    calls =
+        only.reads.calls;
+  });
   on_disk = only.on_disk;
 }
 
 -- and so where an error is answered
-pub open_error_more : {T : Type 0} (r : Result T OpenError) (a most : ℕ) (old new : CommitsState) → IfErr r (λ e. AreReadOnly a (opens_without_fault e) old new) → a ≤ most
+pub open_error_more : {T : Type 0} (r : Result T OpenError) (a most : ℕ) (old new : CommitsState)
+    → IfErr r (λ e. AreReadOnly a (opens_without_fault e) old new) → a ≤ most
     → IfErr r (λ e. AreReadOnly most (opens_without_fault e) old new)
 open_error_more (Ok x) a most old new only within = tt
 open_error_more (Err e) a most old new only within = only_more a most (opens_without_fault e) old new only within
 
-pub open_error_then : {T : Type 0} (r : Result T OpenError) (a b most : ℕ) (old middle new : CommitsState) → AreReadOnly a true old middle → IfErr r (λ e. AreReadOnly b (opens_without_fault e) middle new) → a + b ≤ most
+pub open_error_then : {T : Type 0} (r : Result T OpenError) (a b most : ℕ) (old middle new : CommitsState)
+    → AreReadOnly a true old middle → IfErr r (λ e. AreReadOnly b (opens_without_fault e) middle new) → a + b ≤ most
     → IfErr r (λ e. AreReadOnly most (opens_without_fault e) old new)
 open_error_then (Ok x) a b most old middle new first second within = tt
-open_error_then (Err e) a b most old middle new first second within = only_then a b most (opens_without_fault e) old middle new first second within
+open_error_then (Err e) a b most old middle new first second within =
+    only_then a b most (opens_without_fault e) old middle new first second within
 
-pub read_error_then : {T : Type 0} (r : Result T ReadError) (a b most : ℕ) (old middle new : CommitsState) → AreReadOnly a true old middle → IfErr r (λ e. AreReadOnly b (reads_without_fault e) middle new) → a + b ≤ most
+pub read_error_then : {T : Type 0} (r : Result T ReadError) (a b most : ℕ) (old middle new : CommitsState)
+    → AreReadOnly a true old middle → IfErr r (λ e. AreReadOnly b (reads_without_fault e) middle new) → a + b ≤ most
     → IfErr r (λ e. AreReadOnly most (reads_without_fault e) old new)
 read_error_then (Ok x) a b most old middle new first second within = tt
-read_error_then (Err e) a b most old middle new first second within = only_then a b most (reads_without_fault e) old middle new first second within
+read_error_then (Err e) a b most old middle new first second within =
+    only_then a b most (reads_without_fault e) old middle new first second within
 
 -- ---- the headers of rows
 
@@ -124,8 +149,10 @@ headers_most log from (row ∷ rows) =
     omega (arith, one, more)
 
 -- with one row more
-pub headers_more : (rows : List Row) (row : Row) (log from : ℕ) → headers_of_rows log from (rows ++ row ∷ []) ≡ headers_of_rows log from rows + headers_of (end_of_rows log from rows) row
+pub headers_more : (rows : List Row) (row : Row) (log from : ℕ) → headers_of_rows log from (rows ++ row ∷ [])
+    ≡ headers_of_rows log from rows + headers_of (end_of_rows log from rows) row
 headers_more [] row log from = omega arith
 headers_more (first ∷ rows) row log from =
     ap (λ n. headers_of from first + n) (headers_more rows row log (next log first))
-    ∙ sym (add_assoc (headers_of from first) (headers_of_rows log (next log first) rows) (headers_of (end_of_rows log (next log first) rows) row))
+    ∙ sym (add_assoc (headers_of from first) (headers_of_rows log (next log first) rows)
+    (headers_of (end_of_rows log (next log first) rows) row))

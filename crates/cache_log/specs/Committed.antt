@@ -28,20 +28,24 @@ HasRecords log body list bytes = (rows : List Row) × AreRecords log body rows b
 abbrev pub LeavesEntries : (log : ℕ) → List Row → List Entry → (ℕ → CommitBody → Type 0) → Medium → Type 0
 LeavesEntries log rows list P medium =
     (left : List ℕ) → MayLeave medium left
-    → (number : ℕ) × (body : CommitBody) × P number body × ReadsSettled log left body number × HasRecords log body (entries_between body rows list) left
+    → (number : ℕ) × (body : CommitBody) × P number body × ReadsSettled log left body number
+    × HasRecords log body (entries_between body rows list) left
 
 -- whatever a stop leaves has the entries of the last commit and of one that is unfinished
 abbrev pub HoldsCommitted : LogState → List Entry → Medium → Type 0
 HoldsCommitted log list medium =
-    (left : List ℕ) → MayLeave medium left → (number : ℕ) (body : CommitBody) → IsLast log.commits number body → HasRecords log.room.log body (entries_between body (all_rows log) list) left
+    (left : List ℕ) → MayLeave medium left → (number : ℕ) (body : CommitBody) → IsLast log.commits number body
+    → HasRecords log.room.log body (entries_between body (all_rows log) list) left
 
 -- where the entries are told, a stop leaves so at each moment since the log was as it is here
 abbrev pub LeavesEntriesSince : LogState → (ℕ → CommitBody → Type 0) → DiskState → Type 0
-LeavesEntriesSince log P new = IfSome log.all (λ list. HoldsSince (LeavesEntries log.room.log (all_rows log) list P) log.commits.disk.moments new.moments)
+LeavesEntriesSince log P new = IfSome log.all (λ list. HoldsSince (LeavesEntries log.room.log (all_rows log) list P)
+    log.commits.disk.moments new.moments)
 
 -- and so it does now
 abbrev pub LeavesEntriesNow : LogState → (ℕ → CommitBody → Type 0) → Type 0
-LeavesEntriesNow log P = IfSome log.all (λ list. HoldsNow (LeavesEntries log.room.log (all_rows log) list P) log.commits.disk.moments)
+LeavesEntriesNow log P = IfSome log.all (λ list. HoldsNow (LeavesEntries log.room.log (all_rows log) list P)
+    log.commits.disk.moments)
 
 abbrev pub HoldsCommittedNow : LogState → Type 0
 HoldsCommittedNow log = IfSome log.all (λ list. HoldsNow (HoldsCommitted log list) log.commits.disk.moments)
@@ -124,7 +128,8 @@ pub record HasSameList (old new : LogState) : Type 0 where
 pub record IsReleased (old new : LogState) : Type 0 where
   pub held : new.held ≡ since new.commits.body.tail.seq old.held
   pub all : new.all ≡ option_map (entries_since new.commits.body.tail.seq (all_rows old)) old.all
-  pub room : new.room ≡ room_of old.room.log old.room.head (sectors_from old.room.log new.commits.body.tail.position old.room.head (all_rows new))
+  pub room : new.room ≡ room_of old.room.log old.room.head (sectors_from old.room.log new.commits.body.tail.position old.room.head
+      (all_rows new))
 
 -- all entries are committed, and each stop leaves them
 pub record IsCommittedLog (old new : LogState) : Type 0 where

@@ -11,7 +11,8 @@ use Rattle.commit_slot.specs.Commits.{CommitsState}
 use Rattle.commit_slot.specs.OnDisk.{AreOnDisk}
 use Rattle.log_room.specs.Room.{Room, IsRoom}
 use Rattle.cache_log.specs.declared.row.Row.{Row}
-use Rattle.cache_log.specs.Rows.{byte_of, seq_of, entry_of, AreNumbered, Follow, end_of_rows, HaveRecords, since, between, entries_between}
+use Rattle.cache_log.specs.Rows.{byte_of, seq_of, entry_of, AreNumbered, Follow, end_of_rows, HaveRecords, since, between}
+use Rattle.cache_log.specs.Rows.{entries_between}
 
 -- N sectors further on from one, round the log's end, is the other
 abbrev pub IsFurther : (log from sectors to : ℕ) → Type 0
@@ -51,10 +52,12 @@ pub record IsCommitOfLog (place : Room) (mark : Mark) (own : ℕ) (held rows : L
   pub head : body.head.seq ≤ mark.seq + length rows
 
 -- the last commit is one, and so is the unfinished one, whose tail is not before that of the last one
-abbrev pub AreCommitsOfLog : (place : Room) (mark : Mark) (least : ℕ) (held rows : List Row) → CommitBody → Option CommitBody → Type 0
+abbrev pub AreCommitsOfLog : (place : Room) (mark : Mark) (least : ℕ) (held rows : List Row) → CommitBody
+    → Option CommitBody → Type 0
 AreCommitsOfLog place mark least held rows last unfinished =
     (first : IsCommitOfLog place mark least held rows last)
-    × IfSome unfinished (λ more. (is : IsCommitOfLog place mark least held rows more) × (is.used ≤ first.used) × (last.tail.seq ≤ more.tail.seq))
+    × IfSome unfinished (λ more. (is : IsCommitOfLog place mark least held rows more) × (is.used ≤ first.used)
+    × (last.tail.seq ≤ more.tail.seq))
 
 -- the records of a commit are read, and last, with their entries
 abbrev pub Holds : (log : ℕ) → List Row → List Entry → Medium → CommitBody → Type 0
@@ -74,7 +77,8 @@ pub record IsLogHeld (place : Room) (mark : Mark) (held rows : List Row) (commit
   pub records : HoldsNow (λ now. HaveRecords place.log mark.position mark.seq rows now.bytes) commits.disk.moments
   -- the commits are of some of all records, which last
   pub committed : AreCommitsOfLog place mark least held rows commits.body commits.unfinished
-  pub last : HoldsNow (λ now. EachCommitted (Holds place.log (held ++ rows) (map (entry_of now.bytes) (held ++ rows)) now) commits) commits.disk.moments
+  pub last : HoldsNow (λ now. EachCommitted (Holds place.log (held ++ rows) (map (entry_of now.bytes) (held ++ rows)) now)
+      commits) commits.disk.moments
   pub on_disk : AreOnDisk commits
   pub sectors : place.log ≡ log_of commits.disk.size
   pub fits : byte_of place.log ≤ commits.disk.size

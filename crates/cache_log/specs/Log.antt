@@ -1,5 +1,6 @@
 -- Contract: a log on a device as a list of entries, and what appending to it and reading it promises.
-use Rattle.std.specs.Prelude.{◌≡◌, ℕ, ◌+◌, ◌-◌, ◌*◌, ◌/◌, ◌<◌, ◌≤◌, ◌⊎◌, ◌==◌, if◌then◌else◌, Option, Some, None, IfSome, Bool, List, [], ◌∷◌, ◌++◌, length, map, take, drop, true, false}
+use Rattle.std.specs.Prelude.{◌≡◌, ℕ, ◌+◌, ◌-◌, ◌*◌, ◌/◌, ◌<◌, ◌≤◌, ◌⊎◌, ◌==◌, if◌then◌else◌, Option, Some, None, IfSome, Bool}
+use Rattle.std.specs.Prelude.{List, [], ◌∷◌, ◌++◌, length, map, take, drop, true, false}
 use Rattle.std.specs.Option.{option_map}
 use Rattle.lsvd_base.specs.declared.entry.Entry.{Entry}
 use Rattle.lsvd_base.specs.declared.entry.Entry.TheVariants as entries
@@ -134,7 +135,8 @@ pub record CostsAppend (room : Room) (entry : Entry) (seq : ℕ) (are_made : Boo
   pub pad_size : length pad ≤ sector_bytes
   pub is_record : IsRecordOf entry seq bytes
   pub size : length bytes ≡ sector_bytes * record_sectors entry
-  pub costs : Costs (append_cost room (record_sectors entry)) (append_writes room (record_sectors entry) pad bytes) are_made old new
+  pub costs : Costs (append_cost room (record_sectors entry)) (append_writes room (record_sectors entry) pad bytes)
+      are_made old new
 
 -- The log has one entry more, and room for it was in use. Nothing is reserved for a further one.
 pub record IsAppended (entry : Entry) (at : ℕ) (old new : LogState) : Type 0 where

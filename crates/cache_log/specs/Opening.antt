@@ -1,5 +1,6 @@
 -- Contract: which records a log is opened with, from a commit's tail up to its head, and why it is not opened.
-use Rattle.std.specs.Prelude.{◌≡◌, ℕ, ◌+◌, ◌-◌, ◌*◌, ◌<◌, ◌≤◌, ◌⊎◌, ◌==◌, ◌&&◌, nat_lt, if◌then◌else◌, IsTrue, IfSome, Bool, true, List, [], length}
+use Rattle.std.specs.Prelude.{◌≡◌, ℕ, ◌+◌, ◌-◌, ◌*◌, ◌<◌, ◌≤◌, ◌⊎◌, ◌==◌, ◌&&◌, nat_lt, if◌then◌else◌, IsTrue, IfSome, Bool, true}
+use Rattle.std.specs.Prelude.{List, [], length}
 use Rattle.std.specs.List.{AllByRecursion}
 use Rattle.lsvd_base.specs.declared.geometry.Geometry.{Geometry}
 use Rattle.lsvd_base.specs.Limits.{covers, may_transfer}
@@ -78,7 +79,8 @@ pub record IsOpenedLog (geometry : Geometry) (commits : CommitsState) (log : Log
   pub records : HoldsNow (λ now. AreRecordsInRange geometry commits.body log.rows now.bytes) commits.disk.moments
   pub in_range : IfSome log.entries (AllByRecursion (λ entry. IsTrue (is_in_range geometry entry)))
   pub only : AreReadOnly (2 * entry_count commits.body) true commits log.commits
-  pub reads : MakesCalls (reads_cost (headers_of_rows geometry.log commits.body.tail.position log.rows)) true commits.disk log.commits.disk
+  pub reads : MakesCalls (reads_cost (headers_of_rows geometry.log commits.body.tail.position log.rows)) true commits.disk
+      log.commits.disk
 
 -- ---- why a log is not opened
 
@@ -116,6 +118,7 @@ pub record IsBadRecord (geometry : Geometry) (body : CommitBody) (seq : ℕ) (re
 -- there is no list of records up to the head, and the first bad record is this one
 abbrev pub IsBadLog : Geometry → CommitBody → List Medium → OpenError → Type 0
 IsBadLog geometry body moments (open_errors.BadRecord seq reason) =
-    HoldsNow (λ now. IsBadRecord geometry body seq reason now.bytes × ((rows : List Row) → ¬ AreRecordsInRange geometry body rows now.bytes)) moments
+    HoldsNow (λ now. IsBadRecord geometry body seq reason now.bytes
+    × ((rows : List Row) → ¬ AreRecordsInRange geometry body rows now.bytes)) moments
 IsBadLog geometry body moments open_errors.DeviceFault = Unit {0}
 IsBadLog geometry body moments open_errors.OutOfMemory = Unit {0}

@@ -1,5 +1,6 @@
 -- Contract: the records of a log, where they stand on the device, and which entries they are.
-use Rattle.std.specs.Prelude.{◌≡◌, ℕ, ◌+◌, ◌*◌, ◌-◌, ◌<◌, ◌≤◌, ◌⊎◌, ◌==◌, ◌&&◌, nat_lt, nat_le, if◌then◌else◌, Bool, List, [], ◌∷◌}
+use Rattle.std.specs.Prelude.{◌≡◌, ℕ, ◌+◌, ◌*◌, ◌-◌, ◌<◌, ◌≤◌, ◌⊎◌, ◌==◌, ◌&&◌, nat_lt, nat_le, if◌then◌else◌, Bool, List, []}
+use Rattle.std.specs.Prelude.{◌∷◌}
 use Rattle.lsvd_base.specs.declared.entry.Entry.{Entry}
 use Rattle.lsvd_base.specs.declared.entry.Entry.TheVariants as entries
 use Rattle.lsvd_bytes.specs.Places.{bytes_at}
@@ -113,5 +114,6 @@ between body [] = []
 between body (row ∷ rows) = if is_between body row then row ∷ between body rows else between body rows
 
 abbrev pub entries_between : CommitBody → List Row → List Entry → List Entry
-entries_between body (row ∷ rows) (entry ∷ list) = if is_between body row then entry ∷ entries_between body rows list else entries_between body rows list
+entries_between body (row ∷ rows) (entry ∷ list) = if is_between body row then entry ∷ entries_between body rows list else
+    entries_between body rows list
 entries_between body rows list = []

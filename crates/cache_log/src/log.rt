@@ -264,12 +264,13 @@ impl<D: Disk> CacheLog<D> {
         }
     }
 
-    /// Drops the entries with seqs below this one from the list. Where it is above that of the next entry, the list is
-    /// empty then, and the next entry has this seq; where it is not above that of the first entry, none is dropped. In
-    /// each case the tail of the next commit is set to the first record that is left, past a pad before it, and to the
-    /// head where none is.
+    /// Drops the entries with seqs below this one from the list. Where it is above that of the next entry,
+    /// the list is empty then, and the next entry has this seq; where it is not above that of the first
+    /// entry, none is dropped. In each case the tail of the next commit is set to the first record that is
+    /// left, past a pad before it, and to the head where none is.
     ///
-    /// The sectors of their records are free once a commit is made after this. Until then a stop may leave these entries.
+    /// The sectors of their records are free once a commit is made after this. Until then a stop may leave
+    /// these entries.
     pub fn trim_to(&mut self, seq: u64)
         ensures { IsTrimmed seq self.old self.new }
     {

@@ -1,5 +1,6 @@
 -- Places of a list of ancestors, and levels of a chain.
-use Rattle.std.proofs.Common.{◌≡◌, ℕ, zero, suc, ◌+◌, ◌<◌, ◌≤◌, true, false, Option, Some, None, List, [], ◌∷◌, length, get_or, take, refl, sym, ◌∙◌, ap, subst, arith, inl, inr, MatchOption}
+use Rattle.std.proofs.Common.{◌≡◌, ℕ, zero, suc, ◌+◌, ◌<◌, ◌≤◌, true, false, Option, Some, None, List, [], ◌∷◌, length, get_or}
+use Rattle.std.proofs.Common.{take, refl, sym, ◌∙◌, ap, subst, arith, inl, inr, MatchOption}
 use Rattle.std.specs.List.{AllWithin, HoldsAt, slice_get}
 use Rattle.std.specs.Option.{IsSomeAnd, IfSome, IfNone, is_some}
 use Rattle.std.proofs.lemmas.Bool.{cases_lt, false≢true}
@@ -21,7 +22,8 @@ HasOther uuid ancestor = ancestor.uuid ≡ uuid → ⊥
 
 -- ---- levels and places
 
-value_of : (o : Option Ancestor) (P : Ancestor → Type 0) → IsSomeAnd o P → (ancestor : Ancestor) × (o ≡ Some ancestor) × P ancestor
+value_of : (o : Option Ancestor) (P : Ancestor → Type 0) → IsSomeAnd o P → (ancestor : Ancestor) × (o ≡ Some ancestor)
+    × P ancestor
 value_of None P h = absurd h
 value_of (Some ancestor) P h = (ancestor, refl, h)
 
@@ -43,7 +45,8 @@ level_from chain uuid place d inside has =
     let P : Option Ancestor → Type 0 = λ o. IsSomeAnd o (HasUuid uuid) in
     subst P (sym (slice_get-get_or chain place d inside)) has
 
-pub no_level : (chain : List Ancestor) (uuid : List ℕ) → AllWithin (HasOther uuid) chain 0 (length chain) → IsNoAncestor chain uuid
+pub no_level : (chain : List Ancestor) (uuid : List ℕ) → AllWithin (HasOther uuid) chain 0 (length chain)
+    → IsNoAncestor chain uuid
 no_level chain uuid none zero is = is
 no_level chain uuid none (suc place) is =
     none place blank (omega arith) (level_inside chain uuid place is) (level_has chain uuid place blank is)
@@ -87,14 +90,20 @@ one_more_apart ancestors uuid place inside here before none i j d first below sa
       | inl h ↦ before i j d first h same
       | inr h ↦
           let at : j ≡ place = omega arith in
-          none (suc i) (level_before ancestors uuid place i d (omega arith) (omega arith) (same ∙ ap (λ k. (get_or ancestors k d).uuid) at ∙ here d))
+          none (suc i) (level_before ancestors uuid place i d (omega arith) (omega arith) (same
+          ∙ ap (λ k. (get_or ancestors k d).uuid) at ∙ here d))
     ]
 
 pub not_apart : (ancestors : List Ancestor) (uuid : List ℕ) (place k : ℕ) → place < length ancestors
     → ((d : Ancestor) → (get_or ancestors place d).uuid ≡ uuid) → IsLevelOf (take place ancestors) uuid (suc k)
     → AreApart ancestors → ⊥
 not_apart ancestors uuid place k inside here is apart =
-    let before : k < place = omega (arith, level_inside (take place ancestors) uuid k is, length-take-le place ancestors (omega arith)) in
+    let before : k < place = omega (
+      arith,
+      level_inside (take place ancestors) uuid k is,
+      length-take-le place ancestors
+          (omega arith),
+    ) in
     apart k place blank before inside
     (sym (ap (λ (a : Ancestor). a.uuid) (get_or-take place ancestors k blank before))
     ∙ level_has (take place ancestors) uuid k blank is
@@ -109,7 +118,8 @@ apart_if_none ancestors place ancestor None inside here none is before =
     (λ d. ap (λ (a : Ancestor). a.uuid) (sym (get_or_read ancestors place ancestor inside here d))) before none
 apart_if_none ancestors place ancestor (Some k) inside here none is before = absurd (false≢true (sym is))
 
-pub not_apart_if_some : (ancestors : List Ancestor) (place : ℕ) (ancestor : Ancestor) (result : Option ℕ) → place < length ancestors
+pub not_apart_if_some : (ancestors : List Ancestor) (place : ℕ) (ancestor : Ancestor) (result : Option ℕ)
+    → place < length ancestors
     → ancestor ≡ get_or ancestors place ancestor
     → IfSome result (λ k. IsLevelOf (take place ancestors) ancestor.uuid (suc k))
     → is_some result ≡ true → AreApart ancestors → ⊥
@@ -119,14 +129,16 @@ not_apart_if_some ancestors place ancestor (Some k) inside here found is =
 not_apart_if_some ancestors place ancestor None inside here found is = absurd (false≢true is)
 
 -- a chain with one more ancestor before the others
-apart_extended : (first : Ancestor) (chain : List Ancestor) → IsNoAncestor chain first.uuid → AreApart chain → AreApart (first ∷ chain)
+apart_extended : (first : Ancestor) (chain : List Ancestor) → IsNoAncestor chain first.uuid → AreApart chain
+    → AreApart (first ∷ chain)
 apart_extended first chain none apart i zero d before inside same = absurd (omega (arith, before))
 apart_extended first chain none apart zero (suc j) d before inside same =
     none (suc j) (level_from chain first.uuid j d (omega (arith, inside)) (sym same))
 apart_extended first chain none apart (suc i) (suc j) d before inside same =
     apart i j d (omega (arith, before)) (omega (arith, inside)) same
 
-pub chain_extended : (first : Ancestor) (chain : List Ancestor) → IsNoAncestor chain first.uuid → length chain < 15 → IsChain chain
+pub chain_extended : (first : Ancestor) (chain : List Ancestor) → IsNoAncestor chain first.uuid → length chain < 15
+    → IsChain chain
     → IsChain (first ∷ chain)
 chain_extended first chain none room is = record { few = omega (arith, room); apart = apart_extended first chain none is.apart }
 

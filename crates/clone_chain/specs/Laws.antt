@@ -11,7 +11,8 @@ HasOneLevel =
 -- a level has one uuid at most
 abbrev pub HasOneUuid : Type 0
 HasOneUuid =
-    (chain : List Ancestor) (uuid other : List ℕ) (level : ℕ) → IsLevelOf chain uuid level → IsLevelOf chain other level → uuid ≡ other
+    (chain : List Ancestor) (uuid other : List ℕ) (level : ℕ) → IsLevelOf chain uuid level → IsLevelOf chain other level
+    → uuid ≡ other
 
 -- the levels that have a uuid are those from 1 up to the number of ancestors
 abbrev pub IsAmongLevels : Type 0

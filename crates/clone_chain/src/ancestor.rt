@@ -8,7 +8,8 @@ use uuid::Uuid;
 pub struct Ancestor {
     /// The volume's uuid.
     pub uuid: Uuid,
-    /// The number of its checkpoint that was cloned: the clone has the sectors of the volume as they were there.
+    /// The number of its checkpoint that was cloned: the clone has the sectors of the volume as they were
+    /// there.
     pub checkpoint: u64,
 }
 

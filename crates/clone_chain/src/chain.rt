@@ -1,4 +1,5 @@
-ghost use Rattle.std.specs.Prelude.{◌≡◌, ◌+◌, ◌<◌, ℕ, [], ◌∷◌, length, IfOk, OnOk, IfErr, IfSome, OnSome, IfNone};
+ghost use Rattle.std.specs.Prelude.{◌≡◌, ◌+◌, ◌<◌, ℕ, [], ◌∷◌, length, IfOk, OnOk, IfErr, IfSome, OnSome};
+ghost use Rattle.std.specs.Prelude.{IfNone};
 ghost use Rattle.clone_chain.specs.Chain.{ancestor_at, IsLevelOf, IsNoAncestor, IsChain, IsReasonNotToExtend};
 ghost use Rattle.clone_chain.specs.declared.chain.ExtendError.TheVariants.{OutOfMemory};
 
@@ -27,9 +28,11 @@ impl From<AllocError> for ExtendError {
     }
 }
 
-/// The ancestors of a volume, which contracts see as their list, the nearest first: at most 15, and no two of one uuid.
+/// The ancestors of a volume, which contracts see as their list, the nearest first: at most 15, and no two of
+/// one uuid.
 ///
-/// The nearest is at level 1, and each further one at the next. Level 0 is the volume itself, which its chain does not hold.
+/// The nearest is at level 1, and each further one at the next. Level 0 is the volume itself, which its chain
+/// does not hold.
 #[derive(Debug, Drop)]
 pub struct Chain {
     ancestors: Vec<Ancestor>,
@@ -63,7 +66,8 @@ impl Chain {
         }
     }
 
-    /// The chain with these ancestors, the nearest first. None is where there are more than 15, or two have one uuid.
+    /// The chain with these ancestors, the nearest first. None is where there are more than 15, or two have
+    /// one uuid.
     pub fn from_ancestors(ancestors: Vec<Ancestor>) -> Option<Chain>
         ensures found { IfSome result (λ chain. chain ≡ ancestors.items) }
         ensures chain { OnSome result (IsChain ancestors.items) }
@@ -91,7 +95,8 @@ impl Chain {
         self.ancestors.len() as u32
     }
 
-    /// The ancestor at a level, from 1 up to `count`. None is at level 0, which is the volume's own, and past the last.
+    /// The ancestor at a level, from 1 up to `count`. None is at level 0, which is the volume's own, and past
+    /// the last.
     pub fn ancestor(&self, level: u32) -> Option<Ancestor>
         ensures { result ≡ ancestor_at self.now level }
     {
@@ -108,12 +113,13 @@ impl Chain {
         Some(place as u32 + 1)
     }
 
-    /// The chain of a clone of the volume with this chain: that volume, with the checkpoint that is cloned, and then its own
-    /// ancestors, of which it is none (a condition). `TooDeep` comes exactly where the volume has 16 levels, its own
-    /// included, which it tells. The other error is that memory ran out.
+    /// The chain of a clone of the volume with this chain: that volume, with the checkpoint that is cloned,
+    /// and then its own ancestors, of which it is none (a condition). `TooDeep` comes exactly where the
+    /// volume has 16 levels, its own included, which it tells. The other error is that memory ran out.
     pub fn extend(&self, alloc: Global, uuid: Uuid, checkpoint: u64) -> Result<Chain, ExtendError>
         requires { IsNoAncestor self.now uuid }
-        ensures ok { IfOk result (λ chain. chain ≡ record { uuid = uuid; checkpoint = checkpoint } ∷ self.now) }
+        ensures ok { IfOk result (λ chain. chain ≡ record { uuid = uuid; checkpoint = checkpoint }
+            ∷ self.now) }
         ensures depth { OnOk result (length self.now < 15) }
         ensures refused { IfErr result (IsReasonNotToExtend self.now) }
     {

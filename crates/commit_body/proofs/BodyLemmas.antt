@@ -1,7 +1,10 @@
 -- The bytes of a body, and the parts that are read in them.
-use Rattle.std.proofs.Common.{◌≡◌, ℕ, ◌+◌, ◌-◌, ◌%◌, ◌^◌, ◌<◌, ◌≤◌, List, ◌++◌, length, take, drop, replicate, get_or, codes, refl, sym, ◌∙◌, ap, subst, append_assoc, inl, inr, arith}
+use Rattle.std.proofs.Common.{◌≡◌, ℕ, ◌+◌, ◌-◌, ◌%◌, ◌^◌, ◌<◌, ◌≤◌, List, ◌++◌, length, take, drop, replicate, get_or, codes}
+use Rattle.std.proofs.Common.{refl, sym, ◌∙◌, ap, subst, append_assoc, inl, inr, arith}
 use Rattle.std.proofs.lemmas.Bool.{cases_lt}
-use Rattle.std.proofs.lemmas.List.{length-append, length-replicate, length-take, length-take-le, length-drop, take_at, drop_at, drop_all, drop-drop, take_rest, take-append-drop, append-nil, get_or-take, get_or-drop, get_or_past}
+use Rattle.std.proofs.lemmas.List.{length-append, length-replicate, length-take, length-take-le, length-drop, take_at, drop_at}
+use Rattle.std.proofs.lemmas.List.{drop_all, drop-drop, take_rest, take-append-drop, append-nil, get_or-take, get_or-drop}
+use Rattle.std.proofs.lemmas.List.{get_or_past}
 use Rattle.std.proofs.lemmas.Nat.{be_bytes_8, from_be_bytes-to_be_bytes_8}
 use Rattle.std.proofs.Math.Seq.{take-add}
 use borrow.Rule.Slice.PartMut.{put_mid}
@@ -33,7 +36,8 @@ front_apart front a b c d e = simp append_assoc refl
 body_splits : (body : CommitBody) (number : ℕ) → body_bytes body number ≡ front_of body ++ numbers_of body number
 unfolding body_bytes numbers_of
 body_splits body number =
-    front_apart (front_of body) (to_be_bytes w64 body.epoch) (to_be_bytes w64 number) (mark_bytes body.tail) (mark_bytes body.head) filler
+    front_apart (front_of body) (to_be_bytes w64 body.epoch) (to_be_bytes w64 number) (mark_bytes body.tail)
+    (mark_bytes body.head) filler
 
 length-numbers_of : (body : CommitBody) (number : ℕ) → length (numbers_of body number) ≡ 488
 unfolding numbers_of
@@ -131,7 +135,8 @@ determines_body a b m n fits fits' same =
     let parts = sym (body_splits a m) ∙ same ∙ body_splits b n in
     let front = same_front (front_of a) (numbers_of a m) (front_of b) (numbers_of b n) ends parts in
     let numbers = same_end (front_of a) (numbers_of a m) (front_of b) (numbers_of b n) ends parts in
-    let read : (at : ℕ) → number_at w64 at (numbers_of a m) ≡ number_at w64 at (numbers_of b n) = λ at. ap (number_at w64 at) numbers in (
+    let read : (at : ℕ) → number_at w64 at (numbers_of a m) ≡ number_at w64 at (numbers_of b n) =
+    λ at. ap (number_at w64 at) numbers in (
       same_body a b (ap (drop 8) front)
           (sym (epoch_of a m fits.epoch) ∙ read 0 ∙ epoch_of b n fits'.epoch)
           (sym (tail_position_of a m fits.tail.position) ∙ read 16 ∙ tail_position_of b n fits'.tail.position)
@@ -153,7 +158,8 @@ filler-numbers body number = refl
 pub filler-body : (body : CommitBody) (number : ℕ) → length (body_bytes body number) ≡ 512
     → drop 72 (body_bytes body number) ≡ filler
 filler-body body number whole =
-    let front : length (front_of body) ≡ 24 = omega (arith, length-append (codes "LSVDCMT1") body.uuid, length-body body number, whole) in
+    let front : length (front_of body) ≡ 24 =
+    omega (arith, length-append (codes "LSVDCMT1") body.uuid, length-body body number, whole) in
     ap (drop 72) (body_splits body number)
     ∙ sym (drop-drop 48 24 (front_of body ++ numbers_of body number))
     ∙ ap (drop 48) (drop_at (front_of body) (numbers_of body number) 24 front)
@@ -169,7 +175,8 @@ bytes_of_part : (at count : ℕ) (bytes : List ℕ) → IsBytes bytes → IsByte
 bytes_of_part at count bytes fits i =
     elim (cases_lt i count) [
       | inl inside ↦ rw (get_or-take count (drop at bytes) i 0 inside, get_or-drop at bytes i 0) (fits (at + i))
-      | inr past ↦ rw (get_or_past (take count (drop at bytes)) i 0 (omega (arith, length-take count (drop at bytes), past))) (omega arith)
+      | inr past ↦ rw (get_or_past (take count (drop at bytes)) i 0 (omega (arith, length-take count (drop at bytes), past)))
+          (omega arith)
     ]
 
 -- a number is written as the eight bytes that it was read in
@@ -193,7 +200,8 @@ front_mark at bytes front room fits is_front =
     let position = to_be_bytes w64 (number_at w64 at bytes) in
     let seq = to_be_bytes w64 (number_at w64 (at + 8) bytes) in
     let to_position = front_more at 8 bytes front position is_front (part_of_u64 at bytes (omega (arith, room)) fits) in
-    let to_seq = front_more (at + 8) 8 bytes (front ++ position) seq to_position (part_of_u64 (at + 8) bytes (omega (arith, room)) fits) in
+    let to_seq = front_more (at + 8) 8 bytes (front ++ position) seq to_position
+    (part_of_u64 (at + 8) bytes (omega (arith, room)) fits) in
     let end : at + 16 ≡ at + 8 + 8 = omega arith in
     ap (λ n. take n bytes) end ∙ to_seq ∙ append_assoc front position seq
 
@@ -206,7 +214,8 @@ body_of_parts sector size fits magic zeros =
     let to_number = front_more 32 8 sector _ _ to_epoch (part_of_u64 32 sector (omega (arith, size)) fits) in
     let to_tail = front_mark 40 sector _ (omega (arith, size)) fits to_number in
     let to_head = front_mark 56 sector _ (omega (arith, size)) fits to_tail in
-    sym (take-append-drop 72 sector) ∙ ap (λ xs. xs ++ drop 72 sector) to_head ∙ ap (λ xs. head_of (body_in sector) (number_in sector) ++ xs) zeros
+    sym (take-append-drop 72 sector) ∙ ap (λ xs. xs ++ drop 72 sector) to_head
+    ∙ ap (λ xs. head_of (body_in sector) (number_in sector) ++ xs) zeros
 
 number_fits : (at : ℕ) (bytes : List ℕ) → IsBytes bytes → number_at w64 at bytes < 2 ^ 64
 number_fits at bytes fits =
@@ -299,7 +308,8 @@ pub written_after : (at : ℕ) (a b old mid new : List ℕ) → at + length a + 
 written_after at a b old mid new room is_mid is_new =
     let n = at + length a in
     let front = take at old ++ a in
-    let size : length front ≡ n = length-append (take at old) a ∙ ap (λ k. k + length a) (length-take-le at old (omega (arith, room))) in
+    let size : length front ≡ n = length-append (take at old) a
+    ∙ ap (λ k. k + length a) (length-take-le at old (omega (arith, room))) in
     let end : n + length b ≡ at + (length a + length b) = omega arith in
     let before : take n mid ≡ front = ap (take n) is_mid ∙ take_at front (drop n old) n size in
     let behind : drop (n + length b) mid ≡ drop (at + (length a + length b)) old =
@@ -318,7 +328,8 @@ pub written_front : (at count : ℕ) (front value old new : List ℕ) → take a
     → take (at + count) new ≡ front ++ value
 written_front at count front value old new is_front front_size value_size is_new =
     let size : length (take at old ++ value) ≡ at + count =
-    length-append (take at old) value ∙ ap (λ n. n + length value) (ap length is_front ∙ front_size) ∙ ap (λ n. at + n) value_size in
+    length-append (take at old) value ∙ ap (λ n. n + length value) (ap length is_front ∙ front_size)
+    ∙ ap (λ n. at + n) value_size in
     ap (take (at + count)) is_new
     ∙ take_at (take at old ++ value) (drop (at + count) old) (at + count) size
     ∙ ap (λ xs. xs ++ value) is_front

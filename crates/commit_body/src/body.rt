@@ -23,8 +23,8 @@ pub struct CommitBody {
     pub head: Mark,
 }
 
-/// Whether the body may stand for a log of this many sectors: both positions are inside the log, the tail's seq
-/// is not past the head's, and tail and head with one seq are at one position.
+/// Whether the body may stand for a log of this many sectors: both positions are inside the log, the tail's
+/// seq is not past the head's, and tail and head with one seq are at one position.
 pub fn is_within(body: &CommitBody, log: u64) -> bool
     ensures { IsTrue result ↔ MayStand body.now log }
 {

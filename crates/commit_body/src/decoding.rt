@@ -1,4 +1,5 @@
-ghost use Rattle.std.specs.Prelude.{◌≡◌, ℕ, ◌+◌, ◌≤◌, ◌↔◌, IsTrue, IfSome, IfNone, length, take, drop, replicate, codes};
+ghost use Rattle.std.specs.Prelude.{◌≡◌, ℕ, ◌+◌, ◌≤◌, ◌↔◌, IsTrue, IfSome, IfNone, length, take, drop};
+ghost use Rattle.std.specs.Prelude.{replicate, codes};
 ghost use Rattle.commit_body.specs.declared.body.CommitBody.{CommitBody};
 ghost use Rattle.commit_body.specs.Body.{filler, IsBody};
 ghost use Rattle.commit_body.specs.Fields.{mark_in, body_in};
@@ -12,7 +13,8 @@ use lsvd_bytes::{is_zeros, read_16_bytes, read_u64};
 pub fn read_body(sector: &[u8], log: u64, slot: u64) -> Option<(CommitBody, u64)>
     requires { length sector.now ≡ 512 }
     ensures found { IfSome result (λ read. IsBody sector.now log slot read.0 read.1) }
-    ensures none { IfNone result ((body : CommitBody) (number : ℕ) → IsBody sector.now log slot body number → ⊥) }
+    ensures none { IfNone result ((body : CommitBody) (number : ℕ)
+        → IsBody sector.now log slot body number → ⊥) }
 {
     if !has_magic(sector) || !has_filler(sector) {
         return None;

@@ -42,11 +42,13 @@ somewhere log slot bytes None has = tt
 somewhere log slot bytes (Some found) has = (slot, has)
 
 reads_as : (log : ℕ) (bytes : List ℕ) (newest : Found) → StandsSomewhere log bytes newest
-    → ((slot : ℕ) (body : CommitBody) (n : ℕ) → IsOpenSlot log bytes slot body n → NumberAtMost n newest) → ReadsAs log bytes newest
+    → ((slot : ℕ) (body : CommitBody) (n : ℕ) → IsOpenSlot log bytes slot body n → NumberAtMost n newest)
+    → ReadsAs log bytes newest
 reads_as log bytes None stands most = most
 reads_as log bytes (Some newest) stands most = record { slot = stands.0; is_open = stands.1; newest = most }
 
-each_slot : (log : ℕ) (bytes : List ℕ) (first second third newest : Found) → SlotHas log bytes 0 first → SlotHas log bytes 1 second → SlotHas log bytes 2 third
+each_slot : (log : ℕ) (bytes : List ℕ) (first second third newest : Found) → SlotHas log bytes 0 first
+    → SlotHas log bytes 1 second → SlotHas log bytes 2 third
     → IsAtMost first newest → IsAtMost second newest → IsAtMost third newest
     → (slot : ℕ) (body : CommitBody) (n : ℕ) → IsOpenSlot log bytes slot body n → NumberAtMost n newest
 each_slot log bytes first second third newest a b c first' second' third' slot body n is =
@@ -56,11 +58,13 @@ each_slot log bytes first second third newest a b c first' second' third' slot b
       | inl e ↦ slot_at_most log 0 bytes first newest a first' body n (subst P e is)
       | inr other ↦ elim (cases_eq slot 1) [
         | inl e ↦ slot_at_most log 1 bytes second newest b second' body n (subst P e is)
-        | inr neither ↦ (let e : slot ≡ 2 = omega (arith, below, other, neither) in slot_at_most log 2 bytes third newest c third' body n (subst P e is))
+        | inr neither ↦ (let e : slot ≡ 2 = omega (arith, below, other, neither) in
+            slot_at_most log 2 bytes third newest c third' body n (subst P e is))
       ]
     ]
 
-pub newest_reads : (log : ℕ) (bytes : List ℕ) (first second third newer newest : Found) → IsNewer second third newer → IsNewer first newer newest
+pub newest_reads : (log : ℕ) (bytes : List ℕ) (first second third newer newest : Found) → IsNewer second third newer
+    → IsNewer first newer newest
     → SlotHas log bytes 0 first → SlotHas log bytes 1 second → SlotHas log bytes 2 third → ReadsAs log bytes newest
 newest_reads log bytes first second third newer newest inner outer a b c =
     let P : Found → Type 0 = StandsSomewhere log bytes in
@@ -73,10 +77,14 @@ newest_reads log bytes first second third newer newest inner outer a b c =
       | inr e ↦ subst P (sym e) inside
     ] in
     reads_as log bytes newest stands
-    (each_slot log bytes first second third newest a b c outer.first_at_most (at_most_then second newer newest inner.first_at_most outer.second_at_most) (at_most_then third newer newest inner.second_at_most outer.second_at_most))
+    (each_slot log bytes first second third newest a b c outer.first_at_most (at_most_then second newer newest inner.first_at_most
+    outer.second_at_most) (at_most_then third newer newest inner.second_at_most outer.second_at_most))
 
-pub newest_now : (log : ℕ) (moments : List Medium) (first second third newer newest : Found) → IsNewer second third newer → IsNewer first newer newest
-    → HoldsNow (λ now. SlotHas log now.bytes 0 first) moments → HoldsNow (λ now. SlotHas log now.bytes 1 second) moments → HoldsNow (λ now. SlotHas log now.bytes 2 third) moments
+pub newest_now : (log : ℕ) (moments : List Medium) (first second third newer newest : Found) → IsNewer second third newer
+    → IsNewer first newer newest
+    → HoldsNow (λ now. SlotHas log now.bytes 0 first) moments → HoldsNow (λ now. SlotHas log now.bytes 1 second) moments
+    → HoldsNow (λ now. SlotHas log now.bytes 2 third) moments
     → HoldsNow (λ now. ReadsAs log now.bytes newest) moments
 newest_now log [] first second third newer newest inner outer a b c = tt
-newest_now log (now ∷ past) first second third newer newest inner outer a b c = newest_reads log now.bytes first second third newer newest inner outer a b c
+newest_now log (now ∷ past) first second third newer newest inner outer a b c =
+    newest_reads log now.bytes first second third newer newest inner outer a b c

@@ -19,11 +19,14 @@ log_area_apart : (slot at count there many : ℕ) → slot < 3 → 4096 ≤ at �
 log_area_apart slot at count there many below past lies = inl (omega (arith, below, past, lies.to))
 
 -- a change past the slots keeps what lasts in one
-keeps_slot : (slot at count there many : ℕ) (P : List ℕ → Type 0) (old new : Medium) → slot < 3 → 4096 ≤ at → LiesIn slot there many → Keeps at count old new
+keeps_slot : (slot at count there many : ℕ) (P : List ℕ → Type 0) (old new : Medium) → slot < 3 → 4096 ≤ at
+    → LiesIn slot there many → Keeps at count old new
     → Lasts there many P old → Lasts there many P new
-keeps_slot slot at count there many P old new below past lies keeps lasts = keeps there many P (log_area_apart slot at count there many below past lies) lasts
+keeps_slot slot at count there many P old new below past lies keeps lasts =
+    keeps there many P (log_area_apart slot at count there many below past lies) lasts
 
-keeps_settled : (log last next third number at count : ℕ) (body : CommitBody) (old new : Medium) → AreThree last next third → 4096 ≤ at → Keeps at count old new
+keeps_settled : (log last next third number at count : ℕ) (body : CommitBody) (old new : Medium) → AreThree last next third
+    → 4096 ≤ at → Keeps at count old new
     → IsSettledIn log last next third number body old → IsSettledIn log last next third number body new
 keeps_settled log last next third number at count body old new slots past keeps settled = record {
   sector = keeps_slot last at count (body_at last) 512 _ old new slots.last' past (body_lies last) keeps settled.sector;
@@ -32,7 +35,8 @@ keeps_settled log last next third number at count body old new slots past keeps 
   older = keeps_slot third at count (body_at third) 512 _ old new slots.third' past (body_lies third) keeps settled.older;
 }
 
-keeps_half : (log last next third number at count : ℕ) (body more : CommitBody) (old new : Medium) → AreThree last next third → 4096 ≤ at → Keeps at count old new
+keeps_half : (log last next third number at count : ℕ) (body more : CommitBody) (old new : Medium) → AreThree last next third
+    → 4096 ≤ at → Keeps at count old new
     → IsHalfMadeIn log last next third number body more old → IsHalfMadeIn log last next third number body more new
 keeps_half log last next third number at count body more old new slots past keeps half = record {
   sector = keeps_slot last at count (body_at last) 512 _ old new slots.last' past (body_lies last) keeps half.sector;
@@ -42,35 +46,45 @@ keeps_half log last next third number at count body more old new slots past keep
   older = keeps_slot third at count (body_at third) 512 _ old new slots.third' past (body_lies third) keeps half.older;
 }
 
-keeps_stands : (log number at count : ℕ) (body : CommitBody) (unfinished : Option CommitBody) (old new : Medium) → 4096 ≤ at → Keeps at count old new
+keeps_stands : (log number at count : ℕ) (body : CommitBody) (unfinished : Option CommitBody) (old new : Medium) → 4096 ≤ at
+    → Keeps at count old new
     → Stands log number body unfinished old → Stands log number body unfinished new
-keeps_stands log number at count body None old new past keeps stands = keeps_settled log _ _ _ number at count body old new (three number) past keeps stands
-keeps_stands log number at count body (Some more) old new past keeps stands = keeps_half log _ _ _ number at count body more old new (three number) past keeps stands
+keeps_stands log number at count body None old new past keeps stands =
+    keeps_settled log _ _ _ number at count body old new (three number) past keeps stands
+keeps_stands log number at count body (Some more) old new past keeps stands =
+    keeps_half log _ _ _ number at count body more old new (three number) past keeps stands
 
 -- the slots of some commits
 abbrev pub InSlots : CommitsState → Medium → Type 0
 InSlots commits = Stands (log_of commits.disk.size) commits.number commits.body commits.unfinished
 
-lent_written : (at : ℕ) (piece : List ℕ) (commits : CommitsState) (new : List Medium) → 4096 ≤ at → at + length piece ≤ commits.disk.size → Stand commits
-    → new ≡ moments_after (after_write at piece) commits.disk.moments → PassesTo (InSlots commits) (InSlots commits) commits.disk.moments new
+lent_written : (at : ℕ) (piece : List ℕ) (commits : CommitsState) (new : List Medium) → 4096 ≤ at
+    → at + length piece ≤ commits.disk.size → Stand commits
+    → new ≡ moments_after (after_write at piece) commits.disk.moments
+    → PassesTo (InSlots commits) (InSlots commits) commits.disk.moments new
 lent_written at piece commits new past within are moments =
     after_step (InSlots commits) (InSlots commits) commits.disk.size (after_write at piece) commits.disk.moments new
     (λ medium has stands.
-    keeps_stands (log_of commits.disk.size) commits.number at (length piece) commits.body commits.unfinished medium (after_write at piece medium) past
+    keeps_stands (log_of commits.disk.size) commits.number at (length piece) commits.body commits.unfinished medium
+    (after_write at piece medium) past
     (written_keeps commits.disk.size at piece medium has within) stands)
     are.is_disk.media are.stand moments
 
-lent_torn : (at count : ℕ) (commits : CommitsState) (new : List Medium) → 4096 ≤ at → Stand commits → FailsToWrite at count commits.disk.moments new
+lent_torn : (at count : ℕ) (commits : CommitsState) (new : List Medium) → 4096 ≤ at → Stand commits
+    → FailsToWrite at count commits.disk.moments new
     → PassesTo (InSlots commits) (InSlots commits) commits.disk.moments new
 lent_torn at count commits new past are fails =
     failed_write (InSlots commits) at count commits.disk.moments new
     (λ medium torn is stands.
-    keeps_stands (log_of commits.disk.size) commits.number at count commits.body commits.unfinished medium torn past (torn_keeps_lasting at count medium torn is) stands)
+    keeps_stands (log_of commits.disk.size) commits.number at count commits.body commits.unfinished medium torn past
+    (torn_keeps_lasting at count medium torn is) stands)
     are.stand fails
 
 -- a write was made, or it failed
-lent_passes : {T E : Type 0} (result : Result T E) (at : ℕ) (piece : List ℕ) (commits : CommitsState) (new : List Medium) → 4096 ≤ at → at + length piece ≤ commits.disk.size → Stand commits
-    → OnOk result (new ≡ moments_after (after_write at piece) commits.disk.moments) → OnErr result (FailsToWrite at (length piece) commits.disk.moments new)
+lent_passes : {T E : Type 0} (result : Result T E) (at : ℕ) (piece : List ℕ) (commits : CommitsState) (new : List Medium)
+    → 4096 ≤ at → at + length piece ≤ commits.disk.size → Stand commits
+    → OnOk result (new ≡ moments_after (after_write at piece) commits.disk.moments)
+    → OnErr result (FailsToWrite at (length piece) commits.disk.moments new)
     → PassesTo (InSlots commits) (InSlots commits) commits.disk.moments new
 lent_passes (Ok value) at piece commits new past within are ok err = lent_written at piece commits new past within are ok
 lent_passes (Err error) at piece commits new past within are ok err = lent_torn at (length piece) commits new past are err
@@ -81,25 +95,36 @@ pub record IsLent (commits : CommitsState) (new : DiskState) : Type 0 where
   pub left : IsLeft commits.disk new
   pub passes : PassesTo (InSlots commits) (InSlots commits) commits.disk.moments new.moments
 
-pub lent : {T E : Type 0} (result : Result T E) (at : ℕ) (piece : List ℕ) (commits : CommitsState) (new : DiskState) → 4096 ≤ at → at + length piece ≤ commits.disk.size → Stand commits → IsLeft commits.disk new
-    → OnOk result (new.moments ≡ moments_after (after_write at piece) commits.disk.moments) → OnErr result (FailsToWrite at (length piece) commits.disk.moments new.moments) → IsLent commits new
-lent result at piece commits new past within are left ok err = record { stand = are; left = left; passes = lent_passes result at piece commits new.moments past within are ok err }
+pub lent : {T E : Type 0} (result : Result T E) (at : ℕ) (piece : List ℕ) (commits : CommitsState) (new : DiskState) → 4096 ≤ at
+    → at + length piece ≤ commits.disk.size → Stand commits → IsLeft commits.disk new
+    → OnOk result (new.moments ≡ moments_after (after_write at piece) commits.disk.moments)
+    → OnErr result (FailsToWrite at (length piece) commits.disk.moments new.moments) → IsLent commits new
+lent result at piece commits new past within are left ok err =
+    record { stand = are; left = left; passes = lent_passes result at piece commits new.moments past within are ok err }
 
-pub lent_stand : (commits : CommitsState) (new : DiskState) → IsLent commits new → AreCommits commits.number commits.body commits.unfinished new
+pub lent_stand : (commits : CommitsState) (new : DiskState) → IsLent commits new
+    → AreCommits commits.number commits.body commits.unfinished new
 lent_stand commits new is =
-    are_commits commits.number commits.body commits.unfinished commits.disk new is.stand.size is.left (may_both commits.number commits.body commits.unfinished commits.disk is.stand) is.passes.1
+    are_commits commits.number commits.body commits.unfinished commits.disk new is.stand.size is.left
+    (may_both commits.number commits.body commits.unfinished commits.disk is.stand) is.passes.1
 
 -- and so they do where the moments are as before
-pub lent_same : (commits : CommitsState) (new : DiskState) → Stand commits → IsLeft commits.disk new → new.moments ≡ commits.disk.moments
+pub lent_same : (commits : CommitsState) (new : DiskState) → Stand commits → IsLeft commits.disk new
+    → new.moments ≡ commits.disk.moments
     → AreCommits commits.number commits.body commits.unfinished new
-lent_same commits new are left same = lent_stand commits new (record { stand = are; left = left; passes = same_moments (InSlots commits) commits.disk.moments new.moments are.stand same })
+lent_same commits new are left same = lent_stand commits new
+    (record { stand = are; left = left; passes = same_moments (InSlots commits) commits.disk.moments new.moments are.stand same })
 
-stands_leaves : (unfinished : Option CommitBody) (commits : CommitsState) (medium : Medium) → commits.unfinished ≡ unfinished → 4096 ≤ commits.disk.size → HasSize commits.disk.size medium
-    → Stands (log_of commits.disk.size) commits.number commits.body unfinished medium → Leaves (log_of commits.disk.size) (IsLast commits) medium
+stands_leaves : (unfinished : Option CommitBody) (commits : CommitsState) (medium : Medium) → commits.unfinished ≡ unfinished
+    → 4096 ≤ commits.disk.size → HasSize commits.disk.size medium
+    → Stands (log_of commits.disk.size) commits.number commits.body unfinished medium
+    → Leaves (log_of commits.disk.size) (IsLast commits) medium
 stands_leaves None commits medium is least has stands =
-    settled_leaves commits.disk.size (log_of commits.disk.size) commits.number commits.body (IsLast commits) medium (last_is commits) least has stands
+    settled_leaves commits.disk.size (log_of commits.disk.size) commits.number commits.body (IsLast commits) medium
+    (last_is commits) least has stands
 stands_leaves (Some more) commits medium is least has stands =
-    half_leaves commits.disk.size (log_of commits.disk.size) commits.number commits.body more (IsLast commits) medium (last_is commits) (left_is commits more is) least has stands
+    half_leaves commits.disk.size (log_of commits.disk.size) commits.number commits.body more (IsLast commits) medium
+    (last_is commits) (left_is commits more is) least has stands
 
 pub lent_leaves : (commits : CommitsState) (new : DiskState) → IsLent commits new → LeavesSince (IsLast commits) commits.disk new
 lent_leaves commits new is =

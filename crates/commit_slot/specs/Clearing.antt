@@ -33,4 +33,5 @@ WritesFirst body old new = HoldsNow IsClear old.moments → HoldsNow (IsFirstWri
 
 -- its second half
 abbrev pub OpensFirst : DiskState → DiskState → Type 0
-OpensFirst old new = (body : CommitBody) → HoldsNow (IsFirstWritten (log_of old.size) body) old.moments → HoldsNow (IsSettled (log_of old.size) 0 body) new.moments
+OpensFirst old new = (body : CommitBody) → HoldsNow (IsFirstWritten (log_of old.size) body) old.moments
+    → HoldsNow (IsSettled (log_of old.size) 0 body) new.moments

@@ -36,7 +36,8 @@ pub record ReadsSettled (log : ℕ) (bytes : List ℕ) (body : CommitBody) (numb
 
 -- whatever a stop leaves then reads as a commit with P, and its other slots are as between two commits
 abbrev pub Leaves : ℕ → (ℕ → CommitBody → Type 0) → Medium → Type 0
-Leaves log P medium = (left : List ℕ) → MayLeave medium left → (number : ℕ) × (body : CommitBody) × P number body × ReadsSettled log left body number
+Leaves log P medium = (left : List ℕ) → MayLeave medium left → (number : ℕ) × (body : CommitBody) × P number body
+    × ReadsSettled log left body number
 
 -- at each moment since then a stop leaves a commit with P
 abbrev pub LeavesSince : (ℕ → CommitBody → Type 0) → DiskState → DiskState → Type 0
@@ -64,7 +65,8 @@ finished_body body (Some more) = more
 
 -- the last commit, or that of which the second half was left
 abbrev pub IsLast : CommitsState → ℕ → CommitBody → Type 0
-IsLast commits n b = IsCommit commits.number commits.body n b ⊎ IsCommit (finished_number commits.number commits.unfinished) (finished_body commits.body commits.unfinished) n b
+IsLast commits n b = IsCommit commits.number commits.body n b ⊎ IsCommit (finished_number commits.number commits.unfinished)
+    (finished_body commits.body commits.unfinished) n b
 
 -- one of these, or the commit after them
 abbrev pub IsLastOr : CommitsState → CommitBody → ℕ → CommitBody → Type 0
@@ -120,7 +122,8 @@ commit_cost unfinished = together (finish_cost unfinished) (together first_half_
 
 -- calls of which the first were all made, and one of the others failed
 abbrev pub FailsBegun : Cost → Cost → DiskState → DiskState → Type 0
-FailsBegun first second old new = MakesCalls (together first second) false old new × (middle : DiskState) × MakesCalls first true old middle × MakesCalls second false middle new
+FailsBegun first second old new = MakesCalls (together first second) false old new × (middle : DiskState)
+    × MakesCalls first true old middle × MakesCalls second false middle new
 
 -- How far a commit that failed got, and by which calls: the second half that was left failed; or that was made, and the
 -- first half of the next commit failed; or its first half was made, and its second half failed.
@@ -128,4 +131,5 @@ abbrev pub FailsIn : CommitBody → CommitsState → CommitsState → Type 0
 FailsIn body old new =
     (IsAsBefore old new × MakesCalls (finish_cost old.unfinished) false old.disk new.disk)
     ⊎ ((IsFinished old new × FailsBegun (finish_cost old.unfinished) first_half_cost old.disk new.disk)
-    ⊎ (IsBegun body old new × FailsBegun (together (finish_cost old.unfinished) first_half_cost) second_half_cost old.disk new.disk))
+    ⊎ (IsBegun body old new × FailsBegun (together (finish_cost old.unfinished) first_half_cost) second_half_cost
+    old.disk new.disk))

@@ -3,7 +3,8 @@ use Rattle.std.specs.Prelude.{◌+◌}
 use Rattle.lsvd_device.specs.Device.{HoldsNow}
 use Rattle.lsvd_device.specs.Memory.{IsSynced}
 use Rattle.commit_body.specs.declared.body.CommitBody.{CommitBody}
-use Rattle.commit_slot.specs.Commits.{CommitsState, LeavesSince, LeavesNow, IsCommit, IsLastOr, IsMade, IsBegun, IsMadeInPart, FailsIn, finished_number}
+use Rattle.commit_slot.specs.Commits.{CommitsState, LeavesSince, LeavesNow, IsCommit, IsLastOr, IsMade, IsBegun, IsMadeInPart}
+use Rattle.commit_slot.specs.Commits.{FailsIn, finished_number}
 use Rattle.commit_slot.specs.LogArea.{MakesLogAreaDurable, IsCommittingSince}
 
 -- the commit is made: each stop leaves it, with all that was written to the log area before

@@ -7,7 +7,8 @@ use Rattle.lsvd_device.specs.Medium.{Medium, LiesOutside}
 -- Bytes that a stop may leave in a range: each that was not written since the last sync is as it was then.
 pub record MayStandAt (at count : ℕ) (medium : Medium) (bytes : List ℕ) : Type 0 where
   pub length : length bytes ≡ count
-  pub elsewhere : (i : ℕ) → i < count → All (LiesOutside (at + i)) medium.pending → slice_index bytes i ≡ slice_index medium.synced (at + i)
+  pub elsewhere : (i : ℕ) → i < count → All (LiesOutside (at + i)) medium.pending
+      → slice_index bytes i ≡ slice_index medium.synced (at + i)
 
 -- the bytes of a range have P, now and whenever the device stops
 pub record Lasts (at count : ℕ) (P : List ℕ → Type 0) (medium : Medium) : Type 0 where

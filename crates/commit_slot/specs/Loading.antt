@@ -54,7 +54,8 @@ LeavesRead log number body medium = (left : List ℕ) → MayLeave medium left �
 abbrev pub LeavesReadSince : DiskState → DiskState → Type 0
 LeavesReadSince old new =
     (number : ℕ) (body : CommitBody) → HoldsNow IsSynced old.moments → AreRead number body old
-    → HoldsNow (λ before. HoldsSince (λ medium. LeavesRead (log_of old.size) number body medium × LeavesLogArea (log_area before.bytes) medium) old.moments new.moments) old.moments
+    → HoldsNow (λ before. HoldsSince (λ medium. LeavesRead (log_of old.size) number body medium
+    × LeavesLogArea (log_area before.bytes) medium) old.moments new.moments) old.moments
 
 -- loading changes neither what a stop leaves nor the log area
 pub record IsCrashSafeLoad (old new : DiskState) : Type 0 where

@@ -12,7 +12,8 @@ log_area bytes = drop 4096 bytes
 
 -- what a stop leaves of the log area, a stop might have left of it before
 abbrev pub LeavesAsBefore : Medium → Medium → Type 0
-LeavesAsBefore before medium = (left : List ℕ) → MayLeave medium left → (old : List ℕ) × MayLeave before old × (log_area left ≡ log_area old)
+LeavesAsBefore before medium = (left : List ℕ) → MayLeave medium left → (old : List ℕ) × MayLeave before old
+    × (log_area left ≡ log_area old)
 
 -- a stop leaves just these bytes of the log area
 abbrev pub LeavesLogArea : List ℕ → Medium → Type 0
@@ -26,7 +27,8 @@ pub record HasSameLogArea (before medium : Medium) : Type 0 where
 -- so it is at each moment since, and now
 abbrev pub KeepsLogAreaSince : List Medium → List Medium → Type 0
 KeepsLogAreaSince [] new = new ≡ []
-KeepsLogAreaSince (before ∷ past) new = HoldsSince (HasSameLogArea before) (before ∷ past) new × HoldsNow (HasSameLogArea before) new
+KeepsLogAreaSince (before ∷ past) new = HoldsSince (HasSameLogArea before) (before ∷ past) new
+    × HoldsNow (HasSameLogArea before) new
 
 -- a read gives the log area as before
 abbrev pub KeepsLogArea : List Medium → List Medium → Type 0
@@ -50,4 +52,5 @@ IsCommitting log commits body before medium =
 
 -- so it is at each moment since then
 abbrev pub IsCommittingSince : CommitsState → CommitBody → DiskState → Type 0
-IsCommittingSince commits body new = HoldsNow (λ before. HoldsSince (IsCommitting (log_of commits.disk.size) commits body before) commits.disk.moments new.moments) commits.disk.moments
+IsCommittingSince commits body new = HoldsNow (λ before. HoldsSince (IsCommitting (log_of commits.disk.size) commits body before)
+    commits.disk.moments new.moments) commits.disk.moments

@@ -14,7 +14,8 @@ use Rattle.commit_slot.specs.States.{IsOpen, IsClosed, IsSettled}
 
 -- a slot is closed, or has no newer body than this commit's
 abbrev pub IsPassedOver : (log number slot : ℕ) → Medium → Type 0
-IsPassedOver log number slot medium = Lasts (gate_at slot) 1 IsClosed medium ⊎ Lasts (body_at slot) 512 (IsOlder log slot number) medium
+IsPassedOver log number slot medium = Lasts (gate_at slot) 1 IsClosed medium
+    ⊎ Lasts (body_at slot) 512 (IsOlder log slot number) medium
 
 -- the newest commit stands in its slot, which is open, and each other slot is closed or has an older body
 pub record IsNewest (log number : ℕ) (body : CommitBody) (medium : Medium) : Type 0 where
@@ -26,7 +27,8 @@ pub record IsNewest (log number : ℕ) (body : CommitBody) (medium : Medium) : T
 abbrev pub KeepsNewest : (number : ℕ) → DiskState → DiskState → Type 0
 KeepsNewest number old new =
     (body : CommitBody) → HoldsNow (IsNewest (log_of old.size) number body) old.moments
-    → HoldsSince (IsNewest (log_of old.size) number body) old.moments new.moments × HoldsNow (IsNewest (log_of old.size) number body) new.moments
+    → HoldsSince (IsNewest (log_of old.size) number body) old.moments new.moments
+    × HoldsNow (IsNewest (log_of old.size) number body) new.moments
 
 -- a read gives a closed gate of the next slot
 abbrev pub NextIsClosed : (number : ℕ) → Medium → Type 0

@@ -19,12 +19,14 @@ pub record HasGate (log number : ℕ) (body more : CommitBody) (medium : Medium)
 
 -- where a second half is left, the device reads as its gate says
 abbrev pub ReadsByGate : CommitsState → Type 0
-ReadsByGate commits = IfSome commits.unfinished (λ more. HoldsNow (HasGate (log_of commits.disk.size) commits.number commits.body more) commits.disk.moments)
+ReadsByGate commits = IfSome commits.unfinished
+    (λ more. HoldsNow (HasGate (log_of commits.disk.size) commits.number commits.body more) commits.disk.moments)
 
 -- where none is left, a read gives a closed gate of the next slot
 abbrev pub HasClosedGate : CommitsState → Type 0
 HasClosedGate commits =
-    IfNone commits.unfinished (HoldsNow (λ now. slice_index now.bytes (gate_at ((commits.number + 1) % 3)) ≢ 1) commits.disk.moments)
+    IfNone commits.unfinished (HoldsNow (λ now. slice_index now.bytes (gate_at ((commits.number + 1) % 3)) ≢ 1)
+    commits.disk.moments)
 
 -- The device is a disk of 4,096 bytes or more, and a stop now leaves the last commit or the unfinished one.
 pub record AreOnDisk (commits : CommitsState) : Type 0 where

@@ -35,7 +35,8 @@ pub record IsHalfMadeIn (log last next third number : ℕ) (body : CommitBody) (
   pub older : Lasts (body_at third) 512 (IsOlder log third number) medium
 
 abbrev pub IsHalfMade : (log number : ℕ) → CommitBody → CommitBody → Medium → Type 0
-IsHalfMade log number body more medium = IsHalfMadeIn log (number % 3) ((number + 1) % 3) ((number + 2) % 3) number body more medium
+IsHalfMade log number body more medium = IsHalfMadeIn log (number % 3) ((number + 1) % 3) ((number + 2) % 3) number body
+    more medium
 
 -- what stands where a second half failed, or none did
 abbrev pub Stands : (log number : ℕ) → CommitBody → Option CommitBody → Medium → Type 0

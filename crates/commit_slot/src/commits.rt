@@ -1,19 +1,23 @@
-ghost use Rattle.std.specs.Prelude.{◌≡◌, ◌+◌, ◌-◌, ◌^◌, ◌<◌, ◌≤◌, ◌∷◌, [], length, take, drop, None, Some, true, false, IfSome, IfOk, IfErr, OnOk, OnErr, is_ok};
+ghost use Rattle.std.specs.Prelude.{◌≡◌, ◌+◌, ◌-◌, ◌^◌, ◌<◌, ◌≤◌, ◌∷◌, [], length, take, drop, None, Some};
+ghost use Rattle.std.specs.Prelude.{true, false, IfSome, IfOk, IfErr, OnOk, OnErr, is_ok};
 ghost use Rattle.std.specs.Fn.{FnOnceReturnsAtMut};
 ghost use Rattle.lsvd_device.specs.Medium.{after_write};
 ghost use Rattle.lsvd_device.specs.Calls.{read_cost, write_cost, PassesNone};
-ghost use Rattle.lsvd_device.specs.Device.{IsDisk, HoldsNow, moments_after, FailsToWrite, MakesCalls, FailsAlone};
+ghost use Rattle.lsvd_device.specs.Device.{IsDisk, HoldsNow, moments_after, FailsToWrite, MakesCalls};
+ghost use Rattle.lsvd_device.specs.Device.{FailsAlone};
 ghost use Rattle.lsvd_device.specs.Memory.{IsSynced};
 ghost use Rattle.lsvd_device.specs.Sequence.{Write};
 ghost use Rattle.commit_body.specs.Body.{MayStand};
 ghost use Rattle.commit_slot.specs.Slots.{log_of};
-ghost use Rattle.commit_slot.specs.Commits.{with_budget, first_half_cost, finish_cost, commit_cost, IsCommit, IsLast, IsAsBefore, IsFinished, IsBegun, LeavesSince, LeavesNow};
+ghost use Rattle.commit_slot.specs.Commits.{with_budget, first_half_cost, finish_cost, commit_cost, IsCommit};
+ghost use Rattle.commit_slot.specs.Commits.{IsLast, IsAsBefore, IsFinished, IsBegun, LeavesSince, LeavesNow};
 ghost use Rattle.commit_slot.specs.LogArea.{KeepsLogAreaSince, KeepsLogArea, MakesLogAreaDurable};
 ghost use Rattle.commit_slot.specs.OnDisk.{AreOnDisk};
 ghost use Rattle.commit_slot.specs.Sequence.{Costs, first_half_calls, finish_calls, commit_calls};
 ghost use Rattle.commit_slot.specs.Committing.{IsCommitted, FailsToCommit, IsCrashSafeCommit};
 ghost use Rattle.commit_slot.specs.Formatting.{IsFormatted, format_cost, format_calls};
-ghost use Rattle.commit_slot.specs.Loading.{MakesAtMost, load_cost, AreLoaded, IsCrashSafeLoad, LeavesSettled, FailsToLoad};
+ghost use Rattle.commit_slot.specs.Loading.{MakesAtMost, load_cost, AreLoaded, IsCrashSafeLoad};
+ghost use Rattle.commit_slot.specs.Loading.{LeavesSettled, FailsToLoad};
 ghost use Rattle.commit_slot.specs.Lending.{ChangesBudgetAlone};
 
 use crate::error::LoadError;
@@ -55,10 +59,10 @@ impl<D: Disk> Model for Commits<D> {
 }
 
 impl<D: Disk> Commits<D> {
-    /// Formats a device of at least 4,096 bytes (a condition): clears its slots, and makes the first commit, with the
-    /// number 0 and this body, which may stand for the device's log (a condition). The device is a disk (a condition,
-    /// which its `len` tells). `Failed` comes with the device where a call of it failed; its slots may have any bytes
-    /// then, and it is to be formatted again.
+    /// Formats a device of at least 4,096 bytes (a condition): clears its slots, and makes the first commit,
+    /// with the number 0 and this body, which may stand for the device's log (a condition). The device is a
+    /// disk (a condition, which its `len` tells). `Failed` comes with the device where a call of it failed;
+    /// its slots may have any bytes then, and it is to be formatted again.
     pub fn format(mut disk: D, body: CommitBody) -> Result<Commits<D>, (D, Failed)>
         requires size { 4096 ≤ (D.state disk).size }
         requires is_disk { IsDisk (D.state disk) }
@@ -82,17 +86,18 @@ impl<D: Disk> Commits<D> {
         }
     }
 
-    /// The commits of a device of at least 4,096 bytes (a condition) that was stopped, or of one of which only the
-    /// program was: the last one is what the device reads as. The device is a disk (a condition, which its `len`
-    /// tells).
+    /// The commits of a device of at least 4,096 bytes (a condition) that was stopped, or of one of which
+    /// only the program was: the last one is what the device reads as. The device is a disk (a condition,
+    /// which its `len` tells).
     ///
-    /// It is synced first. Where the other slots are not as between two commits they are mended: the next one is
-    /// closed, and a newer body of the third is filled with zeros. Where they are, the device is not written, even if a
-    /// call fails. Whenever the device stops while nothing was pending on it before, it reads as the same commit, with
-    /// the same bytes past the slots.
+    /// It is synced first. Where the other slots are not as between two commits they are mended: the next one
+    /// is closed, and a newer body of the third is filled with zeros. Where they are, the device is not
+    /// written, even if a call fails. Whenever the device stops while nothing was pending on it before, it
+    /// reads as the same commit, with the same bytes past the slots.
     ///
-    /// An error comes with the device. `NoSlot`, with the sectors of its log, comes where no slot is open; nothing but a
-    /// sync was done then. `DeviceFault` comes where a call of the device failed; it may be loaded again.
+    /// An error comes with the device. `NoSlot`, with the sectors of its log, comes where no slot is open;
+    /// nothing but a sync was done then. `DeviceFault` comes where a call of the device failed; it may be
+    /// loaded again.
     pub fn load(mut disk: D) -> Result<Commits<D>, (D, LoadError)>
         requires size { 4096 ≤ (D.state disk).size }
         requires is_disk { IsDisk (D.state disk) }
@@ -117,12 +122,13 @@ impl<D: Disk> Commits<D> {
         }
     }
 
-    /// Commits this body, which may stand for the device's log (a condition), under the next number; the number
-    /// of the last commit is below 2^64 - 2 (a condition). A second half that was left is made first.
+    /// Commits this body, which may stand for the device's log (a condition), under the next number; the
+    /// number of the last commit is below 2^64 - 2 (a condition). A second half that was left is made first.
     ///
-    /// Whenever the device stops it reads as the last commit, as the one that was left, or as this one; after `Ok`,
-    /// as this one. `Failed` comes where a call of the device failed. A commit whose first half failed is begun
-    /// anew by the next call; where its second half failed it is left, and the next call makes that first.
+    /// Whenever the device stops it reads as the last commit, as the one that was left, or as this one; after
+    /// `Ok`, as this one. `Failed` comes where a call of the device failed. A commit whose first half failed
+    /// is begun anew by the next call; where its second half failed it is left, and the next call makes that
+    /// first.
     pub fn commit(&mut self, body: CommitBody) -> Result<(), Failed>
         requires number { self.old.number < 2 ^ 64 - 2 }
         requires may_stand { MayStand body (log_of self.old.disk.size) }
@@ -171,7 +177,8 @@ impl<D: Disk> Commits<D> {
         requires may_stand { MayStand body (log_of self.old.disk.size) }
         ensures ok { OnOk result (IsBegun body self.old self.new) }
         ensures err { OnErr result (IsAsBefore self.old self.new) }
-        ensures crash_safe { LeavesSince (IsCommit self.old.number self.old.body) self.old.disk self.new.disk }
+        ensures crash_safe { LeavesSince (IsCommit self.old.number self.old.body) self.old.disk
+            self.new.disk }
         ensures costs { Costs first_half_cost (first_half_calls self.old.number body) (is_ok result)
             self.old.disk self.new.disk }
         ensures log_area { KeepsLogAreaSince self.old.disk.moments self.new.disk.moments }
@@ -207,8 +214,8 @@ impl<D: Disk> Commits<D> {
         log_of(self.disk.len())
     }
 
-    /// Reads the bytes of the device from `at` on into the whole of `buf`. The range lies inside the device (a
-    /// condition). `Failed` comes where the device could not be read; any bytes stand in `buf` then.
+    /// Reads the bytes of the device from `at` on into the whole of `buf`. The range lies inside the device
+    /// (a condition). `Failed` comes where the device could not be read; any bytes stand in `buf` then.
     pub fn read(&mut self, at: u64, buf: &mut [u8]) -> Result<(), Failed>
         requires { at + length buf.old ≤ self.old.disk.size }
         ensures ok { OnOk result (
@@ -217,15 +224,16 @@ impl<D: Disk> Commits<D> {
         ensures same { IsAsBefore self.old self.new }
         ensures moments { self.new.disk.moments ≡ self.old.disk.moments }
         ensures costs { MakesCalls read_cost (is_ok result) self.old.disk self.new.disk }
-        ensures blown { PassesNone self.old.disk.budget → FailsAlone (is_ok result) self.old.disk self.new.disk }
+        ensures blown { PassesNone self.old.disk.budget
+            → FailsAlone (is_ok result) self.old.disk self.new.disk }
         ensures on_disk { AreOnDisk self.new }
     {
         self.disk.read(at, buf)
     }
 
-    /// Writes the whole of `piece` to the device from `at` on, which lies past the slots, from byte 4,096 on (a
-    /// condition). The range lies inside the device (a condition). `Failed` comes where the device could not be
-    /// written; any bytes may stand in the range then. Whenever the device stops it reads as before.
+    /// Writes the whole of `piece` to the device from `at` on, which lies past the slots, from byte 4,096 on
+    /// (a condition). The range lies inside the device (a condition). `Failed` comes where the device could
+    /// not be written; any bytes may stand in the range then. Whenever the device stops it reads as before.
     pub fn write(&mut self, at: u64, piece: &[u8]) -> Result<(), Failed>
         requires log_area { 4096 ≤ at }
         requires inside { at + length piece.now ≤ self.old.disk.size }
@@ -237,7 +245,8 @@ impl<D: Disk> Commits<D> {
         ensures crash_safe { LeavesSince (IsLast self.old) self.old.disk self.new.disk }
         ensures costs { Costs (write_cost (length piece.now)) (Write at piece.now ∷ []) (is_ok result)
             self.old.disk self.new.disk }
-        ensures blown { PassesNone self.old.disk.budget → FailsAlone (is_ok result) self.old.disk self.new.disk }
+        ensures blown { PassesNone self.old.disk.budget
+            → FailsAlone (is_ok result) self.old.disk self.new.disk }
         ensures on_disk { AreOnDisk self.new }
     {
         self.disk.write(at, piece)
@@ -250,8 +259,9 @@ impl<D: Disk> Commits<D> {
         &self.disk
     }
 
-    /// Lends the device to a closure, as one that takes room in it or sets its fuse. The closure may be called, and
-    /// changes nothing that the device tells but the calls that it still passes (conditions). Its answer is returned.
+    /// Lends the device to a closure, as one that takes room in it or sets its fuse. The closure may be
+    /// called, and changes nothing that the device tells but the calls that it still passes (conditions). Its
+    /// answer is returned.
     pub fn with_disk<R, F: FnOnce(&mut D) -> R>(&mut self, change: F) -> R
         requires callable { F.IsAlwaysCallable change }
         requires keeps { (disk left : D) (answer : R)

@@ -6,7 +6,8 @@ ghost use Rattle.commit_slot.specs.Slots.{log_of};
 ghost use Rattle.commit_slot.specs.Commits.{first_half_cost, second_half_cost};
 ghost use Rattle.commit_slot.specs.States.{IsSettled};
 ghost use Rattle.commit_slot.specs.Sequence.{Costs};
-ghost use Rattle.commit_slot.specs.Formatting.{clear_bytes, clear_cost, format_cost, clear_calls, first_body_calls, first_open_calls, format_calls};
+ghost use Rattle.commit_slot.specs.Formatting.{clear_bytes, clear_cost, format_cost, clear_calls};
+ghost use Rattle.commit_slot.specs.Formatting.{first_body_calls, first_open_calls, format_calls};
 ghost use Rattle.commit_slot.specs.Clearing.{IsClear, WritesFirst, OpensFirst};
 
 use crate::slot::{CLOSED, OPEN, SLOTS_BYTES, body_at, gate_at};
@@ -23,7 +24,8 @@ pub(crate) fn format_slots<D: Disk>(disk: &mut D, body: CommitBody) -> Result<()
     requires may_stand { MayStand body (log_of (D.state disk.old).size) }
     ensures ok { OnOk result (
         HoldsNow (IsSettled (log_of (D.state disk.old).size) 0 body) (D.state disk.new).moments) }
-    ensures costs { Costs format_cost (format_calls body) (is_ok result) (D.state disk.old) (D.state disk.new) }
+    ensures costs { Costs format_cost (format_calls body) (is_ok result) (D.state disk.old)
+        (D.state disk.new) }
     ensures synced { OnOk result (HoldsNow IsSynced (D.state disk.new).moments) }
     ensures is_disk { IsDisk (D.state disk.new) }
 {
@@ -75,7 +77,8 @@ fn open_first_slot<D: Disk>(disk: &mut D) -> Result<(), Failed>
     requires size { 4096 ≤ (D.state disk.old).size }
     requires is_disk { IsDisk (D.state disk.old) }
     ensures ok { OnOk result (OpensFirst (D.state disk.old) (D.state disk.new)) }
-    ensures costs { Costs second_half_cost first_open_calls (is_ok result) (D.state disk.old) (D.state disk.new) }
+    ensures costs { Costs second_half_cost first_open_calls (is_ok result) (D.state disk.old)
+        (D.state disk.new) }
     ensures synced { OnOk result (HoldsNow IsSynced (D.state disk.new).moments) }
     ensures is_disk { IsDisk (D.state disk.new) }
 {

@@ -14,8 +14,8 @@ use lsvd_base::SECTOR_BYTES;
 use lsvd_device::Disk;
 use lsvd_fault::Failed;
 
-// The first half of the commit after the one with this number: its body is written into its slot, which is closed, and
-// the slot after that is closed.
+// The first half of the commit after the one with this number: its body is written into its slot, which is
+// closed, and the slot after that is closed.
 pub(crate) fn write_body_and_close<D: Disk>(
     disk: &mut D,
     number: u64,
@@ -29,7 +29,8 @@ pub(crate) fn write_body_and_close<D: Disk>(
     ensures ok { OnOk result (IsFirstHalf number body.now (D.state disk.old) (D.state disk.new)) }
     ensures err { OnErr result (FailsFirstHalf number (D.state disk.old) (D.state disk.new)) }
     ensures log_area { KeepsLogAreaSince (D.state disk.old).moments (D.state disk.new).moments }
-    ensures durable { OnOk result (MakesLogAreaDurable (D.state disk.old).moments (D.state disk.new).moments) }
+    ensures durable { OnOk result (MakesLogAreaDurable (D.state disk.old).moments
+        (D.state disk.new).moments) }
     ensures costs { Costs first_half_cost (first_half_calls number body.now) (is_ok result) (D.state disk.old)
         (D.state disk.new) }
     ensures is_disk { IsDisk (D.state disk.new) }

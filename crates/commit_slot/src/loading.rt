@@ -1,4 +1,5 @@
-ghost use Rattle.std.specs.Prelude.{◌≡◌, ℕ, ◌+◌, ◌%◌, ◌<◌, ◌≤◌, true, false, length, IfOk, IfErr, OnOk, IsTrue, is_ok};
+ghost use Rattle.std.specs.Prelude.{◌≡◌, ℕ, ◌+◌, ◌%◌, ◌<◌, ◌≤◌, true, false, length, IfOk, IfErr, OnOk};
+ghost use Rattle.std.specs.Prelude.{IsTrue, is_ok};
 ghost use Rattle.lsvd_device.specs.Device.{IsDisk, HoldsNow};
 ghost use Rattle.lsvd_device.specs.Memory.{IsSynced};
 ghost use Rattle.commit_body.specs.declared.body.CommitBody.{CommitBody as Body};
@@ -6,8 +7,10 @@ ghost use Rattle.commit_body.specs.Body.{IsBody, MayStand};
 ghost use Rattle.commit_slot.specs.Slots.{log_of};
 ghost use Rattle.commit_slot.specs.States.{IsSettled};
 ghost use Rattle.commit_slot.specs.LogArea.{KeepsLogAreaSince, MakesLogAreaDurable, HasDurableLogArea};
-ghost use Rattle.commit_slot.specs.Loading.{MakesAtMost, load_cost, AreRead, FailsToLoad, IsCrashSafeLoad, LeavesSettled};
-ghost use Rattle.commit_slot.specs.Mending.{KeepsNewest, NextIsClosed, ThirdIsOlder, Mends, close_cost, clear_third_cost, mend_cost};
+ghost use Rattle.commit_slot.specs.Loading.{MakesAtMost, load_cost, AreRead, FailsToLoad, IsCrashSafeLoad};
+ghost use Rattle.commit_slot.specs.Loading.{LeavesSettled};
+ghost use Rattle.commit_slot.specs.Mending.{KeepsNewest, NextIsClosed, ThirdIsOlder, Mends, close_cost};
+ghost use Rattle.commit_slot.specs.Mending.{clear_third_cost, mend_cost};
 ghost use Rattle.commit_slot.specs.Mending.{LeavesClosed, LeavesOlder, LeavesMended, HoldsNotNow};
 
 use crate::error::LoadError;
@@ -31,7 +34,8 @@ pub(crate) fn load_slots<D: Disk>(disk: &mut D) -> Result<(CommitBody, u64), Loa
     ensures err { IfErr result (λ error. FailsToLoad error (D.state disk.old) (D.state disk.new)) }
     ensures crash_safe { IsCrashSafeLoad (D.state disk.old) (D.state disk.new) }
     ensures leaves_settled { LeavesSettled (D.state disk.old) (D.state disk.new) }
-    ensures durable { OnOk result (MakesLogAreaDurable (D.state disk.old).moments (D.state disk.new).moments) }
+    ensures durable { OnOk result (MakesLogAreaDurable (D.state disk.old).moments
+        (D.state disk.new).moments) }
     ensures durable_now { OnOk result (HasDurableLogArea (D.state disk.new).moments) }
     ensures synced { OnOk result (HoldsNow IsSynced (D.state disk.new).moments) }
     ensures is_disk { IsDisk (D.state disk.new) }
@@ -46,8 +50,8 @@ pub(crate) fn load_slots<D: Disk>(disk: &mut D) -> Result<(CommitBody, u64), Loa
     Ok((body, number))
 }
 
-// Leaves the slots as between two commits, the last of which is the newest one, with this number. It writes to no
-// gate that is closed, since a write that fails might open it.
+// Leaves the slots as between two commits, the last of which is the newest one, with this number. It writes
+// to no gate that is closed, since a write that fails might open it.
 fn mend_slots<D: Disk>(disk: &mut D, number: u64) -> Result<(), Failed>
     requires size { 4096 ≤ (D.state disk.old).size }
     requires is_disk { IsDisk (D.state disk.old) }
@@ -128,7 +132,8 @@ fn clear_third<D: Disk>(disk: &mut D, number: u64) -> Result<bool, Failed>
 // Whether a sector is the body of a commit in this slot that is newer than the one with this number.
 fn is_newer(sector: &[u8], log: u64, slot: u64, number: u64) -> bool
     requires { length sector.now ≡ 512 }
-    ensures newer { result ≡ true → (body : Body) × (n : ℕ) × IsBody sector.now log slot body n × (number < n) }
+    ensures newer { result ≡ true → (body : Body) × (n : ℕ) × IsBody sector.now log slot body n
+        × (number < n) }
     ensures older { result ≡ false → (body : Body) (n : ℕ) → IsBody sector.now log slot body n → n ≤ number }
 {
     match read_body(sector, log, slot) {

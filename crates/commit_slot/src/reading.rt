@@ -10,9 +10,9 @@ use lsvd_base::SECTOR_BYTES;
 use lsvd_device::Disk;
 use lsvd_fault::Failed;
 
-/// The commit, with its number, that a device of at least 4,096 bytes (a condition) reads as: that of the open slot
-/// with the greatest number. None is for a device that has no open slot. `Failed` comes where a call of the device
-/// failed.
+/// The commit, with its number, that a device of at least 4,096 bytes (a condition) reads as: that of the
+/// open slot with the greatest number. None is for a device that has no open slot. `Failed` comes where a
+/// call of the device failed.
 pub fn read_newest<D: Disk>(disk: &mut D) -> Result<Option<(CommitBody, u64)>, Failed>
     requires { 4096 ≤ (D.state disk.old).size }
     ensures ok { IfOk result (λ found.

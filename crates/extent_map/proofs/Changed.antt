@@ -1,5 +1,6 @@
 -- What rows give after a range of sectors was taken out of them, and a row was put in its place.
-use Rattle.std.proofs.Common.{ℕ, ◌+◌, ◌-◌, ◌<◌, ◌≤◌, ◌≡◌, inl, inr, cond, Some, None, List, ◌∷◌, ◌++◌, length, take, drop, sym, ◌∙◌, ap, subst, arith}
+use Rattle.std.proofs.Common.{ℕ, ◌+◌, ◌-◌, ◌<◌, ◌≤◌, ◌≡◌, inl, inr, cond, Some, None, List, ◌∷◌, ◌++◌, length, take, drop, sym}
+use Rattle.std.proofs.Common.{◌∙◌, ap, subst, arith}
 use Rattle.std.proofs.lemmas.List.{take_at, drop_at}
 use Rattle.std.proofs.lemmas.Bool.{cases_lt}
 use Rattle.extent_map.specs.declared.extent.Extent.{Extent}
@@ -91,7 +92,8 @@ module _ {P : Type 0} (on : ℕ → P → P) (on_twice : (a b : ℕ) (p : P) →
 
   -- ---- the range taken out, by the index where it stood
 
-  module _ (out : List (Extent P)) (index : ℕ) (is_out : out ≡ rows_without) (is_index : index ≡ length (rows_before lba rows)) where
+  module _ (out : List (Extent P)) (index : ℕ) (is_out : out ≡ rows_without)
+      (is_index : index ≡ length (rows_before lba rows)) where
     front_is : take index out ≡ rows_before lba rows
     front_is = ap (take index) is_out ∙ take_at (rows_before lba rows) rows_past index (sym is_index)
 

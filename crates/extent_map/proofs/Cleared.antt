@@ -1,5 +1,6 @@
 -- What is left of rows, by the first of those that may reach between the two sectors.
-use Rattle.std.proofs.Common.{ℕ, zero, suc, ◌+◌, ◌-◌, ◌<◌, ◌≤◌, ◌≡◌, inl, inr, Some, None, Bool, true, false, List, [], ◌∷◌, ◌++◌, take, drop, sym, ◌∙◌, ap, subst, arith, take-append-drop}
+use Rattle.std.proofs.Common.{ℕ, zero, suc, ◌+◌, ◌-◌, ◌<◌, ◌≤◌, ◌≡◌, inl, inr, Some, None, Bool, true, false, List, [], ◌∷◌, ◌++◌}
+use Rattle.std.proofs.Common.{take, drop, sym, ◌∙◌, ap, subst, arith, take-append-drop}
 use Rattle.std.specs.Prelude.{slice_get}
 use Rattle.std.proofs.lemmas.Bool.{cases_lt}
 use Rattle.std.proofs.lemmas.List.{append-nil}
@@ -52,7 +53,8 @@ module _ {P : Type 0} (on : ℕ → P → P) where
     -- the rows before the first are left, and what is left of the others
     pub some_kept : take first rows ++ rows_left on lba end test (drop first rows) ≡ rows_left on lba end test rows
     some_kept =
-        ap (λ xs. xs ++ rows_left on lba end test (drop first rows)) (sym (all_early on lba end order test (take first rows) early))
+        ap (λ xs. xs ++ rows_left on lba end test (drop first rows))
+        (sym (all_early on lba end order test (take first rows) early))
         ∙ sym (left_append on lba end order test (take first rows) (drop first rows))
         ∙ ap (rows_left on lba end test) (take-append-drop first rows)
 

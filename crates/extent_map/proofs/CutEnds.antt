@@ -1,5 +1,6 @@
 -- The last row that begins before a sector, and what a cut at the sector leaves on both sides of it.
-use Rattle.std.proofs.Common.{ℕ, suc, ◌+◌, ◌<◌, ◌≤◌, ◌≡◌, Some, List, [], ◌∷◌, ◌++◌, length, get_or, take, drop, sym, ◌∙◌, ap, subst, arith, add-one, take-append-drop}
+use Rattle.std.proofs.Common.{ℕ, suc, ◌+◌, ◌<◌, ◌≤◌, ◌≡◌, Some, List, [], ◌∷◌, ◌++◌, length, get_or, take, drop, sym, ◌∙◌, ap}
+use Rattle.std.proofs.Common.{subst, arith, add-one, take-append-drop}
 use Rattle.std.proofs.Math.ListN.{set}
 use Rattle.std.specs.List.{slice_get}
 use Rattle.std.proofs.lemmas.List.{drop-set, take_more_set, drop-set-lt, length-take, get_or-take}
@@ -11,7 +12,8 @@ use Rattle.extent_map.proofs.Order.{fits_at}
 use Rattle.extent_map.proofs.Cuts.{nothing_before, all_from}
 use Rattle.extent_map.proofs.CutIndex.{no_count_starts, last_early, before_last, from_last, before_cut, from_cut}
 
-module _ {P : Type 0} (on : ℕ → P → P) (rows : List (Extent P)) (at n : ℕ) (shortest : IsShortest on rows) (count : n ≡ before_count at rows) where
+module _ {P : Type 0} (on : ℕ → P → P) (rows : List (Extent P)) (at n : ℕ) (shortest : IsShortest on rows)
+    (count : n ≡ before_count at rows) where
   pub none_before : n ≡ 0 → rows_before at rows ≡ []
   none_before none = nothing_before on at rows shortest (no_count_starts on at rows (sym count ∙ none))
 
@@ -67,13 +69,16 @@ module _ {X : Type 0} (xs : List X) (i n : ℕ) (x : X) (next : i + 1 ≡ n) (in
   written_past = drop-set-lt n xs i x (omega (arith, next))
 
 -- a row that is read before an index is one of those before it
-pub read_front : {X : Type 0} (xs : List X) (i n : ℕ) (x : X) → i + 1 ≡ n → slice_get xs i ≡ Some x → slice_get (take n xs) i ≡ Some x
+pub read_front : {X : Type 0} (xs : List X) (i n : ℕ) (x : X) → i + 1 ≡ n → slice_get xs i ≡ Some x
+    → slice_get (take n xs) i ≡ Some x
 read_front xs i n x next read =
     let inside = slice_get_within xs i x read in
     let long : i < length (take n xs) = omega (arith, next, inside, length-take n xs) in
-    slice_get-get_or (take n xs) i x long ∙ ap (λ y. Some y) (get_or-take n xs i x (omega (arith, next)) ∙ get_or_from_slice_get xs i x x read)
+    slice_get-get_or (take n xs) i x long ∙ ap (λ y. Some y) (get_or-take n xs i x (omega (arith, next))
+    ∙ get_or_from_slice_get xs i x x read)
 
-pub parts_whole : {X : Type 0} (xs : List X) (i n : ℕ) (x : X) → i + 1 ≡ n → i < length xs → set xs i x ≡ (take i xs ++ x ∷ []) ++ drop n xs
+pub parts_whole : {X : Type 0} (xs : List X) (i n : ℕ) (x : X) → i + 1 ≡ n → i < length xs
+    → set xs i x ≡ (take i xs ++ x ∷ []) ++ drop n xs
 parts_whole xs i n x next inside =
     sym (take-append-drop n (set xs i x))
     ∙ ap (λ ys. ys ++ drop n (set xs i x)) (written_front xs i n x next inside)

@@ -1,5 +1,6 @@
 -- Rows that are cut at a sector, by how many of them begin before it.
-use Rattle.std.proofs.Common.{ℕ, zero, suc, ◌+◌, ◌<◌, ◌≤◌, ◌≡◌, inl, inr, List, [], ◌∷◌, ◌++◌, get_or, take, drop, ◌∙◌, ap, subst, arith}
+use Rattle.std.proofs.Common.{ℕ, zero, suc, ◌+◌, ◌<◌, ◌≤◌, ◌≡◌, inl, inr, List, [], ◌∷◌, ◌++◌, get_or, take, drop, ◌∙◌, ap, subst}
+use Rattle.std.proofs.Common.{arith}
 use Rattle.std.proofs.lemmas.Bool.{cases_lt}
 use Rattle.extent_map.specs.declared.extent.Extent.{Extent}
 use Rattle.extent_map.specs.Extents.{ComesBeforeFirst, IsShortest}
@@ -44,7 +45,8 @@ module _ {P : Type 0} (on : ℕ → P → P) where
   before_last at i [] d shortest count ended = absurd (omega (arith, count))
   before_last at zero (row ∷ rows) d shortest count ended =
       before_ends at row rows ended
-      ∙ ap (λ rest. row ∷ rest) (nothing_before on at rows shortest.2 (no_count_starts at rows (rest_count at zero row rows count).1))
+      ∙ ap (λ rest. row ∷ rest) (nothing_before on at rows shortest.2
+      (no_count_starts at rows (rest_count at zero row rows count).1))
   before_last at (suc i) (row ∷ rows) d shortest count ended =
       let rest = (rest_count at (suc i) row rows count).1 in
       before_ends at row rows (ends_early at i row rows shortest.1 rest)

@@ -6,7 +6,8 @@ use Rattle.extent_map.specs.Extents.{NumbersGoOn, is_within, place_at, IsShortes
 use Rattle.extent_map.specs.Cut.{cut_short, rows_before, rows_from, rest_of}
 use Rattle.extent_map.proofs.Places.{number_at_most, at_below, at_past, after_row, starts_earlier}
 use Rattle.extent_map.proofs.Order.{same_after}
-use Rattle.extent_map.proofs.Cuts.{ends, crosses, starts, meets, before_ends, before_crosses, before_starts, from_ends, from_crosses, from_starts, nothing_before, all_from}
+use Rattle.extent_map.proofs.Cuts.{ends, crosses, starts, meets, before_ends, before_crosses, before_starts, from_ends}
+use Rattle.extent_map.proofs.Cuts.{from_crosses, from_starts, nothing_before, all_from}
 
 -- a cut leaves the sectors on its side
 pub same_within_short : (lba sectors at k : ℕ) → lba < at → at < lba + sectors → k < at

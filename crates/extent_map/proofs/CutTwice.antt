@@ -1,5 +1,6 @@
 -- Rows from a sector on that are cut at a later one, and the rows between both.
-use Rattle.std.proofs.Common.{ℕ, zero, suc, ◌+◌, ◌-◌, ◌<◌, ◌≤◌, ◌≡◌, inl, inr, Option, Bool, true, false, List, [], ◌∷◌, ◌++◌, length, take, drop, refl, sym, ◌∙◌, ap, subst, arith, length-append}
+use Rattle.std.proofs.Common.{ℕ, zero, suc, ◌+◌, ◌-◌, ◌<◌, ◌≤◌, ◌≡◌, inl, inr, Option, Bool, true, false, List, [], ◌∷◌, ◌++◌}
+use Rattle.std.proofs.Common.{length, take, drop, refl, sym, ◌∙◌, ap, subst, arith, length-append}
 use Rattle.std.specs.Prelude.{MatchOption, IsTrue, ◌↔◌}
 use Rattle.std.specs.List.{slice_get}
 use Rattle.std.proofs.lemmas.Bool.{cases_lt}
@@ -9,7 +10,8 @@ use Rattle.extent_map.specs.declared.extent.Extent.{Extent}
 use Rattle.extent_map.specs.Extents.{IsShortest, AllFit}
 use Rattle.extent_map.proofs.Order.{shortest_take, fit_take}
 use Rattle.extent_map.specs.Cut.{part_before, part_from, rest_of, rows_before, rows_from, before_count}
-use Rattle.extent_map.proofs.Cuts.{from_starts, from_crosses, from_ends, rest_crosses, rest_ends, before_ends, before_crosses, nothing_before}
+use Rattle.extent_map.proofs.Cuts.{from_starts, from_crosses, from_ends, rest_crosses, rest_ends, before_ends, before_crosses}
+use Rattle.extent_map.proofs.Cuts.{nothing_before}
 use Rattle.extent_map.proofs.Counts.{count_early, count_late}
 use Rattle.extent_map.proofs.Cuts.{shortest_from}
 use Rattle.extent_map.proofs.CutPlaces.{count_from, count_cut}
@@ -99,7 +101,8 @@ module _ {P : Type 0} (on : ℕ → P → P) where
             omega (arith, one, ap (λ n. before_count at (take n (row ∷ rows))) one)
       ]
 
-  pub before_front : (at : ℕ) (rows : List (Extent P)) → IsShortest on rows → rows_before at (take (before_count at rows) rows) ≡ rows_before at rows
+  pub before_front : (at : ℕ) (rows : List (Extent P)) → IsShortest on rows → rows_before at (take (before_count at rows) rows)
+      ≡ rows_before at rows
   unfolding rows_before
   before_front at [] shortest = refl
   before_front at (row ∷ rows) shortest =
@@ -123,7 +126,8 @@ SaysBegins at found answer = MatchOption found (answer ≡ false) (λ row. IsTru
 
 -- the first row from a sector on begins before a later one, or none does
 module _ {P : Type 0} (end : ℕ) where
-  none_first : (rows : List (Extent P)) (found : Option (Extent P)) (answer : Bool) → SaysBegins end found answer → found ≡ slice_get rows 0 → answer ≡ false
+  none_first : (rows : List (Extent P)) (found : Option (Extent P)) (answer : Bool) → SaysBegins end found answer
+      → found ≡ slice_get rows 0 → answer ≡ false
       → before_count end rows ≡ 0
   none_first [] found answer says is said_no = refl
   none_first (row ∷ rows) found answer says is said_no =
@@ -133,7 +137,8 @@ module _ {P : Type 0} (end : ℕ) where
         | inr late ↦ count_late end row rows late
       ]
 
-  some_first : (rows : List (Extent P)) (found : Option (Extent P)) (answer : Bool) → SaysBegins end found answer → found ≡ slice_get rows 0 → answer ≡ true
+  some_first : (rows : List (Extent P)) (found : Option (Extent P)) (answer : Bool) → SaysBegins end found answer
+      → found ≡ slice_get rows 0 → answer ≡ true
       → 0 < before_count end rows
   some_first [] found answer says is said_yes =
       let said : answer ≡ false = subst (λ f. SaysBegins end f answer) is says in absurd (cc (said_yes, said))
@@ -141,14 +146,16 @@ module _ {P : Type 0} (end : ℕ) where
       let said : IsTrue answer ↔ (row.lba < end) = subst (λ f. SaysBegins end f answer) is says in
       omega (arith, count_early end row rows (said.0 said_yes))
 
-  pub none_between : (lba n : ℕ) (rows : List (Extent P)) (found : Option (Extent P)) (answer : Bool) → lba ≤ end → n ≡ before_count lba rows
+  pub none_between : (lba n : ℕ) (rows : List (Extent P)) (found : Option (Extent P)) (answer : Bool) → lba ≤ end
+      → n ≡ before_count lba rows
       → SaysBegins end found answer → found ≡ slice_get rows n → answer ≡ false → n ≡ before_count end rows
   none_between lba n rows found answer order count says is said_no =
       let more = count_more lba end rows order in
       let none = none_first (drop n rows) found answer says (is ∙ sym (get_drop n rows)) said_no in
       omega (arith, more, none, count, ap (λ k. before_count end (drop k rows)) count)
 
-  pub some_between : (lba n : ℕ) (rows : List (Extent P)) (found : Option (Extent P)) (answer : Bool) → lba ≤ end → n ≡ before_count lba rows
+  pub some_between : (lba n : ℕ) (rows : List (Extent P)) (found : Option (Extent P)) (answer : Bool) → lba ≤ end
+      → n ≡ before_count lba rows
       → SaysBegins end found answer → found ≡ slice_get rows n → answer ≡ true → n < before_count end rows
   some_between lba n rows found answer order count says is said_yes =
       let more = count_more lba end rows order in
@@ -173,7 +180,8 @@ module _ {P : Type 0} (on : ℕ → P → P) where
       ]
 
   -- rows that were cut at a sector, and before that at a later one
-  module _ (rows once : List (Extent P)) (lba end n r : ℕ) (shortest : IsShortest on rows) (count : n ≡ before_count lba rows) (order : n ≤ r)
+  module _ (rows once : List (Extent P)) (lba end n r : ℕ) (shortest : IsShortest on rows) (count : n ≡ before_count lba rows)
+      (order : n ≤ r)
       (front : take r once ≡ take r rows) (back : drop r once ≡ rows_from on end rows) where
     pub same_front : take n once ≡ take n rows
     same_front = sym (take-take n r once order) ∙ ap (take n) front ∙ take-take n r rows order

@@ -4,7 +4,8 @@ use Rattle.std.specs.Prelude.{slice_get}
 use Rattle.extent_map.specs.declared.extent.Extent.{Extent}
 use Rattle.extent_map.specs.Extents.{IsShortest, Fits, AllFit}
 use Rattle.extent_map.specs.Cut.{rows_before, part_before}
-use Rattle.extent_map.proofs.Cuts.{ends, crosses, starts, meets, before_ends, before_crosses, nothing_before, part_ends, part_crosses, part_starts}
+use Rattle.extent_map.proofs.Cuts.{ends, crosses, starts, meets, before_ends, before_crosses, nothing_before, part_ends}
+use Rattle.extent_map.proofs.Cuts.{part_crosses, part_starts}
 
 module _ {P : Type 0} (on : ℕ → P → P) where
   -- ---- the part before a sector
@@ -22,7 +23,8 @@ module _ {P : Type 0} (on : ℕ → P → P) where
       let is : row ≡ next = cc in
       rw is (elim (meets at next) [
         | ends ended ↦
-            ap (λ xs. slice_get xs 0) (part_ends at next [] ended) ∙ sym (ap (λ xs. slice_get xs 0) (before_ends at next rows ended))
+            ap (λ xs. slice_get xs 0) (part_ends at next [] ended)
+            ∙ sym (ap (λ xs. slice_get xs 0) (before_ends at next rows ended))
         | crosses after inside ↦
             ap (λ xs. slice_get xs 0) (part_crosses at next [] after inside)
             ∙ sym (ap (λ xs. slice_get xs 0) (before_crosses at next rows after inside))

@@ -92,8 +92,15 @@ module _ {P : Type 0} (on : ℕ → P → P) (on_twice : (a b : ℕ) (p : P) →
       elim taken [
         | inl both ↦ rw (both.1, both.2) (joined_shortest row next rows both.0 shortest)
         | inr one ↦
-            rw (one.1, one.2)
-            (some, record { in_order = starts; apart = λ touch places. one.0 (record { touches = touch; places = places }) }, shortest)
+            rw (one.1, one.2) (
+              some,
+              record {
+                in_order = starts;
+                apart = λ touch places.
+                    one.0 (record { touches = touch; places = places });
+              },
+              shortest,
+            )
       ]
 
   pub taken_lba : (row : Extent P) (rows : List (Extent P)) (new : Extent P) (left : List (Extent P))

@@ -1,5 +1,6 @@
 -- The loop that keeps what is left of rows.
-use Rattle.std.proofs.Common.{ℕ, ◌+◌, ◌-◌, ◌<◌, ◌≤◌, ◌≡◌, inl, inr, Some, None, Bool, true, false, List, [], ◌∷◌, ◌++◌, take, drop, refl, sym, ◌∙◌, ap, subst, arith, append_assoc}
+use Rattle.std.proofs.Common.{ℕ, ◌+◌, ◌-◌, ◌<◌, ◌≤◌, ◌≡◌, inl, inr, Some, None, Bool, true, false, List, [], ◌∷◌, ◌++◌, take}
+use Rattle.std.proofs.Common.{drop, refl, sym, ◌∙◌, ap, subst, arith, append_assoc}
 use Rattle.std.specs.Prelude.{option_to_list, slice_get}
 use Rattle.std.specs.Option.{option_or}
 use Rattle.std.proofs.lemmas.Bool.{cases_lt, cases_Bool}
@@ -9,7 +10,8 @@ use Rattle.extent_map.specs.Extents.{IsShortest, Fits, AllFit}
 use Rattle.extent_map.specs.Cut.{part_before, part_from}
 use Rattle.extent_map.specs.Clear.{NoneSpans, parts_left, rows_left}
 use Rattle.extent_map.specs.Laws.{StartsFrom}
-use Rattle.extent_map.proofs.Cuts.{ends, crosses, starts, meets, part_ends, part_crosses, part_starts, rest_starts, rest_crosses, rest_ends}
+use Rattle.extent_map.proofs.Cuts.{ends, crosses, starts, meets, part_ends, part_crosses, part_starts, rest_starts, rest_crosses}
+use Rattle.extent_map.proofs.Cuts.{rest_ends}
 use Rattle.extent_map.proofs.Left.{left_true, left_false, all_past}
 use Rattle.extent_map.proofs.PutPlaces.{rest_at, none_left}
 
@@ -58,9 +60,19 @@ module _ {P : Type 0} (on : ℕ → P → P) where
     one_part row spans =
         elim (meets lba row) [
           | ends ended ↦
-              rw (part_ends lba row (part_from on end row []) ended, part_ends lba row [] ended, rest_ends on end row [] (omega arith) (omega arith))
+              rw (
+                part_ends lba row (part_from on end row []) ended,
+                part_ends lba row [] ended,
+                rest_ends on end row []
+                    (omega arith) (omega arith),
+              )
           | crosses after inside ↦
-              rw (part_crosses lba row (part_from on end row []) after inside, part_crosses lba row [] after inside, rest_ends on end row [] (omega arith) (spans after))
+              rw (
+                part_crosses lba row (part_from on end row []) after inside,
+                part_crosses lba row [] after inside,
+                rest_ends on
+                    end row [] (omega arith) (spans after),
+              )
           | starts before inside ↦
               rw (part_starts lba row (part_from on end row []) before inside, part_starts lba row [] before inside)
               (elim (cases_lt row.lba end) [
@@ -129,11 +141,13 @@ module _ {P : Type 0} (on : ℕ → P → P) where
           pub kept_past : end ≤ row.lba → take kept rows ++ drop index rows ≡ whole
           kept_past late =
               let start = subst (StartsFrom end) (sym is_next) late in
-              ap (λ xs. take kept rows ++ xs) (sym (all_past on lba end order test (drop index rows) so_far.shortest start)) ∙ so_far.all
+              ap (λ xs. take kept rows ++ xs) (sym (all_past on lba end order test (drop index rows) so_far.shortest start))
+              ∙ so_far.all
 
           -- what is left of the row is put behind the rows that were kept
           pub kept_more : (next parts : List (Extent P)) (k m n : ℕ) → parts ≡ rows_left on lba end test (row ∷ [])
-              → take k next ≡ take kept rows ++ parts → drop (kept + 1) next ≡ drop (kept + 1) rows → k ≤ kept + 1 → m ≡ k → n ≡ index + 1
+              → take k next ≡ take kept rows ++ parts → drop (kept + 1) next ≡ drop (kept + 1) rows → k ≤ kept + 1 → m ≡ k
+              → n ≡ index + 1
               → KeptSoFar on lba end test number whole next m n
           kept_more next parts k m n left front back near same_kept more_read =
               let far : kept + 1 + (index - kept) ≡ index + 1 = omega (arith, so_far.behind) in

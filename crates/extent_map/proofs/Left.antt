@@ -1,5 +1,6 @@
 -- Rows of which some lose the sectors of a range, row by row.
-use Rattle.std.proofs.Common.{ℕ, ◌+◌, ◌-◌, ◌<◌, ◌≤◌, ◌≡◌, inl, inr, Bool, true, false, cond, List, [], ◌∷◌, refl, sym, ◌∙◌, ap, subst, arith}
+use Rattle.std.proofs.Common.{ℕ, ◌+◌, ◌-◌, ◌<◌, ◌≤◌, ◌≡◌, inl, inr, Bool, true, false, cond, List, [], ◌∷◌, refl, sym, ◌∙◌, ap}
+use Rattle.std.proofs.Common.{subst, arith}
 use Rattle.std.proofs.lemmas.Bool.{cases_lt, cases_Bool}
 use Rattle.extent_map.specs.declared.extent.Extent.{Extent}
 use Rattle.extent_map.specs.Extents.{NumbersGoOn, ComesBeforeFirst, IsShortest, AllFit}
@@ -9,7 +10,8 @@ use Rattle.extent_map.specs.Join.{EndBy}
 use Rattle.extent_map.specs.Laws.{StartsFrom}
 use Rattle.extent_map.proofs.Places.{number_at_most, starts_earlier, after_row}
 use Rattle.extent_map.proofs.Order.{before_same, before_gap}
-use Rattle.extent_map.proofs.Cuts.{ends, crosses, starts, meets, part_ends, part_crosses, part_starts, rest_starts, rest_crosses, rest_ends, rest_before}
+use Rattle.extent_map.proofs.Cuts.{ends, crosses, starts, meets, part_ends, part_crosses, part_starts, rest_starts, rest_crosses}
+use Rattle.extent_map.proofs.Cuts.{rest_ends, rest_before}
 
 module _ {P : Type 0} (on : ℕ → P → P) (lba end : ℕ) (order : lba < end) where
   -- which parts of a row are left, and the rows after it
@@ -57,7 +59,8 @@ module _ {P : Type 0} (on : ℕ → P → P) (lba end : ℕ) (order : lba < end)
         → rows_left on lba end test (row ∷ rows) ≡ parts_left on lba end row (rows_left on lba end test rows)
     unfolding rows_left
     left_true row rows passes =
-        ap (λ b. cond b (parts_left on lba end row (rows_left on lba end test rows)) (row ∷ rows_left on lba end test rows)) passes
+        ap (λ b. cond b (parts_left on lba end row (rows_left on lba end test rows)) (row ∷ rows_left on lba end test rows))
+        passes
 
     pub left_false : (row : Extent P) (rows : List (Extent P)) → test row.place ≡ false
         → rows_left on lba end test (row ∷ rows) ≡ row ∷ rows_left on lba end test rows
@@ -165,8 +168,12 @@ module _ {P : Type 0} (on : ℕ → P → P) (lba end : ℕ) (order : lba < end)
           elim (left_is row rows) [
             | whole is ↦ subst (IsShortest on) (sym is) (shortest.0, first, rest)
             | front after inside ended is ↦
-                subst (IsShortest on) (sym is)
-                (omega arith, before_gap on (cut_short lba row) more lba (row.lba + row.sectors) (omega arith) beyond (omega arith), rest)
+                subst (IsShortest on) (sym is) (
+                  omega arith,
+                  before_gap on (cut_short lba row) more lba (row.lba + row.sectors) (omega arith) beyond
+                      (omega arith),
+                  rest,
+                )
             | back from early over is ↦
                 subst (IsShortest on) (sym is) (omega arith, rest_before on on_twice end row more early over first, rest)
             | both after over is ↦

@@ -1,5 +1,6 @@
 -- What rows of which some lost the sectors of a range give.
-use Rattle.std.proofs.Common.{ℕ, ◌+◌, ◌-◌, ◌<◌, ◌≤◌, ◌≡◌, inl, inr, Bool, true, false, cond, Some, None, List, [], ◌∷◌, refl, sym, ◌∙◌, ap, arith}
+use Rattle.std.proofs.Common.{ℕ, ◌+◌, ◌-◌, ◌<◌, ◌≤◌, ◌≡◌, inl, inr, Bool, true, false, cond, Some, None, List, [], ◌∷◌, refl, sym}
+use Rattle.std.proofs.Common.{◌∙◌, ap, arith}
 use Rattle.std.proofs.lemmas.Bool.{cases_lt, cases_Bool}
 use Rattle.extent_map.specs.declared.extent.Extent.{Extent}
 use Rattle.extent_map.specs.Extents.{IsSteady, is_within, place_at, place_unless, place_after_clear_if, IsShortest}
@@ -7,7 +8,8 @@ use Rattle.extent_map.specs.Cut.{cut_short, part_before, part_from, rest_of}
 use Rattle.extent_map.specs.Clear.{parts_left, rows_left}
 use Rattle.extent_map.proofs.Places.{within, not_below, not_past, at_inside, at_below, at_past, after_row, none_before}
 use Rattle.extent_map.proofs.Order.{same_after}
-use Rattle.extent_map.proofs.Cuts.{ends, crosses, starts, meets, part_ends, part_crosses, part_starts, rest_starts, rest_crosses, rest_ends}
+use Rattle.extent_map.proofs.Cuts.{ends, crosses, starts, meets, part_ends, part_crosses, part_starts, rest_starts, rest_crosses}
+use Rattle.extent_map.proofs.Cuts.{rest_ends}
 use Rattle.extent_map.proofs.CutPlaces.{same_within_short, rest_gives}
 use Rattle.extent_map.proofs.Left.{left_true, left_false, starts_left, shortest_left}
 

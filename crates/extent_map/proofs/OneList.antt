@@ -107,6 +107,7 @@ module _ {P : Type 0} (on : ℕ → P → P) (on_none : (p : P) → on 0 p ≡ p
       let lba = same_lba a b more_a more_b shortest_a shortest_b same in
       let place = same_place a b more_a more_b shortest_a shortest_b same lba in
       let sectors = same_sectors a b more_a more_b shortest_a shortest_b same lba place in
-      let rest = one_list more_a more_b shortest_a.2 shortest_b.2 (same_rest a b more_a more_b shortest_a shortest_b same lba sectors) in
+      let rest = one_list more_a more_b shortest_a.2 shortest_b.2 (same_rest a b more_a more_b shortest_a shortest_b same lba
+      sectors) in
       let first = same_row a b lba sectors place in
       cc

@@ -1,5 +1,6 @@
 -- Rows in order, and their fronts and backs.
-use Rattle.std.proofs.Common.{ℕ, zero, suc, ◌+◌, ◌-◌, ◌<◌, ◌≤◌, ◌≡◌, cond, Some, None, List, [], ◌∷◌, ◌++◌, length, get_or, take, drop, refl, sym, ◌∙◌, ap, arith}
+use Rattle.std.proofs.Common.{ℕ, zero, suc, ◌+◌, ◌-◌, ◌<◌, ◌≤◌, ◌≡◌, cond, Some, None, List, [], ◌∷◌, ◌++◌, length, get_or, take}
+use Rattle.std.proofs.Common.{drop, refl, sym, ◌∙◌, ap, arith}
 use Rattle.extent_map.specs.declared.extent.Extent.{Extent}
 use Rattle.extent_map.specs.Extents.{is_within, place_at, ComesBefore, ComesBeforeFirst, IsShortest, Fits, AllFit}
 use Rattle.extent_map.specs.Laws.{StartsFrom}

@@ -1,5 +1,6 @@
 -- A row is put among the rows of a list.
-use Rattle.std.proofs.Common.{ℕ, suc, ◌+◌, ◌-◌, ◌<◌, ◌≤◌, ◌≡◌, inl, List, [], ◌∷◌, ◌++◌, length, get_or, set, take, drop, sym, ◌∙◌, ap, subst, arith}
+use Rattle.std.proofs.Common.{ℕ, suc, ◌+◌, ◌-◌, ◌<◌, ◌≤◌, ◌≡◌, inl, List, [], ◌∷◌, ◌++◌, length, get_or, set, take, drop, sym}
+use Rattle.std.proofs.Common.{◌∙◌, ap, subst, arith}
 use Rattle.std.proofs.lemmas.List.{take_more, set_split, take-append-drop}
 use Rattle.extent_map.specs.declared.extent.Extent.{Extent}
 use Rattle.extent_map.specs.Extents.{NumbersGoOn, place_at, IsShortest, Fits, AllFit}

@@ -1,5 +1,6 @@
 -- A row that is put at a place of a list: the row there, and the one before it.
-use Rattle.std.proofs.Common.{ℕ, zero, suc, ◌+◌, ◌-◌, ◌≡◌, inl, inr, Bool, true, false, Some, None, List, [], ◌∷◌, ◌++◌, length, get_or, take, drop, refl, sym, ◌∙◌, ap, subst, arith, length-take-le}
+use Rattle.std.proofs.Common.{ℕ, zero, suc, ◌+◌, ◌-◌, ◌≡◌, inl, inr, Bool, true, false, Some, None, List, [], ◌∷◌, ◌++◌, length}
+use Rattle.std.proofs.Common.{get_or, take, drop, refl, sym, ◌∙◌, ap, subst, arith, length-take-le}
 use Rattle.std.proofs.Math.ListN.{set}
 use Rattle.std.specs.List.{slice_get}
 use Rattle.std.proofs.lemmas.Option.{slice_get_within, get_or_from_slice_get}
@@ -28,15 +29,18 @@ none_left [] (suc k) none = refl
 none_left (x ∷ xs) zero none = absurd (cc)
 none_left (x ∷ xs) (suc k) none = none_left xs k none
 
-pub fits_read : {P : Type 0} (number : P → ℕ) (rows : List (Extent P)) (i : ℕ) (row : Extent P) → AllFit number rows → slice_get rows i ≡ Some row → Fits number row
+pub fits_read : {P : Type 0} (number : P → ℕ) (rows : List (Extent P)) (i : ℕ) (row : Extent P) → AllFit number rows
+    → slice_get rows i ≡ Some row → Fits number row
 fits_read number rows i row fits read =
-    subst (Fits number) (get_or_from_slice_get rows i row row read) (fits_at number i rows row fits (slice_get_within rows i row read))
+    subst (Fits number) (get_or_from_slice_get rows i row row read)
+    (fits_at number i rows row fits (slice_get_within rows i row read))
 
 module _ {P : Type 0} (on : ℕ → P → P) (rows : List (Extent P)) (k : ℕ) (row : Extent P) where
   pub taken_none : slice_get rows k ≡ None → TakesNext on row (drop k rows) row (drop k rows)
   taken_none none = subst (λ back. TakesNext on row back row back) (sym (none_left rows k none)) (refl, refl)
 
-  pub taken_not : (next : Extent P) → slice_get rows k ≡ Some next → (GoesOn on row next → ⊥) → TakesNext on row (drop k rows) row (drop k rows)
+  pub taken_not : (next : Extent P) → slice_get rows k ≡ Some next → (GoesOn on row next → ⊥)
+      → TakesNext on row (drop k rows) row (drop k rows)
   taken_not next read apart =
       subst (λ back. TakesNext on row back row back) (sym (rest_at rows k next read)) (inr (apart, refl, refl))
 
@@ -48,12 +52,14 @@ module _ {P : Type 0} (on : ℕ → P → P) (rows : List (Extent P)) (k : ℕ) 
     pub taken_one : GoesOn on row next → TakesNext on row (drop k rows) (joined row next) (drop k left)
     taken_one goes =
         let back = ap (drop k) is ∙ drop_at (take k rows) (drop j rows) k front_long ∙ ap (λ n. drop n rows) at in
-        subst (λ xs. TakesNext on row xs (joined row next) (drop k left)) (sym (rest_at rows k next read)) (inl (goes, refl, back))
+        subst (λ xs. TakesNext on row xs (joined row next) (drop k left)) (sym (rest_at rows k next read))
+        (inl (goes, refl, back))
 
     pub front_left : take k left ≡ take k rows
     front_left = ap (take k) is ∙ take_at (take k rows) (drop j rows) k front_long
 
-  pub put_not : (i : ℕ) (last : Extent P) (new : List (Extent P)) → i + 1 ≡ k → slice_get rows i ≡ Some last → (GoesOn on last row → ⊥)
+  pub put_not : (i : ℕ) (last : Extent P) (new : List (Extent P)) → i + 1 ≡ k → slice_get rows i ≡ Some last
+      → (GoesOn on last row → ⊥)
       → new ≡ take k rows ++ row ∷ drop k rows → IsPutAfter on (take k rows) row (drop k rows) new
   put_not i last new next read apart is =
       inr (

@@ -1,10 +1,12 @@
 -- The rows of a range of sectors alone, and the first of them.
-use Rattle.std.proofs.Common.{ℕ, ◌+◌, ◌-◌, ◌<◌, ◌≤◌, ◌≡◌, ◌↔◌, inl, inr, cond, Option, None, List, [], ◌∷◌, refl, sym, ◌∙◌, ap, subst, arith}
+use Rattle.std.proofs.Common.{ℕ, ◌+◌, ◌-◌, ◌<◌, ◌≤◌, ◌≡◌, ◌↔◌, inl, inr, cond, Option, None, List, [], ◌∷◌, refl, sym, ◌∙◌, ap}
+use Rattle.std.proofs.Common.{subst, arith}
 use Rattle.std.specs.Prelude.{IfSome, IsNone, slice_get}
 use Rattle.std.proofs.lemmas.Bool.{cases_lt}
 use Rattle.std.proofs.lemmas.List.{append-nil}
 use Rattle.extent_map.specs.declared.extent.Extent.{Extent}
-use Rattle.extent_map.specs.Extents.{NumbersGoOn, place_at, place_in_range, IsShortest, Fits, AllFit, IsFirstOfRange, StartsRange, IsBare}
+use Rattle.extent_map.specs.Extents.{NumbersGoOn, place_at, place_in_range, IsShortest, Fits, AllFit, IsFirstOfRange, StartsRange}
+use Rattle.extent_map.specs.Extents.{IsBare}
 use Rattle.extent_map.specs.Cut.{rows_before, rows_from}
 use Rattle.extent_map.proofs.Places.{within, not_below, not_past, none_before, at_inside}
 use Rattle.extent_map.proofs.Order.{past_front}

@@ -58,13 +58,20 @@ module _ {P : Type 0} (lba sectors : ℕ) where
       omega (arith, sum_by-cons (λ row. cond (is_met lba sectors row) 1 0) row rows, ap {B = ℕ} (λ b. cond b 1 0) yes)
 
 module _ {P : Type 0} (on : ℕ → P → P) (lba sectors : ℕ) where
-  late_met : (rows : List (Extent P)) → IsShortest on rows → StartsFrom lba rows → before_count (lba + sectors) rows ≤ met lba sectors rows
+  late_met : (rows : List (Extent P)) → IsShortest on rows → StartsFrom lba rows
+      → before_count (lba + sectors) rows ≤ met lba sectors rows
   late_met [] shortest start = omega arith
   late_met (row ∷ rows) shortest start =
       let later = starts_earlier lba (row.lba + row.sectors) rows (omega (arith, start)) (after_row on row rows shortest.1) in
       elim (cases_lt row.lba (lba + sectors)) [
         | inl inside ↦
-            omega (arith, count_early (lba + sectors) row rows inside, met_one lba sectors row rows start inside shortest.0, late_met rows shortest.2 later)
+            omega (
+              arith,
+              count_early (lba + sectors) row rows inside,
+              met_one lba sectors row rows start inside
+                  shortest.0,
+              late_met rows shortest.2 later,
+            )
         | inr past ↦ omega (arith, count_late (lba + sectors) row rows past)
       ]
 

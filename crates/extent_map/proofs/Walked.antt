@@ -1,5 +1,6 @@
 -- Rows that are walked one by one from a place on, each cut at a sector, up to the first that begins past it.
-use Rattle.std.proofs.Common.{ℕ, ◌+◌, ◌-◌, ◌<◌, ◌≤◌, ◌≡◌, Some, None, Option, List, [], ◌∷◌, ◌++◌, drop, refl, sym, ◌∙◌, ap, subst, arith, append_assoc}
+use Rattle.std.proofs.Common.{ℕ, ◌+◌, ◌-◌, ◌<◌, ◌≤◌, ◌≡◌, Some, None, Option, List, [], ◌∷◌, ◌++◌, drop, refl, sym, ◌∙◌, ap}
+use Rattle.std.proofs.Common.{subst, arith, append_assoc}
 use Rattle.std.specs.Prelude.{option_to_list, slice_get}
 use Rattle.extent_map.specs.declared.extent.Extent.{Extent}
 use Rattle.extent_map.specs.Extents.{NumbersGoOn, IsShortest, Fits}
@@ -21,7 +22,8 @@ module _ {P : Type 0} (on : ℕ → P → P) where
       ]
 
   -- a row and the rows after it, before a sector
-  pub walked_row : (end : ℕ) (row : Extent P) (rows : List (Extent P)) (part : Option (Extent P)) → part ≡ slice_get (part_before end row []) 0
+  pub walked_row : (end : ℕ) (row : Extent P) (rows : List (Extent P)) (part : Option (Extent P))
+      → part ≡ slice_get (part_before end row []) 0
       → option_to_list part ++ rows_before end rows ≡ rows_before end (row ∷ rows)
   unfolding rows_before
   walked_row end row rows part is =
@@ -40,8 +42,10 @@ module _ {P : Type 0} (on : ℕ → P → P) where
   module _ (end n : ℕ) (rows : List (Extent P)) where
     module _ (row : Extent P) (read : slice_get rows n ≡ Some row) where
       -- one row more
-      pub walked_step : (m : ℕ) (part : Extent P) (found new whole : List (Extent P)) → m ≡ n + 1 → Some part ≡ slice_get (part_before end row []) 0
-          → new ≡ found ++ part ∷ [] → found ++ rows_before end (drop n rows) ≡ whole → new ++ rows_before end (drop m rows) ≡ whole
+      pub walked_step : (m : ℕ) (part : Extent P) (found new whole : List (Extent P)) → m ≡ n + 1
+          → Some part ≡ slice_get (part_before end row []) 0
+          → new ≡ found ++ part ∷ [] → found ++ rows_before end (drop n rows) ≡ whole
+          → new ++ rows_before end (drop m rows) ≡ whole
       walked_step m part found new whole next some is all =
           ap (λ k. new ++ rows_before end (drop k rows)) next
           ∙ ap (λ xs. xs ++ rows_before end (drop (n + 1) rows)) is

@@ -1,5 +1,6 @@
 -- Contract: a list of rows as a function from sectors to places, and which lists are the shortest of their function.
-use Rattle.std.specs.Prelude.{ℕ, ◌+◌, ◌-◌, ◌^◌, ◌<◌, ◌≤◌, ◌≡◌, ◌⊎◌, Bool, ◌&&◌, nat_le, nat_lt, max, min, count_by, if◌then◌else◌, Option, Some, None, List, [], ◌∷◌, slice_get}
+use Rattle.std.specs.Prelude.{ℕ, ◌+◌, ◌-◌, ◌^◌, ◌<◌, ◌≤◌, ◌≡◌, ◌⊎◌, Bool, ◌&&◌, nat_le, nat_lt, max, min, count_by, if◌then◌else◌}
+use Rattle.std.specs.Prelude.{Option, Some, None, List, [], ◌∷◌, slice_get}
 use Rattle.extent_map.specs.declared.extent.Extent.{Extent}
 
 -- the sector k is one of the N sectors from lba on

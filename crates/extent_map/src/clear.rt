@@ -1,4 +1,5 @@
-ghost use Rattle.std.specs.Prelude.{◌≡◌, ◌+◌, ◌<◌, ◌≤◌, ◌++◌, Bool, [], ◌∷◌, length, take, drop, option_to_list};
+ghost use Rattle.std.specs.Prelude.{◌≡◌, ◌+◌, ◌<◌, ◌≤◌, ◌++◌, Bool, [], ◌∷◌, length, take, drop};
+ghost use Rattle.std.specs.Prelude.{option_to_list};
 ghost use Rattle.page_list.specs.Items.{IsIn, cursor_index, insert_room};
 ghost use Rattle.page_list.specs.Test.{AnswersBy};
 ghost use Rattle.extent_map.specs.Changes.{MayGrow};
@@ -13,8 +14,8 @@ use crate::place::Place;
 use page_list::{Cursor, PageList, Steps};
 use std::sync::ledger::{Blank, Ledger};
 
-// Takes what is between two sectors out of those rows whose places pass the test. There is room for a row. The steps are
-// counted in a ledger that nothing reads.
+// Takes what is between two sectors out of those rows whose places pass the test. There is room for a row.
+// The steps are counted in a ledger that nothing reads.
 pub(crate) fn clear_rows<P: Place, F: Fn(&P) -> bool, L: Ledger>(
     rows: &mut PageList<Extent<P>>,
     lba: u64,
@@ -48,8 +49,8 @@ pub(crate) fn clear_rows<P: Place, F: Fn(&P) -> bool, L: Ledger>(
     rows.remove(kept, last, &mut steps);
 }
 
-// Takes what is between two sectors out of a row, which stands at a place and reaches over both. There is room for a
-// row.
+// Takes what is between two sectors out of a row, which stands at a place and reaches over both. There is
+// room for a row.
 fn cut_out<P: Place, L: Ledger>(
     rows: &mut PageList<Extent<P>>,
     at: Cursor,
@@ -66,7 +67,8 @@ fn cut_out<P: Place, L: Ledger>(
     requires from { row.lba < lba }
     requires to { end < row.lba + row.sectors }
     ensures rows { rows.new.items ≡ take (cursor_index rows.old.lengths at) rows.old.items
-        ++ cut_short lba row ∷ rest_of P.on end row ∷ drop (cursor_index rows.old.lengths at + 1) rows.old.items }
+        ++ cut_short lba row ∷ rest_of P.on end row ∷ drop (cursor_index rows.old.lengths at + 1)
+        rows.old.items }
     ensures room { insert_room rows.old ≤ insert_room rows.new + 1 }
 {
     rows.replace(
@@ -80,9 +82,9 @@ fn cut_out<P: Place, L: Ledger>(
     rows.insert(next, rest(row, end), steps);
 }
 
-// Leaves of the rows from a place on, up to the first that begins from a sector on, the parts that are not between two
-// sectors where their places pass the test, and the other rows, and answers the places where these and where those
-// end. No row reaches over both sectors.
+// Leaves of the rows from a place on, up to the first that begins from a sector on, the parts that are not
+// between two sectors where their places pass the test, and the other rows, and answers the places where
+// these and where those end. No row reaches over both sectors.
 fn keep_parts<P: Place, F: Fn(&P) -> bool>(
     rows: &mut PageList<Extent<P>>,
     first: Cursor,
@@ -98,7 +100,8 @@ fn keep_parts<P: Place, F: Fn(&P) -> bool>(
     requires spans { NoneSpans lba end (drop (cursor_index rows.old.lengths first) rows.old.items) }
     requires callable { F.IsAlwaysCallable is_cleared.now }
     requires answers { AnswersBy F.Fn is_cleared.now test }
-    ensures rows { take (cursor_index rows.old.lengths result.0) rows.new.items ++ drop (cursor_index rows.old.lengths result.1) rows.new.items
+    ensures rows { take (cursor_index rows.old.lengths result.0) rows.new.items ++ drop
+        (cursor_index rows.old.lengths result.1) rows.new.items
         ≡ take (cursor_index rows.old.lengths first) rows.old.items
         ++ rows_left P.on lba end test (drop (cursor_index rows.old.lengths first) rows.old.items) }
     ensures lengths { rows.new.lengths ≡ rows.old.lengths }
@@ -128,7 +131,8 @@ fn keep_part<P: Place>(
     requires inside { cursor_index rows.old.lengths at < length rows.old.items }
     ensures front { take (cursor_index rows.old.lengths result) rows.new.items
         ≡ take (cursor_index rows.old.lengths at) rows.old.items ++ option_to_list part }
-    ensures back { drop (cursor_index rows.old.lengths at + 1) rows.new.items ≡ drop (cursor_index rows.old.lengths at + 1) rows.old.items }
+    ensures back { drop (cursor_index rows.old.lengths at + 1) rows.new.items
+        ≡ drop (cursor_index rows.old.lengths at + 1) rows.old.items }
     ensures long { length rows.new.items ≡ length rows.old.items }
     ensures lengths { rows.new.lengths ≡ rows.old.lengths }
     ensures free { rows.new.free ≡ rows.old.free }
@@ -142,8 +146,8 @@ fn keep_part<P: Place>(
     rows.next(at)
 }
 
-// The part of a row that is not between two sectors, if its place passes the test, and else the row. The row does not
-// reach over both sectors.
+// The part of a row that is not between two sectors, if its place passes the test, and else the row. The row
+// does not reach over both sectors.
 fn part_kept<P: Place, F: Fn(&P) -> bool>(
     row: Extent<P>,
     lba: u64,

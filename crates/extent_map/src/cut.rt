@@ -1,4 +1,5 @@
-ghost use Rattle.std.specs.Prelude.{◌≡◌, ◌+◌, ◌-◌, ◌^◌, ◌<◌, ◌≤◌, ◌++◌, ◌↔◌, ℕ, false, length, take, drop, IsTrue, MatchOption};
+ghost use Rattle.std.specs.Prelude.{◌≡◌, ◌+◌, ◌-◌, ◌^◌, ◌<◌, ◌≤◌, ◌++◌, ◌↔◌, ℕ, false, length, take, drop};
+ghost use Rattle.std.specs.Prelude.{IsTrue, MatchOption};
 ghost use Rattle.page_list.specs.Items.{IsIn, cursor_index, insert_room};
 ghost use Rattle.extent_map.specs.Changes.{MayGrow, IsTakenOut};
 ghost use Rattle.extent_map.specs.Cut.{rows_before, rows_from, before_count};
@@ -26,9 +27,9 @@ pub(crate) fn first_from<P: Place, L: Ledger>(
     rows.partition_point(|row| row.lba < at, steps)
 }
 
-// Takes what rows are between two sectors out, and answers the place where they stood. There is room for a row. Rows are
-// replaced up to one insert or one removal, so that places stay good until then. It takes two searches, and an insert or
-// a removal of rows that begin between both.
+// Takes what rows are between two sectors out, and answers the place where they stood. There is room for a
+// row. Rows are replaced up to one insert or one removal, so that places stay good until then. It takes two
+// searches, and an insert or a removal of rows that begin between both.
 pub(crate) fn take_out<P: Place, L: Ledger>(
     rows: &mut PageList<Extent<P>>,
     lba: u64,
@@ -40,7 +41,8 @@ pub(crate) fn take_out<P: Place, L: Ledger>(
     ensures taken { IsTakenOut P.on lba end rows.old rows.new }
     ensures place { IsIn rows.new.lengths result }
     ensures index { cursor_index rows.new.lengths result ≡ length (rows_before lba rows.old.items) }
-    ensures steps { steps.new ≤ steps.old + 254 + (before_count end rows.old.items - before_count lba rows.old.items) }
+    ensures steps { steps.new ≤ steps.old + 254 + (before_count end rows.old.items - before_count lba
+        rows.old.items) }
     ensures rises { steps.old ≤ steps.new }
 {
     let first = first_from(rows, lba, steps);
@@ -60,8 +62,8 @@ fn begins_before<P: Place>(row: Option<Extent<P>>, at: u64) -> bool
     row.is_some_and(|row| row.lba < at)
 }
 
-// Takes what is between two sectors out of the row before a place, and answers the place after the part in front. No row
-// begins between the sectors. There is room for a row.
+// Takes what is between two sectors out of the row before a place, and answers the place after the part in
+// front. No row begins between the sectors. There is room for a row.
 fn cut_one<P: Place, L: Ledger>(
     rows: &mut PageList<Extent<P>>,
     next: Cursor,
@@ -103,15 +105,18 @@ fn cut_one<P: Place, L: Ledger>(
     rows.insert(next, rest(row, end), steps)
 }
 
-// Cuts the last of the rows before a place at a sector, if it reaches over it, and leaves the part in front. All of them
-// begin before the sector.
+// Cuts the last of the rows before a place at a sector, if it reaches over it, and leaves the part in front.
+// All of them begin before the sector.
 fn cut_back<P: Place>(rows: &mut PageList<Extent<P>>, next: Cursor, at: u64)
     requires place { IsIn rows.old.lengths next }
-    requires index { cursor_index rows.old.lengths next ≡ before_count at (take (cursor_index rows.old.lengths next) rows.old.items) }
+    requires index { cursor_index rows.old.lengths next ≡ before_count at
+        (take (cursor_index rows.old.lengths next) rows.old.items) }
     requires shortest { IsShortest P.on (take (cursor_index rows.old.lengths next) rows.old.items) }
     requires fits { AllFit P.number (take (cursor_index rows.old.lengths next) rows.old.items) }
-    ensures front { take (cursor_index rows.old.lengths next) rows.new.items ≡ rows_before at (take (cursor_index rows.old.lengths next) rows.old.items) }
-    ensures back { drop (cursor_index rows.old.lengths next) rows.new.items ≡ drop (cursor_index rows.old.lengths next) rows.old.items }
+    ensures front { take (cursor_index rows.old.lengths next) rows.new.items ≡ rows_before at
+        (take (cursor_index rows.old.lengths next) rows.old.items) }
+    ensures back { drop (cursor_index rows.old.lengths next) rows.new.items
+        ≡ drop (cursor_index rows.old.lengths next) rows.old.items }
     ensures lengths { rows.new.lengths ≡ rows.old.lengths }
     ensures room { insert_room rows.new ≡ insert_room rows.old }
 {
@@ -129,15 +134,17 @@ fn cut_back<P: Place>(rows: &mut PageList<Extent<P>>, next: Cursor, at: u64)
     }
 }
 
-// Cuts the last row that begins before a sector at it, if it reaches over it, and leaves the part from the sector on. Answers
-// the place of the first row from the sector on.
+// Cuts the last row that begins before a sector at it, if it reaches over it, and leaves the part from the
+// sector on. Answers the place of the first row from the sector on.
 fn cut_front<P: Place>(rows: &mut PageList<Extent<P>>, next: Cursor, at: u64) -> Cursor
     requires place { IsIn rows.old.lengths next }
     requires index { cursor_index rows.old.lengths next ≡ before_count at rows.old.items }
     requires shortest { IsShortest P.on rows.old.items }
     requires fits { AllFit P.number rows.old.items }
-    ensures back { drop (cursor_index rows.old.lengths result) rows.new.items ≡ rows_from P.on at rows.old.items }
-    ensures front { take (cursor_index rows.old.lengths result) rows.new.items ≡ take (cursor_index rows.old.lengths result) rows.old.items }
+    ensures back { drop (cursor_index rows.old.lengths result) rows.new.items ≡ rows_from P.on at
+        rows.old.items }
+    ensures front { take (cursor_index rows.old.lengths result) rows.new.items
+        ≡ take (cursor_index rows.old.lengths result) rows.old.items }
     ensures lengths { rows.new.lengths ≡ rows.old.lengths }
     ensures place { IsIn rows.old.lengths result }
     ensures near { before_count at rows.old.items ≤ cursor_index rows.old.lengths result + 1 }

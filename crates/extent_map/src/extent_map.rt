@@ -1,9 +1,12 @@
-ghost use Rattle.std.specs.Prelude.{◌≡◌, ◌+◌, ◌*◌, ◌≤◌, ◌^◌, ◌<◌, ◌↔◌, ℕ, Bool, [], length, IfOk, OnOk, IsOk, IfSome, IsNone};
+ghost use Rattle.std.specs.Prelude.{◌≡◌, ◌+◌, ◌*◌, ◌≤◌, ◌^◌, ◌<◌, ◌↔◌, ℕ, Bool, [], length, IfOk, OnOk, IsOk};
+ghost use Rattle.std.specs.Prelude.{IfSome, IsNone};
 ghost use Rattle.page_list.specs.Items.{insert_room};
 ghost use Rattle.page_list.specs.Test.{AnswersBy};
 ghost use Rattle.extent_map.specs.Changes.{MayGrow, IsRow, IsSet, IsTakenOut};
 ghost use Rattle.extent_map.specs.Cut.{rows_before, rows_from};
-ghost use Rattle.extent_map.specs.Extents.{IsSteady, place_at, place_after_set, place_after_clear, place_after_clear_if, place_in_range, IsShortest, Fits, AllFit, IsFirstOfRange, StartsRange, IsBare, met};
+ghost use Rattle.extent_map.specs.Extents.{IsSteady, place_at, place_after_set, place_after_clear};
+ghost use Rattle.extent_map.specs.Extents.{place_after_clear_if, place_in_range, IsShortest, Fits, AllFit};
+ghost use Rattle.extent_map.specs.Extents.{IsFirstOfRange, StartsRange, IsBare, met};
 
 use crate::clear::clear_rows;
 use crate::cut::take_out;
@@ -19,7 +22,8 @@ use std::sync::ledger::{Blank, Ledger};
 
 /// A map from sectors to places. It is a function on sectors: each has a place or none.
 ///
-/// Contracts see it as the one shortest list of rows in order that says that function, with its room for changes.
+/// Contracts see it as the one shortest list of rows in order that says that function, with its room for
+/// changes.
 #[derive(Drop)]
 pub struct ExtentMap<P: Place> {
     rows: PageList<Extent<P>>,
@@ -87,14 +91,15 @@ impl<P: Place> ExtentMap<P> {
         self.rows.to_vec(alloc)
     }
 
-    /// Gives the sectors from `lba` on the places from `place` on, one by one, whatever they had. No sectors change
-    /// nothing. There is room for a change, and the range and its places end below 2^63 (conditions). It takes no
-    /// memory.
+    /// Gives the sectors from `lba` on the places from `place` on, one by one, whatever they had. No sectors
+    /// change nothing. There is room for a change, and the range and its places end below 2^63 (conditions).
+    /// It takes no memory.
     pub fn set(&mut self, lba: u64, sectors: u64, place: P)
         requires room { 1 ≤ self.old.spare }
         requires range { lba + sectors < 2 ^ 63 }
         requires places { P.number place + sectors < 2 ^ 63 }
-        ensures places { (k : ℕ) → place_at P.on self.new.rows k ≡ place_after_set P.on lba sectors place (place_at P.on self.old.rows) k }
+        ensures places { (k : ℕ) → place_at P.on self.new.rows k ≡ place_after_set P.on lba sectors place
+            (place_at P.on self.old.rows) k }
         ensures shortest { IsShortest P.on self.new.rows }
         ensures count { length self.new.rows ≤ length self.old.rows + 2 }
         ensures none { sectors ≡ 0 → self.new ≡ self.old }
@@ -110,13 +115,15 @@ impl<P: Place> ExtentMap<P> {
         }
     }
 
-    /// Does what `set` does, under the same conditions, and counts its steps: comparisons in a search, and rows that are
-    /// moved in memory or dropped. They are at most 512, and as many more as rows share a sector with the range.
+    /// Does what `set` does, under the same conditions, and counts its steps: comparisons in a search, and
+    /// rows that are moved in memory or dropped. They are at most 512, and as many more as rows share a
+    /// sector with the range.
     pub fn set_counted<L: Ledger>(&mut self, lba: u64, sectors: u64, place: P, steps: &mut Steps<L>)
         requires room { 1 ≤ self.old.spare }
         requires range { lba + sectors < 2 ^ 63 }
         requires places { P.number place + sectors < 2 ^ 63 }
-        ensures places { (k : ℕ) → place_at P.on self.new.rows k ≡ place_after_set P.on lba sectors place (place_at P.on self.old.rows) k }
+        ensures places { (k : ℕ) → place_at P.on self.new.rows k ≡ place_after_set P.on lba sectors place
+            (place_at P.on self.old.rows) k }
         ensures shortest { IsShortest P.on self.new.rows }
         ensures count { length self.new.rows ≤ length self.old.rows + 2 }
         ensures none { sectors ≡ 0 → self.new ≡ self.old }
@@ -134,12 +141,13 @@ impl<P: Place> ExtentMap<P> {
         }
     }
 
-    /// Leaves the sectors from `lba` on without a place. No sectors change nothing. There is room for a change, and
-    /// the range ends below 2^63 (conditions). It takes no memory.
+    /// Leaves the sectors from `lba` on without a place. No sectors change nothing. There is room for a
+    /// change, and the range ends below 2^63 (conditions). It takes no memory.
     pub fn clear(&mut self, lba: u64, sectors: u64)
         requires room { 1 ≤ self.old.spare }
         requires range { lba + sectors < 2 ^ 63 }
-        ensures places { (k : ℕ) → place_at P.on self.new.rows k ≡ place_after_clear lba sectors (place_at P.on self.old.rows) k }
+        ensures places { (k : ℕ) → place_at P.on self.new.rows k ≡ place_after_clear lba sectors
+            (place_at P.on self.old.rows) k }
         ensures shortest { IsShortest P.on self.new.rows }
         ensures count { length self.new.rows ≤ length self.old.rows + 1 }
         ensures none { sectors ≡ 0 → self.new ≡ self.old }
@@ -150,10 +158,10 @@ impl<P: Place> ExtentMap<P> {
         }
     }
 
-    /// Leaves those of the sectors from `lba` on without a place whose place passes the test, and every other sector as
-    /// it was. No sectors change nothing. The test may be called at any place, and says of the place N sectors on what
-    /// it says of the place. There is room for one change, which is enough for any number of rows, and the range ends
-    /// below 2^63 (all conditions). It takes no memory.
+    /// Leaves those of the sectors from `lba` on without a place whose place passes the test, and every other
+    /// sector as it was. No sectors change nothing. The test may be called at any place, and says of the
+    /// place N sectors on what it says of the place. There is room for one change, which is enough for any
+    /// number of rows, and the range ends below 2^63 (all conditions). It takes no memory.
     ///
     /// In proofs a caller names the test that the closure answers by.
     pub fn clear_if<F: Fn(&P) -> bool>(&mut self, lba: u64, sectors: u64, is_cleared: F)
@@ -163,7 +171,8 @@ impl<P: Place> ExtentMap<P> {
         requires callable { F.IsAlwaysCallable is_cleared }
         requires answers { AnswersBy F.Fn is_cleared test }
         requires steady { IsSteady P.on test }
-        ensures places { (k : ℕ) → place_at P.on self.new.rows k ≡ place_after_clear_if lba sectors test (place_at P.on self.old.rows) k }
+        ensures places { (k : ℕ) → place_at P.on self.new.rows k ≡ place_after_clear_if lba sectors test
+            (place_at P.on self.old.rows) k }
         ensures shortest { IsShortest P.on self.new.rows }
         ensures none { sectors ≡ 0 → self.new ≡ self.old }
         ensures spare { self.old.spare ≤ self.new.spare + 1 }
@@ -179,20 +188,21 @@ impl<P: Place> ExtentMap<P> {
         }
     }
 
-    /// The rows of the sectors from `lba` on alone, cut at the edges of that range: the shortest list that gives
-    /// them their places. The range ends below 2^63 (a condition). The one error is out of memory.
+    /// The rows of the sectors from `lba` on alone, cut at the edges of that range: the shortest list that
+    /// gives them their places. The range ends below 2^63 (a condition). The one error is out of memory.
     pub fn look(&self, alloc: Global, lba: u64, sectors: u64) -> Result<Vec<Extent<P>>, AllocError>
         requires { lba + sectors < 2 ^ 63 }
-        ensures places { IfOk result (λ rows. (k : ℕ) → place_at P.on rows.items k ≡ place_in_range lba sectors (place_at P.on self.now.rows) k) }
+        ensures places { IfOk result (λ rows. (k : ℕ) → place_at P.on rows.items k ≡ place_in_range lba
+            sectors (place_at P.on self.now.rows) k) }
         ensures shortest { IfOk result (λ rows. IsShortest P.on rows.items) }
         ensures fits { IfOk result (λ rows. AllFit P.number rows.items) }
     {
         look_uncounted::<P, Brand>(alloc, &self.rows, lba, lba + sectors, Blank::new(1))
     }
 
-    /// Answers as `look` does, under the same condition, and counts its steps: comparisons with a row, or with the first row
-    /// of a page. They are at most as many as the number of rows has binary digits, 16 more, and two for each row that is
-    /// given.
+    /// Answers as `look` does, under the same condition, and counts its steps: comparisons with a row, or
+    /// with the first row of a page. They are at most as many as the number of rows has binary digits, 16
+    /// more, and two for each row that is given.
     pub fn look_counted<L: Ledger>(
         &self,
         alloc: Global,
@@ -201,17 +211,19 @@ impl<P: Place> ExtentMap<P> {
         steps: &mut Steps<L>,
     ) -> Result<Vec<Extent<P>>, AllocError>
         requires { lba + sectors < 2 ^ 63 }
-        ensures places { IfOk result (λ rows. (k : ℕ) → place_at P.on rows.items k ≡ place_in_range lba sectors (place_at P.on self.now.rows) k) }
+        ensures places { IfOk result (λ rows. (k : ℕ) → place_at P.on rows.items k ≡ place_in_range lba
+            sectors (place_at P.on self.now.rows) k) }
         ensures shortest { IfOk result (λ rows. IsShortest P.on rows.items) }
         ensures fits { IfOk result (λ rows. AllFit P.number rows.items) }
-        ensures steps { IfOk result (λ rows. (k : ℕ) → length self.now.rows < 2 ^ k → steps.new ≤ steps.old + k + 16 + 2 * length rows.items) }
+        ensures steps { IfOk result (λ rows. (k : ℕ) → length self.now.rows < 2 ^ k
+            → steps.new ≤ steps.old + k + 16 + 2 * length rows.items) }
         ensures rises { steps.old ≤ steps.new }
     {
         look(alloc, &self.rows, lba, lba + sectors, steps)
     }
 
-    /// The first of the rows that `look` of this range gives, cut at the edges of the range; none where no sector of
-    /// it has a place. The range ends below 2^63 (a condition). It takes no memory.
+    /// The first of the rows that `look` of this range gives, cut at the edges of the range; none where no
+    /// sector of it has a place. The range ends below 2^63 (a condition). It takes no memory.
     pub fn first_in(&self, lba: u64, sectors: u64) -> Option<Extent<P>>
         requires { lba + sectors < 2 ^ 63 }
         ensures first { IsFirstOfRange P.on lba sectors (place_at P.on self.now.rows) result }

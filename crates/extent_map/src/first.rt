@@ -9,7 +9,8 @@ use crate::place::Place;
 use page_list::{PageList, Steps};
 use std::sync::ledger::{Blank, Ledger};
 
-// The first of the rows between two sectors, cut at both. The steps are counted in a ledger that nothing reads.
+// The first of the rows between two sectors, cut at both. The steps are counted in a ledger that nothing
+// reads.
 pub(crate) fn first_between<P: Place, L: Ledger>(
     rows: &PageList<Extent<P>>,
     lba: u64,
@@ -28,7 +29,8 @@ pub(crate) fn first_between<P: Place, L: Ledger>(
     before(row, end)
 }
 
-// The first of the rows from a sector on, cut there. Only the last row that begins before the sector may reach over it.
+// The first of the rows from a sector on, cut there. Only the last row that begins before the sector may
+// reach over it.
 fn first_past<P: Place, L: Ledger>(
     rows: &PageList<Extent<P>>,
     lba: u64,

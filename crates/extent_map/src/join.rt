@@ -10,7 +10,8 @@ use crate::place::Place;
 use page_list::{Cursor, PageList, Steps};
 use std::sync::ledger::Ledger;
 
-// Puts a row at a place, joined with the row there and with the one before it where they go on. There is room for a row.
+// Puts a row at a place, joined with the row there and with the one before it where they go on. There is room
+// for a row.
 pub(crate) fn put<P: Place, L: Ledger>(
     rows: &mut PageList<Extent<P>>,
     at: Cursor,
@@ -23,11 +24,13 @@ pub(crate) fn put<P: Place, L: Ledger>(
     requires front { IsShortest P.on (take (cursor_index rows.old.lengths at) rows.old.items) }
     requires before { EndBy row.lba (take (cursor_index rows.old.lengths at) rows.old.items) }
     requires back { IsShortest P.on (drop (cursor_index rows.old.lengths at) rows.old.items) }
-    requires after { StartsFrom (row.lba + row.sectors) (drop (cursor_index rows.old.lengths at) rows.old.items) }
+    requires after { StartsFrom (row.lba + row.sectors)
+        (drop (cursor_index rows.old.lengths at) rows.old.items) }
     requires fits { AllFit P.number rows.old.items }
     requires row_fits { Fits P.number row }
     ensures places { (k : ℕ) → place_at P.on rows.new.items k
-        ≡ place_at P.on (take (cursor_index rows.old.lengths at) rows.old.items ++ row ∷ drop (cursor_index rows.old.lengths at) rows.old.items) k }
+        ≡ place_at P.on (take (cursor_index rows.old.lengths at) rows.old.items ++ row ∷ drop
+        (cursor_index rows.old.lengths at) rows.old.items) k }
     ensures shortest { IsShortest P.on rows.new.items }
     ensures fits { AllFit P.number rows.new.items }
     ensures length { length rows.new.items ≤ length rows.old.items + 1 }
@@ -49,8 +52,10 @@ fn take_next<P: Place, L: Ledger>(
     requires place { IsIn rows.old.lengths at }
     requires fits { AllFit P.number rows.old.items }
     requires row_fits { Fits P.number row }
-    ensures taken { let n = cursor_index rows.old.lengths at in TakesNext P.on row (drop n rows.old.items) result.1 (drop n rows.new.items) }
-    ensures front { take (cursor_index rows.old.lengths at) rows.new.items ≡ take (cursor_index rows.old.lengths at) rows.old.items }
+    ensures taken { let n = cursor_index rows.old.lengths at in
+        TakesNext P.on row (drop n rows.old.items) result.1 (drop n rows.new.items) }
+    ensures front { take (cursor_index rows.old.lengths at) rows.new.items
+        ≡ take (cursor_index rows.old.lengths at) rows.old.items }
     ensures place { IsIn rows.new.lengths result.0 }
     ensures index { cursor_index rows.new.lengths result.0 ≡ cursor_index rows.old.lengths at }
     ensures length { length rows.new.items ≤ length rows.old.items }
@@ -86,7 +91,8 @@ fn put_after<P: Place, L: Ledger>(
     requires room { 1 ≤ insert_room rows.old }
     requires fits { AllFit P.number rows.old.items }
     requires row_fits { Fits P.number row }
-    ensures rows { let n = cursor_index rows.old.lengths at in IsPutAfter P.on (take n rows.old.items) row (drop n rows.old.items) rows.new.items }
+    ensures rows { let n = cursor_index rows.old.lengths at in
+        IsPutAfter P.on (take n rows.old.items) row (drop n rows.old.items) rows.new.items }
     ensures length { length rows.new.items ≤ length rows.old.items + 1 }
     ensures room { insert_room rows.old ≤ insert_room rows.new + 1 }
     ensures steps { steps.new ≤ steps.old + 128 }

@@ -1,10 +1,10 @@
 //! A map from sectors to places: a function on sectors, kept as the one shortest list of rows in order.
 //!
-//! Its contract: a set or a clear, of all places or of those that pass a test, changes the function on its range and
-//! nowhere else, and the rows are always the shortest list in order that says it. The steps of a look and of a set are
-//! bounded: a look makes at most as many comparisons as the number of rows has binary digits, 16 more, and two for each
-//! row that it gives; a set takes at most 512 steps, and one more for each row that it meets. It stands on `page_list`,
-//! which keeps the rows.
+//! Its contract: a set or a clear, of all places or of those that pass a test, changes the function on its
+//! range and nowhere else, and the rows are always the shortest list in order that says it. The steps of a
+//! look and of a set are bounded: a look makes at most as many comparisons as the number of rows has binary
+//! digits, 16 more, and two for each row that it gives; a set takes at most 512 steps, and one more for each
+//! row that it meets. It stands on `page_list`, which keeps the rows.
 #![tactic(auto)]
 
 mod clear;

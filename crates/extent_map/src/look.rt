@@ -1,4 +1,5 @@
-ghost use Rattle.std.specs.Prelude.{◌≡◌, ◌+◌, ◌*◌, ◌^◌, ◌<◌, ◌≤◌, ◌++◌, ℕ, length, drop, option_to_list, IfOk};
+ghost use Rattle.std.specs.Prelude.{◌≡◌, ◌+◌, ◌*◌, ◌^◌, ◌<◌, ◌≤◌, ◌++◌, ℕ, length, drop, option_to_list};
+ghost use Rattle.std.specs.Prelude.{IfOk};
 ghost use Rattle.page_list.specs.Items.{IsIn, cursor_index};
 ghost use Rattle.extent_map.specs.Cut.{rows_before, rows_from, before_count};
 ghost use Rattle.extent_map.specs.Extents.{IsShortest, AllFit};
@@ -11,8 +12,9 @@ use page_list::{Cursor, PageList, Steps};
 use std::alloc::{AllocError, Global};
 use std::sync::ledger::Ledger;
 
-// The rows between two sectors, cut at both. The one error is out of memory. Each comparison with a row is a step. Beside
-// the rows that are given at most two are compared with: the one before them and the one after them.
+// The rows between two sectors, cut at both. The one error is out of memory. Each comparison with a row is a
+// step. Beside the rows that are given at most two are compared with: the one before them and the one after
+// them.
 pub(crate) fn look<P: Place, L: Ledger>(
     alloc: Global,
     rows: &PageList<Extent<P>>,
@@ -24,7 +26,8 @@ pub(crate) fn look<P: Place, L: Ledger>(
     requires shortest { IsShortest P.on rows.now.items }
     requires fits { AllFit P.number rows.now.items }
     ensures rows { IfOk result (λ found. found.items ≡ rows_before end (rows_from P.on lba rows.now.items)) }
-    ensures steps { IfOk result (λ found. (k : ℕ) → length rows.now.items < 2 ^ k → steps.new ≤ steps.old + k + 14 + 2 * length found.items) }
+    ensures steps { IfOk result (λ found. (k : ℕ) → length rows.now.items < 2 ^ k
+        → steps.new ≤ steps.old + k + 14 + 2 * length found.items) }
     ensures rises { steps.old ≤ steps.new }
 {
     let mut at = first_from(rows, lba, steps);
@@ -44,8 +47,8 @@ pub(crate) fn look<P: Place, L: Ledger>(
     Ok(found)
 }
 
-// Of the row before a place, the part between two sectors, if it reaches over the first. The place is that of the first
-// row which begins from that sector on.
+// Of the row before a place, the part between two sectors, if it reaches over the first. The place is that of
+// the first row which begins from that sector on.
 fn part_over<P: Place, L: Ledger>(
     rows: &PageList<Extent<P>>,
     next: Cursor,
@@ -57,7 +60,8 @@ fn part_over<P: Place, L: Ledger>(
     requires index { cursor_index rows.now.lengths next ≡ before_count lba rows.now.items }
     requires shortest { IsShortest P.on rows.now.items }
     requires fits { AllFit P.number rows.now.items }
-    ensures part { option_to_list result ++ rows_before end (drop (cursor_index rows.now.lengths next) rows.now.items)
+    ensures part { option_to_list result ++ rows_before end
+        (drop (cursor_index rows.now.lengths next) rows.now.items)
         ≡ rows_before end (rows_from P.on lba rows.now.items) }
     ensures steps { steps.new ≤ steps.old + 3 }
     ensures rises { steps.old ≤ steps.new }

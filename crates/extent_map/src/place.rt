@@ -1,10 +1,12 @@
 ghost use Rattle.std.specs.Prelude.{◌≡◌, ◌+◌, ◌^◌, ◌<◌, ◌↔◌, ℕ, IsTrue};
 ghost use Rattle.extent_map.specs.Extents.{NumbersGoOn};
 
-/// Where the data of a sector stand. Places go on one by one, or one place stands for each sector, as for zeros.
+/// Where the data of a sector stand. Places go on one by one, or one place stands for each sector, as for
+/// zeros.
 pub trait Place: Copy {
-    /// A number that goes on with the place, as its sectors from the beginning of what it is a place of; 0 for a place of zeros.
-    /// What is left to 2^63 is what may be added: a place that stands in 32 bits begins at 2^63 - 2^32.
+    /// A number that goes on with the place, as its sectors from the beginning of what it is a place of; 0
+    /// for a place of zeros. What is left to 2^63 is what may be added: a place that stands in 32 bits begins
+    /// at 2^63 - 2^32.
     ghost number: { Self → ℕ };
 
     /// The place that stands N sectors on.

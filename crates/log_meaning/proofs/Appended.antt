@@ -1,5 +1,6 @@
 -- A log with one entry more shows the plain log with its record.
-use Rattle.std.proofs.Common.{◌≡◌, ℕ, ◌+◌, ◌-◌, ◌<◌, ◌≤◌, ◌==◌, List, [], ◌∷◌, ◌++◌, length, take, drop, refl, sym, ◌∙◌, ap, subst, inl, inr, arith, if◌then◌else◌, length-append, append_assoc, append-nil}
+use Rattle.std.proofs.Common.{◌≡◌, ℕ, ◌+◌, ◌-◌, ◌<◌, ◌≤◌, ◌==◌, List, [], ◌∷◌, ◌++◌, length, take, drop, refl, sym, ◌∙◌, ap}
+use Rattle.std.proofs.Common.{subst, inl, inr, arith, if◌then◌else◌, length-append, append_assoc, append-nil}
 use Rattle.std.specs.Prelude.{Option, Some, None, IfSome}
 use Rattle.std.proofs.Math.Path.{subst₂}
 use Rattle.std.proofs.lemmas.Bool.{cases_lt}
@@ -28,7 +29,8 @@ record IsPlaced (room : Room) (sectors : ℕ) (row : Row) : Type 0 where
   takes : sectors_taken room.log room.head row ≡ need room sectors
   pad : pad_from room.log room.head row ≡ pad_before room sectors
 
-placed : (room : Room) (sectors : ℕ) (row : Row) → IsRoom room → need room sectors ≤ free room → 1 ≤ sectors → record_size row ≡ sectors
+placed : (room : Room) (sectors : ℕ) (row : Row) → IsRoom room → need room sectors ≤ free room → 1 ≤ sectors
+    → record_size row ≡ sectors
     → position_of row ≡ position room sectors
     → IsPlaced room sectors row
 placed room sectors row is enough some size at =
@@ -82,13 +84,17 @@ both_some P Q (Some x) first second = (first, second)
 
 -- where the tail of a commit stands when one more row comes behind the others
 mark_more : (before rest : List Row) (row : Row) (log from head later position : ℕ) → end_of_rows log from (before ++ rest) ≡ head
-    → IsMarkAt position head (end_of_rows log from before) rest → IsMarkAt position later (end_of_rows log from before) (rest ++ row ∷ [])
+    → IsMarkAt position head (end_of_rows log from before) rest
+    → IsMarkAt position later (end_of_rows log from before) (rest ++ row ∷ [])
 mark_more before rest row log from head later position end (inr at) = inr at
-mark_more before [] row log from head later position end (inl at) = inr (at ∙ sym end ∙ ap (end_of_rows log from) (append-nil before))
+mark_more before [] row log from head later position end (inl at) =
+    inr (at ∙ sym end ∙ ap (end_of_rows log from) (append-nil before))
 mark_more before (first ∷ rest) row log from head later position end (inl at) = inl at
 
-stands_more : (room : Room) (tail mark : Mark) (rows : List Row) (row : Row) (later : ℕ) → end_of_rows room.log tail.position rows ≡ room.head
-    → mark.seq ≤ tail.seq + length rows → StandsIn room tail rows mark → StandsIn (record room { head = later }) tail (rows ++ row ∷ []) mark
+stands_more : (room : Room) (tail mark : Mark) (rows : List Row) (row : Row) (later : ℕ) → end_of_rows room.log tail.position rows
+    ≡ room.head
+    → mark.seq ≤ tail.seq + length rows → StandsIn room tail rows mark
+    → StandsIn (record room { head = later }) tail (rows ++ row ∷ []) mark
 stands_more room tail mark rows row later end most stands =
     let k : ℕ = mark.seq - tail.seq in
     let inside : k ≤ length rows = omega (arith, most) in
@@ -134,7 +140,8 @@ next_is_head room sectors row here size =
     ∙ ap (λ n. if position room sectors + n == room.log then 0 else position room sectors + n) size
 
 appended_reach : (room : Room) (from sectors : ℕ) (rows : List Row) (row : Row) → IsRoom room → need room sectors ≤ free room
-    → IsPlaced room sectors row → Reaches room.log from room.used room.head rows → next room.log row ≡ (after_record room sectors).head
+    → IsPlaced room sectors row → Reaches room.log from room.used room.head rows
+    → next room.log row ≡ (after_record room sectors).head
     → Reaches room.log from (after_record room sectors).used (after_record room sectors).head (rows ++ row ∷ [])
 appended_reach room from sectors rows row is enough placed reach to =
     let takes = placed.takes in
@@ -175,7 +182,8 @@ record_is log plain entry same placed =
     let room : Room = log.room in
     let sectors : ℕ = record_sectors entry in
     let row : Row = row_of_next log entry in
-    let pad : pad_before (room_in plain) sectors ≡ pad_from room.log room.head row = ap (λ r. pad_before r sectors) same ∙ sym placed.pad in
+    let pad : pad_before (room_in plain) sectors ≡ pad_from room.log room.head row = ap (λ r. pad_before r sectors) same
+    ∙ sym placed.pad in
     let at : position (room_in plain) sectors ≡ position_of row =
     ap (λ r. position r sectors) same ∙ sym (row_place entry (next_seq log) (position room sectors)) in
     let size : sectors ≡ record_size row = sym (row_size entry (next_seq log) (position room sectors)) in
@@ -184,7 +192,8 @@ record_is log plain entry same placed =
 -- the records of both, and where the tail of an unfinished commit stands
 records_appended : (log : LogState) (plain : PlainLog) (entry : Entry) → ShowsLog log plain
     → IsPlaced log.room (record_sectors entry) (row_of_next log entry)
-    → (with_record plain entry).records ≡ records_of_rows log.room.log log.commits.body.tail.position (all_rows (appended_log entry log))
+    → (with_record plain entry).records ≡ records_of_rows log.room.log log.commits.body.tail.position
+    (all_rows (appended_log entry log))
 records_appended log plain entry is placed =
     let size : ℕ = log.room.log in
     let from : ℕ = log.commits.body.tail.position in
@@ -208,7 +217,8 @@ unfinished_appended log plain entry is =
     → TailStandsIn later tail (all_rows log ++ row ∷ []) body =
     λ body both. (let most = both.1.1 in
     stands_more room tail body.tail (all_rows log) row later.head is.end (omega (arith, most, counted, long)) both.0) in
-    let both = both_some (TailStandsIn room tail (all_rows log)) (IsOrdered tail log.first) log.commits.unfinished is.stands is.order in
+    let both = both_some (TailStandsIn room tail (all_rows log)) (IsOrdered tail log.first) log.commits.unfinished is.stands
+    is.order in
     record {
       same = is.unfinished;
       order = is.order;
@@ -218,14 +228,16 @@ unfinished_appended log plain entry is =
           (TailStandsIn later tail (all_rows log ++ row ∷ [])) log.commits.unfinished follows both);
     }
 
-appended_shows : (log : LogState) (plain : PlainLog) (entry : Entry) → ShowsLog log plain → need log.room (record_sectors entry) ≤ free log.room
+appended_shows : (log : LogState) (plain : PlainLog) (entry : Entry) → ShowsLog log plain
+    → need log.room (record_sectors entry) ≤ free log.room
     → ShowsLog (appended_log entry log) (with_record plain entry)
 appended_shows log plain entry is enough =
     let sectors : ℕ = record_sectors entry in
     let seq : ℕ = next_seq log in
     let at : ℕ = position log.room sectors in
     let row : Row = row_of_next log entry in
-    let placed = placed log.room sectors row is.is_room enough (some_sectors entry) (row_size entry seq at) (row_place entry seq at) in
+    let placed = placed log.room sectors row is.is_room enough (some_sectors entry) (row_size entry seq at)
+    (row_place entry seq at) in
     shows_of (appended_log entry log) (with_record plain entry)
     (appended_list log entry (list_of log plain is) enough placed)
     (ap (λ r. r.log) is.room)

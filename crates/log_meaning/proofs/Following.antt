@@ -51,7 +51,11 @@ goes log from row inside enough (inl here) =
     elim (cases_eq (position_of row + record_size row) log) [
       | inl end ↦
           let to = next_end log row end in
-          record { inside = omega (arith, to, inside); further = inr (omega (arith, to, takes, end, here.0)); some = omega (arith, takes, some) }
+          record {
+            inside = omega (arith, to, inside);
+            further = inr (omega (arith, to, takes, end, here.0));
+            some = omega (arith, takes, some);
+          }
       | inr before ↦
           let to = next_inside log row (omega (arith, before, here.0, here.1)) in
           record {
@@ -65,7 +69,11 @@ goes log from row inside enough (inr round) =
     let takes = taken_round log from row (omega (arith, round.0, round.1)) in
     let less : position_of row + record_size row < log = omega (arith, takes, enough, inside, round.0) in
     let to = next_inside log row less in
-    record { inside = omega (arith, to, less); further = inr (omega (arith, to, takes, inside, round.0)); some = omega (arith, takes, some) }
+    record {
+      inside = omega (arith, to, less);
+      further = inr (omega (arith, to, takes, inside, round.0));
+      some = omega (arith, takes, some);
+    }
 
 -- the rows after the first
 pub reach_next : (row : Row) (rows : List Row) (log from used head : ℕ) → Reaches log from used head (row ∷ rows)
@@ -99,9 +107,11 @@ reach_further (row ∷ rows) log from used head is =
     subst (λ u. IsFurther log from u head) sum
     (further_both log from n (used - n) (next log row) head is.inside (omega (arith, sum, is.most)) first.further rest)
 
-further_distance : (log from used head : ℕ) → from < log → used ≤ log → 1 ≤ used → IsFurther log from used head → used ≡ distance log from head
+further_distance : (log from used head : ℕ) → from < log → used ≤ log → 1 ≤ used → IsFurther log from used head
+    → used ≡ distance log from head
 further_distance log from used head inside most some (inl ahead) =
-    let is : distance log from head ≡ head - from = (let less : from < head = omega (arith, ahead, some) in grind (arith, nat_tests, less)) in
+    let is : distance log from head ≡ head - from = (let less : from < head = omega (arith, ahead, some) in
+    grind (arith, nat_tests, less)) in
     omega (arith, is, ahead)
 further_distance log from used head inside most some (inr round) =
     let on : head ≤ from = omega (arith, round, most) in
@@ -109,13 +119,15 @@ further_distance log from used head inside most some (inr round) =
     omega (arith, is, round, inside)
 
 -- the sectors that are taken are those from the first to the head
-pub reach_used : (rows : List Row) (log from used head : ℕ) → Reaches log from used head rows → used ≡ sectors_from log from head rows
+pub reach_used : (rows : List Row) (log from used head : ℕ) → Reaches log from used head rows
+    → used ≡ sectors_from log from head rows
 reach_used [] log from used head is = is.follow
 reach_used (row ∷ rows) log from used head is =
     let enough = is.follow.1 in
     let first = goes log from row is.inside (omega (arith, enough, is.most)) is.follow.0 in
     let some = first.some in
-    further_distance log from used head is.inside is.most (omega (arith, some, enough)) (reach_further (row ∷ rows) log from used head is)
+    further_distance log from used head is.inside is.most (omega (arith, some, enough))
+    (reach_further (row ∷ rows) log from used head is)
 
 -- ---- rows behind others, and past a pad
 
@@ -123,16 +135,20 @@ pub reach_behind : (rows more : List Row) (log from used head : ℕ) → Reaches
     → (left : ℕ) × Reaches log (end_of_rows log from rows) left head more
 reach_behind [] more log from used head is = (used, is)
 reach_behind (row ∷ rows) more log from used head is =
-    reach_behind rows more log (next log row) (used - sectors_taken log from row) head (reach_next row (rows ++ more) log from used head is)
+    reach_behind rows more log (next log row) (used - sectors_taken log from row) head
+    (reach_next row (rows ++ more) log from used head is)
 
-reach_past : (row : Row) (rows : List Row) (log from used head : ℕ) → StandsFrom log from row → Reaches log from used head (row ∷ rows)
+reach_past : (row : Row) (rows : List Row) (log from used head : ℕ) → StandsFrom log from row
+    → Reaches log from used head (row ∷ rows)
     → (left : ℕ) × Reaches log (position_of row) left head (row ∷ rows)
-reach_past row rows log from used head (inl here) is = subst (λ p. (left : ℕ) × Reaches log p left head (row ∷ rows)) (sym here.0) (used, is)
+reach_past row rows log from used head (inl here) is = subst (λ p. (left : ℕ) × Reaches log p left head (row ∷ rows))
+    (sym here.0) (used, is)
 reach_past row rows log from used head (inr round) is =
     let takes = taken_round log from row (omega (arith, round.0, round.1)) in
     let own = taken_here log (position_of row) row (omega arith) in
     let enough = is.follow.1 in
-    let left : used - sectors_taken log from row ≡ (used - (log - from)) - sectors_taken log (position_of row) row = omega (arith, takes, own) in (
+    let left : used - sectors_taken log from row ≡ (used - (log - from)) - sectors_taken log (position_of row) row =
+    omega (arith, takes, own) in (
       used - (log - from),
       record {
         inside = omega (arith, round.0, is.inside);
@@ -153,7 +169,8 @@ reach_from_first row rows log from used head is = reach_past row rows log from u
 
 -- ---- one row more
 
-follow_more : (rows : List Row) (row : Row) (log from used head : ℕ) → Follow log from used rows → end_of_rows log from rows ≡ head
+follow_more : (rows : List Row) (row : Row) (log from used head : ℕ) → Follow log from used rows
+    → end_of_rows log from rows ≡ head
     → StandsFrom log head row
     → Follow log from (used + sectors_taken log head row) (rows ++ row ∷ [])
 follow_more [] row log from used head none end stands =
@@ -165,11 +182,13 @@ follow_more (first ∷ rows) row log from used head (here, enough, more) end sta
     let sum : (used - n) + sectors_taken log head row ≡ (used + sectors_taken log head row) - n = omega (arith, enough) in
     (here, omega (arith, enough), subst P sum (follow_more rows row log (next log first) (used - n) head more end stands))
 
-end_behind : (rows more : List Row) (log from : ℕ) → end_of_rows log from (rows ++ more) ≡ end_of_rows log (end_of_rows log from rows) more
+end_behind : (rows more : List Row) (log from : ℕ)
+    → end_of_rows log from (rows ++ more) ≡ end_of_rows log (end_of_rows log from rows) more
 end_behind [] more log from = refl
 end_behind (row ∷ rows) more log from = end_behind rows more log (next log row)
 
-pub reach_more : (rows : List Row) (row : Row) (log from used head : ℕ) → Reaches log from used head rows → StandsFrom log head row
+pub reach_more : (rows : List Row) (row : Row) (log from used head : ℕ) → Reaches log from used head rows
+    → StandsFrom log head row
     → used + sectors_taken log head row ≤ log
     → Reaches log from (used + sectors_taken log head row) (next log row) (rows ++ row ∷ [])
 reach_more rows row log from used head is stands most = record {
@@ -182,7 +201,8 @@ reach_more rows row log from used head is stands most = record {
 -- ---- the records
 
 pub records_behind : (rows more : List Row) (log from : ℕ)
-    → records_of_rows log from (rows ++ more) ≡ records_of_rows log from rows ++ records_of_rows log (end_of_rows log from rows) more
+    → records_of_rows log from (rows ++ more) ≡ records_of_rows log from rows ++ records_of_rows log
+    (end_of_rows log from rows) more
 records_behind [] more log from = refl
 records_behind (row ∷ rows) more log from = ap (λ l. record_of_row log from row ∷ l) (records_behind rows more log (next log row))
 
@@ -193,12 +213,15 @@ records_count (row ∷ rows) log from = ap suc (records_count rows log (next log
 pub record_takes : (log from : ℕ) (row : Row) → pad_from log from row + record_size row ≡ sectors_taken log from row
 record_takes log from row =
     elim (cases_lt (position_of row) from) [
-      | inl less ↦ (let a = taken_round log from row less in let b : pad_from log from row ≡ log - from = grind (arith, less) in omega (arith, a, b))
-      | inr on ↦ (let a = taken_here log from row on in let b : pad_from log from row ≡ 0 = grind (arith, on) in omega (arith, a, b))
+      | inl less ↦ (let a = taken_round log from row less in let b : pad_from log from row ≡ log - from = grind (arith, less) in
+          omega (arith, a, b))
+      | inr on ↦ (let a = taken_here log from row on in let b : pad_from log from row ≡ 0 = grind (arith, on) in
+          omega (arith, a, b))
     ]
 
 -- they take the sectors that the rows take
-pub records_used : (rows : List Row) (log from used : ℕ) → Follow log from used rows → used_by (records_of_rows log from rows) ≡ used
+pub records_used : (rows : List Row) (log from used : ℕ) → Follow log from used rows
+    → used_by (records_of_rows log from rows) ≡ used
 records_used [] log from used none = sym none
 records_used (row ∷ rows) log from used (stands, enough, more) =
     let first = sum_by-cons taken_by (record_of_row log from row) (records_of_rows log (next log row) rows) in

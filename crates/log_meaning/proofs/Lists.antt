@@ -1,5 +1,6 @@
 -- What the list of a log shows, also once the records before a later commit's tail are released.
-use Rattle.std.proofs.Common.{◌≡◌, ℕ, ◌+◌, ◌-◌, ◌≤◌, ◌⊎◌, ◌==◌, Bool, true, false, List, [], ◌∷◌, ◌++◌, zero, suc, length, take, drop, refl, sym, ◌∙◌, ap, subst, inl, inr, arith, if◌then◌else◌, length-append}
+use Rattle.std.proofs.Common.{◌≡◌, ℕ, ◌+◌, ◌-◌, ◌≤◌, ◌⊎◌, ◌==◌, Bool, true, false, List, [], ◌∷◌, ◌++◌, zero, suc, length, take}
+use Rattle.std.proofs.Common.{drop, refl, sym, ◌∙◌, ap, subst, inl, inr, arith, if◌then◌else◌, length-append}
 use Rattle.std.proofs.Math.Path.{subst₂}
 use Rattle.std.proofs.lemmas.Bool.{cases_eq, lt-ltb, le-ltb, eq-eqb, ne_eqb}
 use Rattle.std.proofs.lemmas.List.{take-append-drop, drop-append-le, drop_at, length-take-le, length-drop}
@@ -24,7 +25,8 @@ numbered_from : (rows : List Row) (n seq : ℕ) → AreNumbered seq rows → Are
 numbered_from [] zero seq are = tt
 numbered_from [] (suc n) seq are = tt
 numbered_from (row ∷ rows) zero seq are = subst (λ s. AreNumbered s (row ∷ rows)) (omega arith) are
-numbered_from (row ∷ rows) (suc n) seq are = subst (λ s. AreNumbered s (drop n rows)) (omega arith) (numbered_from rows n (seq + 1) are.1)
+numbered_from (row ∷ rows) (suc n) seq are =
+    subst (λ s. AreNumbered s (drop n rows)) (omega arith) (numbered_from rows n (seq + 1) are.1)
 
 pub numbered_more : (rows : List Row) (row : Row) (seq : ℕ) → AreNumbered seq rows → seq_of row ≡ seq + length rows
     → AreNumbered seq (rows ++ row ∷ [])
@@ -62,7 +64,8 @@ IsMarkAt position head end rows = (position ≡ start_of head rows) ⊎ (positio
 -- a mark stands so in these rows, from a tail on
 abbrev pub StandsIn : Room → (tail : Mark) → List Row → (mark : Mark) → Type 0
 StandsIn room tail rows mark =
-    IsMarkAt mark.position room.head (end_of_rows room.log tail.position (take (mark.seq - tail.seq) rows)) (drop (mark.seq - tail.seq) rows)
+    IsMarkAt mark.position room.head (end_of_rows room.log tail.position (take (mark.seq - tail.seq) rows))
+    (drop (mark.seq - tail.seq) rows)
 
 -- ---- without the pad that the mark is past
 
@@ -77,13 +80,15 @@ no_pad log from row on = ap (λ b. if b then log - from else 0) (le-ltb (positio
 first_pad : (log end position head : ℕ) (row : Row) (rows : List Row) → IsMarkAt position head end (row ∷ rows)
     → (if position_of row == position then 0 else pad_from log end row) ≡ pad_from log position row
 first_pad log end position head row rows (inl at) =
-    ap (λ b. if b then 0 else pad_from log end row) (eq-eqb (position_of row) position (sym at)) ∙ sym (no_pad log position row (omega (arith, at)))
+    ap (λ b. if b then 0 else pad_from log end row) (eq-eqb (position_of row) position (sym at))
+    ∙ sym (no_pad log position row (omega (arith, at)))
 first_pad log end position head row rows (inr at) =
     elim (cases_eq (position_of row) position) [
       | inl same ↦
           ap (λ b. if b then 0 else pad_from log end row) (eq-eqb (position_of row) position same)
           ∙ sym (no_pad log position row (omega (arith, same)))
-      | inr other ↦ ap (λ b. if b then 0 else pad_from log end row) (ne_eqb (position_of row) position other) ∙ ap (λ f. pad_from log f row) (sym at)
+      | inr other ↦ ap (λ b. if b then 0 else pad_from log end row) (ne_eqb (position_of row) position other)
+          ∙ ap (λ f. pad_from log f row) (sym at)
     ]
 
 past_is : (rows : List Row) (log end position head : ℕ) → IsMarkAt position head end rows
@@ -91,7 +96,8 @@ past_is : (rows : List Row) (log end position head : ℕ) → IsMarkAt position 
 past_is [] log end position head at = refl
 past_is (row ∷ rows) log end position head at =
     ap (λ stored. stored ∷ records_of_rows log (next log row) rows)
-    (one_pad (position_of row == position) (record_of_row log end row) (pad_from log position row) (first_pad log end position head row rows at))
+    (one_pad (position_of row == position) (record_of_row log end row) (pad_from log position row)
+    (first_pad log end position head row rows at))
 
 -- ---- released
 
@@ -99,20 +105,25 @@ past_is (row ∷ rows) log end position head at =
 reach_mark : (room : Room) (rows : List Row) (end left position : ℕ) → IsRoom room → Reaches room.log end left room.head rows
     → IsMarkAt position room.head end rows
     → (used : ℕ) × Reaches room.log position used room.head rows
-reach_mark room rows end left position is reach (inr at) = (left, subst (λ p. Reaches room.log p left room.head rows) (sym at) reach)
+reach_mark room rows end left position is reach (inr at) =
+    (left, subst (λ p. Reaches room.log p left room.head rows) (sym at) reach)
 reach_mark room [] end left position is reach (inl at) =
     (0, record { inside = (let h = is.head in omega (arith, h, at)); most = omega arith; follow = refl; end = at })
 reach_mark room (row ∷ rows) end left position is reach (inl at) =
-    subst (λ p. (used : ℕ) × Reaches room.log p used room.head (row ∷ rows)) (sym at) (reach_from_first row rows room.log end left room.head reach)
+    subst (λ p. (used : ℕ) × Reaches room.log p used room.head (row ∷ rows)) (sym at)
+    (reach_from_first row rows room.log end left room.head reach)
 
 -- the room once the records before a mark are released, of which these are left
 abbrev pub released_room : Room → Mark → List Row → Room
 released_room room mark rows = room_of room.log room.head (sectors_from room.log mark.position room.head rows)
 
-released_is : (room : Room) (mark : Mark) (rows : List Row) (used : ℕ) → IsRoom room → Reaches room.log mark.position used room.head rows
-    → IsRoom (released_room room mark rows) × Reaches room.log mark.position (sectors_from room.log mark.position room.head rows) room.head rows
+released_is : (room : Room) (mark : Mark) (rows : List Row) (used : ℕ) → IsRoom room
+    → Reaches room.log mark.position used room.head rows
+    → IsRoom (released_room room mark rows) × Reaches room.log mark.position (sectors_from room.log mark.position room.head rows)
+    room.head rows
 released_is room mark rows used is reach =
-    let now : used ≡ sectors_from room.log mark.position room.head rows = reach_used rows room.log mark.position used room.head reach in
+    let now : used ≡ sectors_from room.log mark.position room.head rows =
+    reach_used rows room.log mark.position used room.head reach in
     let most = reach.most in (
       record { limit = is.limit; head = is.head; used = omega (arith, now, most) },
       subst (λ u. Reaches room.log mark.position u room.head rows) now reach,
@@ -138,7 +149,8 @@ pub record IsReleasedTo (room : Room) (tail mark : Mark) (held rows : List Row) 
       past_pad mark.position (drop (mark.seq - tail.seq) (records_of_rows room.log tail.position (held ++ rows)))
       ≡ records_of_rows room.log mark.position (since mark.seq held ++ rows)
 
-pub released : (room : Room) (tail mark : Mark) (held rows : List Row) (start first : ℕ) → ShowsList room tail held rows start first
+pub released : (room : Room) (tail mark : Mark) (held rows : List Row) (start first : ℕ)
+    → ShowsList room tail held rows start first
     → tail.seq ≤ mark.seq → mark.seq ≤ first
     → StandsIn room tail (held ++ rows) mark
     → IsReleasedTo room tail mark held rows start first

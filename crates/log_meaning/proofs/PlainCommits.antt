@@ -1,5 +1,6 @@
 -- How far a commit of the plain cache gets, by the calls that its device passes.
-use Rattle.std.proofs.Common.{◌≡◌, ℕ, ◌+◌, ◌-◌, ◌≤◌, Bool, true, false, cond, List, [], ◌∷◌, length, refl, sym, ◌∙◌, ap, inl, inr, arith}
+use Rattle.std.proofs.Common.{◌≡◌, ℕ, ◌+◌, ◌-◌, ◌≤◌, Bool, true, false, cond, List, [], ◌∷◌, length, refl, sym, ◌∙◌, ap, inl, inr}
+use Rattle.std.proofs.Common.{arith}
 use Rattle.std.specs.Prelude.{Option, Some, None, nat_le}
 use Rattle.std.proofs.lemmas.Bool.{leb-true, cases_Bool}
 use Rattle.lsvd_device.specs.Calls.{Fuse, passes, fuse_after}
@@ -7,7 +8,8 @@ use Rattle.plain_disk.specs.declared.cache.PendingWrite.{PendingWrite}
 use Rattle.plain_disk.specs.declared.cache.PendingWrite.TheVariants.{Body, ClosedGate, OpenedGate}
 use Rattle.plain_disk.specs.declared.log.PlainCommit.{PlainCommit}
 use Rattle.plain_disk.specs.Log.{PlainLog, commit_from, with_commit}
-use Rattle.plain_disk.specs.Cache.{PlainCache, after_writes, after_sync_of, after_first_half, after_second_half, after_halves, after_finishing, commit_calls_after, cache_after_commit}
+use Rattle.plain_disk.specs.Cache.{PlainCache, after_writes, after_sync_of, after_first_half, after_second_half, after_halves}
+use Rattle.plain_disk.specs.Cache.{after_finishing, commit_calls_after, cache_after_commit}
 use Rattle.log_meaning.specs.Laws.{PlainCommitTakesCalls}
 
 -- a cache has this log, and its device passes these calls
@@ -75,7 +77,8 @@ log_if true made log = made
 log_if false made log = log
 
 -- a half that was passed has this log, and else leaves the log
-half_if : (made : PlainLog) (cache half : PlainCache) (left : Fuse) (passed is_made : Bool) → passed ≡ is_made → IsCacheOf cache.log left half
+half_if : (made : PlainLog) (cache half : PlainCache) (left : Fuse) (passed is_made : Bool) → passed ≡ is_made
+    → IsCacheOf cache.log left half
     → IsCacheOf (log_if is_made made cache.log) left (cond passed (record half { log = made }) half)
 half_if made cache half left true true same is = record { same_log = refl; same_left = is.same_left }
 half_if made cache half left false false same is = is
@@ -83,13 +86,16 @@ half_if made cache half left true false same is = absurd (cc)
 half_if made cache half left false true same is = absurd (cc)
 
 first_half : (commit : PlainCommit) (cache : PlainCache) (is_made : Bool) → passes cache.left 3 ≡ is_made
-    → IsCacheOf (log_if is_made (record cache.log { unfinished = Some commit }) cache.log) (fuse_after cache.left 3) (after_first_half commit cache)
+    → IsCacheOf (log_if is_made (record cache.log { unfinished = Some commit }) cache.log) (fuse_after cache.left 3)
+    (after_first_half commit cache)
 first_half commit cache is_made passed =
-    half_if (record cache.log { unfinished = Some commit }) cache (after_sync_of (Body ∷ ClosedGate ∷ []) cache) (fuse_after cache.left 3)
+    half_if (record cache.log { unfinished = Some commit }) cache (after_sync_of (Body ∷ ClosedGate ∷ []) cache)
+    (fuse_after cache.left 3)
     (passes cache.left 3) is_made passed (synced (Body ∷ ClosedGate ∷ []) cache)
 
 second_half : (commit : PlainCommit) (cache : PlainCache) (is_made : Bool) → passes cache.left 2 ≡ is_made
-    → IsCacheOf (log_if is_made (with_commit commit cache.log) cache.log) (fuse_after cache.left 2) (after_second_half commit cache)
+    → IsCacheOf (log_if is_made (with_commit commit cache.log) cache.log) (fuse_after cache.left 2)
+    (after_second_half commit cache)
 second_half commit cache is_made passed =
     half_if (with_commit commit cache.log) cache (after_sync_of (OpenedGate ∷ []) cache) (fuse_after cache.left 2)
     (passes cache.left 2) is_made passed (synced (OpenedGate ∷ []) cache)
@@ -97,7 +103,8 @@ second_half commit cache is_made passed =
 -- ---- both halves
 
 -- the second half, where what came before it is told
-second_then : (commit : PlainCommit) (cache : PlainCache) (log : PlainLog) (left : Fuse) (is_made : Bool) → IsCacheOf log left cache
+second_then : (commit : PlainCommit) (cache : PlainCache) (log : PlainLog) (left : Fuse) (is_made : Bool)
+    → IsCacheOf log left cache
     → passes left 2 ≡ is_made
     → IsCacheOf (log_if is_made (with_commit commit log) log) (fuse_after left 2) (after_second_half commit cache)
 second_then commit cache log left is_made is passed =
@@ -111,7 +118,8 @@ halves_made : (commit : PlainCommit) (cache : PlainCache) → passes cache.left 
     → IsCacheOf (with_commit commit cache.log) (fuse_after cache.left 5) (after_halves commit cache)
 halves_made commit cache passed =
     let begun = passes_less cache.left 3 2 passed in
-    let both = second_then commit (after_first_half commit cache) (record cache.log { unfinished = Some commit }) (fuse_after cache.left 3) true
+    let both = second_then commit (after_first_half commit cache) (record cache.log { unfinished = Some commit })
+    (fuse_after cache.left 3) true
     (first_half commit cache true begun)
     (passed_on cache.left 3 2 true begun passed) in
     record { same_log = both.same_log; same_left = both.same_left ∙ lower_on cache.left 3 2 }
@@ -119,7 +127,8 @@ halves_made commit cache passed =
 halves_begun : (commit : PlainCommit) (cache : PlainCache) → passes cache.left 3 ≡ true → passes cache.left 5 ≡ false
     → IsCacheOf (record cache.log { unfinished = Some commit }) (fuse_after cache.left 5) (after_halves commit cache)
 halves_begun commit cache begun stopped =
-    let both = second_then commit (after_first_half commit cache) (record cache.log { unfinished = Some commit }) (fuse_after cache.left 3) false
+    let both = second_then commit (after_first_half commit cache) (record cache.log { unfinished = Some commit })
+    (fuse_after cache.left 3) false
     (first_half commit cache true begun)
     (passed_on cache.left 3 2 false begun stopped) in
     record { same_log = both.same_log; same_left = both.same_left ∙ lower_on cache.left 3 2 }
@@ -127,7 +136,8 @@ halves_begun commit cache begun stopped =
 halves_stopped : (commit : PlainCommit) (cache : PlainCache) → passes cache.left 3 ≡ false
     → IsCacheOf cache.log (fuse_after cache.left 5) (after_halves commit cache)
 halves_stopped commit cache stopped =
-    let both = second_then commit (after_first_half commit cache) cache.log (fuse_after cache.left 3) false (first_half commit cache false stopped)
+    let both = second_then commit (after_first_half commit cache) cache.log (fuse_after cache.left 3) false
+    (first_half commit cache false stopped)
     (spent_passes cache.left 3 2 stopped (omega arith)) in
     record { same_log = both.same_log; same_left = both.same_left ∙ lower_on cache.left 3 2 }
 
@@ -142,7 +152,8 @@ abbrev pub finished_log : Option PlainCommit → PlainLog → PlainLog
 finished_log None log = log
 finished_log (Some commit) log = with_commit commit log
 
-finishing : (unfinished : Option PlainCommit) (cache : PlainCache) (is_made : Bool) → passes cache.left (calls_before unfinished) ≡ is_made
+finishing : (unfinished : Option PlainCommit) (cache : PlainCache) (is_made : Bool)
+    → passes cache.left (calls_before unfinished) ≡ is_made
     → IsCacheOf (log_if is_made (finished_log unfinished cache.log) cache.log) (fuse_after cache.left (calls_before unfinished))
     (after_finishing unfinished cache)
 finishing None cache true passed = record { same_log = refl; same_left = sym (none_left cache.left) }
@@ -177,16 +188,19 @@ abbrev pub IsAfterCommit : (seq : ℕ) (cache : PlainCache) → PlainLog → Typ
 IsAfterCommit seq cache log = IsCacheOf log (fuse_after cache.left (calls_first cache + 5)) (cache_after_commit seq cache)
 
 after_ready : (of : PlainLog → PlainLog) (seq : ℕ) (cache : PlainCache) (log : PlainLog) → IsReady cache log
-    → IsCacheOf (of (ready cache).log) (fuse_after (ready cache).left 5) (cache_after_commit seq cache) → IsAfterCommit seq cache (of log)
+    → IsCacheOf (of (ready cache).log) (fuse_after (ready cache).left 5) (cache_after_commit seq cache)
+    → IsAfterCommit seq cache (of log)
 after_ready of seq cache log is halves = record {
   same_log = halves.same_log ∙ ap of is.same_log;
   same_left = halves.same_left ∙ ap (λ f. fuse_after f 5) is.same_left ∙ lower_on cache.left (calls_first cache) 5;
 }
 
 -- what is passed after it
-ready_passes : (cache : PlainCache) (log : PlainLog) (n : ℕ) (b : Bool) → IsReady cache log → passes cache.left (calls_first cache) ≡ true
+ready_passes : (cache : PlainCache) (log : PlainLog) (n : ℕ) (b : Bool) → IsReady cache log
+    → passes cache.left (calls_first cache) ≡ true
     → passes cache.left (calls_first cache + n) ≡ b → passes (ready cache).left n ≡ b
-ready_passes cache log n b is first both = ap (λ f. passes f n) is.same_left ∙ passed_on cache.left (calls_first cache) n b first both
+ready_passes cache log n b is first both = ap (λ f. passes f n) is.same_left
+    ∙ passed_on cache.left (calls_first cache) n b first both
 
 pub commit_made : (seq : ℕ) (cache : PlainCache) → passes cache.left (calls_first cache + 5) ≡ true
     → IsAfterCommit seq cache (log_made seq (log_ready cache))
@@ -217,7 +231,8 @@ commit_finished seq cache first stopped =
     after_ready (λ l. l) seq cache log is
     (halves_stopped (commit_from seq (ready cache).log) (ready cache) (ready_passes cache log 3 false is first stopped))
 
-pub commit_stopped : (seq : ℕ) (cache : PlainCache) → passes cache.left (calls_first cache) ≡ false → IsAfterCommit seq cache cache.log
+pub commit_stopped : (seq : ℕ) (cache : PlainCache) → passes cache.left (calls_first cache) ≡ false
+    → IsAfterCommit seq cache cache.log
 commit_stopped seq cache stopped =
     let is = finishing cache.log.unfinished cache false stopped in
     let none : passes (ready cache).left 3 ≡ false =

@@ -1,5 +1,6 @@
 -- Logs that show a log of the plain volume: as before, trimmed, and just formatted.
-use Rattle.std.proofs.Common.{◌≡◌, ℕ, ◌+◌, ◌-◌, ◌≤◌, List, [], ◌++◌, take, drop, refl, sym, ◌∙◌, ap, subst, arith, length-append, append_assoc}
+use Rattle.std.proofs.Common.{◌≡◌, ℕ, ◌+◌, ◌-◌, ◌≤◌, List, [], ◌++◌, take, drop, refl, sym, ◌∙◌, ap, subst, arith, length-append}
+use Rattle.std.proofs.Common.{append_assoc}
 use Rattle.std.specs.Prelude.{Option, Some, None, IfSome, option_map}
 use Rattle.std.proofs.lemmas.List.{take-append-drop, length-take-le}
 use Rattle.commit_body.specs.declared.body.CommitBody.{CommitBody}
@@ -37,7 +38,8 @@ pub record IsUnfinishedOf (log : LogState) (plain : PlainLog) : Type 0 where
 
 pub shows_of : (log : LogState) (plain : PlainLog) → ListOf log → plain.size ≡ log.room.log → plain.head ≡ log.room.head
     → plain.last ≡ commit_of log.commits.body
-    → plain.records ≡ records_of_rows log.room.log log.commits.body.tail.position (all_rows log) → IsUnfinishedOf log plain → ShowsLog log plain
+    → plain.records ≡ records_of_rows log.room.log log.commits.body.tail.position (all_rows log) → IsUnfinishedOf log plain
+    → ShowsLog log plain
 shows_of log plain list size head last records unfinished =
     let reach = list.reach in
     let used : used_by plain.records ≡ log.room.used =
@@ -149,13 +151,15 @@ trimmed_log seq log = record log {
   first = log.first + (seq - log.first);
 }
 
-trimmed_shows : (log : LogState) (plain : PlainLog) (seq : ℕ) → ShowsLog log plain → seq ≤ next_seq log → ShowsLog (trimmed_log seq log) plain
+trimmed_shows : (log : LogState) (plain : PlainLog) (seq : ℕ) → ShowsLog log plain → seq ≤ next_seq log
+    → ShowsLog (trimmed_log seq log) plain
 trimmed_shows log plain seq is below =
     let k : ℕ = seq - log.first in
     let room : Room = log.room in
     let tail : Mark = log.commits.body.tail in
     let whole : all_rows log ≡ all_rows (trimmed_log seq log) =
-    ap (λ l. log.held ++ l) (sym (take-append-drop k log.rows)) ∙ sym (append_assoc log.held (take k log.rows) (drop k log.rows)) in
+    ap (λ l. log.held ++ l) (sym (take-append-drop k log.rows))
+    ∙ sym (append_assoc log.held (take k log.rows) (drop k log.rows)) in
     let counted = is.counted in
     let long = length-append log.held (take k log.rows) in
     let count = length-take-le k log.rows (omega (arith, below)) in

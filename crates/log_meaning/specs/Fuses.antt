@@ -19,5 +19,7 @@ abbrev pub LetsCommit : Fuse → (is_made : Bool) → CommitBody → (old new : 
 LetsCommit fuse true body old new = passes fuse (calls_to_finish old.unfinished + 5) ≡ true
 LetsCommit fuse false body old new =
     (IsAsBefore old new × (passes fuse (calls_to_finish old.unfinished) ≡ false))
-    ⊎ ((IsFinished old new × (passes fuse (calls_to_finish old.unfinished) ≡ true) × (passes fuse (calls_to_finish old.unfinished + 3) ≡ false))
-    ⊎ (IsBegun body old new × (passes fuse (calls_to_finish old.unfinished + 3) ≡ true) × (passes fuse (calls_to_finish old.unfinished + 5) ≡ false)))
+    ⊎ ((IsFinished old new × (passes fuse (calls_to_finish old.unfinished) ≡ true)
+    × (passes fuse (calls_to_finish old.unfinished + 3) ≡ false))
+    ⊎ (IsBegun body old new × (passes fuse (calls_to_finish old.unfinished + 3) ≡ true)
+    × (passes fuse (calls_to_finish old.unfinished + 5) ≡ false)))

@@ -26,11 +26,13 @@ FormattedShowsEmpty =
 -- a log shows what it showed while calls fail, and while entries are dropped from its list, up to the next one
 abbrev pub SameShowsSame : Type 0
 SameShowsSame =
-    (old new : LogState) (plain : PlainLog) → ShowsLog old plain → HasSameEntries old new → IsAsBefore old.commits new.commits → ShowsLog new plain
+    (old new : LogState) (plain : PlainLog) → ShowsLog old plain → HasSameEntries old new → IsAsBefore old.commits new.commits
+    → ShowsLog new plain
 
 abbrev pub TrimmedShowsSame : Type 0
 TrimmedShowsSame =
-    (old new : LogState) (plain : PlainLog) (seq : ℕ) → ShowsLog old plain → seq ≤ next_seq old → IsTrimmed seq old new → ShowsLog new plain
+    (old new : LogState) (plain : PlainLog) (seq : ℕ) → ShowsLog old plain → seq ≤ next_seq old → IsTrimmed seq old new
+    → ShowsLog new plain
 
 -- an entry that was appended has the record of the next one, where it had room
 abbrev pub AppendedShowsRecord : Type 0
@@ -45,7 +47,8 @@ AppendedShowsRecord =
 abbrev pub CommitShowsCommit : Type 0
 CommitShowsCommit =
     (old new : LogState) (cache : PlainCache) (is_made : Bool)
-    → ShowsLog old cache.log → HasSameList old new → IsReleased old new → (is_made ≡ true → IsMade (body_of old) old.commits new.commits)
+    → ShowsLog old cache.log → HasSameList old new → IsReleased old new
+    → (is_made ≡ true → IsMade (body_of old) old.commits new.commits)
     → LetsCommit cache.left is_made (body_of old) old.commits new.commits
     → ShowsLog new (cache_after_commit old.first cache).log × (passes_commit cache ≡ is_made)
 
@@ -87,9 +90,11 @@ pub record HasFuseForEntry (old new : LogState) (plain : PlainLog) (entry : Entr
 abbrev pub EntryHasFuse : Type 0
 EntryHasFuse =
     (old new : LogState) (plain : PlainLog) (entry : Entry) (seq : ℕ) (are_made : Bool)
-    → ShowsLog old plain → CostsAppend old.room entry seq are_made old.commits.disk new.commits.disk → HasFuseForEntry old new plain entry are_made
+    → ShowsLog old plain → CostsAppend old.room entry seq are_made old.commits.disk new.commits.disk
+    → HasFuseForEntry old new plain entry are_made
 
 -- a commit of the plain cache takes its calls, also where it fails
 abbrev pub PlainCommitTakesCalls : Type 0
 PlainCommitTakesCalls =
-    (seq : ℕ) (cache : PlainCache) → (cache_after_commit seq cache).left ≡ fuse_after cache.left (commit_calls_after cache.log.unfinished)
+    (seq : ℕ) (cache : PlainCache) → (cache_after_commit seq cache).left ≡ fuse_after cache.left
+    (commit_calls_after cache.log.unfinished)

@@ -9,8 +9,8 @@ use Rattle.plain_disk.specs.State.{PlainState, frontier_end, logged_entries}
 abbrev pub listed_from : {A : Type 0} → (seq : ℕ) → LogState → List A → List A
 listed_from seq log items = drop (seq - log.first) items
 
--- The log's list has the entries past the frontier's end, each as its record, and where the disk tells what it holds these are its
--- entries. Their data begin one sector past their records.
+-- The log's list has the entries past the frontier's end, each as its record, and where the disk tells what it holds these are
+-- its entries. Their data begin one sector past their records.
 pub record HasLoggedEntries (data_at : ℕ → ℕ) (log : LogState) (plain : PlainState) : Type 0 where
   pub first : log.first ≤ frontier_end plain
   pub rows : AreRowsOf (listed_from (frontier_end plain) log log.rows) (logged_entries plain)

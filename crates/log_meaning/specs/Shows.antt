@@ -1,5 +1,6 @@
 -- Contract: what the log on the cache means: the log of the plain volume that it shows.
-use Rattle.std.specs.Prelude.{◌≡◌, ℕ, ◌+◌, ◌-◌, ◌<◌, ◌≤◌, ◌⊎◌, nat_lt, if◌then◌else◌, IfSome, option_map, List, [], ◌∷◌, length, take, drop}
+use Rattle.std.specs.Prelude.{◌≡◌, ℕ, ◌+◌, ◌-◌, ◌<◌, ◌≤◌, ◌⊎◌, nat_lt, if◌then◌else◌, IfSome, option_map, List, [], ◌∷◌, length}
+use Rattle.std.specs.Prelude.{take, drop}
 use Rattle.commit_body.specs.declared.body.CommitBody.{CommitBody}
 use Rattle.log_room.specs.Room.{IsRoom}
 use Rattle.cache_log.specs.declared.row.Row.{Row}
@@ -43,8 +44,8 @@ StandsAt log body =
     (body.tail.position ≡ start_of log.room.head (rows_from_tail body log))
     ⊎ (body.tail.position ≡ end_of_rows log.room.log log.commits.body.tail.position (rows_before_tail body log))
 
--- The log on the cache shows a log of the plain volume: the same room and commits, and the records from the last commit's tail on,
--- numbered from its seq on and one behind the other up to the head.
+-- The log on the cache shows a log of the plain volume: the same room and commits, and the records from the last commit's tail
+-- on, numbered from its seq on and one behind the other up to the head.
 pub record ShowsLog (log : LogState) (plain : PlainLog) : Type 0 where
   pub room : room_in plain ≡ log.room
   pub last : plain.last ≡ commit_of log.commits.body

@@ -19,12 +19,14 @@ pub has_its_sectors : HasItsSectors
 has_its_sectors = records.has_its_sectors
 
 -- a header and the data after it are a record
-pub is_record_of_parts : (entry : Entry) (seq : ℕ) (sector rest : List ℕ) → IsHeaderOf (head_of entry) seq sector → rest ≡ data_of entry → IsRecordOf entry seq (sector ++ rest)
+pub is_record_of_parts : (entry : Entry) (seq : ℕ) (sector rest : List ℕ) → IsHeaderOf (head_of entry) seq sector
+    → rest ≡ data_of entry → IsRecordOf entry seq (sector ++ rest)
 is_record_of_parts entry seq sector rest says data_is =
     (records.is_header_and_data entry seq sector rest (records.has_one_sector (head_of entry) seq sector says)).1 (says, data_is)
 
 -- a record's first sector is its header, and the rest its data
-pub parts_of_record : (entry : Entry) (seq : ℕ) (sector rest : List ℕ) → length sector ≡ 512 → IsRecordOf entry seq (sector ++ rest)
+pub parts_of_record : (entry : Entry) (seq : ℕ) (sector rest : List ℕ) → length sector ≡ 512
+    → IsRecordOf entry seq (sector ++ rest)
     → IsHeaderOf (head_of entry) seq sector × (rest ≡ data_of entry)
 parts_of_record entry seq sector rest size is = (records.is_header_and_data entry seq sector rest size).0 is
 
@@ -36,6 +38,7 @@ determines_head = tests.determines_head
 
 -- a sector that is refused at a place is no header of it
 pub refused_is_no_header : (sector : List ℕ) (seq : ℕ) (geometry : Geometry) (place : Place) (reason : Reason) (head : Head)
-    → seq < 2 ^ 64 → IsTrue (is_within_limits geometry) → IsRefusedAs sector seq geometry place reason → IsHeader sector seq geometry place head → ⊥
+    → seq < 2 ^ 64 → IsTrue (is_within_limits geometry) → IsRefusedAs sector seq geometry place reason
+    → IsHeader sector seq geometry place head → ⊥
 refused_is_no_header sector seq geometry place reason head fits limits refused is =
     tests.no_header sector seq geometry place reason fits limits refused.failed head is

@@ -1,7 +1,9 @@
 -- The bytes of a header, and the numbers that are read in them.
-use Rattle.std.proofs.Common.{◌≡◌, ℕ, ◌+◌, ◌-◌, ◌^◌, ◌<◌, ◌≤◌, List, [], ◌++◌, length, take, drop, replicate, get_or, codes, refl, sym, ◌∙◌, ap, append-nil, inl, inr, arith}
+use Rattle.std.proofs.Common.{◌≡◌, ℕ, ◌+◌, ◌-◌, ◌^◌, ◌<◌, ◌≤◌, List, [], ◌++◌, length, take, drop, replicate, get_or, codes, refl}
+use Rattle.std.proofs.Common.{sym, ◌∙◌, ap, append-nil, inl, inr, arith}
 use Rattle.std.proofs.lemmas.Bool.{cases_lt}
-use Rattle.std.proofs.lemmas.List.{length-append, length-replicate, length-take, length-take-le, length-drop, take_at, drop_all, take_rest, take-append-drop, get_or-take, get_or-drop, get_or_past}
+use Rattle.std.proofs.lemmas.List.{length-append, length-replicate, length-take, length-take-le, length-drop, take_at, drop_all}
+use Rattle.std.proofs.lemmas.List.{take_rest, take-append-drop, get_or-take, get_or-drop, get_or_past}
 use Rattle.std.proofs.lemmas.Nat.{be_bytes_4, be_bytes_8, from_be_bytes-to_be_bytes_4, from_be_bytes-to_be_bytes_8}
 use Rattle.std.proofs.Math.Seq.{take-add}
 use borrow.Rule.Slice.PartMut.{put_mid}
@@ -106,7 +108,8 @@ bytes_of_part : (at count : ℕ) (bytes : List ℕ) → IsBytes bytes → IsByte
 bytes_of_part at count bytes fits i =
     elim (cases_lt i count) [
       | inl inside ↦ rw (get_or-take count (drop at bytes) i 0 inside, get_or-drop at bytes i 0) (fits (at + i))
-      | inr past ↦ rw (get_or_past (take count (drop at bytes)) i 0 (omega (arith, length-take count (drop at bytes), past))) (omega arith)
+      | inr past ↦ rw (get_or_past (take count (drop at bytes)) i 0 (omega (arith, length-take count (drop at bytes), past)))
+          (omega arith)
     ]
 
 length_of_part : (at count : ℕ) (bytes : List ℕ) → at + count ≤ length bytes → length (take count (drop at bytes)) ≡ count
@@ -144,8 +147,10 @@ header_of_parts sector kind seq lba sectors size fits parts =
     let to_kind = front_more 8 4 sector _ _ parts.of_magic (part_of_u32 8 kind sector (omega (arith, size)) fits parts.of_kind) in
     let to_seq = front_more 12 8 sector _ _ to_kind (part_of_u64 12 seq sector (omega (arith, size)) fits parts.of_seq) in
     let to_lba = front_more 20 8 sector _ _ to_seq (part_of_u64 20 lba sector (omega (arith, size)) fits parts.of_lba) in
-    let to_sectors = front_more 28 8 sector _ _ to_lba (part_of_u64 28 sectors sector (omega (arith, size)) fits parts.of_sectors) in
-    sym (take-append-drop 36 sector) ∙ ap (λ xs. xs ++ drop 36 sector) to_sectors ∙ ap (λ xs. front kind seq lba sectors ++ xs) parts.of_zeros
+    let to_sectors = front_more 28 8 sector _ _ to_lba (part_of_u64 28 sectors sector (omega (arith, size)) fits
+    parts.of_sectors) in
+    sym (take-append-drop 36 sector) ∙ ap (λ xs. xs ++ drop 36 sector) to_sectors
+    ∙ ap (λ xs. front kind seq lba sectors ++ xs) parts.of_zeros
 
 -- ---- the zeros after the numbers
 
@@ -174,7 +179,8 @@ pub written_front : (at : ℕ) (front value old new : List ℕ) → take at old 
     → new ≡ take at old ++ value ++ drop (at + length value) old
     → take (at + length value) new ≡ front ++ value
 written_front at front value old new is_front front_size is_new =
-    let size : length (take at old ++ value) ≡ at + length value = length-append (take at old) value ∙ ap (λ n. n + length value) (ap length is_front ∙ front_size) in
+    let size : length (take at old ++ value) ≡ at + length value = length-append (take at old) value
+    ∙ ap (λ n. n + length value) (ap length is_front ∙ front_size) in
     ap (take (at + length value)) is_new
     ∙ take_at (take at old ++ value) (drop (at + length value) old) (at + length value) size
     ∙ ap (λ xs. xs ++ value) is_front

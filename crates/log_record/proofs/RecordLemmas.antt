@@ -7,8 +7,10 @@ use Rattle.lsvd_base.specs.declared.entry.Entry.TheVariants.{Write, Zero}
 use Rattle.log_room.specs.Room.{record_sectors}
 use Rattle.log_record.specs.Numbers.{kind_of, lba_of, sectors_of, kind_in, seq_in, lba_in, sectors_in}
 use Rattle.log_record.specs.Grammar.{header, header_of, head_of, data_of, record_of, IsHeaderOf, IsRecordOf}
-use Rattle.log_record.specs.Laws.{HasWholeSectors, HasOneSector, HasItsSectors, IsHeaderAndData, HasNumbersOf64Bits, DeterminesEntry}
-use Rattle.log_record.proofs.HeaderLemmas.{spelled, is_spelled, written_to_end, length-header, kind_in-header, seq_in-header, lba_in-header, sectors_in-header}
+use Rattle.log_record.specs.Laws.{HasWholeSectors, HasOneSector, HasItsSectors, IsHeaderAndData, HasNumbersOf64Bits}
+use Rattle.log_record.specs.Laws.{DeterminesEntry}
+use Rattle.log_record.proofs.HeaderLemmas.{spelled, is_spelled, written_to_end, length-header, kind_in-header, seq_in-header}
+use Rattle.log_record.proofs.HeaderLemmas.{lba_in-header, sectors_in-header}
 
 -- ---- the one spelling of a record
 
@@ -21,7 +23,8 @@ unfolding IsRecordOf
 is_record entry seq bytes is = is
 
 pub has_one_sector : HasOneSector
-has_one_sector head seq sector is = ap length (spelled head seq sector is) ∙ length-header (kind_of head) seq (lba_of head) (sectors_of head)
+has_one_sector head seq sector is = ap length (spelled head seq sector is)
+    ∙ length-header (kind_of head) seq (lba_of head) (sectors_of head)
 
 whole_record : (entry : Entry) (seq : ℕ) → HasWholeSectors entry → length (record_of entry seq) ≡ 512 * record_sectors entry
 whole_record (Write lba body) seq whole =
@@ -47,8 +50,10 @@ parts_of entry seq sector rest size same =
 
 pub is_header_and_data : IsHeaderAndData
 is_header_and_data entry seq sector rest size = (
-  (λ is. let parts = parts_of entry seq sector rest size (record_spelled entry seq (sector ++ rest) is) in (is_spelled (head_of entry) seq sector parts.0, parts.1)),
-  (λ parts. is_record entry seq (sector ++ rest) (ap (λ xs. xs ++ rest) (spelled (head_of entry) seq sector parts.0) ∙ ap (λ xs. header_of (head_of entry) seq ++ xs) parts.1)),
+  (λ is. let parts = parts_of entry seq sector rest size (record_spelled entry seq (sector ++ rest) is) in
+      (is_spelled (head_of entry) seq sector parts.0, parts.1)),
+  (λ parts. is_record entry seq (sector ++ rest) (ap (λ xs. xs ++ rest) (spelled (head_of entry) seq sector parts.0)
+      ∙ ap (λ xs. header_of (head_of entry) seq ++ xs) parts.1)),
 )
 
 -- ---- headers with something after them

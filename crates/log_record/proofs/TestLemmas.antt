@@ -1,5 +1,6 @@
 -- The tests of a header, one by one and together.
-use Rattle.std.proofs.Common.{◌≡◌, ℕ, ◌^◌, ◌<◌, ◌≤◌, IsTrue, false, List, [], length, take, drop, append-nil, sym, ◌∙◌, ap, subst, arith, rules}
+use Rattle.std.proofs.Common.{◌≡◌, ℕ, ◌^◌, ◌<◌, ◌≤◌, IsTrue, false, List, [], length, take, drop, append-nil, sym, ◌∙◌, ap, subst}
+use Rattle.std.proofs.Common.{arith, rules}
 use Rattle.lsvd_base.specs.declared.geometry.Geometry.{Geometry}
 use Rattle.lsvd_base.specs.Limits.{is_within_limits}
 use Rattle.log_record.specs.declared.head.Head.{Head}
@@ -10,7 +11,8 @@ use Rattle.log_record.specs.declared.reason.Reason.TheVariants as reasons
 use Rattle.log_record.specs.Numbers.{kind_of, lba_of, sectors_of, kind_in, seq_in, HasNumbers, filler}
 use Rattle.log_record.specs.Grammar.{header_of, is_in_range, fits, IsHeader}
 use Rattle.log_record.specs.Tests.{code_of, PassesRecordTest, IsRefusedAs}
-use Rattle.log_record.proofs.HeaderLemmas.{spelled, is_spelled, HasNumbers-header_of, one_head, magic-header, filler-header, seq_in-header, IsBytes, HasParts, header_of_parts}
+use Rattle.log_record.proofs.HeaderLemmas.{spelled, is_spelled, HasNumbers-header_of, one_head, magic-header, filler-header}
+use Rattle.log_record.proofs.HeaderLemmas.{seq_in-header, IsBytes, HasParts, header_of_parts}
 use Rattle.log_record.specs.Laws.{DeterminesHead}
 use Rattle.std.proofs.lemmas.Bool.{both_ways}
 
@@ -99,7 +101,8 @@ header_if_passes sector seq geometry place head size bytes found zeros is_fit =
       of_zeros = zeros;
     } in
     record {
-      says = is_spelled head seq sector (header_of_parts sector (kind_of head) seq (lba_of head) (sectors_of head) size bytes parts);
+      says = is_spelled head seq sector (header_of_parts sector (kind_of head) seq (lba_of head) (sectors_of head) size
+          bytes parts);
       in_range = found.in_range;
       fits = is_fit;
     }

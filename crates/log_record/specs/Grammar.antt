@@ -1,5 +1,6 @@
 -- Contract: the records of the log, which are a header sector and, after that of a write, its data.
-use Rattle.std.specs.Prelude.{ℕ, ◌+◌, ◌/◌, ◌==◌, Bool, true, ◌&&◌, ◌||◌, not, nat_lt, nat_le, IsTrue, ◌≡◌, List, [], ◌++◌, length, codes}
+use Rattle.std.specs.Prelude.{ℕ, ◌+◌, ◌/◌, ◌==◌, Bool, true, ◌&&◌, ◌||◌, not, nat_lt, nat_le, IsTrue, ◌≡◌, List, [], ◌++◌, length}
+use Rattle.std.specs.Prelude.{codes}
 use Rattle.std.specs.Int.{w32, w64, to_be_bytes}
 use Rattle.lsvd_base.specs.declared.entry.Entry.{Entry}
 use Rattle.lsvd_base.specs.declared.entry.Entry.TheVariants as entries

@@ -143,9 +143,9 @@ pub fn record_sectors(entry: &Entry) -> u64
     }
 }
 
-/// How many sectors there are from the sector `from` on to the sector `to` of a log of `log` sectors, going on
-/// from the log's end at its beginning: a whole log where they are one sector. A log has at most 2^31 sectors, and
-/// both sectors are below its end (conditions).
+/// How many sectors there are from the sector `from` on to the sector `to` of a log of `log` sectors, going
+/// on from the log's end at its beginning: a whole log where they are one sector. A log has at most 2^31
+/// sectors, and both sectors are below its end (conditions).
 pub fn distance(log: u64, from: u64, to: u64) -> u64
     requires log { log ≤ max_log }
     requires from { from < log }

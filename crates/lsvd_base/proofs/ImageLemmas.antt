@@ -1,5 +1,6 @@
 -- An image as the flat list of its bytes, and what an entry keeps of it.
-use Rattle.std.proofs.Common.{◌≡◌, ℕ, zero, suc, ◌+◌, ◌*◌, ◌/◌, ◌≤◌, true, List, [], ◌∷◌, ◌++◌, length, take, drop, replicate, refl, sym, ◌∙◌, ap, arith, length-append, length-drop}
+use Rattle.std.proofs.Common.{◌≡◌, ℕ, zero, suc, ◌+◌, ◌*◌, ◌/◌, ◌≤◌, true, List, [], ◌∷◌, ◌++◌, length, take, drop, replicate}
+use Rattle.std.proofs.Common.{refl, sym, ◌∙◌, ap, arith, length-append, length-drop}
 use Rattle.std.proofs.lemmas.Bool.Decides.{nat_tests}
 use Rattle.std.proofs.lemmas.List.{length-take, length-take-le, length-replicate, replicate-append-replicate}
 use Rattle.std.proofs.lemmas.List.Elements.{All-append, All-take, All-drop, All-replicate, All-cons}
@@ -21,7 +22,8 @@ abbrev pub AllOfLength : ℕ → List (List ℕ) → Type 0
 AllOfLength w pieces = All (IsOfLength w) pieces
 
 -- the first pieces, as bytes
-pub concat-take : (w n : ℕ) (pieces : List (List ℕ)) → AllOfLength w pieces → concat (take n pieces) ≡ take (w * n) (concat pieces)
+pub concat-take : (w n : ℕ) (pieces : List (List ℕ)) → AllOfLength w pieces
+    → concat (take n pieces) ≡ take (w * n) (concat pieces)
 concat-take w zero pieces h = let e : w * 0 ≡ 0 = omega arith in rw e refl
 concat-take w (suc n) [] h = sym (take-nil (w * suc n))
 concat-take w (suc n) (x ∷ xs) h =
@@ -32,7 +34,8 @@ concat-take w (suc n) (x ∷ xs) h =
     rw (size, take-append-add x (concat xs) (w * n), rest) refl
 
 -- the pieces after the first, as bytes
-pub concat-drop : (w n : ℕ) (pieces : List (List ℕ)) → AllOfLength w pieces → concat (drop n pieces) ≡ drop (w * n) (concat pieces)
+pub concat-drop : (w n : ℕ) (pieces : List (List ℕ)) → AllOfLength w pieces
+    → concat (drop n pieces) ≡ drop (w * n) (concat pieces)
 concat-drop w zero pieces h = let e : w * 0 ≡ 0 = omega arith in rw e refl
 concat-drop w (suc n) [] h = sym (drop-nil (w * suc n))
 concat-drop w (suc n) (x ∷ xs) h =
@@ -133,7 +136,8 @@ pub record IsImage (sectors : ℕ) (image : Image) : Type 0 where
   pub whole : AllOfLength 512 image
 
 -- where the entries end that a volume takes
-pub Write-ends : (g : Geometry) (lba : ℕ) (body : List ℕ) → is_in_range g (Write lba body) ≡ true → lba + length body / 512 ≤ g.sectors
+pub Write-ends : (g : Geometry) (lba : ℕ) (body : List ℕ) → is_in_range g (Write lba body) ≡ true
+    → lba + length body / 512 ≤ g.sectors
 Write-ends g lba body h = grind (arith, nat_tests)
 
 pub Zero-ends : (g : Geometry) (lba sectors : ℕ) → is_in_range g (Zero lba sectors) ≡ true → lba + sectors ≤ g.sectors
@@ -143,27 +147,32 @@ Zero-ends g lba sectors h = grind (arith, nat_tests)
 pub IsImage-blank : (sectors : ℕ) → IsImage sectors (blank sectors)
 IsImage-blank sectors = record { count = length-replicate sectors zero_sector; whole = All-zeros sectors }
 
-pub IsImage-apply : (g : Geometry) (entry : Entry) (image : Image) → is_in_range g entry ≡ true → IsImage g.sectors image → IsImage g.sectors (apply entry image)
+pub IsImage-apply : (g : Geometry) (entry : Entry) (image : Image) → is_in_range g entry ≡ true → IsImage g.sectors image
+    → IsImage g.sectors (apply entry image)
 IsImage-apply g (Write lba body) image h i =
     let data_ = cut_into_sectors (length body / 512) body in
     record {
-      count = length-overwritten lba data_ image (omega (arith, length-cut (length body / 512) body, Write-ends g lba body h)) ∙ i.count;
+      count = length-overwritten lba data_ image (omega (arith, length-cut (length body / 512) body, Write-ends g lba body h))
+          ∙ i.count;
       whole = All-overwritten (IsOfLength 512) lba data_ image i.whole (All-cut (length body / 512) body (omega arith));
     }
 IsImage-apply g (Zero lba sectors) image h i =
     let zeros = replicate sectors zero_sector in
     record {
-      count = length-overwritten lba zeros image (omega (arith, length-replicate sectors zero_sector, Zero-ends g lba sectors h)) ∙ i.count;
+      count = length-overwritten lba zeros image (omega (arith, length-replicate sectors zero_sector, Zero-ends g lba sectors h))
+          ∙ i.count;
       whole = All-overwritten (IsOfLength 512) lba zeros image i.whole (All-zeros sectors);
     }
 
-pub IsImage-after : (g : Geometry) (image : Image) (history : List Entry) → All (λ entry. is_in_range g entry ≡ true) history → IsImage g.sectors image → IsImage g.sectors (after image history)
+pub IsImage-after : (g : Geometry) (image : Image) (history : List Entry) → All (λ entry. is_in_range g entry ≡ true) history
+    → IsImage g.sectors image → IsImage g.sectors (after image history)
 IsImage-after g image [] h i = i
 IsImage-after g image (entry ∷ entries) h i =
     IsImage-after g (apply entry image) entries (λ k d l. h (suc k) d (omega arith))
     (IsImage-apply g entry image (h 0 entry (omega arith)) i)
 
 -- one entry more
-pub after-push : (image : Image) (history : List Entry) (entry : Entry) → after image (history ++ entry ∷ []) ≡ apply entry (after image history)
+pub after-push : (image : Image) (history : List Entry) (entry : Entry)
+    → after image (history ++ entry ∷ []) ≡ apply entry (after image history)
 after-push image [] entry = refl
 after-push image (first ∷ entries) entry = after-push (apply first image) entries entry

@@ -1,4 +1,5 @@
-ghost use Rattle.lsvd_base.specs.Laws.{KeepsCount, KeepsOtherSectors, WritesData, WritesZeros, AppliesInParts};
+ghost use Rattle.lsvd_base.specs.Laws.{KeepsCount, KeepsOtherSectors, WritesData, WritesZeros};
+ghost use Rattle.lsvd_base.specs.Laws.{AppliesInParts};
 
 /// A law: an entry inside an image changes the sectors that it covers, to its data or to zeros, and no
 /// others.

@@ -6,8 +6,8 @@ use std::marker::Model;
 
 /// The bytes of one object of the store, which contracts see as their list.
 ///
-/// They are written once and have many owners: whoever made the object, a put that is under way, a store in memory and
-/// its receipts. A further owner copies no byte. Two are equal exactly where their bytes are.
+/// They are written once and have many owners: whoever made the object, a put that is under way, a store in
+/// memory and its receipts. A further owner copies no byte. Two are equal exactly where their bytes are.
 #[derive(Debug, Drop, PartialEq, Eq)]
 pub struct ObjectBytes {
     bytes: Bytes,
@@ -24,7 +24,8 @@ impl Model for ObjectBytes {
 }
 
 impl ObjectBytes {
-    /// Takes the bytes of an object over, and copies none. The one error is that memory for the count of owners ran out.
+    /// Takes the bytes of an object over, and copies none. The one error is that memory for the count of
+    /// owners ran out.
     pub fn from_bytes(bytes: Vec<u8>) -> Result<ObjectBytes, AllocError>
         ensures { IfOk result (λ object. object ≡ bytes.items) }
     {
@@ -32,8 +33,8 @@ impl ObjectBytes {
         Ok(ObjectBytes { bytes })
     }
 
-    /// A further owner of the same bytes, of which none is copied. The one error is that there are too many owners, told
-    /// as memory that ran out.
+    /// A further owner of the same bytes, of which none is copied. The one error is that there are too many
+    /// owners, told as memory that ran out.
     pub fn share(&self) -> Result<ObjectBytes, AllocError>
         ensures { IfOk result (λ object. object ≡ self.now) }
     {

@@ -1,16 +1,21 @@
 -- Reads and writes at a place of a list of bytes.
-use Rattle.std.proofs.Common.{◌≡◌, ℕ, ◌+◌, ◌-◌, ◌*◌, ◌^◌, ◌<◌, ◌≤◌, List, ◌++◌, length, take, drop, get_or, refl, sym, ◌∙◌, ap, append_assoc, arith, inl, inr}
+use Rattle.std.proofs.Common.{◌≡◌, ℕ, ◌+◌, ◌-◌, ◌*◌, ◌^◌, ◌<◌, ◌≤◌, List, ◌++◌, length, take, drop, get_or, refl, sym, ◌∙◌, ap}
+use Rattle.std.proofs.Common.{append_assoc, arith, inl, inr}
 use Rattle.std.proofs.lemmas.Bool.{cases_lt}
-use Rattle.std.proofs.lemmas.List.{length-append, length-take, length-take-le, length-drop, take_at, drop_at, take-append-le, drop-append-le, take-append-drop, drop-drop, get_or-take, get_or-drop, get_or_past}
-use Rattle.std.proofs.lemmas.Nat.{be_bytes_2, be_bytes_4, be_bytes_8, from_be_bytes-to_be_bytes_2, from_be_bytes-to_be_bytes_4, from_be_bytes-to_be_bytes_8}
+use Rattle.std.proofs.lemmas.List.{length-append, length-take, length-take-le, length-drop, take_at, drop_at, take-append-le}
+use Rattle.std.proofs.lemmas.List.{drop-append-le, take-append-drop, drop-drop, get_or-take, get_or-drop, get_or_past}
+use Rattle.std.proofs.lemmas.Nat.{be_bytes_2, be_bytes_4, be_bytes_8, from_be_bytes-to_be_bytes_2, from_be_bytes-to_be_bytes_4}
+use Rattle.std.proofs.lemmas.Nat.{from_be_bytes-to_be_bytes_8}
 use Rattle.std.specs.Int.{Width, w16, w32, w64, byte_len, from_be_bytes, to_be_bytes}
 use Rattle.lsvd_bytes.specs.Places.{bytes_at, with_bytes}
-use Rattle.lsvd_bytes.specs.Laws.{ReadsBytesAgain, ReadsNumberAgain, KeepsLength, KeepsOtherBytes, KeepsOtherNumbers, RewritesBytes, RewritesNumber}
+use Rattle.lsvd_bytes.specs.Laws.{ReadsBytesAgain, ReadsNumberAgain, KeepsLength, KeepsOtherBytes, KeepsOtherNumbers}
+use Rattle.lsvd_bytes.specs.Laws.{RewritesBytes, RewritesNumber}
 
 -- ---- bytes
 
 -- the bytes before the place, then the value and those after it
-front_first : (at : ℕ) (value bytes : List ℕ) → with_bytes at value bytes ≡ take at bytes ++ (value ++ drop (at + length value) bytes)
+front_first : (at : ℕ) (value bytes : List ℕ)
+    → with_bytes at value bytes ≡ take at bytes ++ (value ++ drop (at + length value) bytes)
 front_first at value bytes = append_assoc (take at bytes) value (drop (at + length value) bytes)
 
 pub reads_bytes_again : ReadsBytesAgain
@@ -58,8 +63,10 @@ keeps_other_bytes at value bytes there count room (inl before) =
     ∙ ap (λ xs. bytes_at there count xs) (take-append-drop at bytes)
 keeps_other_bytes at value bytes there count room (inr past) =
     let end = at + length value in
-    let size : length (take at bytes ++ value) ≡ end = length-append (take at bytes) value ∙ ap (λ n. n + length value) (length-take-le at bytes (omega arith)) in
-    past_front there count (take at bytes ++ value) (drop end bytes) (take end bytes) (size ∙ sym (length-take-le end bytes room)) (omega arith)
+    let size : length (take at bytes ++ value) ≡ end = length-append (take at bytes) value
+    ∙ ap (λ n. n + length value) (length-take-le at bytes (omega arith)) in
+    past_front there count (take at bytes ++ value) (drop end bytes) (take end bytes) (size ∙ sym (length-take-le end bytes room))
+    (omega arith)
     ∙ ap (λ xs. bytes_at there count xs) (take-append-drop end bytes)
 
 pub rewrites_bytes : RewritesBytes
@@ -82,7 +89,8 @@ bytes_of_part : (at count : ℕ) (bytes : List ℕ) → IsBytes bytes → IsByte
 bytes_of_part at count bytes fits i =
     elim (cases_lt i count) [
       | inl inside ↦ rw (get_or-take count (drop at bytes) i 0 inside, get_or-drop at bytes i 0) (fits (at + i))
-      | inr past ↦ rw (get_or_past (bytes_at at count bytes) i 0 (omega (arith, length-take count (drop at bytes), past))) (omega arith)
+      | inr past ↦ rw (get_or_past (bytes_at at count bytes) i 0 (omega (arith, length-take count (drop at bytes), past)))
+          (omega arith)
     ]
 
 -- numbers of a width and their bytes
@@ -127,6 +135,7 @@ keeps_other_numbers at value bytes w there room apart =
 pub rewrites_number : (w : Width) → IsNumberWidth w → RewritesNumber w
 rewrites_number w wide at bytes room fits =
     let value = bytes_at at (byte_len w) bytes in
-    let size : length value ≡ byte_len w = length-take-le (byte_len w) (drop at bytes) (omega (arith, length-drop at bytes, room)) in
+    let size : length value ≡ byte_len w =
+    length-take-le (byte_len w) (drop at bytes) (omega (arith, length-drop at bytes, room)) in
     ap (λ xs. with_bytes at xs bytes) (wide.bytes_again value size (bytes_of_part at (byte_len w) bytes fits))
     ∙ rewrites_bytes at (byte_len w) bytes room

@@ -1,7 +1,9 @@
 -- A window on longer bytes, when a piece is put at one of them.
-use Rattle.std.proofs.Common.{take-append-drop, ◌≡◌, ℕ, ◌+◌, ◌-◌, ◌<◌, ◌≤◌, inl, inr, List, [], ◌++◌, length, take, drop, get_or, min, refl, sym, ◌∙◌, ap, rules, arith, length-drop, append_assoc}
+use Rattle.std.proofs.Common.{take-append-drop, ◌≡◌, ℕ, ◌+◌, ◌-◌, ◌<◌, ◌≤◌, inl, inr, List, [], ◌++◌, length, take, drop, get_or}
+use Rattle.std.proofs.Common.{min, refl, sym, ◌∙◌, ap, rules, arith, length-drop, append_assoc}
 use Rattle.std.proofs.lemmas.Bool.{cases_lt}
-use Rattle.std.proofs.lemmas.List.{places, same_lists, get_or-take, get_or-drop, drop-drop, get_or_append_left, get_or-append_right, length-take-le}
+use Rattle.std.proofs.lemmas.List.{places, same_lists, get_or-take, get_or-drop, drop-drop, get_or_append_left}
+use Rattle.std.proofs.lemmas.List.{get_or-append_right, length-take-le}
 use borrow.Rule.Slice.PartMut.{put_mid}
 use Rattle.lsvd_bytes.specs.Places.{with_bytes}
 
@@ -51,7 +53,8 @@ splice_seen_at bytes piece old part from at start end k d window inside shows st
     let first : k < start → get_or (put_mid start (end - start) old part) k d ≡ get_or (with_bytes at piece bytes) (from + k) d =
     λ l. put_below start (end - start) k d old part below l
     ∙ (held ∙ sym (put ∙ put_below at (length piece) (from + k) d bytes piece (omega arith) (omega arith))) in
-    let within : start ≤ k → k < end → get_or (put_mid start (end - start) old part) k d ≡ get_or (with_bytes at piece bytes) (from + k) d =
+    let within : start ≤ k → k < end → get_or (put_mid start (end - start) old part) k d ≡ get_or (with_bytes at piece bytes)
+    (from + k) d =
     λ l m. let place : from - at + (k - start) ≡ from + k - at = omega arith in
     put_in start (end - start) k d old part below size l (omega arith)
     ∙ (ap (λ xs. get_or xs (k - start) d) is
@@ -59,7 +62,8 @@ splice_seen_at bytes piece old part from at start end k d window inside shows st
     ∙ (get_or-drop (from - at) piece (k - start) d
     ∙ (ap (λ i. get_or piece i d) place
     ∙ sym (put ∙ put_in at (length piece) (from + k) d bytes piece (omega arith) refl (omega arith) (omega arith)))))) in
-    let last : start ≤ k → end ≤ k → get_or (put_mid start (end - start) old part) k d ≡ get_or (with_bytes at piece bytes) (from + k) d =
+    let last : start ≤ k → end ≤ k → get_or (put_mid start (end - start) old part) k d ≡ get_or (with_bytes at piece bytes)
+    (from + k) d =
     λ l m. put_above start (end - start) k d old part below size (omega arith)
     ∙ (held ∙ sym (put ∙ put_above at (length piece) (from + k) d bytes piece (omega arith) refl (omega arith))) in
     elim (cases_lt k start) [ inl l ↦ first l | inr l ↦ elim (cases_lt k end) [ inl m ↦ within l m | inr m ↦ last l m ] ]
@@ -75,7 +79,8 @@ splice_seen bytes piece old part from at start end window inside shows starts en
     let size : length (put_mid start (end - start) old part) ≡ length old = search (rules, places) in
     same_lists _ _ (search (rules, places)) (λ k d h.
     splice_seen_at bytes piece old part from at start end k d window inside shows starts ends is (omega arith)
-    ∙ sym (get_or-take (length old) (drop from (with_bytes at piece bytes)) k d (omega arith) ∙ get_or-drop from (with_bytes at piece bytes) k d))
+    ∙ sym (get_or-take (length old) (drop from (with_bytes at piece bytes)) k d (omega arith)
+    ∙ get_or-drop from (with_bytes at piece bytes) k d))
 
 -- a piece that the window shows nothing of leaves it as it is
 pub splice_unseen : (bytes piece old : List ℕ) (from at start end : ℕ)

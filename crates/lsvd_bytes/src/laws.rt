@@ -1,5 +1,6 @@
 ghost use Rattle.std.specs.Int.{w16, w32, w64};
-ghost use Rattle.lsvd_bytes.specs.Laws.{ReadsBytesAgain, ReadsNumberAgain, KeepsLength, KeepsOtherBytes, KeepsOtherNumbers, RewritesBytes, RewritesNumber};
+ghost use Rattle.lsvd_bytes.specs.Laws.{ReadsBytesAgain, ReadsNumberAgain, KeepsLength, KeepsOtherBytes};
+ghost use Rattle.lsvd_bytes.specs.Laws.{KeepsOtherNumbers, RewritesBytes, RewritesNumber};
 
 /// A law: what was written is read again at the same place.
 pub fn what_is_written_is_read_again()

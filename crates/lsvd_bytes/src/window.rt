@@ -1,8 +1,8 @@
 ghost use Rattle.std.specs.Prelude.{ℕ, ◌≡◌, ◌+◌, ◌-◌, ◌^◌, ◌<◌, length, min};
 ghost use Rattle.lsvd_bytes.specs.Window.{Pastes};
 
-/// Copies that part of a piece which a window shows. The window shows the bytes from `from` on, and the piece is put
-/// among them at `at`.
+/// Copies that part of a piece which a window shows. The window shows the bytes from `from` on, and the piece
+/// is put among them at `at`.
 pub fn paste(window: &mut [u8], from: u64, at: u64, piece: &[u8])
     requires { at + length piece.now < 2 ^ 64 }
     ensures { Pastes from at piece.now window.old window.new }

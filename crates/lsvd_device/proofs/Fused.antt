@@ -15,7 +15,8 @@ pass_through (Some zero) other some = absurd (some refl)
 pass_through (Some (suc left)) None some = grind arith
 pass_through (Some (suc left)) (Some other) some = grind arith
 
-lower_through : (fuse other : Fuse) → (fuse ≡ Some 0 → ⊥) → fuse_after (tighter fuse other) 1 ≡ tighter (fuse_after fuse 1) (fuse_after other 1)
+lower_through : (fuse other : Fuse) → (fuse ≡ Some 0 → ⊥) → fuse_after (tighter fuse other) 1 ≡ tighter (fuse_after fuse 1)
+    (fuse_after other 1)
 lower_through None other some = refl
 lower_through (Some zero) other some = absurd (some refl)
 lower_through (Some (suc left)) None some = refl
@@ -33,7 +34,8 @@ stay_at (Some other) = ap Some (omega arith)
 none_lowered : (calls : ℕ) → ◌≡◌ {A = Fuse} (Some 0) (fuse_after (Some 0) calls)
 none_lowered calls = ap Some (omega arith)
 
-takes_passed : (cost : Cost) (is_made : Bool) (fuse : Fuse) (old new : Option Budget) → cost.calls ≡ 1 → (fuse ≡ Some 0 → ⊥) → Takes cost is_made old new
+takes_passed : (cost : Cost) (is_made : Bool) (fuse : Fuse) (old new : Option Budget) → cost.calls ≡ 1 → (fuse ≡ Some 0 → ⊥)
+    → Takes cost is_made old new
     → Takes cost is_made (with_fuse fuse old) (with_fuse (fuse_after fuse 1) new)
 takes_passed cost is_made fuse None new one some takes = ap (with_fuse (fuse_after fuse 1)) takes
 takes_passed cost is_made fuse (Some old) new one some takes =
@@ -43,15 +45,18 @@ takes_passed cost is_made fuse (Some old) new one some takes =
       λ calls bytes.
           let fits = takes.2 calls bytes in
           record {
-            made = fits.made ∙ ap (passes old.fuse) one ∙ sym (pass_through fuse old.fuse some) ∙ ap (passes (tighter fuse old.fuse)) (sym one);
+            made = fits.made ∙ ap (passes old.fuse) one ∙ sym (pass_through fuse old.fuse some)
+                ∙ ap (passes (tighter fuse old.fuse)) (sym one);
             fuse =
-                ap (tighter (fuse_after fuse 1)) (fits.fuse ∙ ap (fuse_after old.fuse) one) ∙ sym (lower_through fuse old.fuse some) ∙ ap (fuse_after (tighter fuse old.fuse)) (sym one);
+                ap (tighter (fuse_after fuse 1)) (fits.fuse ∙ ap (fuse_after old.fuse) one)
+                ∙ sym (lower_through fuse old.fuse some) ∙ ap (fuse_after (tighter fuse old.fuse)) (sym one);
             calls = fits.calls;
             bytes = fits.bytes;
           },
     )
 
-takes_stopped : (cost : Cost) (budget : Option Budget) → cost.calls ≡ 1 → Takes cost false (with_fuse (Some 0) budget) (with_fuse (Some 0) budget)
+takes_stopped : (cost : Cost) (budget : Option Budget) → cost.calls ≡ 1
+    → Takes cost false (with_fuse (Some 0) budget) (with_fuse (Some 0) budget)
 takes_stopped cost None one = refl
 takes_stopped cost (Some budget) one = (
   record budget { fuse = tighter (Some 0) budget.fuse },
@@ -96,20 +101,25 @@ counts_with count a b one = record {
 }
 
 -- a call that was passed on
-pub fused_passed : (cost : Cost) (is_made : Bool) (fuse after : Fuse) (failed failed' : ℕ) (old new : DiskState) → cost.calls ≡ 1 → (fuse ≡ Some 0 → ⊥) → after ≡ fuse_after fuse 1 → failed' ≡ failed
-    → MakesCalls cost is_made old new → MakesCalls cost is_made (with_fuse_before fuse failed old) (with_fuse_before after failed' new)
+pub fused_passed : (cost : Cost) (is_made : Bool) (fuse after : Fuse) (failed failed' : ℕ) (old new : DiskState) → cost.calls ≡ 1
+    → (fuse ≡ Some 0 → ⊥) → after ≡ fuse_after fuse 1 → failed' ≡ failed
+    → MakesCalls cost is_made old new → MakesCalls cost is_made (with_fuse_before fuse failed old)
+    (with_fuse_before after failed' new)
 fused_passed cost is_made fuse after failed failed' old new one some fuse_after' same calls =
-    subst₂ (λ f n. MakesCalls cost is_made (with_fuse_before fuse failed old) (with_fuse_before f n new)) (sym fuse_after') (sym same) (record {
+    subst₂ (λ f n. MakesCalls cost is_made (with_fuse_before fuse failed old) (with_fuse_before f n new)) (sym fuse_after')
+    (sym same) (record {
       size = calls.size;
       faults = counts_on (not is_made) old.faults new.faults failed calls.faults;
       budget = takes_passed cost is_made fuse old.budget new.budget one some calls.budget;
     })
 
 -- a call that the fuse failed
-pub fused_stopped : (cost : Cost) (fuse after : Fuse) (failed failed' : ℕ) (disk : DiskState) → cost.calls ≡ 1 → fuse ≡ Some 0 → after ≡ Some 0 → CountsOne failed failed'
+pub fused_stopped : (cost : Cost) (fuse after : Fuse) (failed failed' : ℕ) (disk : DiskState) → cost.calls ≡ 1 → fuse ≡ Some 0
+    → after ≡ Some 0 → CountsOne failed failed'
     → MakesCalls cost false (with_fuse_before fuse failed disk) (with_fuse_before after failed' disk)
 fused_stopped cost fuse after failed failed' disk one is stays counted =
-    subst₂ (λ f g. MakesCalls cost false (with_fuse_before f failed disk) (with_fuse_before g failed' disk)) (sym is) (sym stays) (record {
+    subst₂ (λ f g. MakesCalls cost false (with_fuse_before f failed disk) (with_fuse_before g failed' disk)) (sym is)
+    (sym stays) (record {
       size = refl;
       faults = counts_with disk.faults failed failed' counted;
       budget = takes_stopped cost disk.budget one;
@@ -121,7 +131,8 @@ none_left left None none = cc
 none_left left (Some zero) none = refl
 none_left left (Some (suc more)) none = (let e : min (suc left) (suc more) ≡ 0 = cc in absurd (omega (arith, e)))
 
-none_behind : (fuse : Fuse) (budget : Option Budget) → (fuse ≡ Some 0 → ⊥) → PassesNone (with_fuse fuse budget) → PassesNone budget
+none_behind : (fuse : Fuse) (budget : Option Budget) → (fuse ≡ Some 0 → ⊥) → PassesNone (with_fuse fuse budget)
+    → PassesNone budget
 none_behind fuse None some none = none
 none_behind None (Some budget) some none = none
 none_behind (Some zero) (Some budget) some none = absurd (some refl)
@@ -132,17 +143,22 @@ same_behind None other some none = refl
 same_behind (Some left) other some none =
     ap (tighter (Some (left - 1))) none ∙ ap Some (omega arith) ∙ sym (ap (tighter (Some left)) none)
 
-same_budget : (fuse : Fuse) (budget : Option Budget) → (fuse ≡ Some 0 → ⊥) → PassesNone budget → with_fuse (fuse_after fuse 1) budget ≡ with_fuse fuse budget
+same_budget : (fuse : Fuse) (budget : Option Budget) → (fuse ≡ Some 0 → ⊥) → PassesNone budget
+    → with_fuse (fuse_after fuse 1) budget ≡ with_fuse fuse budget
 same_budget fuse None some none = refl
 same_budget fuse (Some budget) some none = ap (λ f. Some (record budget { fuse = f })) (same_behind fuse budget.fuse some none)
 
 -- a call that was passed on to a disk that passes none
-pub fused_blown : (is_made : Bool) (fuse after : Fuse) (failed failed' : ℕ) (old new : DiskState) → (fuse ≡ Some 0 → ⊥) → after ≡ fuse_after fuse 1 → failed' ≡ failed
-    → (PassesNone old.budget → FailsAlone is_made old new) → PassesNone (with_fuse fuse old.budget) → FailsAlone is_made (with_fuse_before fuse failed old) (with_fuse_before after failed' new)
+pub fused_blown : (is_made : Bool) (fuse after : Fuse) (failed failed' : ℕ) (old new : DiskState) → (fuse ≡ Some 0 → ⊥)
+    → after ≡ fuse_after fuse 1 → failed' ≡ failed
+    → (PassesNone old.budget → FailsAlone is_made old new) → PassesNone (with_fuse fuse old.budget)
+    → FailsAlone is_made (with_fuse_before fuse failed old) (with_fuse_before after failed' new)
 fused_blown is_made fuse after failed failed' old new some fuse_after' same blown none =
     let behind : PassesNone old.budget = none_behind fuse old.budget some none in
     let alone = blown behind in
-    let budget : with_fuse after old.budget ≡ with_fuse fuse old.budget = ap (λ f. with_fuse f old.budget) fuse_after' ∙ same_budget fuse old.budget some behind in (
+    let budget : with_fuse after old.budget ≡ with_fuse fuse old.budget = ap (λ f. with_fuse f old.budget) fuse_after'
+    ∙ same_budget fuse old.budget some behind in (
       alone.0,
-      ap (with_fuse_before after failed') alone.1 ∙ ap (λ b. record old { faults = counted_with new.faults failed'; budget = b }) budget,
+      ap (with_fuse_before after failed') alone.1
+          ∙ ap (λ b. record old { faults = counted_with new.faults failed'; budget = b }) budget,
     )

@@ -23,7 +23,8 @@ spent_on : (fuse : Fuse) (m n : ℕ) → false ≡ passes fuse m → fuse_after 
 spent_on None m n first = refl
 spent_on (Some left) m n first = ap Some (let e : nat_le m left ≡ false = sym first in grind arith)
 
-within_then : (a b : Cost) (is_made : Bool) (old middle new : Budget) → TakesWithin a true old middle → TakesWithin b is_made middle new → TakesWithin (together a b) is_made old new
+within_then : (a b : Cost) (is_made : Bool) (old middle new : Budget) → TakesWithin a true old middle
+    → TakesWithin b is_made middle new → TakesWithin (together a b) is_made old new
 within_then a b is_made old middle new first second = record {
   made = second.made ∙ ap (λ fuse. passes fuse b.calls) first.fuse ∙ pass_on old.fuse a.calls b.calls first.made;
   fuse = second.fuse ∙ ap (λ fuse. fuse_after fuse b.calls) first.fuse ∙ lower_on old.fuse a.calls b.calls;
@@ -39,8 +40,10 @@ within_failed a b old new first = record {
   bytes = omega (arith, first.bytes);
 }
 
-takes_then : (a b : Cost) (is_made : Bool) (old middle new : Option Budget) → Takes a true old middle → Takes b is_made middle new → Takes (together a b) is_made old new
-takes_then a b is_made None middle new first second = (let P : Option Budget → Type 0 = λ m. Takes b is_made m new in subst P first second)
+takes_then : (a b : Cost) (is_made : Bool) (old middle new : Option Budget) → Takes a true old middle → Takes b is_made middle new
+    → Takes (together a b) is_made old new
+takes_then a b is_made None middle new first second = (let P : Option Budget → Type 0 = λ m. Takes b is_made m new in
+    subst P first second)
 takes_then a b is_made (Some old) middle new first second =
     let P : Option Budget → Type 0 = λ m. Takes b is_made m new in
     let then : Takes b is_made (Some first.0) new = subst P first.1 second in (
@@ -48,7 +51,8 @@ takes_then a b is_made (Some old) middle new first second =
       then.1,
       λ calls bytes.
           let fits = first.2 (omega (arith, calls)) (omega (arith, bytes)) in
-          within_then a b is_made old first.0 then.0 fits (then.2 (omega (arith, calls, fits.calls)) (omega (arith, bytes, fits.bytes))),
+          within_then a b is_made old first.0 then.0 fits
+          (then.2 (omega (arith, calls, fits.calls)) (omega (arith, bytes, fits.bytes))),
     )
 
 takes_failed : (a b : Cost) (old new : Option Budget) → Takes a false old new → Takes (together a b) false old new
@@ -57,7 +61,8 @@ takes_failed a b (Some old) new first =
     (first.0, first.1, λ calls bytes. within_failed a b old first.0 (first.2 (omega (arith, calls)) (omega (arith, bytes))))
 
 -- calls that were all made, and then others
-pub made_then : (a b : Cost) (is_made : Bool) (old middle new : DiskState) → MakesCalls a true old middle → MakesCalls b is_made middle new → MakesCalls (together a b) is_made old new
+pub made_then : (a b : Cost) (is_made : Bool) (old middle new : DiskState) → MakesCalls a true old middle
+    → MakesCalls b is_made middle new → MakesCalls (together a b) is_made old new
 made_then a b is_made old middle new first second = record {
   size = second.size ∙ first.size;
   faults = subst (λ (n : ℕ). Counts (not is_made) n new.faults) first.faults second.faults;

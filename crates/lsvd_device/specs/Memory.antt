@@ -1,4 +1,5 @@
--- For this crate's own clauses: the moments of a disk in memory, by the changes that it keeps. `IsSynced` and `HasRoom` are contract.
+-- For this crate's own clauses: the moments of a disk in memory, by the changes that it keeps. `IsSynced` and `HasRoom` are
+-- contract.
 use Rattle.std.specs.Prelude.{◌≡◌, ℕ, ◌+◌, ◌≤◌, Option, Some, None, List, [], ◌∷◌, take, drop, length, replicate}
 use Rattle.std.specs.List.{AllByRecursion}
 use Rattle.lsvd_device.specs.Medium.{Medium, durable, after_write, after_sync}
@@ -28,7 +29,8 @@ bytes_written (Sync ∷ changes) = bytes_written changes
 -- the bytes after these changes
 unfoldable pub contents_from : List ℕ → List Change → List ℕ → List ℕ
 contents_from bytes [] written = bytes
-contents_from bytes (Write at count ∷ changes) written = contents_from (with_bytes at (take count written) bytes) changes (drop count written)
+contents_from bytes (Write at count ∷ changes) written = contents_from (with_bytes at (take count written) bytes) changes
+    (drop count written)
 contents_from bytes (Sync ∷ changes) written = contents_from bytes changes written
 
 -- a change lies inside a disk of this size

@@ -40,4 +40,5 @@ HasRoomFor calls budget = (length calls ≤ budget.calls) × (bytes_of_all calls
 -- Of calls within the room of a disk those are made that its fuse passes, and nothing else is done.
 abbrev pub MakesThosePassed : List Call → DiskState → DiskState → Type 0
 MakesThosePassed calls old new =
-    IfSome old.budget (λ budget. HasRoomFor calls budget → new.moments ≡ moments_with_all (take (passed_of budget.fuse (length calls)) calls) old.moments)
+    IfSome old.budget (λ budget. HasRoomFor calls budget
+    → new.moments ≡ moments_with_all (take (passed_of budget.fuse (length calls)) calls) old.moments)

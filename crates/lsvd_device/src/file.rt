@@ -13,7 +13,8 @@ use std::os::unix::fs::FileExt;
 use std::{fs, io};
 use thiserror::Error;
 
-/// Why a file could not be made or opened as a disk. None of these is counted anywhere, since there is no disk.
+/// Why a file could not be made or opened as a disk. None of these is counted anywhere, since there is no
+/// disk.
 #[derive(Clone, Copy, Debug, Error)]
 pub enum FileError {
     /// Another disk has the file, of this program or of another. Nothing of it was read or changed.
@@ -52,18 +53,20 @@ impl From<TryLockError> for FileError {
     }
 }
 
-/// A disk over a file of the operating system, which no other disk has as long as this one lives: the file is locked,
-/// by an advisory lock. It tells its length and its count of faults, and nothing of what the file holds.
+/// A disk over a file of the operating system, which no other disk has as long as this one lives: the file is
+/// locked, by an advisory lock. It tells its length and its count of faults, and nothing of what the file
+/// holds.
 ///
-/// A call of the system that does less than it was asked is gone on with, and one that a signal interrupts is made
-/// again. Any other error is a fault. After a sync that failed each later one fails too: the system may have given up
-/// what it could not write, and says so only once.
+/// A call of the system that does less than it was asked is gone on with, and one that a signal interrupts is
+/// made again. Any other error is a fault. After a sync that failed each later one fails too: the system may
+/// have given up what it could not write, and says so only once.
 #[derive(Drop)]
 pub struct FileDisk {
     file: File,
     size: u64,
     faults: u64,
-    /// The window that the last write outside of the first page ended in: the system was asked for it and for the next one.
+    /// The window that the last write outside of the first page ended in: the system was asked for it and for
+    /// the next one.
     window: Option<u64>,
     /// Why the last call that failed did.
     last_error: Option<io::Error>,
@@ -84,9 +87,10 @@ impl Model for FileDisk {
 }
 
 impl FileDisk {
-    /// Makes the file, or takes one that there is, and writes `len` zeros to it, each once. It is synced then, and so is
-    /// the directory that has its name; so later writes and syncs change the file's bytes alone. What stood in the file
-    /// is lost once it is locked; a file of which the zeros could not be written is left empty.
+    /// Makes the file, or takes one that there is, and writes `len` zeros to it, each once. It is synced
+    /// then, and so is the directory that has its name; so later writes and syncs change the file's bytes
+    /// alone. What stood in the file is lost once it is locked; a file of which the zeros could not be
+    /// written is left empty.
     pub fn create(rt: &HostRuntime, path: &str, len: u64) -> Result<FileDisk, FileError>
         ensures { IfOk result (λ disk. disk ≡ silent len 0) }
     {
@@ -100,8 +104,8 @@ impl FileDisk {
         Ok(FileDisk::over(file, len))
     }
 
-    /// Opens a file that there is, and syncs it: what an earlier program wrote, and did not sync, outlasts a stop now.
-    /// The length of the disk is that of the file, in bytes.
+    /// Opens a file that there is, and syncs it: what an earlier program wrote, and did not sync, outlasts a
+    /// stop now. The length of the disk is that of the file, in bytes.
     pub fn open(rt: &HostRuntime, path: &str) -> Result<FileDisk, FileError>
         ensures { IfOk result (λ disk. disk ≡ silent disk.size 0) }
     {
@@ -125,8 +129,8 @@ impl FileDisk {
         }
     }
 
-    // Asks the system for the pages that later writes will change, where they go on from the end of this one. The first page is
-    // written too often to be out of memory, and between others.
+    // Asks the system for the pages that later writes will change, where they go on from the end of this one.
+    // The first page is written too often to be out of memory, and between others.
     fn read_ahead(&mut self, end: u64)
         ensures { self.new ≡ self.old }
     {
@@ -220,8 +224,8 @@ fn open_locked(rt: &HostRuntime, path: &str, make: bool) -> Result<File, FileErr
     Ok(file)
 }
 
-// The same file, under a number that no standard stream has: where one was closed, what is meant for it must not be written
-// to the file.
+// The same file, under a number that no standard stream has: where one was closed, what is meant for it must
+// not be written to the file.
 fn above_standard_streams(file: File) -> io::Result<File> {
     if file.as_raw_fd() <= 2 {
         return file.try_clone();
@@ -235,16 +239,16 @@ const PAGE: u64 = 4096;
 // How many bytes of the file are asked for at a time.
 const WINDOW: u64 = 1 << 20;
 
-// Asks the system to read windows of the file, from the first one on, without waiting for them. It is advice, so nothing is
-// made of a refusal.
+// Asks the system to read windows of the file, from the first one on, without waiting for them. It is advice,
+// so nothing is made of a refusal.
 fn read_soon(file: &File, first: u64, windows: u64) {
     let at = first.saturating_mul(WINDOW).cast_signed();
     let len = windows.saturating_mul(WINDOW).cast_signed();
     let _ = libc::posix_fadvise(file.as_raw_fd(), at, len, libc::POSIX_FADV_WILLNEED);
 }
 
-// Lets the system forget what it has of a file in memory. After long writes it has it in large pieces, in which short ones cost
-// several times as much as in pages.
+// Lets the system forget what it has of a file in memory. After long writes it has it in large pieces, in
+// which short ones cost several times as much as in pages.
 fn forget_pages(file: &File) {
     let _ = libc::posix_fadvise(file.as_raw_fd(), 0, 0, libc::POSIX_FADV_DONTNEED);
 }

@@ -1,4 +1,5 @@
-ghost use Rattle.std.specs.Prelude.{◌≡◌, ℕ, length, ◌-◌, ◌<◌, ◌≤◌, ◌⊎◌, ◌^◌, Some, None, IfOk, OnOk, OnErr, IsSome};
+ghost use Rattle.std.specs.Prelude.{◌≡◌, ℕ, length, ◌-◌, ◌<◌, ◌≤◌, ◌⊎◌, ◌^◌, Some, None, IfOk, OnOk, OnErr};
+ghost use Rattle.std.specs.Prelude.{IsSome};
 ghost use Rattle.lsvd_fault.specs.Faults.{CountsOne};
 ghost use Rattle.lsvd_device.specs.Calls.{Fuse, fuse_of, fuse_after};
 ghost use Rattle.lsvd_device.specs.Device.{IsDisk, HoldsNow};
@@ -14,7 +15,8 @@ use lsvd_fault::Failed;
 use std::alloc::{AllocError, Global};
 use std::marker::Model;
 
-/// A disk with a fuse before it: a number of calls are passed on, and each later one fails without being made.
+/// A disk with a fuse before it: a number of calls are passed on, and each later one fails without being
+/// made.
 #[derive(Drop)]
 pub struct FuseDisk<D: Disk> {
     disk: D,
@@ -36,8 +38,8 @@ impl<D: Disk> Model for FuseDisk<D> {
 }
 
 impl<D: Disk> FuseDisk<D> {
-    /// The disk with a fuse that passes this many calls, or all where there is no limit. The disk is one (a condition,
-    /// which its `len` tells).
+    /// The disk with a fuse that passes this many calls, or all where there is no limit. The disk is one (a
+    /// condition, which its `len` tells).
     pub fn new(disk: D, fuse: Option<u64>) -> FuseDisk<D>
         requires { IsDisk (D.state disk) }
         ensures state { result ≡ with_fuse_before fuse 0 (D.state disk) }
@@ -59,9 +61,9 @@ impl<D: Disk> FuseDisk<D> {
 }
 
 impl FuseDisk<MemDisk> {
-    /// Makes room on the disk in memory for `calls` more writes and syncs, and for `bytes` bytes of writes, so that
-    /// none of them fails but by the fuse. The one error is that memory ran out. What the disk holds, and its count, are
-    /// as before.
+    /// Makes room on the disk in memory for `calls` more writes and syncs, and for `bytes` bytes of writes,
+    /// so that none of them fails but by the fuse. The one error is that memory ran out. What the disk holds,
+    /// and its count, are as before.
     pub fn reserve(&mut self, calls: u64, bytes: u64) -> Result<(), AllocError>
         ensures room { OnOk result (HasRoom calls bytes self.new.budget) }
         ensures fuse { fuse_of self.new.budget ≡ fuse_of self.old.budget }
@@ -119,7 +121,8 @@ impl<D: Disk> Disk for FuseDisk<D> {
 
 // Passes a call on, which burns the fuse by one; none is left where it fails.
 fn pass(left: &mut Option<u64>, failed: &mut u64) -> Result<(), Failed>
-    ensures ok { OnOk result ((left.old ≡ Some 0 → ⊥) × (left.new ≡ fuse_after left.old 1) × (failed.new ≡ failed.old)) }
+    ensures ok { OnOk result ((left.old ≡ Some 0 → ⊥) × (left.new ≡ fuse_after left.old 1)
+        × (failed.new ≡ failed.old)) }
     ensures err { OnErr result ((left.old ≡ Some 0) × (left.new ≡ Some 0) × CountsOne failed.old failed.new) }
 {
     match left {

@@ -1,11 +1,13 @@
-ghost use Rattle.std.specs.Prelude.{◌≡◌, ◌+◌, ◌-◌, ◌<◌, ◌≤◌, ◌∷◌, ◌++◌, [], None, Some, IfOk, OnOk, OnErr, IsOk, IfSome, length, replicate, take, drop, vec_capacity, ◌^◌, List, ℕ};
+ghost use Rattle.std.specs.Prelude.{◌≡◌, ◌+◌, ◌-◌, ◌<◌, ◌≤◌, ◌∷◌, ◌++◌, [], None, Some, IfOk, OnOk, OnErr};
+ghost use Rattle.std.specs.Prelude.{IsOk, IfSome, length, replicate, take, drop, vec_capacity, ◌^◌, List, ℕ};
 ghost use Rattle.lsvd_fault.specs.Faults.{CountsOne};
 ghost use Rattle.lsvd_device.specs.Medium.{MayLeave, durable};
 ghost use Rattle.lsvd_bytes.specs.Places.{with_bytes};
 ghost use Rattle.lsvd_device.specs.Calls.{fuse_of};
 ghost use Rattle.lsvd_device.specs.Device.{DiskState, HoldsNow};
 ghost use Rattle.lsvd_device.specs.Stop.{left_in_order, IsStopped};
-ghost use Rattle.lsvd_device.specs.Memory.{HasRoom, IsFrontOf, LiesInside, LieInside, bytes_written, contents_from};
+ghost use Rattle.lsvd_device.specs.Memory.{HasRoom, IsFrontOf, LiesInside, LieInside, bytes_written};
+ghost use Rattle.lsvd_device.specs.Memory.{contents_from};
 
 use crate::change::Change;
 use crate::disk::{Disk, StoppedDisk};
@@ -18,8 +20,8 @@ use std::marker::Model;
 
 /// A disk in memory, which keeps its changes in order. It fails only where it has no memory for a change.
 ///
-/// It takes memory for what is written to it and, where the writes go on from its beginning, for that once more, so
-/// that a read need not go over the changes.
+/// It takes memory for what is written to it and, where the writes go on from its beginning, for that once
+/// more, so that a read need not go over the changes.
 #[derive(Drop)]
 pub struct MemDisk {
     size: u64,
@@ -77,8 +79,8 @@ impl MemDisk {
 }
 
 impl MemDisk {
-    /// Makes room for `calls` more writes and syncs, and for `bytes` bytes of writes, so that none of them fails.
-    /// The one error is that memory ran out. What the disk holds, and its count, are as before.
+    /// Makes room for `calls` more writes and syncs, and for `bytes` bytes of writes, so that none of them
+    /// fails. The one error is that memory ran out. What the disk holds, and its count, are as before.
     pub fn reserve(&mut self, calls: u64, bytes: u64) -> Result<(), AllocError>
         ensures room { OnOk result (HasRoom calls bytes self.new.budget) }
         ensures fuse { fuse_of self.new.budget ≡ fuse_of self.old.budget }
@@ -153,11 +155,15 @@ fn keep_write(
     at: u64,
     piece: &[u8],
 ) -> Result<(), AllocError>
-    ensures ok { OnOk result ((changes.new.items ≡ changes.old.items ++ Change.Write at (length piece.now) ∷ [])
+    ensures ok { OnOk result ((changes.new.items ≡ changes.old.items ++ Change.Write at
+        (length piece.now) ∷ [])
         × (written.new.items ≡ written.old.items ++ piece.now)) }
-    ensures err { OnErr result ((changes.new.items ≡ changes.old.items) × (written.new.items ≡ written.old.items)) }
-    ensures capacity { (vec_capacity changes.old ≤ vec_capacity changes.new) × (vec_capacity written.old ≤ vec_capacity written.new) }
-    ensures succeeds { length changes.old.items < vec_capacity changes.old → length written.old.items + length piece.now ≤ vec_capacity written.old → IsOk result }
+    ensures err { OnErr result ((changes.new.items ≡ changes.old.items)
+        × (written.new.items ≡ written.old.items)) }
+    ensures capacity { (vec_capacity changes.old ≤ vec_capacity changes.new)
+        × (vec_capacity written.old ≤ vec_capacity written.new) }
+    ensures succeeds { length changes.old.items < vec_capacity changes.old
+        → length written.old.items + length piece.now ≤ vec_capacity written.old → IsOk result }
 {
     changes.reserve(1)?;
     written.extend_from_slice(piece)?;
@@ -174,11 +180,12 @@ fn counted(faults: &mut u64) -> Failed
     Failed
 }
 
-// Puts a piece in place of the bytes from `at` on, as far as the front has them or ends there. Where memory runs out for
-// a longer front it ends before the piece.
+// Puts a piece in place of the bytes from `at` on, as far as the front has them or ends there. Where memory
+// runs out for a longer front it ends before the piece.
 fn put_in_front(front: &mut Vec<u8>, at: usize, piece: &[u8])
     requires { at + length piece.now < 2 ^ 64 }
-    ensures { (bytes : List ℕ) → at + length piece.now ≤ length bytes → IsFrontOf bytes front.old.items → IsFrontOf (with_bytes at piece.now bytes) front.new.items }
+    ensures { (bytes : List ℕ) → at + length piece.now ≤ length bytes → IsFrontOf bytes front.old.items
+        → IsFrontOf (with_bytes at piece.now bytes) front.new.items }
 {
     if at + piece.len() <= front.len() {
         put_inside(front, at, piece);
@@ -201,8 +208,10 @@ fn read_kept(front: &[u8], changes: &[Change], written: &[u8], at: u64, buf: &mu
     requires counted { bytes_written changes.now ≡ length written.now }
     requires ends { LieInside (2 ^ 64 - 1) changes.now }
     requires range { at + length buf.old < 2 ^ 64 }
-    ensures { (size : ℕ) → at + length buf.old ≤ size → LieInside size changes.now → IsFrontOf (contents_from (replicate size 0) changes.now written.now) front.now
-        → buf.new ≡ take (length buf.old) (drop at (contents_from (replicate size 0) changes.now written.now)) }
+    ensures { (size : ℕ) → at + length buf.old ≤ size → LieInside size changes.now
+        → IsFrontOf (contents_from (replicate size 0) changes.now written.now) front.now
+        → buf.new ≡ take (length buf.old)
+        (drop at (contents_from (replicate size 0) changes.now written.now)) }
 {
     let (from, end) = (at as usize, at as usize + buf.len());
     if end <= front.len() {
@@ -217,7 +226,8 @@ fn replay(changes: &[Change], written: &[u8], at: u64, buf: &mut [u8])
     requires counted { bytes_written changes.now ≡ length written.now }
     requires ends { LieInside (2 ^ 64 - 1) changes.now }
     ensures { (size : ℕ) → at + length buf.old ≤ size → LieInside size changes.now
-        → buf.new ≡ take (length buf.old) (drop at (contents_from (replicate size 0) changes.now written.now)) }
+        → buf.new ≡ take (length buf.old)
+        (drop at (contents_from (replicate size 0) changes.now written.now)) }
 {
     buf.fill(0);
     let mut from = 0;
@@ -226,13 +236,14 @@ fn replay(changes: &[Change], written: &[u8], at: u64, buf: &mut [u8])
     }
 }
 
-// Makes the bytes from `at` on of what they were and of a change, and answers how many bytes the change wrote, which
-// are the first of `written`.
+// Makes the bytes from `at` on of what they were and of a change, and answers how many bytes the change
+// wrote, which are the first of `written`.
 fn put_change(change: Change, written: &[u8], at: u64, buf: &mut [u8]) -> usize
     requires fits { bytes_written (change ∷ []) ≤ length written.now }
     requires ends { LiesInside (2 ^ 64 - 1) change }
     ensures count { result ≡ bytes_written (change ∷ []) }
-    ensures shown { (bytes : List ℕ) → at + length buf.old ≤ length bytes → LiesInside (length bytes) change → buf.old ≡ take (length buf.old) (drop at bytes)
+    ensures shown { (bytes : List ℕ) → at + length buf.old ≤ length bytes → LiesInside (length bytes) change
+        → buf.old ≡ take (length buf.old) (drop at bytes)
         → buf.new ≡ take (length buf.old) (drop at (contents_from bytes (change ∷ []) written.now)) }
 {
     match change {

@@ -3,8 +3,10 @@ ghost use Rattle.std.specs.List.{AllByRecursion};
 ghost use Rattle.lsvd_device.specs.Medium.{MayLeave, after_write, after_sync};
 ghost use Rattle.lsvd_device.specs.Calls.{fuse_of};
 ghost use Rattle.lsvd_device.specs.Device.{IsDisk, HoldsNow, moments_after};
-ghost use Rattle.lsvd_device.specs.Memory.{IsWrite, LiesInside, LieInside, bytes_written, moments_from, moments_of};
-ghost use Rattle.lsvd_device.specs.Stop.{put_by, change_by, left_in_order, IsStopped, Rewrites, LeavesBy, MayStop};
+ghost use Rattle.lsvd_device.specs.Memory.{IsWrite, LiesInside, LieInside, bytes_written, moments_from};
+ghost use Rattle.lsvd_device.specs.Memory.{moments_of};
+ghost use Rattle.lsvd_device.specs.Stop.{put_by, change_by, left_in_order, IsStopped, Rewrites, LeavesBy};
+ghost use Rattle.lsvd_device.specs.Stop.{MayStop};
 
 use crate::change::Change;
 use crate::disk::Disk;
@@ -13,8 +15,8 @@ use crate::memory::MemDisk;
 use lsvd_fault::Failed;
 use std::alloc::{AllocError, Global};
 
-/// The disk that a stop leaves of these changes, of which the first `synced` are those up to the last sync, and each write
-/// after them has met its fate. The one error is that memory ran out.
+/// The disk that a stop leaves of these changes, of which the first `synced` are those up to the last sync,
+/// and each write after them has met its fate. The one error is that memory ran out.
 pub(crate) fn stop(
     alloc: Global,
     size: u64,
@@ -25,8 +27,11 @@ pub(crate) fn stop(
 ) -> Result<MemDisk, AllocError>
     requires { MayStop size synced changes.now written.now fates.now }
     ensures size { IfOk result (λ disk. disk.size ≡ size) }
-    ensures left { IfOk result (λ disk. IsStopped fates.now (moments_of size changes.now written.now) disk.moments) }
-    ensures may_leave { OnOk result (HoldsNow (λ now. MayLeave now (left_in_order fates.now (moments_of size changes.now written.now))) (moments_of size changes.now written.now)) }
+    ensures left { IfOk result (λ disk. IsStopped fates.now (moments_of size changes.now written.now)
+        disk.moments) }
+    ensures may_leave { OnOk result (HoldsNow
+        (λ now. MayLeave now (left_in_order fates.now (moments_of size changes.now written.now)))
+        (moments_of size changes.now written.now)) }
     ensures fuse { IfOk result (λ disk. fuse_of disk.budget ≡ Some None) }
     ensures is_disk { IfOk result IsDisk }
 {
@@ -44,7 +49,8 @@ pub(crate) fn stop(
     Ok(disk)
 }
 
-// Makes changes again on another disk, and answers how many bytes they wrote, which are the first of `written`.
+// Makes changes again on another disk, and answers how many bytes they wrote, which are the first of
+// `written`.
 fn make_again(disk: &mut MemDisk, changes: &[Change], written: &[u8]) -> Result<usize, AllocError>
     requires counted { bytes_written changes.now ≤ length written.now }
     requires inside { LieInside disk.old.size changes.now }
@@ -64,7 +70,8 @@ fn make_change(disk: &mut MemDisk, change: Change, written: &[u8]) -> Result<usi
     requires fits { bytes_written (change ∷ []) ≤ length written.now }
     requires inside { LiesInside disk.old.size change }
     ensures count { IfOk result (λ count. count ≡ bytes_written (change ∷ [])) }
-    ensures moments { OnOk result (disk.new.moments ≡ moments_from disk.old.moments (change ∷ []) written.now) }
+    ensures moments { OnOk result (disk.new.moments ≡ moments_from disk.old.moments (change ∷ [])
+        written.now) }
     ensures size { disk.new.size ≡ disk.old.size }
 {
     match change {
@@ -79,8 +86,8 @@ fn make_change(disk: &mut MemDisk, change: Change, written: &[u8]) -> Result<usi
     }
 }
 
-// Lets each of these writes meet its fate on a disk that holds what stood at the last sync before them. Their bytes
-// are the first of `written`.
+// Lets each of these writes meet its fate on a disk that holds what stood at the last sync before them. Their
+// bytes are the first of `written`.
 fn make_by_fates(
     alloc: Global,
     disk: &mut MemDisk,
@@ -92,7 +99,8 @@ fn make_by_fates(
     requires inside { LieInside disk.old.size changes.now }
     requires writes { AllByRecursion IsWrite changes.now }
     requires count { length fates.now ≡ length changes.now }
-    ensures left { OnOk result (LeavesBy disk.old.size fates.now changes.now written.now disk.old.moments disk.new.moments) }
+    ensures left { OnOk result (LeavesBy disk.old.size fates.now changes.now written.now disk.old.moments
+        disk.new.moments) }
     ensures size { disk.new.size ≡ disk.old.size }
 {
     let mut used = 0;
@@ -114,7 +122,8 @@ fn make_by_fate(
     requires inside { LiesInside disk.old.size change }
     requires write { IsWrite change }
     ensures count { IfOk result (λ count. count ≡ bytes_written (change ∷ [])) }
-    ensures bytes { OnOk result (Rewrites (change_by fate change written.now) disk.old.moments disk.new.moments) }
+    ensures bytes { OnOk result (Rewrites (change_by fate change written.now) disk.old.moments
+        disk.new.moments) }
     ensures size { disk.new.size ≡ disk.old.size }
 {
     match change {
@@ -152,7 +161,8 @@ fn put_by(
 // A write, which fails only where memory runs out.
 fn put(disk: &mut MemDisk, at: u64, piece: &[u8]) -> Result<(), AllocError>
     requires inside { at + length piece.now ≤ disk.old.size }
-    ensures moments { OnOk result (disk.new.moments ≡ moments_after (after_write at piece.now) disk.old.moments) }
+    ensures moments { OnOk result (disk.new.moments ≡ moments_after (after_write at piece.now)
+        disk.old.moments) }
     ensures size { disk.new.size ≡ disk.old.size }
 {
     match disk.write(at, piece) {

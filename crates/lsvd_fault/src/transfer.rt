@@ -1,4 +1,5 @@
-ghost use Rattle.std.specs.Prelude.{◌≡◌, ℕ, ◌≤◌, List, ◌+◌, ◌<◌, ◌++◌, length, take, vec_len, IfOk, OnOk, OnErr, is_err};
+ghost use Rattle.std.specs.Prelude.{◌≡◌, ℕ, ◌≤◌, List, ◌+◌, ◌<◌, ◌++◌, length, take, vec_len, IfOk, OnOk};
+ghost use Rattle.std.specs.Prelude.{OnErr, is_err};
 ghost use Rattle.std.specs.Io.KnownBytes.{Appends, Consumes, IsAtEnd};
 ghost use Rattle.lsvd_fault.specs.Faults.{Counts, is_read_fault};
 ghost use Rattle.lsvd_fault.specs.declared.transfer.ReadError.TheVariants as read_errors;
@@ -55,7 +56,8 @@ fn read_more<S: Source>(
     ensures bytes { OnOk result ((piece : List ℕ) × (bytes.new.items ≡ bytes.old.items ++ piece)
         × Consumes (S.remaining source.old) (S.remaining source.new) piece) }
     ensures end { IfOk result (λ n. n ≡ 0 → IsAtEnd (S.remaining source.new)) }
-    ensures lost { OnErr result ((piece : List ℕ) × Consumes (S.remaining source.old) (S.remaining source.new) piece) }
+    ensures lost { OnErr result ((piece : List ℕ)
+        × Consumes (S.remaining source.old) (S.remaining source.new) piece) }
     ensures count { Counts (is_read_fault result) (S.faults source.old) (S.faults source.new) }
 {
     let count = source.read(buffer)?;
@@ -66,16 +68,18 @@ fn read_more<S: Source>(
 /// Reads until the source is at its end, or until more than `limit` bytes have come, and answers all of the
 /// bytes that came: where they are at most `limit`, the source was at its end. One read asks for up to 65,536
 /// bytes, so that many more than `limit` may come. The first fault of the source ends it with
-/// `ReadError::Failed`, and `ReadError::OutOfMemory` comes where memory ran out; after either the bytes that were
-/// read are lost.
+/// `ReadError::Failed`, and `ReadError::OutOfMemory` comes where memory ran out; after either the bytes that
+/// were read are lost.
 pub fn read_past_limit<S: Source>(
     alloc: Global,
     source: &mut S,
     limit: usize,
 ) -> Result<Vec<u8>, ReadError>
-    ensures bytes { IfOk result (λ bytes. Consumes (S.remaining source.old) (S.remaining source.new) bytes.items) }
+    ensures bytes { IfOk result (λ bytes. Consumes (S.remaining source.old) (S.remaining source.new)
+        bytes.items) }
     ensures end { IfOk result (λ bytes. length bytes.items ≤ limit → IsAtEnd (S.remaining source.new)) }
-    ensures lost { OnErr result ((bytes : List ℕ) × Consumes (S.remaining source.old) (S.remaining source.new) bytes) }
+    ensures lost { OnErr result ((bytes : List ℕ)
+        × Consumes (S.remaining source.old) (S.remaining source.new) bytes) }
     ensures count { Counts (is_read_fault result) (S.faults source.old) (S.faults source.new) }
 {
     let mut bytes = Vec::new(alloc);
@@ -92,7 +96,8 @@ pub fn read_past_limit<S: Source>(
 /// fails ends it with `Failed`, and the sink then took a front of the bytes, which may be none of them.
 pub fn write_all<S: Sink>(sink: &mut S, bytes: &[u8]) -> Result<(), Failed>
     ensures ok { OnOk result (Appends (S.contents sink.old) (S.contents sink.new) bytes.now) }
-    ensures front { OnErr result ((n : ℕ) × (n ≤ length bytes.now) × Appends (S.contents sink.old) (S.contents sink.new) (take n bytes.now)) }
+    ensures front { OnErr result ((n : ℕ) × (n ≤ length bytes.now)
+        × Appends (S.contents sink.old) (S.contents sink.new) (take n bytes.now)) }
     ensures other { S.unread sink.new ≡ S.unread sink.old }
     ensures count { Counts (is_err result) (S.faults sink.old) (S.faults sink.new) }
 {

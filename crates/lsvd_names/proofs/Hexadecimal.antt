@@ -1,5 +1,6 @@
 -- The hexadecimal digits of a number: what they are, how they are read, and what `{:016x}` writes.
-use Rattle.std.proofs.Common.{◌≡◌, ℕ, zero, suc, ◌+◌, ◌-◌, ◌*◌, ◌/◌, ◌%◌, ◌^◌, ◌<◌, ◌≤◌, false, cond, eq-eqb, inl, inr, List, [], ◌∷◌, ◌++◌, length, get_or, replicate, refl, sym, ◌∙◌, ap, arith, length-append, append_assoc}
+use Rattle.std.proofs.Common.{◌≡◌, ℕ, zero, suc, ◌+◌, ◌-◌, ◌*◌, ◌/◌, ◌%◌, ◌^◌, ◌<◌, ◌≤◌, false, cond, eq-eqb, inl, inr, List, []}
+use Rattle.std.proofs.Common.{◌∷◌, ◌++◌, length, get_or, replicate, refl, sym, ◌∙◌, ap, arith, length-append, append_assoc}
 use Rattle.std.specs.Char.{digit_char, digit_value}
 use Rattle.std.specs.Fmt.{digits, digits_onto, digit_glyph, padded_integral, format_spec, char_count}
 use Rattle.std.specs.Str.Parse.{digits_value}
@@ -16,7 +17,8 @@ use Rattle.lsvd_names.specs.Spelling.{hex_digits}
 pub length-hex_digits : (count n : ℕ) → length (hex_digits count n) ≡ count
 unfolding hex_digits
 length-hex_digits zero n = refl
-length-hex_digits (suc count) n = omega (arith, length-append (hex_digits count (n / 16)) (digit_char (n % 16) ∷ []), length-hex_digits count (n / 16))
+length-hex_digits (suc count) n = omega
+    (arith, length-append (hex_digits count (n / 16)) (digit_char (n % 16) ∷ []), length-hex_digits count (n / 16))
 
 -- each of them is a digit
 pub digit_at : (count n i : ℕ) → i < count → (d : ℕ) × (d < 16) × (get_or (hex_digits count n) i 0 ≡ digit_char d)
@@ -26,9 +28,18 @@ digit_at (suc count) n i h =
     let front = hex_digits count (n / 16) in
     elim (cases_lt i count) [
       | inl under ↦
-          let before = digit_at count (n / 16) i under in
-          (before.0, before.1, get_or_append_left front (digit_char (n % 16) ∷ []) 0 i (omega (arith, length-hex_digits count (n / 16))) ∙ before.2)
-      | inr over ↦ (n % 16, omega arith, get_or_push front (digit_char (n % 16)) 0 i (omega (arith, length-hex_digits count (n / 16))))
+          let before = digit_at count (n / 16) i under in (
+            before.0,
+            before.1,
+            get_or_append_left front (digit_char (n % 16) ∷ []) 0 i
+                (omega (arith, length-hex_digits count (n / 16))) ∙ before.2,
+          )
+      | inr over ↦ (
+        n % 16,
+        omega arith,
+        get_or_push front (digit_char (n % 16)) 0 i
+            (omega (arith, length-hex_digits count (n / 16))),
+      )
     ]
 
 -- one digit more at the end
@@ -48,7 +59,8 @@ pub fits_in_64_bits : (count n : ℕ) → n < 16 ^ count → count ≤ 16 → n 
 fits_in_64_bits count n small few = let most : 16 ^ count ≤ 16 ^ 16 = pow-le-pow_right (omega arith) few in omega arith
 
 -- where one byte is no digit, the bytes are no number's digits
-pub bad_digit : (bytes : List ℕ) (i : ℕ) → i < 16 → ((d : ℕ) → d < 16 → get_or bytes i 0 ≡ digit_char d → ⊥) → (n : ℕ) → bytes ≡ hex_digits 16 n → ⊥
+pub bad_digit : (bytes : List ℕ) (i : ℕ) → i < 16 → ((d : ℕ) → d < 16 → get_or bytes i 0 ≡ digit_char d → ⊥) → (n : ℕ)
+    → bytes ≡ hex_digits 16 n → ⊥
 bad_digit bytes i h bad n e =
     let digit = digit_at 16 n i h in
     bad digit.0 digit.1 (ap (λ l. get_or l i 0) e ∙ digit.2)
@@ -63,7 +75,13 @@ unfolding hex_digits
 digits_value-hex_digits zero n small = omega arith
 digits_value-hex_digits (suc count) n small =
     let front = digits_value-hex_digits count (n / 16) (omega arith) in
-    omega (arith, digits_value_push 16 (hex_digits count (n / 16)) (digit_char (n % 16)), front, digit_value-digit_char (n % 16) (omega arith))
+    omega (
+      arith,
+      digits_value_push 16 (hex_digits count (n / 16)) (digit_char (n % 16)),
+      front,
+      digit_value-digit_char (n % 16)
+          (omega arith),
+    )
 
 -- so two numbers of 64 bits with the same digits are one
 pub hex_digits_injective : (m n : ℕ) → m < 2 ^ 64 → n < 2 ^ 64 → hex_digits 16 m ≡ hex_digits 16 n → m ≡ n
@@ -84,10 +102,13 @@ last_glyph n = digit_glyph false (n % 16)
 
 -- how digits are written before others
 onto_last : (k n : ℕ) (acc : List ℕ) → n < 16 → digits_onto (suc k) 16 false n acc ≡ last_glyph n ∷ acc
-onto_last k n acc h = ap (λ t. cond t (last_glyph n ∷ acc) (digits_onto k 16 false (n / 16) (last_glyph n ∷ acc))) (eq-eqb (n / 16) 0 (omega arith))
+onto_last k n acc h = ap (λ t. cond t (last_glyph n ∷ acc) (digits_onto k 16 false (n / 16) (last_glyph n ∷ acc)))
+    (eq-eqb (n / 16) 0 (omega arith))
 
-onto_next : (k n : ℕ) (acc : List ℕ) → 16 ≤ n → digits_onto (suc k) 16 false n acc ≡ digits_onto k 16 false (n / 16) (last_glyph n ∷ acc)
-onto_next k n acc h = ap (λ t. cond t (last_glyph n ∷ acc) (digits_onto k 16 false (n / 16) (last_glyph n ∷ acc))) (ne_eqb (n / 16) 0 (λ e. omega arith))
+onto_next : (k n : ℕ) (acc : List ℕ) → 16 ≤ n → digits_onto (suc k) 16 false n acc ≡ digits_onto k 16 false (n / 16)
+    (last_glyph n ∷ acc)
+onto_next k n acc h = ap (λ t. cond t (last_glyph n ∷ acc) (digits_onto k 16 false (n / 16) (last_glyph n ∷ acc)))
+    (ne_eqb (n / 16) 0 (λ e. omega arith))
 
 -- a number with more than one digit has some before the last
 some_left : (count n : ℕ) → n < 16 ^ suc count → 16 ≤ n → 0 < count
@@ -105,15 +126,20 @@ without_zeros (suc count) (suc k) n acc some room small =
     append_assoc (hex_digits count (n / 16)) (last_glyph n ∷ []) acc in
     elim (cases_lt n 16) [
       | inl one ↦
-          let front : n / 16 ≡ 0 = omega arith in
-          (count, ap (λ l. replicate count 48 ++ l) (onto_last k n acc one) ∙ ap (λ l. l ++ last_glyph n ∷ acc) (sym (zeros count) ∙ ap (hex_digits count) (sym front)) ∙ sym regroup)
+          let front : n / 16 ≡ 0 = omega arith in (
+            count,
+            ap (λ l. replicate count 48 ++ l) (onto_last k n acc one) ∙ ap (λ l. l ++ last_glyph n ∷ acc) (sym (zeros count)
+                ∙ ap (hex_digits count) (sym front)) ∙ sym regroup,
+          )
       | inr more ↦
-          let before = without_zeros count k (n / 16) (last_glyph n ∷ acc) (some_left count n small more) (omega arith) (omega arith) in
+          let before = without_zeros count k (n / 16) (last_glyph n ∷ acc) (some_left count n small more) (omega arith)
+          (omega arith) in
           (before.0, ap (λ l. replicate before.0 48 ++ l) (onto_next k n acc more) ∙ before.1 ∙ sym regroup)
     ]
 
 -- zeros stand before what is padded to sixteen
-padded_to_sixteen : (numeral : List ℕ) → padded_integral (format_spec 32 0 4 16 (2 ^ 64 - 1)) false [] numeral ≡ replicate (16 - length numeral - 0 - 0) 48 ++ (numeral ++ [])
+padded_to_sixteen : (numeral : List ℕ) → padded_integral (format_spec 32 0 4 16 (2 ^ 64 - 1)) false [] numeral
+    ≡ replicate (16 - length numeral - 0 - 0) 48 ++ (numeral ++ [])
 unfolding padded_integral char_count
 padded_to_sixteen numeral = refl
 
@@ -121,14 +147,19 @@ digits_at_once : (n : ℕ) → digits 16 false n ≡ digits_onto 64 16 false n [
 unfolding digits
 digits_at_once n = refl
 
-same_padding : (pad : ℕ) (written all : List ℕ) → replicate pad 48 ++ written ≡ all → length all ≡ 16 → replicate (16 - length written - 0 - 0) 48 ++ (written ++ []) ≡ all
+same_padding : (pad : ℕ) (written all : List ℕ) → replicate pad 48 ++ written ≡ all → length all ≡ 16
+    → replicate (16 - length written - 0 - 0) 48 ++ (written ++ []) ≡ all
 same_padding pad written all e sixteen =
-    let count : 16 - length written - 0 - 0 ≡ pad = omega (arith, ap length e, length-append (replicate pad 48) written, length-replicate {A = ℕ} pad 48) in
+    let count : 16 - length written - 0 - 0 ≡ pad =
+    omega (arith, ap length e, length-append (replicate pad 48) written, length-replicate {A = ℕ} pad 48) in
     rw (count, append-nil written) e
 
 -- what `{:016x}` writes
-pub zero_padded : (n : ℕ) → n < 2 ^ 64 → padded_integral (format_spec 32 0 4 16 (2 ^ 64 - 1)) false [] (digits 16 false n) ≡ hex_digits 16 n
+pub zero_padded : (n : ℕ) → n < 2 ^ 64 → padded_integral (format_spec 32 0 4 16 (2 ^ 64 - 1)) false [] (digits 16 false n)
+    ≡ hex_digits 16 n
 zero_padded n small =
     let whole = without_zeros 16 64 n [] (omega arith) (omega arith) (omega arith) in
-    ap (padded_integral (format_spec 32 0 4 16 (2 ^ 64 - 1)) false []) (digits_at_once n) ∙ padded_to_sixteen (digits_onto 64 16 false n [])
-    ∙ same_padding whole.0 (digits_onto 64 16 false n []) (hex_digits 16 n) (whole.1 ∙ append-nil (hex_digits 16 n)) (length-hex_digits 16 n)
+    ap (padded_integral (format_spec 32 0 4 16 (2 ^ 64 - 1)) false []) (digits_at_once n)
+    ∙ padded_to_sixteen (digits_onto 64 16 false n [])
+    ∙ same_padding whole.0 (digits_onto 64 16 false n []) (hex_digits 16 n) (whole.1 ∙ append-nil (hex_digits 16 n))
+    (length-hex_digits 16 n)

@@ -63,7 +63,8 @@ impl ObjName {
 
 // The kind and the number that stand after the uuid and a dot.
 fn kind_and_number(text: &str) -> Option<(Kind, u64)>
-    ensures found { IfSome result (λ found. MayHaveNumber found.0 found.1 × (text.now ≡ ending found.0 found.1)) }
+    ensures found { IfSome result (λ found. MayHaveNumber found.0 found.1
+        × (text.now ≡ ending found.0 found.1)) }
     ensures none { IfNone result ((kind : Kind) (number : ℕ) → text.now ≡ ending kind number → ⊥) }
 {
     if text == "super" {

@@ -24,7 +24,8 @@ equal_to_itself other name e = ap (λ n. is_eq (name_cmp other n)) (sym e) ∙ (
 changed : (name : ObjName) (value : Option (List ℕ)) (old new : Objects)
     → found new name ≡ value → KeepsOthers name old new → (other : ObjName) → IsKeptOrHas name value old new other
 changed name value old new has others other =
-    by_test (is_eq (name_cmp other name)) name value old new other (tells_apart name_cmp_exact other name) (equal_to_itself other name) has others
+    by_test (is_eq (name_cmp other name)) name value old new other (tells_apart name_cmp_exact other name)
+    (equal_to_itself other name) has others
 
 pub puts_whole : PutsWhole
 puts_whole name bytes old new (inl e) other = inl (ap (λ objects. found objects other) e)

@@ -18,9 +18,11 @@ AreOf uuid names = All (λ (name : ObjName). IsName name × (name.uuid ≡ uuid)
 
 pub AreOf-insert_key : (uuid : List ℕ) (name : ObjName) (names : List ObjName)
     → IsName name → name.uuid ≡ uuid → AreOf uuid names → AreOf uuid (insert_key name_cmp names name)
-AreOf-insert_key uuid name names is e all = All-insert_key name_cmp name (λ (other : ObjName). IsName other × (other.uuid ≡ uuid)) names all (is, e)
+AreOf-insert_key uuid name names is e all = All-insert_key name_cmp name (λ (other : ObjName). IsName other × (other.uuid ≡ uuid))
+    names all (is, e)
 
-pub are_names_of : (uuid : List ℕ) (names : List ObjName) → AreOf uuid names → IsStrictlySortedBy name_cmp names → AreNamesOf uuid names
+pub are_names_of : (uuid : List ℕ) (names : List ObjName) → AreOf uuid names → IsStrictlySortedBy name_cmp names
+    → AreNamesOf uuid names
 are_names_of uuid names all ascending = record {
   ascending = ascending;
   each = λ name h. All-contains (λ (other : ObjName). IsName other × (other.uuid ≡ uuid)) names name all h;
@@ -30,7 +32,8 @@ not_so : false ≡ true → ⊥
 not_so e = cc
 
 -- a text that spells a name of another volume spells none of this one
-pub of_other_volume : (uuid file : List ℕ) (found : ObjName) → IsName found × (file ≡ spelling found) → not (bytes_eq found.uuid uuid) ≡ true
+pub of_other_volume : (uuid file : List ℕ) (found : ObjName) → IsName found × (file ≡ spelling found)
+    → not (bytes_eq found.uuid uuid) ≡ true
     → (name : ObjName) → IsName name → name.uuid ≡ uuid → file ≡ spelling name → ⊥
 of_other_volume uuid file found is differs name named e spelled =
     let same : found ≡ name = one_spelling found name is.0 named (sym is.1 ∙ spelled) in

@@ -44,7 +44,8 @@ removed_at : (found : Bool) (object : ObjName × List ℕ) (rest less : Objects)
 removed_at true object rest less old new = old.1
 removed_at false object rest less old new = (old.0, new)
 
-pub HaveNames-remove_entry : (test : ObjName → Bool) (objects : Objects) → HaveNames objects → HaveNames (remove_entry test objects)
+pub HaveNames-remove_entry : (test : ObjName → Bool) (objects : Objects) → HaveNames objects
+    → HaveNames (remove_entry test objects)
 HaveNames-remove_entry test [] old = tt
 HaveNames-remove_entry test (object ∷ rest) old =
     removed_at (test object.0) object rest (remove_entry test rest) old (HaveNames-remove_entry test rest old.1)

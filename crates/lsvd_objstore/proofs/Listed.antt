@@ -1,5 +1,6 @@
 -- The names between the first and the last that a volume's objects may have are those of its objects.
-use Rattle.std.proofs.Common.{◌≡◌, sym, ap, refl, ℕ, ◌-◌, ◌^◌, ◌<◌, ◌≤◌, Bool, true, false, cond, not, ◌&&◌, List, [], ◌∷◌, Some, None, arith}
+use Rattle.std.proofs.Common.{◌≡◌, sym, ap, refl, ℕ, ◌-◌, ◌^◌, ◌<◌, ◌≤◌, Bool, true, false, cond, not, ◌&&◌, List, [], ◌∷◌, Some}
+use Rattle.std.proofs.Common.{None, arith}
 use Rattle.std.specs.Prelude.{Option}
 use Rattle.std.specs.Option.{IsSome}
 use Rattle.std.specs.Ordering.{is_le, is_lt, is_gt, nat_cmp, ordering_then, ordering_reverse}
@@ -66,12 +67,14 @@ in_volume uuid name = range_contains name_cmp (Included (first_name_of uuid)) (I
 both : (p q : Bool) → p ≡ true → q ≡ true → (p && q) ≡ true
 both p q a b = rw a b
 
-at_equal : (r x y : Ordering) → r ≡ Equal → is_le x ≡ true → not (is_lt y) ≡ true → (is_le (ordering_then r x) && not (is_lt (ordering_then r y))) ≡ true
+at_equal : (r x y : Ordering) → r ≡ Equal → is_le x ≡ true → not (is_lt y) ≡ true
+    → (is_le (ordering_then r x) && not (is_lt (ordering_then r y))) ≡ true
 at_equal r x y e a b = rw e (both _ _ a b)
 
 in_volume-from_uuid : (uuid : List ℕ) (name : ObjName) → name.uuid ≡ uuid → name.number < 2 ^ 64 → in_volume uuid name ≡ true
 in_volume-from_uuid uuid name e fits =
-    at_equal (slice_cmp nat_cmp uuid name.uuid) (ordering_then (kind_cmp Super name.kind) (nat_cmp 0 name.number)) (ordering_then (kind_cmp Hold name.kind) (nat_cmp (2 ^ 64 - 1) name.number))
+    at_equal (slice_cmp nat_cmp uuid name.uuid) (ordering_then (kind_cmp Super name.kind) (nat_cmp 0 name.number))
+    (ordering_then (kind_cmp Hold name.kind) (nat_cmp (2 ^ 64 - 1) name.number))
     (same_bytes uuid name.uuid e) (from_first name.kind name.number) (to_last name.kind (2 ^ 64 - 1) name.number (omega arith))
 
 between_equal : (r x y : Ordering) → (is_le (ordering_then r x) && not (is_lt (ordering_then r y))) ≡ true → r ≡ Equal
@@ -81,7 +84,9 @@ between_equal Greater x y h = cc
 
 uuid_from_in_volume : (uuid : List ℕ) (name : ObjName) → in_volume uuid name ≡ true → name.uuid ≡ uuid
 uuid_from_in_volume uuid name h =
-    sym (exact_bytes uuid name.uuid (between_equal (slice_cmp nat_cmp uuid name.uuid) (ordering_then (kind_cmp Super name.kind) (nat_cmp 0 name.number)) (ordering_then (kind_cmp Hold name.kind) (nat_cmp (2 ^ 64 - 1) name.number)) h))
+    sym (exact_bytes uuid name.uuid (between_equal (slice_cmp nat_cmp uuid name.uuid)
+    (ordering_then (kind_cmp Super name.kind) (nat_cmp 0 name.number))
+    (ordering_then (kind_cmp Hold name.kind) (nat_cmp (2 ^ 64 - 1) name.number)) h))
 
 -- a filter by the keys
 keys_step : (b : Bool) (object : ObjName × List ℕ) (rest : Objects) (names : List ObjName)
@@ -89,7 +94,8 @@ keys_step : (b : Bool) (object : ObjName × List ℕ) (rest : Objects) (names : 
 keys_step true object rest names h = ap (λ ns. object.0 ∷ ns) h
 keys_step false object rest names h = h
 
-keys_of-filter : (p : ObjName → Bool) (objects : Objects) → keys_of (filter (λ object. p object.0) objects) ≡ filter p (keys_of objects)
+keys_of-filter : (p : ObjName → Bool) (objects : Objects) → keys_of (filter (λ object. p object.0) objects)
+    ≡ filter p (keys_of objects)
 keys_of-filter p [] = refl
 keys_of-filter p (object ∷ rest) =
     keys_step (p object.0) object (filter (λ other. p other.0) rest) (filter p (keys_of rest)) (keys_of-filter p rest)
@@ -113,16 +119,21 @@ named_at false name object found_later e is later h = later h
 named : (objects : Objects) → HaveNames objects → (name : ObjName) → IsSome (found objects name) → IsName name
 named [] have name h = cc
 named (object ∷ rest) have name h =
-    named_at (is_at (name_cmp name) object.0) name object (found rest name) (tells_apart name_cmp_exact name object.0) have.0 (named rest have.1 name) h
+    named_at (is_at (name_cmp name) object.0) name object (found rest name) (tells_apart name_cmp_exact name object.0) have.0
+    (named rest have.1 name) h
 
 pub lists : (uuid : List ℕ) (map : BTreeMap ObjName (List ℕ)) → IsOrdered name_cmp map → HaveNames map.entries
-    → Lists uuid map.entries (keys_of (entries_between name_cmp (Included (first_name_of uuid)) (Included (last_name_of uuid)) map.entries))
+    → Lists uuid map.entries (keys_of (entries_between name_cmp (Included (first_name_of uuid)) (Included (last_name_of uuid))
+    map.entries))
 lists uuid map ordered have = record {
-  ascending = rw (keys_of-filter (in_volume uuid) map.entries) (IsStrictlySortedBy-filter name_cmp (in_volume uuid) (keys_of map.entries) ordered);
+  ascending = rw (keys_of-filter (in_volume uuid) map.entries)
+      (IsStrictlySortedBy-filter name_cmp (in_volume uuid) (keys_of map.entries) ordered);
   present = λ name h.
       let some : IsSome (found (filter (λ object. in_volume uuid object.0) map.entries) name) =
-      IsSome-lookup_from_Contains (eq_by_cmp_equiv name_cmp_total) name (filter (λ object. in_volume uuid object.0) map.entries) h in
-      let both = passes (in_volume uuid name) (found map.entries name) (rw (found-filter (in_volume uuid) map.entries name) at some) in
+      IsSome-lookup_from_Contains (eq_by_cmp_equiv name_cmp_total) name (filter (λ object. in_volume uuid object.0) map.entries)
+      h in
+      let both = passes (in_volume uuid name) (found map.entries name)
+      (rw (found-filter (in_volume uuid) map.entries name) at some) in
       (named map.entries have name both.1, uuid_from_in_volume uuid name both.0, both.1);
   complete = λ name is e h.
       Contains-keys_from_lookup (tells_apart name_cmp_exact) name (filter (λ object. in_volume uuid object.0) map.entries)
@@ -130,4 +141,8 @@ lists uuid map ordered have = record {
 }
 
 pub are_names : {uuid : List ℕ} {objects : Objects} {names : List ObjName} → Lists uuid objects names → AreNamesOf uuid names
-are_names listed = record { ascending = listed.ascending; each = λ name h. let there = listed.present name h in (there.0, there.1) }
+are_names listed = record {
+  ascending = listed.ascending;
+  each = λ name h. let there = listed.present name h in
+      (there.0, there.1);
+}

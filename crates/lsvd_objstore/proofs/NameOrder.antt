@@ -37,7 +37,8 @@ kind_exact Hold Epoch h = cc
 kind_exact Hold Object h = cc
 kind_exact Hold Hold h = refl
 
-pub name_cmp-parts : (a b : ObjName) → name_cmp a b ≡ ordering_then (slice_cmp nat_cmp a.uuid b.uuid) (ordering_then (kind_cmp a.kind b.kind) (nat_cmp a.number b.number))
+pub name_cmp-parts : (a b : ObjName) → name_cmp a b ≡ ordering_then (slice_cmp nat_cmp a.uuid b.uuid)
+    (ordering_then (kind_cmp a.kind b.kind) (nat_cmp a.number b.number))
 name_cmp-parts a b = refl
 
 both_equal : (p q : Ordering) → ordering_then p q ≡ Equal → (p ≡ Equal) × (q ≡ Equal)
@@ -53,7 +54,8 @@ same_name a b uuid kind number =
 
 pub name_cmp_exact : CmpEqualImpliesEq name_cmp
 name_cmp_exact a b h =
-    let first = both_equal (slice_cmp nat_cmp a.uuid b.uuid) (ordering_then (kind_cmp a.kind b.kind) (nat_cmp a.number b.number)) h in
+    let first = both_equal (slice_cmp nat_cmp a.uuid b.uuid) (ordering_then (kind_cmp a.kind b.kind) (nat_cmp a.number b.number))
+    h in
     let second = both_equal (kind_cmp a.kind b.kind) (nat_cmp a.number b.number) first.1 in
     same_name a b (exact_bytes _ _ first.0) (kind_exact _ _ second.0) (exact_unsigned _ _ second.1)
 

@@ -49,7 +49,8 @@ same_first x y xs ys above below (inr here) (inr there) =
     absurd (not_below_both x y (has (λ k. name_cmp x k ≡ Less) xs y above there) (has (λ k. name_cmp y k ≡ Less) ys x below here))
 
 among_rest : (x y name : ObjName) (ys : List ObjName) → x ≡ y → name_cmp x name ≡ Less → Among (y ∷ ys) name → Among ys name
-among_rest x y name ys e below (inl same) = absurd (not_below_itself x (subst (λ k. name_cmp x k ≡ Less) (sym same ∙ sym e) below))
+among_rest x y name ys e below (inl same) =
+    absurd (not_below_itself x (subst (λ k. name_cmp x k ≡ Less) (sym same ∙ sym e) below))
 among_rest x y name ys e below (inr h) = h
 
 one_list : (xs ys : List ObjName) → IsStrictlySortedBy name_cmp xs → IsStrictlySortedBy name_cmp ys
@@ -75,4 +76,5 @@ within uuid objects names others these those name h =
 
 pub has_one_list : HasOneList
 has_one_list uuid objects names others these those =
-    one_list names others these.ascending those.ascending (within uuid objects names others these those) (within uuid objects others names those these)
+    one_list names others these.ascending those.ascending (within uuid objects names others these those)
+    (within uuid objects others names those these)

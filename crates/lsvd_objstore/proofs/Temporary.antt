@@ -1,5 +1,6 @@
 -- A file whose name goes on after the spelling of an object's has a temporary name.
-use Rattle.std.proofs.Common.{◌≡◌, ◌∙◌, sym, ap, ℕ, ◌+◌, ◌-◌, ◌≤◌, Bool, true, false, List, [], ◌++◌, Some, length, take, drop, arith, length-drop}
+use Rattle.std.proofs.Common.{◌≡◌, ◌∙◌, sym, ap, ℕ, ◌+◌, ◌-◌, ◌≤◌, Bool, true, false, List, [], ◌++◌, Some, length, take, drop}
+use Rattle.std.proofs.Common.{arith, length-drop}
 use Rattle.std.specs.Bool.{then_some}
 use Rattle.std.specs.Option.{IfSome, SomeIff}
 use Rattle.std.specs.Prelude.{Option}

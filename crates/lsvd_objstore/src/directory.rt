@@ -16,8 +16,8 @@ use std::io;
 use std::marker::Model;
 use uuid::Uuid;
 
-/// What stands for an object of a directory: its name and its length. It tells no bytes; a read of it fails where the
-/// object is gone, or another of another length has its name.
+/// What stands for an object of a directory: its name and its length. It tells no bytes; a read of it fails
+/// where the object is gone, or another of another length has its name.
 #[derive(Debug, Drop)]
 pub struct DirReceipt {
     name: ObjName,
@@ -72,12 +72,12 @@ impl Receipt for DirReceipt {
     } };
 }
 
-/// A store over a directory of the operating system: each object is a file under the spelling of its name. Other files of
-/// the directory are left alone. It tells its count of faults, and nothing of what it holds.
+/// A store over a directory of the operating system: each object is a file under the spelling of its name.
+/// Other files of the directory are left alone. It tells its count of faults, and nothing of what it holds.
 ///
-/// A put or a removal that was acknowledged stays over a stop of the machine, and so does what a search or a list tells. A
-/// put has a temporary name until its object is whole; what a stopped program left under such a name is no object, and is
-/// there until `clear`.
+/// A put or a removal that was acknowledged stays over a stop of the machine, and so does what a search or a
+/// list tells. A put has a temporary name until its object is whole; what a stopped program left under such a
+/// name is no object, and is there until `clear`.
 #[derive(Drop)]
 pub struct DirStore {
     files: ObjectFiles,
@@ -99,7 +99,8 @@ impl Model for DirStore {
 }
 
 impl DirStore {
-    /// Opens the directory as a store, and makes it where it is absent; the directory above it has to be there.
+    /// Opens the directory as a store, and makes it where it is absent; the directory above it has to be
+    /// there.
     pub fn create(rt: &HostRuntime, path: &str) -> Result<DirStore, DirectoryError>
         ensures { IfOk result (λ store. store ≡ silent_store 0) }
     {
@@ -125,8 +126,8 @@ impl DirStore {
         }
     }
 
-    /// Removes what stopped puts left, of any volume, under temporary names. Objects, other files, and what a put that is
-    /// under way has written are left alone.
+    /// Removes what stopped puts left, of any volume, under temporary names. Objects, other files, and what a
+    /// put that is under way has written are left alone.
     pub fn clear(&mut self) -> Result<(), StoreError>
         ensures unchanged { OnlyCounts self.old self.new }
         ensures count { Counts (has_failed result) self.old.faults self.new.faults }

@@ -1,9 +1,12 @@
-ghost use Rattle.std.specs.Prelude.{◌≡◌, ℕ, ◌+◌, ◌≤◌, length, take, drop, option_map, IfOk, IfSome, OnOk, OnErr, IsErrOf, is_ok, is_err};
+ghost use Rattle.std.specs.Prelude.{◌≡◌, ℕ, ◌+◌, ◌≤◌, length, take, drop, option_map, IfOk, IfSome, OnOk};
+ghost use Rattle.std.specs.Prelude.{OnErr, IsErrOf, is_ok, is_err};
 ghost use Rattle.lsvd_names.specs.Spelling.{IsName};
 ghost use Rattle.lsvd_objstore.specs.Objects.{IsPut, MayBePut, IsRemoved, MayBeRemoved, AreNamesOf, Lists};
-ghost use Rattle.lsvd_objstore.specs.Store.{Put, Remove, IsReceiptOf, Asks, OnlyCounts, Becomes, has_failed, Finds};
+ghost use Rattle.lsvd_objstore.specs.Store.{Put, Remove, IsReceiptOf, Asks, OnlyCounts, Becomes, has_failed};
+ghost use Rattle.lsvd_objstore.specs.Store.{Finds};
 ghost use Rattle.lsvd_fault.specs.Faults.{counted_with, Counts};
-ghost use Rattle.lsvd_objstore.specs.Faulty.{Plan, planned_at, planned_in, faulty_state, IsLost, Lands, IsCall};
+ghost use Rattle.lsvd_objstore.specs.Faulty.{Plan, planned_at, planned_in, faulty_state, IsLost, Lands};
+ghost use Rattle.lsvd_objstore.specs.Faulty.{IsCall};
 
 use crate::error::StoreError;
 use crate::names::Names;
@@ -27,8 +30,8 @@ pub struct PlannedFault {
 
 /// A store before which calls fail as planned. Every other call is passed on to the store under it.
 ///
-/// A planned call answers `Failed` and counts a fault. One that lands is made first; where the store under it gives it no
-/// answer, that is the error, and counts there alone. The count of calls stands at `u64::MAX`.
+/// A planned call answers `Failed` and counts a fault. One that lands is made first; where the store under it
+/// gives it no answer, that is the error, and counts there alone. The count of calls stands at `u64::MAX`.
 #[derive(Drop)]
 pub struct FaultStore<S: Store> {
     store: S,
@@ -45,19 +48,25 @@ impl<S: Store> Model for FaultStore<S> {
 
     ghost Value = { FaultState };
 
-    ghost view = { λ f. record { store = S.state f.store; plan = f.planned.entries; calls = f.calls; failed = f.failed } };
+    ghost view = { λ f. record {
+      store = S.state f.store;
+      plan = f.planned.entries;
+      calls = f.calls;
+      failed = f.failed;
+    } };
 }
 
 impl<S: Store + Drop> FaultStore<S> {
-    /// The store, before which these calls fail. Of two faults of one call the last counts. The one error is that memory
-    /// ran out.
+    /// The store, before which these calls fail. Of two faults of one call the last counts. The one error is
+    /// that memory ran out.
     pub fn new(
         alloc: Global,
         store: S,
         planned: &[PlannedFault],
     ) -> Result<FaultStore<S>, AllocError>
         ensures store { IfOk result (λ it. it.store ≡ S.state store) }
-        ensures plan { IfOk result (λ it. (call : ℕ) → planned_at it.plan call ≡ planned_in planned.now call) }
+        ensures plan { IfOk result (λ it. (call : ℕ)
+            → planned_at it.plan call ≡ planned_in planned.now call) }
         ensures calls { IfOk result (λ it. it.calls ≡ 0) }
         ensures failed { IfOk result (λ it. it.failed ≡ 0) }
     {
@@ -103,13 +112,20 @@ impl<S: Store> Store for FaultStore<S> {
         bytes: &ObjectBytes,
     ) -> Result<S::Receipt, StoreError>
         requires { IsName name.now }
-        ensures put { OnOk result (Becomes (IsPut name.now bytes.now) self.old.store.objects self.new.store.objects) }
+        ensures put { OnOk result (Becomes (IsPut name.now bytes.now) self.old.store.objects
+            self.new.store.objects) }
         ensures receipt { IfOk result (λ receipt. IsReceiptOf name.now bytes.now (S.Receipt.state receipt)) }
-        ensures failed { IsErrOf result StoreError.Failed → Becomes (MayBePut name.now bytes.now) self.old.store.objects self.new.store.objects }
-        ensures unchanged { IsErrOf result StoreError.OutOfMemory → faulty_state self.new ≡ faulty_state self.old }
-        ensures asked { (IsErrOf result StoreError.OutOfMemory → ⊥) → Asks (Put name.now bytes.now) (faulty_state self.old).asked (faulty_state self.new).asked }
-        ensures count { Counts (has_failed result) (faulty_state self.old).faults (faulty_state self.new).faults }
-        ensures call { IsCall (has_failed result) (Lands (is_ok result) (has_failed result) (IsPut name.now bytes.now) self.old self.new) self.old self.new }
+        ensures failed { IsErrOf result StoreError.Failed
+            → Becomes (MayBePut name.now bytes.now) self.old.store.objects self.new.store.objects }
+        ensures unchanged { IsErrOf result StoreError.OutOfMemory
+            → faulty_state self.new ≡ faulty_state self.old }
+        ensures asked { (IsErrOf result StoreError.OutOfMemory → ⊥)
+            → Asks (Put name.now bytes.now) (faulty_state self.old).asked (faulty_state self.new).asked }
+        ensures count { Counts (has_failed result) (faulty_state self.old).faults
+            (faulty_state self.new).faults }
+        ensures call { IsCall (has_failed result)
+            (Lands (is_ok result) (has_failed result) (IsPut name.now bytes.now) self.old self.new)
+            self.old self.new }
     {
         match begin(&self.planned, &mut self.calls) {
             None => self.store.put(alloc, name, bytes),
@@ -124,7 +140,8 @@ impl<S: Store> Store for FaultStore<S> {
 
     fn get(&mut self, receipt: &S::Receipt, from: u64, buf: &mut [u8]) -> Result<(), Failed>
         requires { from + length buf.old ≤ (S.Receipt.state receipt.now).size }
-        ensures bytes { OnOk result (IfSome (S.Receipt.state receipt.now).told (λ told. buf.new ≡ take (length buf.old) (drop from told))) }
+        ensures bytes { OnOk result (IfSome (S.Receipt.state receipt.now).told
+            (λ told. buf.new ≡ take (length buf.old) (drop from told))) }
         ensures unchanged { OnlyCounts (faulty_state self.old) (faulty_state self.new) }
         ensures count { Counts (is_err result) (faulty_state self.old).faults (faulty_state self.new).faults }
         ensures call { IsCall (is_err result) (IsLost (is_err result) self.old self.new) self.old self.new }
@@ -137,10 +154,13 @@ impl<S: Store> Store for FaultStore<S> {
 
     fn find(&mut self, alloc: Global, name: &ObjName) -> Result<Option<S::Receipt>, StoreError>
         requires { IsName name.now }
-        ensures found { IfOk result (λ receipt. Finds name.now self.old.store.objects (option_map S.Receipt.state receipt)) }
+        ensures found { IfOk result (λ receipt. Finds name.now self.old.store.objects
+            (option_map S.Receipt.state receipt)) }
         ensures unchanged { OnlyCounts (faulty_state self.old) (faulty_state self.new) }
-        ensures count { Counts (has_failed result) (faulty_state self.old).faults (faulty_state self.new).faults }
-        ensures call { IsCall (has_failed result) (IsLost (has_failed result) self.old self.new) self.old self.new }
+        ensures count { Counts (has_failed result) (faulty_state self.old).faults
+            (faulty_state self.new).faults }
+        ensures call { IsCall (has_failed result) (IsLost (has_failed result) self.old self.new)
+            self.old self.new }
     {
         match begin(&self.planned, &mut self.calls) {
             None => self.store.find(alloc, name),
@@ -150,10 +170,13 @@ impl<S: Store> Store for FaultStore<S> {
 
     fn list(&mut self, alloc: Global, uuid: Uuid) -> Result<Names, StoreError>
         ensures names { IfOk result (AreNamesOf uuid) }
-        ensures listed { IfOk result (λ names. IfSome self.old.store.objects (λ objects. Lists uuid objects names)) }
+        ensures listed { IfOk result (λ names. IfSome self.old.store.objects
+            (λ objects. Lists uuid objects names)) }
         ensures unchanged { OnlyCounts (faulty_state self.old) (faulty_state self.new) }
-        ensures count { Counts (has_failed result) (faulty_state self.old).faults (faulty_state self.new).faults }
-        ensures call { IsCall (has_failed result) (IsLost (has_failed result) self.old self.new) self.old self.new }
+        ensures count { Counts (has_failed result) (faulty_state self.old).faults
+            (faulty_state self.new).faults }
+        ensures call { IsCall (has_failed result) (IsLost (has_failed result) self.old self.new)
+            self.old self.new }
     {
         match begin(&self.planned, &mut self.calls) {
             None => self.store.list(alloc, uuid),
@@ -162,11 +185,16 @@ impl<S: Store> Store for FaultStore<S> {
     }
 
     fn remove(&mut self, receipt: &S::Receipt) -> Result<(), Failed>
-        ensures removed { OnOk result (Becomes (IsRemoved (S.Receipt.state receipt.now).name) self.old.store.objects self.new.store.objects) }
-        ensures failed { OnErr result (Becomes (MayBeRemoved (S.Receipt.state receipt.now).name) self.old.store.objects self.new.store.objects) }
-        ensures asked { Asks (Remove (S.Receipt.state receipt.now).name) (faulty_state self.old).asked (faulty_state self.new).asked }
+        ensures removed { OnOk result (Becomes (IsRemoved (S.Receipt.state receipt.now).name)
+            self.old.store.objects self.new.store.objects) }
+        ensures failed { OnErr result (Becomes (MayBeRemoved (S.Receipt.state receipt.now).name)
+            self.old.store.objects self.new.store.objects) }
+        ensures asked { Asks (Remove (S.Receipt.state receipt.now).name) (faulty_state self.old).asked
+            (faulty_state self.new).asked }
         ensures count { Counts (is_err result) (faulty_state self.old).faults (faulty_state self.new).faults }
-        ensures call { IsCall (is_err result) (Lands (is_ok result) (is_err result) (IsRemoved (S.Receipt.state receipt.now).name) self.old self.new) self.old self.new }
+        ensures call { IsCall (is_err result)
+            (Lands (is_ok result) (is_err result) (IsRemoved (S.Receipt.state receipt.now).name) self.old
+            self.new) self.old self.new }
     {
         match begin(&self.planned, &mut self.calls) {
             None => self.store.remove(receipt),

@@ -1,9 +1,11 @@
-//! The store of a virtual disk's objects: a finite map from names to bytes, where each put is whole or absent.
+//! The store of a virtual disk's objects: a finite map from names to bytes, where each put is whole or
+//! absent.
 //!
-//! Its contract is that of the trait `Store`: what a put, a removal, a search and a list do, acknowledged or not, and
-//! when a call fails. A receipt stands for the bytes that one object had. It stands on `lsvd_names`, `lsvd_base`, `lsvd_fault`
-//! and the kit's `lru`. A store in memory and its receipts share the bytes of an object with whoever put it. `DirStore` is a
-//! store over a directory of the operating system: it counts its faults, and tells nothing of what it holds.
+//! Its contract is that of the trait `Store`: what a put, a removal, a search and a list do, acknowledged or
+//! not, and when a call fails. A receipt stands for the bytes that one object had. It stands on `lsvd_names`,
+//! `lsvd_base`, `lsvd_fault` and the kit's `lru`. A store in memory and its receipts share the bytes of an
+//! object with whoever put it. `DirStore` is a store over a directory of the operating system: it counts its
+//! faults, and tells nothing of what it holds.
 #![tactic(auto)]
 
 mod directory;

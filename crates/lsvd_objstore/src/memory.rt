@@ -189,7 +189,8 @@ fn names_between(
     last: ObjName,
 ) -> Result<Vec<ObjName>, AllocError>
     requires { is_gt (name_cmp first last) ≡ false }
-    ensures between { IfOk result (λ names. names.items ≡ keys_of (entries_between name_cmp (Included first) (Included last) objects.now.entries)) }
+    ensures between { IfOk result (λ names. names.items
+        ≡ keys_of (entries_between name_cmp (Included first) (Included last) objects.now.entries)) }
     ensures ordered { IsOrdered name_cmp objects.now }
 {
     objects

@@ -66,8 +66,8 @@ impl From<DirectoryError> for io::Error {
 // How many files stay open for later reads.
 const OPEN_FILES: usize = 32;
 
-/// The objects of a directory: each is a file under the spelling of its name. What is changed stays over a stop of the machine
-/// once the call is done.
+/// The objects of a directory: each is a file under the spelling of its name. What is changed stays over a
+/// stop of the machine once the call is done.
 #[derive(Drop)]
 pub(crate) struct ObjectFiles {
     rt: HostRuntime,
@@ -114,8 +114,8 @@ impl ObjectFiles {
         })
     }
 
-    /// Makes the file of an object, in place of one that there is. It is written under a temporary name, and has its own
-    /// only when it is whole. Where memory ran out nothing was done.
+    /// Makes the file of an object, in place of one that there is. It is written under a temporary name, and
+    /// has its own only when it is whole. Where memory ran out nothing was done.
     pub(crate) fn put(
         &mut self,
         alloc: Global,
@@ -166,7 +166,8 @@ impl ObjectFiles {
         }
     }
 
-    /// Reads the bytes of an object of `len` bytes from `from` on. A file of another length is not that object's.
+    /// Reads the bytes of an object of `len` bytes from `from` on. A file of another length is not that
+    /// object's.
     pub(crate) fn read(
         &mut self,
         name: &ObjName,
@@ -190,7 +191,8 @@ impl ObjectFiles {
         Ok(())
     }
 
-    /// The names of a volume's objects, in ascending order. Files that have no name of an object are passed over.
+    /// The names of a volume's objects, in ascending order. Files that have no name of an object are passed
+    /// over.
     pub(crate) fn names(&mut self, alloc: Global, uuid: Uuid) -> Result<Names, DirectoryError>
         ensures { IfOk result (AreNamesOf uuid) }
     {
@@ -223,7 +225,8 @@ impl ObjectFiles {
         Ok(())
     }
 
-    /// Removes the files that puts left under their temporary names, other than those of a put that is under way.
+    /// Removes the files that puts left under their temporary names, other than those of a put that is under
+    /// way.
     pub(crate) fn clear(&mut self) -> Result<(), DirectoryError> {
         for entry in fs::read_dir(&self.rt, self.path.as_str())? {
             clear_if_left(&self.rt, entry)?;
@@ -278,8 +281,8 @@ fn not_a_file() -> io::Error {
     io::Error::new(ErrorKind::InvalidInput, "not a regular file")
 }
 
-// Makes a file of these bytes and syncs it. It is locked as long as it is open, so that no one takes it for one that was left;
-// where it cannot be locked, and is taken, it cannot get its name.
+// Makes a file of these bytes and syncs it. It is locked as long as it is open, so that no one takes it for
+// one that was left; where it cannot be locked, and is taken, it cannot get its name.
 fn write_whole(rt: &HostRuntime, path: &str, bytes: &[u8]) -> io::Result<File> {
     let mut file = OpenOptions::new()
         .write(true)
@@ -299,8 +302,8 @@ fn write_whole(rt: &HostRuntime, path: &str, bytes: &[u8]) -> io::Result<File> {
 // How many bytes of an object are written at a time.
 const PIECE: usize = 1 << 20;
 
-// Writes the bytes piece by piece, and lets the system send each to its device while the next is written, so that less is left
-// for the sync. Linux begins to write a part of a file that it is told not to keep.
+// Writes the bytes piece by piece, and lets the system send each to its device while the next is written, so
+// that less is left for the sync. Linux begins to write a part of a file that it is told not to keep.
 fn write_pieces(file: &mut File, bytes: &[u8]) -> io::Result<()> {
     let mut at: u64 = 0;
     for piece in bytes.chunks(PIECE) {
@@ -339,7 +342,8 @@ fn object_of(entry: io::Result<DirEntry>, uuid: Uuid) -> io::Result<Option<ObjNa
 // The object of a volume that has this name in a directory. None is for any other name.
 fn name_in(file: &str, uuid: Uuid) -> Option<ObjName>
     ensures found { IfSome result (λ name. IsName name × (name.uuid ≡ uuid) × (file.now ≡ spelling name)) }
-    ensures none { IfNone result ((name : ObjName) → IsName name → name.uuid ≡ uuid → file.now ≡ spelling name → ⊥) }
+    ensures none { IfNone result ((name : ObjName) → IsName name → name.uuid ≡ uuid
+        → file.now ≡ spelling name → ⊥) }
 {
     let name = ObjName::parse(file)?;
     if name.uuid != uuid {
@@ -388,7 +392,8 @@ fn path_of(alloc: Global, directory: &str, file: &str) -> Result<String, AllocEr
     format!(in alloc; "{directory}/{file}")
 }
 
-/// The path of an object's file until it is whole, as a store with this mark makes it. The one error is that memory ran out.
+/// The path of an object's file until it is whole, as a store with this mark makes it. The one error is that
+/// memory ran out.
 pub(crate) fn temporary_path(alloc: Global, path: &str, mark: u64) -> Result<String, AllocError>
     ensures { IfOk result (λ temporary. string_bytes temporary ≡ path.now ++ ending_of mark) }
 {

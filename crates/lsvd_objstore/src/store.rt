@@ -1,7 +1,9 @@
-ghost use Rattle.std.specs.Prelude.{◌≡◌, ◌+◌, ◌≤◌, length, take, drop, option_map, IsTrue, IfOk, IfSome, OnOk, OnErr, IsErrOf, is_err, ◌↔◌};
+ghost use Rattle.std.specs.Prelude.{◌≡◌, ◌+◌, ◌≤◌, length, take, drop, option_map, IsTrue, IfOk, IfSome};
+ghost use Rattle.std.specs.Prelude.{OnOk, OnErr, IsErrOf, is_err, ◌↔◌};
 ghost use Rattle.lsvd_names.specs.Spelling.{IsName};
 ghost use Rattle.lsvd_objstore.specs.Objects.{IsPut, MayBePut, IsRemoved, MayBeRemoved, AreNamesOf, Lists};
-ghost use Rattle.lsvd_objstore.specs.Store.{StoreState, ReceiptState, Put, Remove, IsReceiptOf, IsSameObject, Asks, OnlyCounts, Becomes, has_failed, Finds};
+ghost use Rattle.lsvd_objstore.specs.Store.{StoreState, ReceiptState, Put, Remove, IsReceiptOf, IsSameObject};
+ghost use Rattle.lsvd_objstore.specs.Store.{Asks, OnlyCounts, Becomes, has_failed, Finds};
 ghost use Rattle.lsvd_fault.specs.Faults.{Counts};
 
 use crate::error::StoreError;
@@ -12,8 +14,8 @@ use lsvd_names::ObjName;
 use std::alloc::{AllocError, Global};
 use uuid::Uuid;
 
-/// What a store gives for an object: it stands for the bytes that the object had when it was put or found, whatever is
-/// put or removed later.
+/// What a store gives for an object: it stands for the bytes that the object had when it was put or found,
+/// whatever is put or removed later.
 pub trait Receipt: Drop {
     /// The name, the length, and the bytes where it tells them.
     ghost state: { Self → ReceiptState };
@@ -34,21 +36,23 @@ pub trait Receipt: Drop {
         ensures state { IfOk result (λ receipt. state receipt ≡ state self.now) }
         ensures same { IfOk result (λ receipt. are_same self.now receipt) };
 
-    /// Whether both are taken for one. True is answered only where they stand for the same object: one name, one length,
-    /// and the same bytes, where both tell them. It is answered for a receipt and its copy. A receipt of a directory
-    /// need not tell two objects apart that have one name and one length.
+    /// Whether both are taken for one. True is answered only where they stand for the same object: one name,
+    /// one length, and the same bytes, where both tell them. It is answered for a receipt and its copy. A
+    /// receipt of a directory need not tell two objects apart that have one name and one length.
     fn same(&self, other: &Self) -> bool
         ensures { IsTrue result ↔ are_same self.now other.now };
 
     /// Receipts that are taken for one stand for the same object.
-    ghost only_same: { (receipt other : Self) → are_same receipt other → IsSameObject (state receipt) (state other) };
+    ghost only_same: { (receipt other : Self) → are_same receipt other
+        → IsSameObject (state receipt) (state other) };
 
     /// Where it tells the bytes, its length is theirs.
-    ghost told_whole: { (receipt : Self) → IfSome (state receipt).told (λ told. (state receipt).size ≡ length told) };
+    ghost told_whole: { (receipt : Self)
+        → IfSome (state receipt).told (λ told. (state receipt).size ≡ length told) };
 }
 
-/// A store of objects under names. A put takes effect whole or not at all, and an object is never changed but by
-/// another put of its name, or its removal.
+/// A store of objects under names. A put takes effect whole or not at all, and an object is never changed but
+/// by another put of its name, or its removal.
 pub trait Store {
     /// What stands for an object of this store.
     type Receipt: Receipt;
@@ -56,9 +60,9 @@ pub trait Store {
     /// What it holds, where it tells that, and its count of faults.
     ghost state: { Self → StoreState };
 
-    /// Puts an object, in place of one with its name. The name is one (a condition). `Failed` comes where the put was
-    /// not acknowledged: what was there stands, or the whole new object; the fault was counted. `OutOfMemory` comes
-    /// where memory ran out, and nothing changed.
+    /// Puts an object, in place of one with its name. The name is one (a condition). `Failed` comes where the
+    /// put was not acknowledged: what was there stands, or the whole new object; the fault was counted.
+    /// `OutOfMemory` comes where memory ran out, and nothing changed.
     fn put(
         &mut self,
         alloc: Global,
@@ -66,43 +70,57 @@ pub trait Store {
         bytes: &ObjectBytes,
     ) -> Result<Self::Receipt, StoreError>
         requires { IsName name.now }
-        ensures put { OnOk result (Becomes (IsPut name.now bytes.now) (state self.old).objects (state self.new).objects) }
-        ensures receipt { IfOk result (λ receipt. IsReceiptOf name.now bytes.now (Self.Receipt.state receipt)) }
-        ensures failed { IsErrOf result StoreError.Failed → Becomes (MayBePut name.now bytes.now) (state self.old).objects (state self.new).objects }
+        ensures put { OnOk result (Becomes (IsPut name.now bytes.now) (state self.old).objects
+            (state self.new).objects) }
+        ensures receipt { IfOk result (λ receipt. IsReceiptOf name.now bytes.now
+            (Self.Receipt.state receipt)) }
+        ensures failed { IsErrOf result StoreError.Failed
+            → Becomes (MayBePut name.now bytes.now) (state self.old).objects (state self.new).objects }
         ensures unchanged { IsErrOf result StoreError.OutOfMemory → state self.new ≡ state self.old }
-        ensures asked { (IsErrOf result StoreError.OutOfMemory → ⊥) → Asks (Put name.now bytes.now) (state self.old).asked (state self.new).asked }
+        ensures asked { (IsErrOf result StoreError.OutOfMemory → ⊥)
+            → Asks (Put name.now bytes.now) (state self.old).asked (state self.new).asked }
         ensures count { Counts (has_failed result) (state self.old).faults (state self.new).faults };
 
-    /// Reads the bytes that the receipt stands for, from `from` on, into the whole of `buf`. They are some of its bytes
-    /// (a condition). `Failed` comes where they could not be read; the fault was counted, and any bytes stand in `buf`.
+    /// Reads the bytes that the receipt stands for, from `from` on, into the whole of `buf`. They are some of
+    /// its bytes (a condition). `Failed` comes where they could not be read; the fault was counted, and any
+    /// bytes stand in `buf`.
     fn get(&mut self, receipt: &Self::Receipt, from: u64, buf: &mut [u8]) -> Result<(), Failed>
         requires { from + length buf.old ≤ (Self.Receipt.state receipt.now).size }
-        ensures bytes { OnOk result (IfSome (Self.Receipt.state receipt.now).told (λ told. buf.new ≡ take (length buf.old) (drop from told))) }
+        ensures bytes { OnOk result (IfSome (Self.Receipt.state receipt.now).told
+            (λ told. buf.new ≡ take (length buf.old) (drop from told))) }
         ensures unchanged { OnlyCounts (state self.old) (state self.new) }
         ensures count { Counts (is_err result) (state self.old).faults (state self.new).faults };
 
-    /// Finds the object with a name; None is where there is none. The name is one (a condition). `Failed` comes where
-    /// the store could not be asked, and the fault was counted. `OutOfMemory` comes where memory ran out.
+    /// Finds the object with a name; None is where there is none. The name is one (a condition). `Failed`
+    /// comes where the store could not be asked, and the fault was counted. `OutOfMemory` comes where memory
+    /// ran out.
     fn find(&mut self, alloc: Global, name: &ObjName) -> Result<Option<Self::Receipt>, StoreError>
         requires { IsName name.now }
-        ensures found { IfOk result (λ receipt. Finds name.now (state self.old).objects (option_map Self.Receipt.state receipt)) }
+        ensures found { IfOk result (λ receipt. Finds name.now (state self.old).objects
+            (option_map Self.Receipt.state receipt)) }
         ensures unchanged { OnlyCounts (state self.old) (state self.new) }
         ensures count { Counts (has_failed result) (state self.old).faults (state self.new).faults };
 
-    /// The names of a volume's objects, each once, in ascending order: by kind, then by number. `Failed` comes where
-    /// the store could not be asked, and the fault was counted. `OutOfMemory` comes where memory ran out.
+    /// The names of a volume's objects, each once, in ascending order: by kind, then by number. `Failed`
+    /// comes where the store could not be asked, and the fault was counted. `OutOfMemory` comes where memory
+    /// ran out.
     fn list(&mut self, alloc: Global, uuid: Uuid) -> Result<Names, StoreError>
         ensures names { IfOk result (AreNamesOf uuid) }
-        ensures listed { IfOk result (λ names. IfSome (state self.old).objects (λ objects. Lists uuid objects names)) }
+        ensures listed { IfOk result (λ names. IfSome (state self.old).objects
+            (λ objects. Lists uuid objects names)) }
         ensures unchanged { OnlyCounts (state self.old) (state self.new) }
         ensures count { Counts (has_failed result) (state self.old).faults (state self.new).faults };
 
-    /// Removes the object with the receipt's name, whichever has it now; where none has, nothing changes. `Failed` comes
-    /// where the removal was not acknowledged: what was there stands, or nothing; the fault was counted.
+    /// Removes the object with the receipt's name, whichever has it now; where none has, nothing changes.
+    /// `Failed` comes where the removal was not acknowledged: what was there stands, or nothing; the fault
+    /// was counted.
     fn remove(&mut self, receipt: &Self::Receipt) -> Result<(), Failed>
-        ensures removed { OnOk result (Becomes (IsRemoved (Self.Receipt.state receipt.now).name) (state self.old).objects (state self.new).objects) }
-        ensures failed { OnErr result (Becomes (MayBeRemoved (Self.Receipt.state receipt.now).name) (state self.old).objects (state self.new).objects) }
-        ensures asked { Asks (Remove (Self.Receipt.state receipt.now).name) (state self.old).asked (state self.new).asked }
+        ensures removed { OnOk result (Becomes (IsRemoved (Self.Receipt.state receipt.now).name)
+            (state self.old).objects (state self.new).objects) }
+        ensures failed { OnErr result (Becomes (MayBeRemoved (Self.Receipt.state receipt.now).name)
+            (state self.old).objects (state self.new).objects) }
+        ensures asked { Asks (Remove (Self.Receipt.state receipt.now).name) (state self.old).asked
+            (state self.new).asked }
         ensures count { Counts (is_err result) (state self.old).faults (state self.new).faults };
 
     /// How many calls have failed since the store was made. At `u64::MAX` the count stands.

@@ -24,9 +24,11 @@ HasEntriesToFrontier plain = frontier_end plain - plain.end ≤ length plain.ent
 module _ (data_at : ℕ → ℕ) (log : PlainLog) where
   entry_goes_on : (entry : Entry) (old new : ObjLogState) (plain : PlainState)
       → IsUploads old.uploads.queue old.uploads.window → HasEntriesToFrontier plain → ShowsObjects data_at old plain
-      → IsAdded entry (data_at (old.batch.first + length old.batch.entries)) old new → ShowsObjects data_at new (going_on (entry ∷ []) log plain)
+      → IsAdded entry (data_at (old.batch.first + length old.batch.entries)) old new
+      → ShowsObjects data_at new (going_on (entry ∷ []) log plain)
   entry_goes_on entry old new plain uploads has shows added =
-      let seq : old.batch.first + length old.batch.entries ≡ history_length plain = next_seq data_at (stream_in plain) old shows.stream in
+      let seq : old.batch.first + length old.batch.entries ≡ history_length plain =
+      next_seq data_at (stream_in plain) old shows.stream in
       let at = subst (λ n. IsAdded entry (data_at n) old new) seq added in
       let kept = adding_keeps_image entry (data_at (history_length plain)) old new at in
       let same = take-append-le (frontier_end plain - plain.end) plain.entries (entry ∷ []) has in
@@ -41,7 +43,8 @@ module _ (data_at : ℕ → ℕ) (log : PlainLog) where
       }
 
   all_go_on : (entries : List Entry) (old new : ObjLogState) (plain : PlainState) → HasEntriesToFrontier plain
-      → ShowsObjects data_at old plain → AddsEntries data_at entries old new → ShowsObjects data_at new (going_on entries log plain)
+      → ShowsObjects data_at old plain → AddsEntries data_at entries old new
+      → ShowsObjects data_at new (going_on entries log plain)
   all_go_on [] old new plain has shows same =
       subst (λ (list : List Entry). ShowsObjects data_at new (record plain { entries = list; cache = cache_with log }))
       (sym (append-nil plain.entries))

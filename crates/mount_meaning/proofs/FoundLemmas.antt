@@ -1,4 +1,5 @@
--- A log that was opened and trimmed shows the log that is found on the device, and then, once it was committed again, that commit.
+-- A log that was opened and trimmed shows the log that is found on the device, and then, once it was committed again, that
+-- commit.
 use Rattle.std.proofs.Common.{◌≡◌, ℕ, true, IsTrue, [], refl, sym, ◌∙◌, ap, subst, arith}
 use Rattle.std.specs.Prelude.{None}
 use Rattle.std.proofs.lemmas.Bool.Decides.{nat_tests}
@@ -32,7 +33,8 @@ found_as geometry body log = record log {
   commits = record log.commits { body = body; unfinished = None };
 }
 
-found_shows : (geometry : Geometry) (body : CommitBody) (log : LogState) → IsTrue (is_within_limits geometry) → MayStand body geometry.log
+found_shows : (geometry : Geometry) (body : CommitBody) (log : LogState) → IsTrue (is_within_limits geometry)
+    → MayStand body geometry.log
     → AreRowsOfLog geometry body log.rows → ShowsLog (found_as geometry body log) (log_found geometry.log body log.rows)
 found_shows geometry body log limits may are =
     let used = records_used log.rows geometry.log body.tail.position (sectors_between geometry.log body) are.follow in
@@ -53,7 +55,8 @@ found_shows geometry body log limits may are =
     }
 
 -- but for that tail, a log that was opened is that
-found_is : (geometry : Geometry) (commits : CommitsState) (opened : LogState) → commits.unfinished ≡ None → IsOpenedLog geometry commits opened
+found_is : (geometry : Geometry) (commits : CommitsState) (opened : LogState) → commits.unfinished ≡ None
+    → IsOpenedLog geometry commits opened
     → found_as geometry commits.body opened ≡ record opened { start = start_of commits.body.head.position opened.rows }
 found_is geometry commits opened none is =
     let same = is.only.same in
@@ -67,8 +70,10 @@ found_is geometry commits opened none is =
     }
 
 -- and what was trimmed of the one was of the other
-trimmed_from_found : (geometry : Geometry) (commits : CommitsState) (opened trimmed : LogState) (seq : ℕ) → commits.unfinished ≡ None
-    → IsOpenedLog geometry commits opened → IsTrimmed seq opened trimmed → IsTrimmed seq (found_as geometry commits.body opened) trimmed
+trimmed_from_found : (geometry : Geometry) (commits : CommitsState) (opened trimmed : LogState) (seq : ℕ)
+    → commits.unfinished ≡ None
+    → IsOpenedLog geometry commits opened → IsTrimmed seq opened trimmed
+    → IsTrimmed seq (found_as geometry commits.body opened) trimmed
 trimmed_from_found geometry commits opened trimmed seq none is cut =
     subst (λ log. IsTrimmed seq log trimmed) (sym (found_is geometry commits opened none is))
     (record {
@@ -95,5 +100,6 @@ opened_shows_log geometry commits opened trimmed seq limits may none most is cut
 pub committed_shows_log : CommittedShowsLog
 committed_shows_log old new plain is none same released made =
     let shown = commit_shows_commit old new (cache_with plain) true is same released (λ _. made) refl in
-    subst (ShowsLog new) ((commit_made old.first (cache_with plain) refl).same_log ∙ ap (λ u. log_made old.first (finished_log u plain)) none)
+    subst (ShowsLog new) ((commit_made old.first (cache_with plain) refl).same_log
+    ∙ ap (λ u. log_made old.first (finished_log u plain)) none)
     shown.0

@@ -1,5 +1,6 @@
 -- The gate of an unfinished commit in what is left of its device: open exactly where the write that opened it is kept.
-use Rattle.std.proofs.Common.{◌≡◌, ◌≢◌, ℕ, ◌+◌, ◌-◌, ◌/◌, ◌<◌, ◌⊎◌, Bool, true, false, List, [], ◌∷◌, ◌++◌, length, length-append, take, drop, map, replicate, get_or, refl, sym, ◌∙◌, ap, subst, inl, inr, arith}
+use Rattle.std.proofs.Common.{◌≡◌, ◌≢◌, ℕ, ◌+◌, ◌-◌, ◌/◌, ◌<◌, ◌⊎◌, Bool, true, false, List, [], ◌∷◌, ◌++◌, length, length-append}
+use Rattle.std.proofs.Common.{take, drop, map, replicate, get_or, refl, sym, ◌∙◌, ap, subst, inl, inr, arith}
 use Rattle.std.specs.Prelude.{slice_index}
 use Rattle.std.proofs.lemmas.List.{length-take-le, get_or_append_left, get_or-append_right, append_assoc, drop_at}
 use Rattle.std.proofs.lemmas.List.Elements.{All-nil}
@@ -32,7 +33,8 @@ read_one at bytes inside =
     let front : length (take at bytes) ≡ at = length-take-le at bytes (omega (arith, inside)) in
     let one : List ℕ = 1 ∷ [] in
     let rest : List ℕ = drop (at + length one) bytes in
-    ap (λ l. take 1 (drop at l)) (append_assoc (take at bytes) one rest) ∙ ap (take 1) (drop_at (take at bytes) (one ++ rest) at front)
+    ap (λ l. take 1 (drop at l)) (append_assoc (take at bytes) one rest)
+    ∙ ap (take 1) (drop_at (take at bytes) (one ++ rest) at front)
 
 -- ---- the gate
 
@@ -41,7 +43,8 @@ abbrev pub IsOpenBy : (keeps : Bool) → (gate : ℕ) → List ℕ → Type 0
 IsOpenBy keeps gate left = ((slice_index left gate ≡ 1) × (keeps ≡ true)) ⊎ ((slice_index left gate ≢ 1) × (keeps ≡ false))
 
 -- so it is of one that was closed, by the fate of its opening: half of one byte is none
-gate_by : (fate : Fate) (gate : ℕ) (bytes now : List ℕ) → gate < length bytes → slice_index bytes gate ≢ 1 → take 1 (drop gate now) ≡ 1 ∷ []
+gate_by : (fate : Fate) (gate : ℕ) (bytes now : List ℕ) → gate < length bytes → slice_index bytes gate ≢ 1
+    → take 1 (drop gate now) ≡ 1 ∷ []
     → IsOpenBy (is_kept fate) gate (put_by fate gate (take 1 (drop gate now)) bytes)
 gate_by Kept gate bytes now inside closed piece =
     inl (ap (λ p. slice_index (with_bytes gate p bytes) gate) piece ∙ byte_there 1 gate bytes inside, refl)
@@ -66,8 +69,10 @@ pub first_same : {a b : Medium} {xs ys : List Medium} → ◌≡◌ {A = List Me
 first_same e = cc
 
 -- before its gate was opened
-closed_left : (gate : ℕ) (moments past : List Medium) (now : Medium) (pending : List PendingWrite) (kept : List Bool) (left : List ℕ)
-    → moments ≡ now ∷ past → HasGateClosed gate moments → pending ≡ [] → MayLeave now left → IsOpenBy (keeps_opened_gate pending kept) gate left
+closed_left : (gate : ℕ) (moments past : List Medium) (now : Medium) (pending : List PendingWrite) (kept : List Bool)
+    (left : List ℕ)
+    → moments ≡ now ∷ past → HasGateClosed gate moments → pending ≡ [] → MayLeave now left
+    → IsOpenBy (keeps_opened_gate pending kept) gate left
 closed_left gate moments past now pending kept left is closed none may =
     let same : now ≡ durable closed.bytes = first_same (sym is ∙ closed.is_still) in
     let still : slice_index left gate ≡ slice_index closed.bytes gate =
@@ -91,20 +96,23 @@ opened_left gate moments past now pending (fate ∷ []) is opened one inside cou
     let keeps : keeps_opened_gate pending (is_kept fate ∷ []) ≡ is_kept fate =
     ap (λ p. keeps_opened_gate p (is_kept fate ∷ [])) one ∙ one_kept (is_kept fate) in
     subst (λ k. IsOpenBy k gate (left_in_order (fate ∷ []) moments)) (sym keeps)
-    (subst (IsOpenBy (is_kept fate) gate) (sym left) (gate_by fate gate bytes written fits opened.closed (read_one gate bytes fits)))
+    (subst (IsOpenBy (is_kept fate) gate) (sym left)
+    (gate_by fate gate bytes written fits opened.closed (read_one gate bytes fits)))
   where
     one_kept : (kept : Bool) → keeps_opened_gate (OpenedGate ∷ []) (kept ∷ []) ≡ kept
     one_kept true = refl
     one_kept false = refl
 
-pub gate_left : (gate : ℕ) (disk : DiskState) (past : List Medium) (now : Medium) (pending : List PendingWrite) (fates : List Fate)
+pub gate_left : (gate : ℕ) (disk : DiskState) (past : List Medium) (now : Medium) (pending : List PendingWrite)
+    (fates : List Fate)
     → disk.moments ≡ now ∷ past → IsBrokenOff gate disk pending → gate < length now.synced → length fates ≡ length pending
     → MayLeave now (left_in_order fates disk.moments)
     → IsOpenBy (keeps_opened_gate pending (map is_kept fates)) gate (left_in_order fates disk.moments)
 gate_left gate disk past now pending fates is broken inside count may =
     elim broken.where_ [
       | inl closed ↦
-          closed_left gate disk.moments past now pending (map is_kept fates) (left_in_order fates disk.moments) is closed.0 closed.1 may
+          closed_left gate disk.moments past now pending (map is_kept fates) (left_in_order fates disk.moments) is closed.0
+          closed.1 may
       | inr opened ↦
           opened_left gate disk.moments past now pending fates is opened.0 opened.1 inside (count ∙ ap length opened.1)
     ]

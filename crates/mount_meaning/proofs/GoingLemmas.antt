@@ -1,5 +1,6 @@
 -- A volume at rest goes on with the entries of a log that is found as a plain volume, which is what a mount is to make of it.
-use Rattle.std.proofs.Common.{◌≡◌, ℕ, zero, suc, ◌+◌, ◌-◌, ◌≤◌, ◌==◌, Bool, true, false, if◌then◌else◌, max, List, [], ◌∷◌, ◌++◌, length, take, drop, refl, sym, ◌∙◌, ap, subst, arith, length-append, length-drop}
+use Rattle.std.proofs.Common.{◌≡◌, ℕ, zero, suc, ◌+◌, ◌-◌, ◌≤◌, ◌==◌, Bool, true, false, if◌then◌else◌, max, List, [], ◌∷◌, ◌++◌}
+use Rattle.std.proofs.Common.{length, take, drop, refl, sym, ◌∙◌, ap, subst, arith, length-append, length-drop}
 use Rattle.std.specs.Prelude.{None}
 use Rattle.std.specs.List.{All}
 use Rattle.std.proofs.Math.Path.{subst₂}
@@ -32,7 +33,8 @@ use Rattle.mount_meaning.specs.Laws.{MountedIsPlainVolume, MountedIsGoingOn}
 -- ---- a plain volume
 
 -- a log that was found, once it was committed from a seq on, has the records of the entries from there on
-committed_is : (log end used : ℕ) (body : CommitBody) (rows : List Row) → MayStand body log → log ≤ max_log → Follow log body.tail.position used rows
+committed_is : (log end used : ℕ) (body : CommitBody) (rows : List Row) → MayStand body log → log ≤ max_log
+    → Follow log body.tail.position used rows
     → used ≤ log → body.tail.seq + length rows ≡ body.head.seq → body.tail.seq ≤ end
     → IsPlainLog end (max end body.head.seq) (committed_at end (log_found log body rows))
 committed_is log end used body rows may limit follow most seqs tail =
@@ -92,7 +94,8 @@ unpadded_at : (is_past : Bool) (stored : PlainRecord) → (unpadded is_past stor
 unpadded_at true stored = refl
 unpadded_at false stored = refl
 
-unpadded_again : (is_past : Bool) (stored : PlainRecord) → unpadded is_past (record stored { pad = 0 }) ≡ record stored { pad = 0 }
+unpadded_again : (is_past : Bool) (stored : PlainRecord) → unpadded is_past (record stored { pad = 0 })
+    ≡ record stored { pad = 0 }
 unpadded_again true stored = refl
 unpadded_again false stored = refl
 
@@ -141,7 +144,8 @@ same_committed seq log =
 -- ---- what a mount is to make
 
 -- the log that is found is the plain one as its commit left it
-found_held : (owner : CacheOwner) (plain : PlainState) (found : PlainCommit) (count : ℕ) (left : List ℕ) (has : HasCommit owner plain found count left)
+found_held : (owner : CacheOwner) (plain : PlainState) (found : PlainCommit) (count : ℕ) (left : List ℕ)
+    (has : HasCommit owner plain found count left)
     → plain.cache.log.size ≡ plain.geometry.log
     → log_found plain.geometry.log has.body has.rows ≡ past_first (held_from found plain.cache.log)
 found_held owner plain found count left has size =
@@ -161,8 +165,10 @@ mounted_is_going_on uuid owner plain found number objects left valid has_objects
     let few : ℕ = end - plain.end in
     let many : ℕ = max end has.body.head.seq - plain.end in
     let log : committed_at end (log_found plain.geometry.log has.body has.rows) ≡ mounted_log found end plain.cache.log =
-    ap (committed_at end) (found_held owner plain found end left has valid.size) ∙ same_committed end (held_from found plain.cache.log) in
-    let entries : take few plain.entries ++ entries_past plain end has.body.head.seq ≡ take (max end found.head.seq - plain.end) plain.entries =
+    ap (committed_at end) (found_held owner plain found end left has valid.size)
+    ∙ same_committed end (held_from found plain.cache.log) in
+    let entries : take few plain.entries ++ entries_past plain end has.body.head.seq ≡ take (max end found.head.seq - plain.end)
+    plain.entries =
     ap (λ l. l ++ drop few (take many plain.entries)) (sym (take-take few many plain.entries (omega arith)))
     ∙ take-append-drop few (take many plain.entries)
     ∙ ap (λ c. take (max end c.head.seq - plain.end) plain.entries) has.commit in

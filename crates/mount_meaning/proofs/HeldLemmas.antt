@@ -1,5 +1,6 @@
 -- The records of a commit among those of a log, and as the plain log holds them once it goes on from the commit.
-use Rattle.std.proofs.Common.{◌≡◌, ℕ, zero, suc, ◌+◌, ◌-◌, ◌≤◌, List, [], ◌∷◌, ◌++◌, map, take, drop, refl, sym, ◌∙◌, ap, subst, inl, inr, arith, if◌then◌else◌}
+use Rattle.std.proofs.Common.{◌≡◌, ℕ, zero, suc, ◌+◌, ◌-◌, ◌≤◌, List, [], ◌∷◌, ◌++◌, map, take, drop, refl, sym, ◌∙◌, ap, subst}
+use Rattle.std.proofs.Common.{inl, inr, arith, if◌then◌else◌}
 use Rattle.std.proofs.Math.Seq.{take-nil}
 use Rattle.std.proofs.lemmas.Bool.{cases_lt, cases_Bool, lt-ltb, le-ltb, le-leb, lt-leb, and_from, and_left, and_right}
 use Rattle.lsvd_base.specs.declared.entry.Entry.{Entry}
@@ -49,7 +50,8 @@ between_first (row ∷ rows) seq body are from =
     first_none (r ∷ l) = refl
 
 -- those before the tail are left out
-between_since : (held rows : List Row) (body : CommitBody) → between body (held ++ rows) ≡ between body (since body.tail.seq held ++ rows)
+between_since : (held rows : List Row) (body : CommitBody)
+    → between body (held ++ rows) ≡ between body (since body.tail.seq held ++ rows)
 between_since [] rows body = refl
 between_since (row ∷ held) rows body =
     let tail : ℕ = body.tail.seq in
@@ -82,7 +84,8 @@ entries_are_between f (row ∷ rows) body =
 
 -- ---- the first records
 
-records_take : (m : ℕ) (rows : List Row) (log from : ℕ) → take m (records_of_rows log from rows) ≡ records_of_rows log from (take m rows)
+records_take : (m : ℕ) (rows : List Row) (log from : ℕ) → take m (records_of_rows log from rows) ≡ records_of_rows log from
+    (take m rows)
 records_take zero [] log from = refl
 records_take zero (row ∷ rows) log from = refl
 records_take (suc m) [] log from = refl
@@ -100,16 +103,20 @@ past_take (suc m) tail (stored ∷ records) = refl
 pub record AreHeld (log : ℕ) (plain : PlainLog) (body : CommitBody) (rows : List Row) : Type 0 where
   pub used : ℕ
   pub reach : Reaches log body.tail.position used body.head.position rows
-  pub records : past_pad body.tail.position (held_from (commit_of body) plain).records ≡ records_of_rows log body.tail.position rows
+  pub records : past_pad body.tail.position (held_from (commit_of body) plain).records ≡ records_of_rows log
+      body.tail.position rows
 
-pub are_held : (log : LogState) (plain : PlainLog) (body : CommitBody) → ShowsLog log plain → log.commits.body.tail.seq ≤ body.tail.seq
-    → body.tail.seq ≤ log.first → StandsAt log body → EndsAtHead log body → AreHeld log.room.log plain body (between body (all_rows log))
+pub are_held : (log : LogState) (plain : PlainLog) (body : CommitBody) → ShowsLog log plain
+    → log.commits.body.tail.seq ≤ body.tail.seq
+    → body.tail.seq ≤ log.first → StandsAt log body → EndsAtHead log body
+    → AreHeld log.room.log plain body (between body (all_rows log))
 are_held log plain body is order most stands ends =
     let room : ℕ = log.room.log in
     let tail : ℕ = body.tail.position in
     let m : ℕ = body.head.seq - body.tail.seq in
     let rest : List Row = since body.tail.seq log.held ++ log.rows in
-    let is_to = released log.room log.commits.body.tail body.tail log.held log.rows log.start log.first (list_of log plain is) order most stands in
+    let is_to = released log.room log.commits.body.tail body.tail log.held log.rows log.start log.first (list_of log plain is)
+    order most stands in
     let own : take m rest ≡ between body (all_rows log) =
     sym (between_since log.held log.rows body ∙ between_first rest body.tail.seq body is_to.list.numbered (omega arith)) in
     let part = reach_part m rest room tail (sectors_from room tail log.room.head rest) log.room.head is_to.list.reach in
@@ -121,7 +128,8 @@ are_held log plain body is order most stands ends =
       records =
           ap (λ c. past_pad tail (take m (drop (body.tail.seq - c.tail.seq) plain.records))) is.last
           ∙ ap (λ l. past_pad tail (take m (drop (body.tail.seq - log.commits.body.tail.seq) l))) is.records
-          ∙ past_take m tail (drop (body.tail.seq - log.commits.body.tail.seq) (records_of_rows room log.commits.body.tail.position (all_rows log)))
+          ∙ past_take m tail (drop (body.tail.seq - log.commits.body.tail.seq)
+          (records_of_rows room log.commits.body.tail.position (all_rows log)))
           ∙ ap (take m) is_to.records
           ∙ records_take m rest room tail
           ∙ ap (records_of_rows room tail) own;

@@ -1,5 +1,7 @@
--- Whatever a stop leaves of the cache reads as the last commit of the plain volume or as the unfinished one: as the one that it keeps.
-use Rattle.std.proofs.Common.{◌≡◌, ℕ, ◌+◌, ◌-◌, ◌%◌, ◌<◌, ◌≤◌, ◌⊎◌, Bool, true, false, List, [], ◌∷◌, length, map, take, drop, refl, sym, ◌∙◌, ap, subst, inl, inr, arith, if◌then◌else◌}
+-- Whatever a stop leaves of the cache reads as the last commit of the plain volume or as the unfinished one: as the one that it
+-- keeps.
+use Rattle.std.proofs.Common.{◌≡◌, ℕ, ◌+◌, ◌-◌, ◌%◌, ◌<◌, ◌≤◌, ◌⊎◌, Bool, true, false, List, [], ◌∷◌, length, map, take, drop}
+use Rattle.std.proofs.Common.{refl, sym, ◌∙◌, ap, subst, inl, inr, arith, if◌then◌else◌}
 use Rattle.std.specs.Prelude.{Option, Some, None, IfSome, option_map}
 use Rattle.std.specs.List.{AllByRecursion}
 use Rattle.std.proofs.lemmas.List.{length-map}
@@ -64,7 +66,8 @@ one_young number last unfinished n body (inl is) = (let e = is.same_number in om
 one_young number last unfinished n body (inr (more, same, is)) = (let e = is.same_number in omega (arith, e))
 
 -- bytes read as commits of one number
-one_number : (log : ℕ) (bytes : List ℕ) (body other : CommitBody) (n m : ℕ) → Reads log bytes body n → Reads log bytes other m → n ≡ m
+one_number : (log : ℕ) (bytes : List ℕ) (body other : CommitBody) (n m : ℕ) → Reads log bytes body n
+    → Reads log bytes other m → n ≡ m
 one_number log bytes body other n m a b =
     let least = a.newest b.slot other m b.is_open in
     let most = b.newest a.slot body n a.is_open in
@@ -84,7 +87,8 @@ record IsOwn (owner : CacheOwner) (log : LogState) (body : CommitBody) : Type 0 
 abbrev HasYoungCommit : (owner : CacheOwner) → (last : ℕ) → PlainState → PlainCommit → (count : ℕ) → (left : List ℕ) → Type 0
 HasYoungCommit owner last plain found count left = (has : HasCommit owner plain found count left) × (has.number ≤ last + 1)
 
-module _ (owner : CacheOwner) (data_at : ℕ → ℕ) (log : LogState) (plain : PlainState) (shows : ShowsStops owner data_at log plain) where
+module _ (owner : CacheOwner) (data_at : ℕ → ℕ) (log : LogState) (plain : PlainState)
+    (shows : ShowsStops owner data_at log plain) where
   abbrev geometry : Geometry
   geometry = plain.geometry
 
@@ -119,7 +123,8 @@ module _ (owner : CacheOwner) (data_at : ℕ → ℕ) (log : LogState) (plain : 
 
   more_own : (more : CommitBody) → log.commits.unfinished ≡ Some more → IsOwn owner log more
   more_own more is =
-      let order = subst (λ u. IfSome u (λ b. (log.commits.body.tail.seq ≤ b.tail.seq) × (b.tail.seq ≤ log.first))) is shows.log_is.order in
+      let order = subst (λ u. IfSome u (λ b. (log.commits.body.tail.seq ≤ b.tail.seq) × (b.tail.seq ≤ log.first))) is
+      shows.log_is.order in
       record {
         is_of = subst (λ u. IfSome u (λ b. owner_of b ≡ owner)) is shows.committed.unfinished;
         from = order.0;
@@ -128,7 +133,8 @@ module _ (owner : CacheOwner) (data_at : ℕ → ℕ) (log : LogState) (plain : 
         ends = subst (λ u. IfSome u (EndsAtHead log)) is shows.on_disk.ends.1;
       }
 
-  one_own : (n : ℕ) (body : CommitBody) → IsLastOrUnfinished log.commits.number log.commits.body log.commits.unfinished n body → IsOwn owner log body
+  one_own : (n : ℕ) (body : CommitBody) → IsLastOrUnfinished log.commits.number log.commits.body log.commits.unfinished n body
+      → IsOwn owner log body
   one_own n body (inl is) = subst (IsOwn owner log) (sym is.same_body) last_own
   one_own n body (inr (more, same, is)) = subst (IsOwn owner log) (sym is.same_body) (more_own more same)
 
@@ -168,7 +174,8 @@ module _ (owner : CacheOwner) (data_at : ℕ → ℕ) (log : LogState) (plain : 
     logged_now count from =
         let P : List Entry → Type 0 = λ list. listed_from (frontier_end plain) log list ≡ logged_entries plain in
         logged_past log plain entry_now count shows.log_is.counted shows.logged.first opened from
-        (subst (λ m. IfSome (entries_in log.rows m) P) is (subst (λ told. IfSome told P) shows.on_disk.entries shows.logged.entries))
+        (subst (λ m. IfSome (entries_in log.rows m) P) is (subst (λ told. IfSome told P) shows.on_disk.entries
+        shows.logged.entries))
 
     -- ---- bytes that a stop leaves
 
@@ -182,7 +189,8 @@ module _ (owner : CacheOwner) (data_at : ℕ → ℕ) (log : LogState) (plain : 
           omega (arith, count, synced, size, fits)
 
       -- they have the records of a commit, which are read
-      module _ (number : ℕ) (body : CommitBody) (own : IsOwn owner log body) (settled : ReadsSettled log.room.log left body number)
+      module _ (number : ℕ) (body : CommitBody) (own : IsOwn owner log body)
+          (settled : ReadsSettled log.room.log left body number)
           (has : HasRecords log.room.log body (entries_between body (all_rows log) entries_now) left) where
         abbrev entries_own : List Entry
         entries_own = entries_between body (all_rows log) entries_now
@@ -216,7 +224,12 @@ module _ (owner : CacheOwner) (data_at : ℕ → ℕ) (log : LogState) (plain : 
             let read = records_read.1.records in
             let mine : List Row = between body (all_rows log) in
             let reach : Reaches geometry.log body.tail.position read.used body.head.position rows =
-            record { inside = slots.reads.is_open.sector.may_stand.tail_inside; most = read.most; follow = read.follow; end = read.end } in
+            record {
+              inside = slots.reads.is_open.sector.may_stand.tail_inside;
+              most = read.most;
+              follow = read.follow;
+              end = read.end;
+            } in
             let size = size_is in
             let fits = log_fits in
             let bytes = now_size.bytes in
@@ -241,7 +254,8 @@ module _ (owner : CacheOwner) (data_at : ℕ → ℕ) (log : LogState) (plain : 
             ∙ ap (take (body.head.seq - count)) (logged_now count from)
             ∙ sym (entries_past_are plain count body.head.seq (omega (arith, begins, from)))
 
-        has_commit : (found : PlainCommit) (count : ℕ) → commit_of body ≡ found → frontier_end plain ≤ count → number ≤ log.commits.number + 1
+        has_commit : (found : PlainCommit) (count : ℕ) → commit_of body ≡ found → frontier_end plain ≤ count
+            → number ≤ log.commits.number + 1
             → HasYoungCommit owner log.commits.number plain found count left
         has_commit found count is_found from young =
             let tail = own.to in
@@ -290,7 +304,8 @@ module _ (owner : CacheOwner) (data_at : ℕ → ℕ) (log : LogState) (plain : 
         let last = of.same_number in
         absurd (omega (arith, number, last))
     by_gate more keeps left n body gated (inl open_) (inr (other, same, of)) reads =
-        let P : Bool → Option PlainCommit → PlainCommit = λ k u. if k then commit_or u plain.cache.log.last else plain.cache.log.last in
+        let P : Bool → Option PlainCommit → PlainCommit =
+        λ k u. if k then commit_or u plain.cache.log.last else plain.cache.log.last in
         let unfinished = shows.log_is.unfinished ∙ ap (option_map commit_of) same in
         ap commit_of of.same_body ∙ sym (ap (λ k. P k plain.cache.log.unfinished) open_.1 ∙ ap (P true) unfinished)
     by_gate more keeps left n body gated (inr closed) (inl of) reads =
@@ -304,12 +319,14 @@ module _ (owner : CacheOwner) (data_at : ℕ → ℕ) (log : LogState) (plain : 
 
     -- ---- by the fates of the pending writes
 
-    gate_now : (more : CommitBody) → log.commits.unfinished ≡ Some more → HasGate log.room.log log.commits.number log.commits.body more now
+    gate_now : (more : CommitBody) → log.commits.unfinished ≡ Some more
+        → HasGate log.room.log log.commits.number log.commits.body more now
     gate_now more same =
         let commits : CommitsState = log.commits in
         let P : ℕ → Medium → Type 0 = λ n. HasGate n commits.number commits.body more in
         let gate =
-        subst (λ u. IfSome u (λ b. HoldsNow (HasGate (log_of commits.disk.size) commits.number commits.body b) commits.disk.moments)) same
+        subst (λ u. IfSome u (λ b. HoldsNow (HasGate (log_of commits.disk.size) commits.number commits.body b)
+        commits.disk.moments)) same
         shows.on_disk.commits.gate in
         subst (λ n. P n now) (sym shows.on_disk.sectors) (subst (HoldsNow (P (log_of commits.disk.size))) is gate)
 
@@ -326,9 +343,11 @@ module _ (owner : CacheOwner) (data_at : ℕ → ℕ) (log : LogState) (plain : 
       left_now = left_in_order fates log.commits.disk.moments
 
       kept_in : (unfinished : Option CommitBody) → log.commits.unfinished ≡ unfinished → (n : ℕ) (body : CommitBody)
-          → IsLastOrUnfinished log.commits.number log.commits.body log.commits.unfinished n body → Reads log.room.log left_now body n
+          → IsLastOrUnfinished log.commits.number log.commits.body log.commits.unfinished n body
+          → Reads log.room.log left_now body n
           → commit_of body ≡ kept_commit (map is_kept fates) plain.cache
-      kept_in None same n body (inr (more, other, of)) reads = absurd (let e : ◌≡◌ {A = Option CommitBody} None (Some more) = sym same ∙ other in cc)
+      kept_in None same n body (inr (more, other, of)) reads = absurd (let e : ◌≡◌ {A = Option CommitBody} None (Some more) =
+          sym same ∙ other in cc)
       kept_in None same n body (inl of) reads =
           let keeps : Bool = keeps_opened_gate plain.cache.pending (map is_kept fates) in
           let last : PlainCommit = plain.cache.log.last in
@@ -354,7 +373,8 @@ module _ (owner : CacheOwner) (data_at : ℕ → ℕ) (log : LogState) (plain : 
           let read = leaves_now left_now may in
           let which = one_of log.commits.number log.commits.body log.commits.unfinished read.0 read.1 read.2 in
           let young = one_young log.commits.number log.commits.body log.commits.unfinished read.0 read.1 which in
-          has_commit left_now may read.0 read.1 (one_own read.0 read.1 which) read.3 read.4 (kept_commit (map is_kept fates) plain.cache) end
+          has_commit left_now may read.0 read.1 (one_own read.0 read.1 which) read.3 read.4
+          (kept_commit (map is_kept fates) plain.cache) end
           (kept_in log.commits.unfinished refl read.0 read.1 which read.3.reads) from young
 
 -- ---- the laws

@@ -1,5 +1,6 @@
 -- Each list that was recovered shows some plain volume, which opens after the last of its objects.
-use Rattle.std.proofs.Common.{◌≡◌, ℕ, ◌-◌, ◌<◌, ◌≤◌, true, inl, inr, IsTrue, Option, Some, None, IfSome, List, [], take, map, get_or}
+use Rattle.std.proofs.Common.{◌≡◌, ℕ, ◌-◌, ◌<◌, ◌≤◌, true, inl, inr, IsTrue, Option, Some, None, IfSome, List, [], take, map}
+use Rattle.std.proofs.Common.{get_or}
 use Rattle.std.proofs.Common.{refl, sym, ◌∙◌, ap, subst, arith}
 use Rattle.std.specs.List.{range_with_len}
 use Rattle.std.proofs.Math.Seq.{take-nil, drop-nil}
@@ -65,16 +66,19 @@ told_gives : (told : Option (List ℕ)) (at : ℕ) → IfSome told (λ bytes. se
 told_gives None at = tt
 told_gives (Some bytes) at = refl
 
-inside_gives : (receipt : Option ReceiptState) (at : ℕ) → IsInsideObject receipt at → GivesSector receipt at (given_sector receipt at)
+inside_gives : (receipt : Option ReceiptState) (at : ℕ) → IsInsideObject receipt at
+    → GivesSector receipt at (given_sector receipt at)
 inside_gives None at inside = inside
 inside_gives (Some receipt) at inside = (inside, told_gives receipt.told at)
 
 -- what a map may have at a sector of the volume
 abbrev StandsInside : (sectors k : ℕ) → QueueState → ObjectPlace → Type 0
-StandsInside sectors k queue place = (k < sectors) × (place.level ≡ 0) × IsInsideObject (receipt_of queue place.number) place.sector
+StandsInside sectors k queue place = (k < sectors) × (place.level ≡ 0)
+    × IsInsideObject (receipt_of queue place.number) place.sector
 
 inside_holds : (sectors k : ℕ) (queue : QueueState) (place : Option ObjectPlace)
-    → ((some : ObjectPlace) → place ≡ Some some → StandsInside sectors k queue some) → HoldsSector queue place (held_sector queue place)
+    → ((some : ObjectPlace) → place ≡ Some some → StandsInside sectors k queue some)
+    → HoldsSector queue place (held_sector queue place)
 inside_holds sectors k queue None inside = refl
 inside_holds sectors k queue (Some place) inside =
     let stands = inside place refl in (stands.1, inside_gives (receipt_of queue place.number) place.sector stands.2)
@@ -151,7 +155,11 @@ opened_is_at_rest geometry checkpoint number end queue limits some from =
         owned = omega (arith, owned);
         in_range = All-nil (λ entry. is_in_range geometry entry ≡ true);
         stream = record { ends = tt; within = omega (arith, last_ends) };
-        window = record { order = omega arith; starts = All-nil (λ object. IsTrue object.is_started → IsTrue object.was_started) };
+        window = record {
+          order = omega arith;
+          starts = All-nil (λ object. IsTrue object.is_started
+              → IsTrue object.was_started);
+        };
         last = omega arith;
         opened = omega arith;
         numbered = some;
@@ -175,7 +183,8 @@ opened_is_at_rest geometry checkpoint number end queue limits some from =
 
 -- ---- the list shows it
 
-module _ (uuid : List ℕ) (geometry : Geometry) (checkpoint number end : ℕ) (log : ObjLogState) (list : IsListUpTo uuid geometry number end log)
+module _ (uuid : List ℕ) (geometry : Geometry) (checkpoint number end : ℕ) (log : ObjLogState)
+    (list : IsListUpTo uuid geometry number end log)
     (inside : HasPlacesInside geometry.sectors log.uploads.queue) where
   abbrev opened : PlainState
   opened = opened_after geometry checkpoint number end log.uploads.queue
@@ -198,11 +207,13 @@ module _ (uuid : List ℕ) (geometry : Geometry) (checkpoint number end : ℕ) (
     end = list.end_is ∙ sym (end_of_none opened refl frontier);
     settled = λ k.
         held_owner_at geometry.sectors log.uploads.queue inside k
-        ∙ ap (λ (objects : List StreamObject). after_objects number end [] stream.opening objects k) (sym (take-nil (frontier - number)));
+        ∙ ap (λ (objects : List StreamObject). after_objects number end [] stream.opening objects k)
+        (sym (take-nil (frontier - number)));
     sealed = none_sealed;
     logged = λ k.
         list.logged k
-        ∙ ap (λ (entries : List Entry). left_at data_at log.uploads.queue.end entries k) (sym (drop-nil (end_at stream frontier - end)));
+        ∙ ap (λ (entries : List Entry). left_at data_at log.uploads.queue.end entries k)
+        (sym (drop-nil (end_at stream frontier - end)));
   }
 
   list_shows : (data_at : ℕ → ℕ) → ShowsObjects data_at log opened

@@ -20,7 +20,8 @@ use Rattle.mount_meaning.specs.Laws.{OpenedHasCommitted, AddedAreLogged}
 -- ---- its commits
 
 -- entries that are in range one by one are so all
-pub all_in_range : (geometry : Geometry) (told : Option (List Entry)) → IfSome told (AllByRecursion (λ entry. IsTrue (is_in_range geometry entry)))
+pub all_in_range : (geometry : Geometry) (told : Option (List Entry))
+    → IfSome told (AllByRecursion (λ entry. IsTrue (is_in_range geometry entry)))
     → IfSome told (AllInRange geometry)
 all_in_range geometry told are =
     some_as (AllByRecursion (λ entry. IsTrue (is_in_range geometry entry))) (AllInRange geometry) told
@@ -51,7 +52,8 @@ placed_from whole (row ∷ rows) n first none rest are =
     let at : seq_of row - first ≡ n = omega (arith, own) in
     let next : (first + n) + 1 ≡ first + (n + 1) = omega arith in (
       ap (λ k. position_of (get_or whole k none) + 1) at ∙ ap (λ r. position_of r + 1) (row_at whole rows n row none rest),
-      placed_from whole rows (n + 1) first none (sym (drop-drop 1 n whole) ∙ ap (drop 1) rest) (subst (λ s. AreNumbered s rows) next are.1),
+      placed_from whole rows (n + 1) first none (sym (drop-drop 1 n whole) ∙ ap (drop 1) rest)
+          (subst (λ s. AreNumbered s rows) next are.1),
     )
 
 pub added_are_logged : AddedAreLogged
@@ -67,7 +69,8 @@ added_are_logged geometry checkpoint end plain entries of_log log row_of_none re
       first = omega (arith, ends, first);
       rows = subst₂ (λ l e. AreRowsOf l e) (ap (λ n. drop n log.rows) none) (sym past) rows;
       entries =
-          some_as (λ list. list ≡ entries) (λ list. drop (begins - log.first) list ≡ drop (begins - plain.end) (plain.entries ++ entries)) log.entries
+          some_as (λ list. list ≡ entries) (λ list. drop (begins - log.first) list ≡ drop (begins - plain.end)
+          (plain.entries ++ entries)) log.entries
           (λ list is. sym (ap (λ n. drop n list) none) ∙ is ∙ sym past) told;
       placed = placed_from log.rows log.rows 0 log.first row_of_none refl (subst (λ s. AreNumbered s log.rows) all numbered);
     }

@@ -1,5 +1,6 @@
 -- A log that was opened, trimmed and committed again shows a log with such a commit, also where it has no entry left.
-use Rattle.std.proofs.Common.{◌≡◌, ℕ, ◌+◌, ◌-◌, ◌≤◌, IsTrue, max, List, [], ◌++◌, length, drop, refl, sym, ◌∙◌, ap, subst, inl, inr, arith}
+use Rattle.std.proofs.Common.{◌≡◌, ℕ, ◌+◌, ◌-◌, ◌≤◌, IsTrue, max, List, [], ◌++◌, length, drop, refl, sym, ◌∙◌, ap, subst, inl}
+use Rattle.std.proofs.Common.{inr, arith}
 use Rattle.std.specs.Prelude.{None}
 use Rattle.std.proofs.lemmas.Bool.{cases_lt}
 use Rattle.std.proofs.lemmas.Bool.Decides.{nat_tests}
@@ -30,7 +31,13 @@ use Rattle.mount_meaning.proofs.FoundLemmas.{opened_shows_log, committed_shows_l
 
 -- a log with no records, and a commit at its head, the next entry of which has this seq
 abbrev ended : (size position seq : ℕ) → PlainLog
-ended size position seq = record { size = size; head = position; last = empty_commit seq position; records = []; unfinished = None }
+ended size position seq = record {
+  size = size;
+  head = position;
+  last = empty_commit seq position;
+  records = [];
+  unfinished = None;
+}
 
 -- so it is once a commit was made from a seq on that is past all records
 committed_past : (log : ℕ) (body : CommitBody) (rows : List Row) (seq : ℕ) → body.tail.seq + length rows ≤ seq
@@ -62,7 +69,8 @@ emptied_as log body mark of = record of {
   commits = record of.commits { body = record body { tail = mark; head = mark }; unfinished = None };
 }
 
-emptied_shows : (geometry : Geometry) (body : CommitBody) (seq : ℕ) (of : LogState) → IsTrue (is_within_limits geometry) → MayStand body geometry.log
+emptied_shows : (geometry : Geometry) (body : CommitBody) (seq : ℕ) (of : LogState) → IsTrue (is_within_limits geometry)
+    → MayStand body geometry.log
     → ShowsLog (emptied_as geometry.log body (point seq body.head.position) of) (ended geometry.log body.head.position seq)
 emptied_shows geometry body seq of limits may = record {
   room = refl;
@@ -80,7 +88,8 @@ emptied_shows geometry body seq of limits may = record {
   stands = tt;
 }
 
-module _ (geometry : Geometry) (commits : CommitsState) (opened trimmed new : LogState) (seq : ℕ) (is : IsOpenedLog geometry commits opened)
+module _ (geometry : Geometry) (commits : CommitsState) (opened trimmed new : LogState) (seq : ℕ)
+    (is : IsOpenedLog geometry commits opened)
     (cut : IsTrimmed seq opened trimmed) (past : commits.body.head.seq ≤ seq) where
   first_is : trimmed.first ≡ seq
   first_is =
@@ -108,7 +117,10 @@ module _ (geometry : Geometry) (commits : CommitsState) (opened trimmed new : Lo
   head_is : trimmed.room.head ≡ commits.body.head.position
   head_is = ap (λ room. room.head) (cut.room ∙ is.room)
 
-  body_is : body_of trimmed ≡ record commits.body { tail = point seq commits.body.head.position; head = point seq commits.body.head.position }
+  body_is : body_of trimmed ≡ record commits.body {
+    tail = point seq commits.body.head.position;
+    head = point seq commits.body.head.position;
+  }
   body_is =
       let own = ap (λ c. c.body) cut.commits ∙ is.only.same.same_body in
       let next = first_is in
@@ -117,7 +129,8 @@ module _ (geometry : Geometry) (commits : CommitsState) (opened trimmed new : Lo
       λ i. record (own i) { tail = point (first_is i) (position_is i); head = point (last i) (head_is i) }
 
   -- what a commit leaves of it
-  module _ (same : HasSameList trimmed new) (released : IsReleased trimmed new) (made : IsMade (body_of trimmed) trimmed.commits new.commits) where
+  module _ (same : HasSameList trimmed new) (released : IsReleased trimmed new)
+      (made : IsMade (body_of trimmed) trimmed.commits new.commits) where
     none_held : new.held ≡ []
     none_held =
         let seqs = is.rows.seqs in
@@ -136,7 +149,8 @@ module _ (geometry : Geometry) (commits : CommitsState) (opened trimmed new : Lo
       room =
           released.room
           ∙ ap
-          (λ rows. room_of trimmed.room.log trimmed.room.head (sectors_from trimmed.room.log new.commits.body.tail.position trimmed.room.head rows))
+          (λ rows. room_of trimmed.room.log trimmed.room.head (sectors_from trimmed.room.log new.commits.body.tail.position
+          trimmed.room.head rows))
           none_left
           ∙ ap (λ room. room_of room.log room.head 0) (cut.room ∙ is.room);
       held = none_held;
@@ -151,7 +165,8 @@ module _ (geometry : Geometry) (commits : CommitsState) (opened trimmed new : Lo
         → ShowsLog new (committed_at trimmed.first (log_found geometry.log commits.body opened.rows))
     ended_shows limits may =
         let seqs = is.rows.seqs in
-        let plain : committed_at trimmed.first (log_found geometry.log commits.body opened.rows) ≡ ended geometry.log commits.body.head.position seq =
+        let plain : committed_at trimmed.first (log_found geometry.log commits.body opened.rows) ≡ ended geometry.log
+        commits.body.head.position seq =
         ap (λ s. committed_at s (log_found geometry.log commits.body opened.rows)) first_is
         ∙ committed_past geometry.log commits.body opened.rows seq (omega (arith, seqs, past)) in
         subst (ShowsLog new) (sym plain)

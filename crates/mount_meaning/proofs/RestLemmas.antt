@@ -60,7 +60,8 @@ mounted_is_at_rest uuid plain number objects valid has =
 
 -- all entries that are left are in objects
 cut_image : (plain : PlainState) (number : ℕ)
-    → settled_image (mounted_without number plain) ≡ after plain.opening (take (end_of_object number plain - plain.end) plain.entries)
+    → settled_image (mounted_without number plain) ≡ after plain.opening
+    (take (end_of_object number plain - plain.end) plain.entries)
 cut_image plain number =
     let count = end_of_object number plain - plain.end in
     ap (λ end. after plain.opening (take (end - plain.end) (take count plain.entries))) (cut_end plain number)

@@ -1,12 +1,14 @@
 -- Rows that follow one another from one sector up to another stand where their sizes put them.
-use Rattle.std.proofs.Common.{◌≡◌, ℕ, ◌+◌, ◌-◌, ◌*◌, ◌<◌, ◌≤◌, List, [], ◌∷◌, ◌++◌, length, map, get_or, take, drop, refl, sym, ◌∙◌, ap, subst, inl, inr, arith, if◌then◌else◌, ◌==◌}
+use Rattle.std.proofs.Common.{◌≡◌, ℕ, ◌+◌, ◌-◌, ◌*◌, ◌<◌, ◌≤◌, List, [], ◌∷◌, ◌++◌, length, map, get_or, take, drop, refl, sym}
+use Rattle.std.proofs.Common.{◌∙◌, ap, subst, inl, inr, arith, if◌then◌else◌, ◌==◌}
 use Rattle.std.specs.Prelude.{nat_lt}
 use Rattle.std.proofs.lemmas.Bool.{cases_lt}
 use Rattle.std.proofs.lemmas.List.{take-append-drop}
 use Rattle.log_room.specs.Room.{record_sectors}
 use Rattle.cache_log.specs.declared.row.Row.{Row}
 use Rattle.cache_log.specs.declared.row.Row.TheVariants.{Write, Zero}
-use Rattle.cache_log.specs.Rows.{byte_of, log_sectors, entry_of, position_of, record_size, sectors_taken, next, Follow, end_of_rows}
+use Rattle.cache_log.specs.Rows.{byte_of, log_sectors, entry_of, position_of, record_size, sectors_taken, next, Follow}
+use Rattle.cache_log.specs.Rows.{end_of_rows}
 use Rattle.cache_log.proofs.RowLemmas.{sectors_count}
 use Rattle.log_meaning.specs.Shows.{record_of_row, records_of_rows}
 use Rattle.log_meaning.proofs.Following.{Reaches, reach_next, reach_used}
@@ -41,7 +43,8 @@ abbrev pub sizes_of : List Row → List ℕ
 sizes_of rows = map record_size rows
 
 -- rows that end before the log does need no pad
-no_pads : (rows : List Row) (log from used : ℕ) → from < log → from + used ≤ log → Follow log from used rows → used ≡ sum_of_sizes (sizes_of rows)
+no_pads : (rows : List Row) (log from used : ℕ) → from < log → from + used ≤ log → Follow log from used rows
+    → used ≡ sum_of_sizes (sizes_of rows)
 no_pads [] log from used inside most none = none
 no_pads (row ∷ rows) log from used inside most (inl here, enough, more) =
     let some = some_size row in
@@ -80,7 +83,8 @@ rounds row rows log from used inside most at some enough more =
 
 -- and those of which the first does not take fewer, where the others take no more than such a pad too
 goes_on : (row : Row) (rows : List Row) (log from used : ℕ) → from < log → used ≤ log → position_of row ≡ from
-    → from + record_size row ≤ log → sectors_taken log from row ≤ used → Follow log (next log row) (used - sectors_taken log from row) rows
+    → from + record_size row ≤ log → sectors_taken log from row ≤ used
+    → Follow log (next log row) (used - sectors_taken log from row) rows
     → used - sectors_taken log from row ≤ sum_of_sizes (sizes_of rows) + (log - next log row)
     → used < sum_of_sizes (sizes_of (row ∷ rows)) + (log - from)
 goes_on row rows log from used inside most at fits enough more few =
@@ -117,7 +121,8 @@ few_pads (row ∷ rows) log from used inside most (inr round, enough, more) =
 -- ---- rows of the same sizes
 
 -- where rows reach as far as others of the same sizes, it cannot be that the first goes round in one of them alone
-not_both : (log from used head : ℕ) (row : Row) (rows : List Row) (other : Row) (others : List Row) → Reaches log from used head (row ∷ rows)
+not_both : (log from used head : ℕ) (row : Row) (rows : List Row) (other : Row) (others : List Row)
+    → Reaches log from used head (row ∷ rows)
     → Reaches log from used head (other ∷ others) → sizes_of (row ∷ rows) ≡ sizes_of (other ∷ others)
     → position_of row ≡ from → from + record_size row ≤ log → position_of other ≡ 0 → 0 < from → ⊥
 not_both log from used head row rows other others a b sizes at fits round some =
@@ -128,8 +133,10 @@ not_both log from used head row rows other others a b sizes at fits round some =
     let same = ap sum_of_sizes sizes in
     omega (arith, fewer, all, same)
 
-same_first : (log from used head : ℕ) (row : Row) (rows : List Row) (other : Row) (others : List Row) → Reaches log from used head (row ∷ rows)
-    → Reaches log from used head (other ∷ others) → sizes_of (row ∷ rows) ≡ sizes_of (other ∷ others) → position_of row ≡ position_of other
+same_first : (log from used head : ℕ) (row : Row) (rows : List Row) (other : Row) (others : List Row)
+    → Reaches log from used head (row ∷ rows)
+    → Reaches log from used head (other ∷ others) → sizes_of (row ∷ rows) ≡ sizes_of (other ∷ others)
+    → position_of row ≡ position_of other
 same_first log from used head row rows other others a b sizes =
     elim a.follow.0 [
       | inl here ↦ elim b.follow.0 [
@@ -143,7 +150,8 @@ same_first log from used head row rows other others a b sizes =
     ]
 
 -- rows of the same sizes from one sector up to another have the same records
-pub same_records : (rows others : List Row) (log from used taken head : ℕ) → sizes_of rows ≡ sizes_of others → Reaches log from used head rows
+pub same_records : (rows others : List Row) (log from used taken head : ℕ) → sizes_of rows ≡ sizes_of others
+    → Reaches log from used head rows
     → Reaches log from taken head others → records_of_rows log from rows ≡ records_of_rows log from others
 same_records [] [] log from used taken head sizes a b = refl
 same_records [] (other ∷ others) log from used taken head sizes a b = absurd (let e = ap length sizes in omega (arith, e))
@@ -157,10 +165,12 @@ same_records (row ∷ rows) (other ∷ others) log from used taken head sizes a 
     let stored : record_of_row log from row ≡ record_of_row log from other =
     λ i. record { pad = if nat_lt (at i) from then log - from else 0; at = at i; sectors = size i } in
     let to : next log row ≡ next log other = λ i. if at i + size i == log then 0 else at i + size i in
-    let rest = same_records rows others log (next log row) (used - sectors_taken log from row) (used - sectors_taken log from other) head
+    let rest = same_records rows others log (next log row) (used - sectors_taken log from row)
+    (used - sectors_taken log from other) head
     (ap (drop 1) sizes)
     (reach_next row rows log from used head a)
-    (subst (λ p. Reaches log p (used - sectors_taken log from other) head others) (sym to) (reach_next other others log from used head too)) in
+    (subst (λ p. Reaches log p (used - sectors_taken log from other) head others) (sym to)
+    (reach_next other others log from used head too)) in
     let all = rest ∙ ap (λ p. records_of_rows log p others) to in
     λ i. stored i ∷ all i
 
@@ -174,7 +184,8 @@ entry_sectors (Write own at lba n) bytes fits =
 entry_sectors (Zero own at lba n) bytes fits = refl
 
 -- rows have the sizes of the records of their entries, where the bytes have the whole log
-pub sizes_are : (rows : List Row) (log from used head : ℕ) (bytes : List ℕ) → Reaches log from used head rows → byte_of log ≤ length bytes
+pub sizes_are : (rows : List Row) (log from used head : ℕ) (bytes : List ℕ) → Reaches log from used head rows
+    → byte_of log ≤ length bytes
     → map record_sectors (map (entry_of bytes) rows) ≡ sizes_of rows
 sizes_are [] log from used head bytes is long = refl
 sizes_are (row ∷ rows) log from used head bytes is long =
@@ -185,7 +196,8 @@ sizes_are (row ∷ rows) log from used head bytes is long =
     ] in
     let one = entry_sectors row bytes (omega (arith, fits, long)) in
     let rest =
-    sizes_are rows log (next log row) (used - sectors_taken log from row) head bytes (reach_next row rows log from used head is) long in
+    sizes_are rows log (next log row) (used - sectors_taken log from row) head bytes
+    (reach_next row rows log from used head is) long in
     λ i. one i ∷ rest i
 
 -- ---- the first of some rows

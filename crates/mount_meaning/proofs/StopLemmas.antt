@@ -1,5 +1,6 @@
 -- What is found on the device keeps the entries of the volume that a mount makes, and so does whatever a stop leaves meanwhile.
-use Rattle.std.proofs.Common.{◌≡◌, ℕ, ◌+◌, ◌-◌, ◌≤◌, true, max, List, [], ◌∷◌, ◌++◌, length, take, drop, map, refl, sym, ◌∙◌, ap, subst, inl, inr, arith, length-drop}
+use Rattle.std.proofs.Common.{◌≡◌, ℕ, ◌+◌, ◌-◌, ◌≤◌, true, max, List, [], ◌∷◌, ◌++◌, length, take, drop, map, refl, sym, ◌∙◌, ap}
+use Rattle.std.proofs.Common.{subst, inl, inr, arith, length-drop}
 use Rattle.std.specs.Prelude.{Option, Some, None, IfSome, option_map}
 use Rattle.std.proofs.lemmas.List.{take-take, take_all, take-append-drop, length-map, drop-drop, drop_at}
 use Rattle.std.proofs.lemmas.List.Elements.{All-from_recursion}
@@ -39,7 +40,8 @@ past_whole : (plain : PlainState) (count : ℕ) → plain.end ≤ count
 past_whole plain count from =
     let rest : List Entry = drop (count - plain.end) plain.entries in
     let long = length-drop (count - plain.end) plain.entries in
-    entries_past_are plain count (history_length plain) from ∙ take_all (history_length plain - count) rest (omega (arith, long, from))
+    entries_past_are plain count (history_length plain) from
+    ∙ take_all (history_length plain - count) rest (omega (arith, long, from))
 
 -- those past a later count are left of those past an earlier one
 past_more : (list : List Entry) (first count later : ℕ) → first ≤ count → count ≤ later
@@ -79,7 +81,8 @@ found_keeps uuid owner plain found number objects left valid has_objects has lon
       records = (has.rows, records, refl);
       in_range =
           All-from_recursion (λ entry. is_in_range plain.geometry entry ≡ true) list
-          (entries_range plain.geometry has.rows has.body.tail.position records.used left may.tail_inside records.most long records.follow
+          (entries_range plain.geometry has.rows has.body.tail.position records.used left may.tail_inside records.most long
+          records.follow
           has.records.in_range);
       rest =
           past_whole mounted end (omega (arith, opened, frontier, from))
@@ -107,19 +110,23 @@ are_found : (geometry : Geometry) (tail end : ℕ) (rows : List Row) (entries : 
     → IfSome told (λ list. length list ≡ length rows) → IfSome told (λ list. drop (end - tail) list ≡ entries)
     → IfSome told (AllInRange geometry) → IfSome told (AreFound geometry tail end rows entries)
 are_found geometry tail end rows entries None count rest in_range = tt
-are_found geometry tail end rows entries (Some list) count rest in_range = record { count = count; rest = rest; in_range = in_range }
+are_found geometry tail end rows entries (Some list) count rest in_range =
+    record { count = count; rest = rest; in_range = in_range }
 
 entries_count : (rows : List Row) (moments : List Medium) → IfSome (entries_in rows moments) (λ list. length list ≡ length rows)
 entries_count rows [] = tt
 entries_count rows (now ∷ past) = length-map rows (entry_of now.bytes)
 
 -- what holds of what was made of a value, where it is told
-told_before : {A : Type 0} (f : A → A) (P : A → Type 0) (told : Option A) → IfSome (option_map f told) P → IfSome told (λ x. P (f x))
+told_before : {A : Type 0} (f : A → A) (P : A → Type 0) (told : Option A) → IfSome (option_map f told) P
+    → IfSome told (λ x. P (f x))
 told_before f P None holds = tt
 told_before f P (Some x) holds = holds
 
-module _ (owner : CacheOwner) (geometry : Geometry) (checkpoint end : ℕ) (plain : PlainState) (entries : List Entry) (of_log : PlainLog)
-    (commits : CommitsState) (opened trimmed : LogState) (rest : IsAtRest geometry checkpoint end plain) (is_of : owner_of commits.body ≡ owner)
+module _ (owner : CacheOwner) (geometry : Geometry) (checkpoint end : ℕ) (plain : PlainState) (entries : List Entry)
+    (of_log : PlainLog)
+    (commits : CommitsState) (opened trimmed : LogState) (rest : IsAtRest geometry checkpoint end plain)
+    (is_of : owner_of commits.body ≡ owner)
     (none : commits.unfinished ≡ None) (within : commits.body.tail.seq ≤ end) (is : IsOpenedLog geometry commits opened)
     (cut : IsTrimmed end opened trimmed) where
   abbrev mounted : PlainState
@@ -127,10 +134,12 @@ module _ (owner : CacheOwner) (geometry : Geometry) (checkpoint end : ℕ) (plai
 
   -- ---- what is told
 
-  told_found : IfSome trimmed.entries (λ list. list ≡ entries) → IfSome trimmed.all (AreFound geometry commits.body.tail.seq end opened.rows entries)
+  told_found : IfSome trimmed.entries (λ list. list ≡ entries)
+      → IfSome trimmed.all (AreFound geometry commits.body.tail.seq end opened.rows entries)
   told_found told =
       let found = are_found geometry commits.body.tail.seq end opened.rows entries opened.entries
-      (subst (λ e. IfSome e (λ list. length list ≡ length opened.rows)) (sym is.entries) (entries_count opened.rows commits.disk.moments))
+      (subst (λ e. IfSome e (λ list. length list ≡ length opened.rows)) (sym is.entries)
+      (entries_count opened.rows commits.disk.moments))
       (subst (λ n. IfSome opened.entries (λ list. drop (end - n) list ≡ entries)) is.first
       (told_before (drop (end - opened.first)) (λ list. list ≡ entries) opened.entries
       (subst (λ e. IfSome e (λ list. list ≡ entries)) cut.entries told)))
@@ -171,7 +180,8 @@ module _ (owner : CacheOwner) (geometry : Geometry) (checkpoint end : ℕ) (plai
       subst (MayBeLeft owner commits.body.tail.seq end opened.rows) (sym (commit.same_body ∙ own_is)) own_may
   commit_may number body (inl (inr commit)) =
       subst (MayBeLeft owner commits.body.tail.seq end opened.rows) (sym (commit.same_body ∙ finished_is)) own_may
-  commit_may number body (inr commit) = subst (MayBeLeft owner commits.body.tail.seq end opened.rows) (sym commit.same_body) whole_may
+  commit_may number body (inr commit) = subst (MayBeLeft owner commits.body.tail.seq end opened.rows)
+      (sym commit.same_body) whole_may
 
   -- ---- what a stop leaves
 
@@ -186,7 +196,8 @@ module _ (owner : CacheOwner) (geometry : Geometry) (checkpoint end : ℕ) (plai
   size_is = ap (λ room. room.log) (cut.room ∙ is.room)
 
   -- past a later count a commit has the entries of the volume
-  rest_is : (list : List Entry) (body : CommitBody) (count : ℕ) → AreFound geometry commits.body.tail.seq end opened.rows entries list
+  rest_is : (list : List Entry) (body : CommitBody) (count : ℕ)
+      → AreFound geometry commits.body.tail.seq end opened.rows entries list
       → MayBeLeft owner commits.body.tail.seq end opened.rows body → end ≤ count
       → entries_past mounted count (history_length mounted) ≡ drop (count - body.tail.seq) (entries_between body opened.rows list)
   rest_is list body count are may from =
@@ -204,8 +215,10 @@ module _ (owner : CacheOwner) (geometry : Geometry) (checkpoint end : ℕ) (plai
       ∙ sym (past_count trimmed body opened.rows list tail count is.rows.numbered are.count may.from (omega (arith, order, from)))
 
   keeps_on_device : (list : List Entry) (left : List ℕ) (number : ℕ) (body : CommitBody)
-      → AreFound geometry commits.body.tail.seq end opened.rows entries list → MayBeLeft owner commits.body.tail.seq end opened.rows body
-      → ReadsSettled trimmed.room.log left body number → HasRecords trimmed.room.log body (entries_between body (all_rows trimmed) list) left
+      → AreFound geometry commits.body.tail.seq end opened.rows entries list
+      → MayBeLeft owner commits.body.tail.seq end opened.rows body
+      → ReadsSettled trimmed.room.log left body number
+      → HasRecords trimmed.room.log body (entries_between body (all_rows trimmed) list) left
       → KeepsOnDevice owner mounted (history_length mounted) left
   keeps_on_device list left number body are may settled records = λ count from to.
       let ends = rest.frontier in
@@ -224,7 +237,8 @@ module _ (owner : CacheOwner) (geometry : Geometry) (checkpoint end : ℕ) (plai
         list = entries_between body opened.rows list;
         records = of_rows;
         in_range =
-            all_of_commit trimmed body (λ entry. is_in_range geometry entry ≡ true) opened.rows list commits.body.tail.seq is.rows.numbered
+            all_of_commit trimmed body (λ entry. is_in_range geometry entry ≡ true) opened.rows list commits.body.tail.seq
+            is.rows.numbered
             are.count may.from are.in_range;
         rest = rest_is list body count are may later;
       })
@@ -240,7 +254,8 @@ module _ (owner : CacheOwner) (geometry : Geometry) (checkpoint end : ℕ) (plai
       )
 
 pub committing_keeps_mounted : CommittingKeepsMounted
-committing_keeps_mounted owner geometry checkpoint end plain entries of_log commits opened trimmed new rest is_of none within is cut told _ leaves =
+committing_keeps_mounted owner geometry checkpoint end plain entries of_log commits opened trimmed new rest is_of none within is
+    cut told _ leaves =
     let mounted : PlainState = going_on entries of_log plain in
     let old : List Medium = trimmed.commits.disk.moments in
     let Leaves : List Entry → Medium → Type 0 =
@@ -250,6 +265,8 @@ committing_keeps_mounted owner geometry checkpoint end plain entries of_log comm
     (HoldsSince Keeps old new.moments) trimmed.all
     (λ list are since.
     passes_as (Leaves list) Keeps old new.moments
-    (λ medium. stop_keeps owner geometry checkpoint end plain entries of_log commits opened trimmed rest is_of none within is cut list medium are)
+    (λ medium. stop_keeps owner geometry checkpoint end plain entries of_log commits opened trimmed rest is_of none within is cut
+    list medium are)
     since)
-    (told_found owner geometry checkpoint end plain entries of_log commits opened trimmed rest is_of none within is cut told) leaves
+    (told_found owner geometry checkpoint end plain entries of_log commits opened trimmed rest is_of none within is cut told)
+    leaves

@@ -24,9 +24,9 @@ IsFoundCommit found log = (found ≡ log.last) ⊎ (Some found ≡ log.unfinishe
 
 -- ---- what is found
 
--- The bytes of a device read as a commit of a plain volume's log, which names this owner. From its tail up to its head they have the
--- plain log's records, each where that has it, and those past the first N entries of the history, among which the tail is, are of
--- the plain volume's entries.
+-- The bytes of a device read as a commit of a plain volume's log, which names this owner. From its tail up to its head they have
+-- the plain log's records, each where that has it, and those past the first N entries of the history, among which the tail is,
+-- are of the plain volume's entries.
 pub record HasCommit (owner : CacheOwner) (plain : PlainState) (found : PlainCommit) (count : ℕ) (left : List ℕ) : Type 0 where
   pub number : ℕ
   pub body : CommitBody
@@ -35,7 +35,8 @@ pub record HasCommit (owner : CacheOwner) (plain : PlainState) (found : PlainCom
   pub slots : ReadsSettled plain.geometry.log left body number
   pub rows : List Row
   pub records : AreRecordsInRange plain.geometry body rows left
-  pub placed : records_of_rows plain.geometry.log body.tail.position rows ≡ past_pad body.tail.position (held_from found plain.cache.log).records
+  pub placed : records_of_rows plain.geometry.log body.tail.position rows ≡ past_pad body.tail.position
+      (held_from found plain.cache.log).records
   pub tail : body.tail.seq ≤ count
   pub entries : drop (count - body.tail.seq) (map (entry_of left) rows) ≡ entries_past plain count body.head.seq
 

@@ -36,7 +36,8 @@ use Rattle.pending_meaning.specs.Pending.{ShowsPending}
 use Rattle.object_recovery.specs.Recovery.{IsListUpTo, HasRecovered}
 use Rattle.object_recovery.specs.Places.{HasPlacesInside}
 use Rattle.mount_meaning.specs.Found.{IsFoundCommit, HasCommit, HasObjects}
-use Rattle.mount_meaning.specs.Mounted.{end_of_object, mounted_with, mounted_without, log_found, committed_at, going_on, data_in, AddsEntries}
+use Rattle.mount_meaning.specs.Mounted.{end_of_object, mounted_with, mounted_without, log_found, committed_at, going_on, data_in}
+use Rattle.mount_meaning.specs.Mounted.{AddsEntries}
 use Rattle.mount_meaning.specs.Rest.{IsAtRest}
 
 -- ---- what a mount is to make
@@ -53,7 +54,8 @@ MountsByNumber =
 -- the volume that a mount without the cache makes is at rest
 abbrev pub MountedIsAtRest : Type 0
 MountedIsAtRest =
-    (uuid : List ℕ) (plain : PlainState) (number : ℕ) (objects : Objects) → IsPlainVolume plain → HasObjects uuid plain number objects
+    (uuid : List ℕ) (plain : PlainState) (number : ℕ) (objects : Objects) → IsPlainVolume plain
+    → HasObjects uuid plain number objects
     → IsAtRest plain.geometry plain.checkpoint (end_of_object number plain) (mounted_without number plain)
 
 -- and a list that was recovered of its objects shows it
@@ -61,7 +63,8 @@ abbrev pub RecoveredShowsObjects : Type 0
 RecoveredShowsObjects =
     (uuid : List ℕ) (data_at : ℕ → ℕ) (plain : PlainState) (number : ℕ) (objects : Objects) (log : ObjLogState)
     → IsPlainVolume plain → HasObjects uuid plain number objects
-    → IsListUpTo uuid plain.geometry log.uploads.window.last log.uploads.queue.end log → HasRecovered plain.geometry.sectors (stream_in plain) number log
+    → IsListUpTo uuid plain.geometry log.uploads.window.last log.uploads.queue.end log
+    → HasRecovered plain.geometry.sectors (stream_in plain) number log
     → ShowsObjects data_at log (mounted_without number plain)
 
 -- each list that was recovered shows some plain volume that is at rest, also where no bytes are told
@@ -75,7 +78,8 @@ ListShowsSome =
 -- where a list shows a volume at rest, it shows that with some entries more once they were added, whatever its log is
 abbrev pub EntriesGoOn : Type 0
 EntriesGoOn =
-    (data_at : ℕ → ℕ) (geometry : Geometry) (checkpoint end : ℕ) (plain : PlainState) (entries : List Entry) (log : PlainLog) (old new : ObjLogState)
+    (data_at : ℕ → ℕ) (geometry : Geometry) (checkpoint end : ℕ) (plain : PlainState) (entries : List Entry) (log : PlainLog)
+    (old new : ObjLogState)
     → IsAtRest geometry checkpoint end plain → ShowsObjects data_at old plain → AddsEntries data_at entries old new
     → ShowsObjects data_at new (going_on entries log plain)
 
@@ -85,7 +89,8 @@ EntriesGoOn =
 abbrev pub OpenedShowsLog : Type 0
 OpenedShowsLog =
     (geometry : Geometry) (commits : CommitsState) (opened trimmed : LogState) (seq : ℕ)
-    → IsTrue (is_within_limits geometry) → MayStand commits.body geometry.log → commits.unfinished ≡ None → seq ≤ commits.body.head.seq
+    → IsTrue (is_within_limits geometry) → MayStand commits.body geometry.log → commits.unfinished ≡ None
+    → seq ≤ commits.body.head.seq
     → IsOpenedLog geometry commits opened → IsTrimmed seq opened trimmed
     → ShowsLog trimmed (log_found geometry.log commits.body opened.rows)
 
@@ -93,10 +98,12 @@ OpenedShowsLog =
 abbrev pub CommittedShowsLog : Type 0
 CommittedShowsLog =
     (old new : LogState) (plain : PlainLog)
-    → ShowsLog old plain → plain.unfinished ≡ None → HasSameList old new → IsReleased old new → IsMade (body_of old) old.commits new.commits
+    → ShowsLog old plain → plain.unfinished ≡ None → HasSameList old new → IsReleased old new
+    → IsMade (body_of old) old.commits new.commits
     → ShowsLog new (committed_at old.first plain)
 
--- so does a log that was opened, trimmed and committed again, also where its next entry has a greater seq than the head that was found
+-- so does a log that was opened, trimmed and committed again, also where its next entry has a greater seq than the head that was
+-- found
 abbrev pub ReopenedShowsLog : Type 0
 ReopenedShowsLog =
     (geometry : Geometry) (commits : CommitsState) (opened trimmed new : LogState) (seq : ℕ)
@@ -109,13 +116,16 @@ ReopenedShowsLog =
 abbrev pub OpenedHasCommitted : Type 0
 OpenedHasCommitted =
     (owner : CacheOwner) (geometry : Geometry) (commits : CommitsState) (log : LogState)
-    → owner_of commits.body ≡ owner → commits.unfinished ≡ None → IsOpenedLog geometry commits log → HasCommitted owner geometry log
+    → owner_of commits.body ≡ owner → commits.unfinished ≡ None → IsOpenedLog geometry commits log
+    → HasCommitted owner geometry log
 
 -- the list of a log whose entries were added has them past the frontier's end
 abbrev pub AddedAreLogged : Type 0
 AddedAreLogged =
-    (geometry : Geometry) (checkpoint end : ℕ) (plain : PlainState) (entries : List Entry) (of_log : PlainLog) (log : LogState) (row_of_none : Row)
-    → IsAtRest geometry checkpoint end plain → log.first ≡ end → AreRowsOf log.rows entries → IfSome log.entries (λ list. list ≡ entries)
+    (geometry : Geometry) (checkpoint end : ℕ) (plain : PlainState) (entries : List Entry) (of_log : PlainLog) (log : LogState)
+    (row_of_none : Row)
+    → IsAtRest geometry checkpoint end plain → log.first ≡ end → AreRowsOf log.rows entries
+    → IfSome log.entries (λ list. list ≡ entries)
     → AreNumbered log.first log.rows → HasLoggedEntries (data_in log row_of_none) log (going_on entries of_log plain)
 
 -- ---- the whole
@@ -131,8 +141,10 @@ MountedIsPlainVolume =
 -- where the bytes of a device read as a commit of a plain volume, that is what a mount is to make of it
 abbrev pub MountedIsGoingOn : Type 0
 MountedIsGoingOn =
-    (uuid : List ℕ) (owner : CacheOwner) (plain : PlainState) (found : PlainCommit) (number : ℕ) (objects : Objects) (left : List ℕ)
-    → IsPlainVolume plain → HasObjects uuid plain number objects → (has : HasCommit owner plain found (end_of_object number plain) left)
+    (uuid : List ℕ) (owner : CacheOwner) (plain : PlainState) (found : PlainCommit) (number : ℕ) (objects : Objects)
+    (left : List ℕ)
+    → IsPlainVolume plain → HasObjects uuid plain number objects
+    → (has : HasCommit owner plain found (end_of_object number plain) left)
     → going_on (entries_past plain (end_of_object number plain) has.body.head.seq)
     (committed_at (end_of_object number plain) (log_found plain.geometry.log has.body has.rows)) (mounted_without number plain)
     ≡ mounted_with found number plain
@@ -142,7 +154,8 @@ MountedIsGoingOn =
 -- bytes that a mount finds keep all that it is to make of them
 abbrev pub FoundKeeps : Type 0
 FoundKeeps =
-    (uuid : List ℕ) (owner : CacheOwner) (plain : PlainState) (found : PlainCommit) (number : ℕ) (objects : Objects) (left : List ℕ)
+    (uuid : List ℕ) (owner : CacheOwner) (plain : PlainState) (found : PlainCommit) (number : ℕ) (objects : Objects)
+    (left : List ℕ)
     → IsPlainVolume plain → HasObjects uuid plain number objects → HasCommit owner plain found (end_of_object number plain) left
     → byte_of plain.geometry.log ≤ length left
     → KeepsOnDevice owner (mounted_with found number plain) (history_length (mounted_with found number plain)) left
@@ -150,13 +163,16 @@ FoundKeeps =
 -- and so does whatever a stop leaves at each moment while the log is committed again
 abbrev pub CommittingKeepsMounted : Type 0
 CommittingKeepsMounted =
-    (owner : CacheOwner) (geometry : Geometry) (checkpoint end : ℕ) (plain : PlainState) (entries : List Entry) (of_log : PlainLog)
+    (owner : CacheOwner) (geometry : Geometry) (checkpoint end : ℕ) (plain : PlainState) (entries : List Entry)
+    (of_log : PlainLog)
     (commits : CommitsState) (opened trimmed : LogState) (new : DiskState)
-    → IsAtRest geometry checkpoint end plain → owner_of commits.body ≡ owner → commits.unfinished ≡ None → commits.body.tail.seq ≤ end
+    → IsAtRest geometry checkpoint end plain → owner_of commits.body ≡ owner → commits.unfinished ≡ None
+    → commits.body.tail.seq ≤ end
     → IsOpenedLog geometry commits opened → IsTrimmed end opened trimmed → IfSome trimmed.entries (λ list. list ≡ entries)
     → end + length entries ≡ max end commits.body.head.seq
     → LeavesEntriesSince trimmed (IsLastOr trimmed.commits (body_of trimmed)) new
-    → StopKeepsSince owner trimmed (going_on entries of_log plain) (λ head. head ≡ history_length (going_on entries of_log plain)) new
+    → StopKeepsSince owner trimmed (going_on entries of_log plain) (λ head. head ≡ history_length (going_on entries of_log plain))
+    new
 
 -- whatever a stop leaves reads as the last commit or as the unfinished one
 abbrev pub LeftHasCommit : Type 0
@@ -164,7 +180,8 @@ LeftHasCommit =
     (owner : CacheOwner) (data_at : ℕ → ℕ) (log : LogState) (plain : PlainState) (count : ℕ)
     → ShowsStops owner data_at log plain → frontier_end plain ≤ count → count ≤ history_length plain
     → HoldsNow (λ now. (left : List ℕ) → MayLeave now left
-    → (found : PlainCommit) × IsFoundCommit found plain.cache.log × HasCommit owner plain found count left) log.commits.disk.moments
+    → (found : PlainCommit) × IsFoundCommit found plain.cache.log × HasCommit owner plain found count left)
+    log.commits.disk.moments
 
 -- whatever fates the pending writes meet, what they leave reads as the commit that the plain cache keeps then
 abbrev pub FatesKeepCommit : Type 0
@@ -174,5 +191,6 @@ FatesKeepCommit =
     → length fates ≡ length plain.cache.pending
     → HoldsNow (λ now. MayLeave now (left_in_order fates log.commits.disk.moments)) log.commits.disk.moments
     → frontier_end plain ≤ count → count ≤ history_length plain
-    → (has : HasCommit owner plain (kept_commit (map is_kept fates) plain.cache) count (left_in_order fates log.commits.disk.moments))
+    → (has : HasCommit owner plain (kept_commit (map is_kept fates) plain.cache) count
+    (left_in_order fates log.commits.disk.moments))
     × (has.number ≤ log.commits.number + 1)

@@ -35,7 +35,8 @@ mounted_with found number plain =
 
 -- what a mount without it makes, on a new device of the same length
 abbrev pub mounted_without : (number : ℕ) → PlainState → PlainState
-mounted_without number plain = record (cut_to_object number plain) { cache = cache_with (empty_from plain.cache.log.size (end_of_object number plain)) }
+mounted_without number plain = record (cut_to_object number plain)
+    { cache = cache_with (empty_from plain.cache.log.size (end_of_object number plain)) }
 
 -- ---- how it is made
 

@@ -6,7 +6,8 @@ use Rattle.plain_disk.specs.Cache.{cache_with}
 use Rattle.plain_disk.specs.State.{PlainState, history_length, frontier_end}
 use Rattle.plain_disk.specs.Valid.{IsPlainVolume}
 
--- All objects of a plain volume are acknowledged, each of its entries is in one, up to an end, and its log is empty. Nothing is pinned.
+-- All objects of a plain volume are acknowledged, each of its entries is in one, up to an end, and its log is empty. Nothing is
+-- pinned.
 pub record IsAtRest (geometry : Geometry) (checkpoint end : ℕ) (plain : PlainState) : Type 0 where
   pub valid : IsPlainVolume plain
   pub geometry_is : plain.geometry ≡ geometry

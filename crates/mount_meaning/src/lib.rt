@@ -1,10 +1,10 @@
 //! What a mount of a volume means: the plain volume that it makes of what a stop left.
 //!
-//! Its contract: these definitions, and the laws that the list of objects which is recovered, and the log which is opened and committed
-//! again, show the plain volume that a mount is to make; that whatever a stop leaves meanwhile keeps the same entries; and which commit
-//! of a plain volume a stop leaves, by the fates of the pending writes.
-//! It stands on `log_meaning`, `objects_meaning`, `stop_meaning` and `pending_meaning` for what the parts mean, on `object_recovery` and
-//! `plain_disk`.
+//! Its contract: these definitions, and the laws that the list of objects which is recovered, and the log
+//! which is opened and committed again, show the plain volume that a mount is to make; that whatever a stop
+//! leaves meanwhile keeps the same entries; and which commit of a plain volume a stop leaves, by the fates of
+//! the pending writes. It stands on `log_meaning`, `objects_meaning`, `stop_meaning` and `pending_meaning`
+//! for what the parts mean, on `object_recovery` and `plain_disk`.
 #![tactic(auto)]
 
 mod laws;

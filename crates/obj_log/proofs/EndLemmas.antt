@@ -1,5 +1,6 @@
 -- The end of the last sealed object, which is the seq of the batch's first entry.
-use Rattle.std.proofs.Common.{◌≡◌, ℕ, zero, suc, not, Bool, true, false, Option, Some, None, List, [], ◌∷◌, ◌++◌, take, drop, refl, ◌∙◌, ap}
+use Rattle.std.proofs.Common.{◌≡◌, ℕ, zero, suc, not, Bool, true, false, Option, Some, None, List, [], ◌∷◌, ◌++◌, take, drop}
+use Rattle.std.proofs.Common.{refl, ◌∙◌, ap}
 use Rattle.std.specs.Prelude.{Result, Ok, Err, OnOk, OnErr, IfSome, IfNone}
 use Rattle.lsvd_objstore.specs.Store.{ReceiptState}
 use Rattle.object_format.specs.declared.data_row.DataRow.{DataRow}
@@ -15,7 +16,8 @@ changed_end zero change same end (first ∷ sealed) = ap (λ e. end_of_last e se
 changed_end (suc index) change same end (first ∷ sealed) = changed_end index change same first.end sealed
 
 -- the first of them and the others
-end_in_parts : (count end : ℕ) (sealed : List SealedState) → end_of_last (end_of_last end (take count sealed)) (drop count sealed) ≡ end_of_last end sealed
+end_in_parts : (count end : ℕ) (sealed : List SealedState) → end_of_last (end_of_last end (take count sealed)) (drop count sealed)
+    ≡ end_of_last end sealed
 end_in_parts zero end sealed = refl
 end_in_parts (suc count) end [] = refl
 end_in_parts (suc count) end (first ∷ sealed) = end_in_parts count first.end sealed
@@ -29,16 +31,20 @@ abbrev pub end_of : UploadsState → ℕ
 end_of uploads = end_of_last uploads.queue.end uploads.queue.sealed
 
 pub job_end : (number : ℕ) (started : Bool) (uploads : UploadsState) → end_of (with_job number started uploads) ≡ end_of uploads
-job_end number started uploads = changed_end (index_of uploads number) (with_spare (not started)) (λ s. refl) uploads.queue.end uploads.queue.sealed
+job_end number started uploads = changed_end (index_of uploads number) (with_spare (not started)) (λ s. refl) uploads.queue.end
+    uploads.queue.sealed
 
-pub done_end : (number : ℕ) (receipt : ReceiptState) (old new : UploadsState) → IsPutDone number receipt old new → end_of new ≡ end_of old
+pub done_end : (number : ℕ) (receipt : ReceiptState) (old new : UploadsState) → IsPutDone number receipt old new
+    → end_of new ≡ end_of old
 done_end number receipt old new done =
     let list = with_at (index_of old number) (with_receipt receipt) old.queue.sealed in
     ap (λ e. end_of_last e new.queue.sealed) done.settled.end
     ∙ (ap (end_of_last (end_of_last old.queue.end (take done.count list))) done.settled.sealed
-    ∙ (end_in_parts done.count old.queue.end list ∙ changed_end (index_of old number) (with_receipt receipt) (λ s. refl) old.queue.end old.queue.sealed))
+    ∙ (end_in_parts done.count old.queue.end list ∙ changed_end (index_of old number) (with_receipt receipt) (λ s. refl)
+    old.queue.end old.queue.sealed))
 
-pub sealed_end : (bytes : List ℕ) (rows : List DataRow) (end : ℕ) (old new : UploadsState) → IsSealed bytes rows end old new → end_of new ≡ end
+pub sealed_end : (bytes : List ℕ) (rows : List DataRow) (end : ℕ) (old new : UploadsState) → IsSealed bytes rows end old new
+    → end_of new ≡ end
 sealed_end bytes rows end old new sealed =
     ap (λ e. end_of_last e new.queue.sealed) sealed.settled.end
     ∙ (ap (end_of_last old.queue.end) sealed.sealed ∙ end_of_more old.queue.end old.queue.sealed (just_sealed bytes rows end))
@@ -48,7 +54,8 @@ same_end old new same = ap (λ e. end_of_last e new.queue.sealed) same.settled.e
 
 -- ---- by what a call answers
 
-pub end_if_taken : (result : Option JobState) (old new : UploadsState) → IfSome result (λ job. new ≡ with_job job.name.number true old) → IfNone result (new ≡ old)
+pub end_if_taken : (result : Option JobState) (old new : UploadsState)
+    → IfSome result (λ job. new ≡ with_job job.name.number true old) → IfNone result (new ≡ old)
     → end_of new ≡ end_of old
 end_if_taken (Some job) old new started same = ap end_of started ∙ job_end job.name.number true old
 end_if_taken None old new started same = ap end_of same

@@ -27,16 +27,20 @@ front_short : (rows : ℕ) → rows ≤ 65536 → data_front_sectors rows < 2 ^ 
 front_short rows most = omega arith
 
 -- as the header of an object of the grammar says, it has at most that many
-few_rows : (expected : Expected) (bytes : List ℕ) (head : Header) (rows : Vec DataRow) (payload : List ℕ) → HasParts expected bytes head (Data rows) payload
+few_rows : (expected : Expected) (bytes : List ℕ) (head : Header) (rows : Vec DataRow) (payload : List ℕ)
+    → HasParts expected bytes head (Data rows) payload
     → length rows.items ≤ 65536
 few_rows expected bytes head rows payload parts =
-    let limits = subst (λ k. IsTrue (nat_le head.rows (most_rows expected.sectors k) && nat_le head.payload 131071)) (sym parts.is_object.rows_are.kind) parts.is_object.head.limits in
+    let limits = subst (λ k. IsTrue (nat_le head.rows (most_rows expected.sectors k) && nat_le head.payload 131071))
+    (sym parts.is_object.rows_are.kind) parts.is_object.head.limits in
     let count : length rows.items ≡ head.rows = parts.is_object.rows_are.count in
     grind (arith, nat_tests)
 
 -- the rows of an object fit that is the expected one of a volume within the limits
-pub sealed_fit : (log : ObjLogState) (expected : Expected) (bytes : List ℕ) (head : Header) (rows : Vec DataRow) (payload : List ℕ)
-    → expected ≡ next_of log → IsTrue (is_within_limits log.batch.geometry) → HasParts expected bytes head (Data rows) payload → FitObject rows.items
+pub sealed_fit : (log : ObjLogState) (expected : Expected) (bytes : List ℕ) (head : Header) (rows : Vec DataRow)
+    (payload : List ℕ)
+    → expected ≡ next_of log → IsTrue (is_within_limits log.batch.geometry) → HasParts expected bytes head (Data rows) payload
+    → FitObject rows.items
 sealed_fit log expected bytes head rows payload next limits parts =
     let same : expected.sectors ≡ log.batch.geometry.sectors = ap (λ (e : Expected). e.sectors) next in
     let low : log.batch.geometry.sectors < 2 ^ 63 = grind (arith, nat_tests) in
@@ -44,14 +48,17 @@ sealed_fit log expected bytes head rows payload next limits parts =
     let few = few_rows expected bytes head rows payload parts in
     record {
       count = few;
-      fit = rows_fit (front_of rows.items) expected.sectors head.payload 0 None rows.items (omega (arith, same, low)) most (front_short (length rows.items) few) parts.is_object.rows_are.spelling;
+      fit = rows_fit (front_of rows.items) expected.sectors head.payload 0 None rows.items (omega (arith, same, low)) most
+          (front_short (length rows.items) few) parts.is_object.rows_are.spelling;
     }
 
 -- what was sealed of a batch, entered, and released
-pub is_sealed : (old : ObjLogState) (expected : Expected) (sealed : SealedBatch) (end : ℕ) (batch : BatchState) (uploads : UploadsState)
+pub is_sealed : (old : ObjLogState) (expected : Expected) (sealed : SealedBatch) (end : ℕ) (batch : BatchState)
+    (uploads : UploadsState)
     → expected ≡ next_of old → batches.IsSealed old.batch expected sealed → end ≡ old.batch.first + sealed.entries
     → objects.IsSealed sealed.object sealed.rows.items end old.uploads uploads
-    → batch.geometry ≡ old.batch.geometry → batch.first ≡ old.batch.first + sealed.rest.after → batch.entries ≡ drop sealed.rest.after old.batch.entries
+    → batch.geometry ≡ old.batch.geometry → batch.first ≡ old.batch.first + sealed.rest.after
+    → batch.entries ≡ drop sealed.rest.after old.batch.entries
     → HasSealedObject old (record { batch = batch; uploads = uploads })
 is_sealed old expected sealed end batch uploads next is end_is entered geometry first entries = record {
   count = sealed.entries;
@@ -59,7 +66,8 @@ is_sealed old expected sealed end batch uploads next is end_is entered geometry 
   bytes = sealed.object;
   rows = sealed.rows;
   payload = is.payload;
-  parts = subst (λ e. HasParts e sealed.object (header_of e old.batch.first (old.batch.first + sealed.entries) (Data sealed.rows)) (Data sealed.rows) is.payload) next is.parts;
+  parts = subst (λ e. HasParts e sealed.object (header_of e old.batch.first (old.batch.first + sealed.entries) (Data sealed.rows))
+      (Data sealed.rows) is.payload) next is.parts;
   changes = is.changes;
   uploads = rw (← end_is) entered;
   geometry = geometry;

@@ -1,5 +1,6 @@
 -- The list stays that of a stream.
-use Rattle.std.proofs.Common.{◌≡◌, ℕ, ◌+◌, ◌-◌, ◌<◌, ◌≤◌, None, List, [], ◌∷◌, ◌++◌, length, take, drop, refl, sym, ◌∙◌, ap, subst, arith, length-drop}
+use Rattle.std.proofs.Common.{◌≡◌, ℕ, ◌+◌, ◌-◌, ◌<◌, ◌≤◌, None, List, [], ◌∷◌, ◌++◌, length, take, drop, refl, sym, ◌∙◌, ap}
+use Rattle.std.proofs.Common.{subst, arith, length-drop}
 use Rattle.std.proofs.lemmas.Bool.Decides.{nat_tests}
 use Rattle.std.proofs.lemmas.List.{drop-drop, drop-append-le}
 use Rattle.lsvd_base.specs.declared.geometry.Geometry.{Geometry}
@@ -31,7 +32,8 @@ new_list_begins_stream data_at log number end first entries window frontier end_
     let last : end_at stream (last_number stream) ≡ end = ap (end_after end) (grow.all_objects stream) in
     let none : 0 ≡ end_at stream (last_number stream) - end = omega (arith, last) in
     record {
-      objects = grow.stream_begins (expected_of_volume log) data_at log.uploads number end window frontier end_is sealed settled logged;
+      objects = grow.stream_begins (expected_of_volume log) data_at log.uploads number end window frontier end_is sealed
+          settled logged;
       first = first ∙ sym last;
       entries = entries ∙ ap (λ n. drop n stream.entries) none;
     }
@@ -44,10 +46,13 @@ jobs_keep_stream data_at stream log number started is = record {
 }
 
 -- what is expected of objects is the same while the uuid and the sizes are
-pub same_volume : (old new : ObjLogState) → new.uploads.uuid ≡ old.uploads.uuid → new.batch.geometry ≡ old.batch.geometry → expected_of_volume old ≡ expected_of_volume new
+pub same_volume : (old new : ObjLogState) → new.uploads.uuid ≡ old.uploads.uuid → new.batch.geometry ≡ old.batch.geometry
+    → expected_of_volume old ≡ expected_of_volume new
 same_volume old new uuid geometry =
-    ap (λ (u : List ℕ). record { uuid = u; number = 0; sectors = old.batch.geometry.sectors; ancestors = 0; end_before = None }) (sym uuid)
-    ∙ ap (λ (g : Geometry). record { uuid = new.uploads.uuid; number = 0; sectors = g.sectors; ancestors = 0; end_before = None }) (sym geometry)
+    ap (λ (u : List ℕ). record { uuid = u; number = 0; sectors = old.batch.geometry.sectors; ancestors = 0; end_before = None })
+    (sym uuid)
+    ∙ ap (λ (g : Geometry). record { uuid = new.uploads.uuid; number = 0; sectors = g.sectors; ancestors = 0; end_before = None })
+    (sym geometry)
 
 pub room_keeps_stream : RoomKeepsStreamOfList
 room_keeps_stream data_at stream old new is same =
@@ -60,11 +65,14 @@ room_keeps_stream data_at stream old new is same =
       last = are.last;
       end = are.end;
       settled = λ k.
-          ap (λ (rows : List _). owner_of (settled_at (record new.uploads.queue.maps { settled = record new.uploads.queue.maps.settled { rows = rows } }) k)) kept.settled.places.settled
+          ap (λ (rows : List _). owner_of (settled_at
+          (record new.uploads.queue.maps { settled = record new.uploads.queue.maps.settled { rows = rows } }) k))
+          kept.settled.places.settled
           ∙ are.settled k;
       sealed = are.sealed;
       logged = λ k.
-          ap (λ (rows : List _). logged_at (record new.uploads.queue.maps { log = record new.uploads.queue.maps.log { rows = rows } }) k) kept.settled.places.log
+          ap (λ (rows : List _). logged_at (record new.uploads.queue.maps
+          { log = record new.uploads.queue.maps.log { rows = rows } }) k) kept.settled.places.log
           ∙ are.logged k;
     }) in
     record {
@@ -79,7 +87,8 @@ done_keeps_stream data_at stream old new number receipt uploads is done same =
     record {
       objects =
           subst (λ v. AreOfStream v data_at stream new.uploads) volume
-          (keep.done_keeps_stream (expected_of_volume old) data_at stream old.uploads new.uploads number receipt uploads is.objects done);
+          (keep.done_keeps_stream (expected_of_volume old) data_at stream old.uploads new.uploads number receipt uploads
+          is.objects done);
       first = ap (λ (b : BatchState). b.first) same ∙ is.first;
       entries = ap (λ (b : BatchState). b.entries) same ∙ is.entries;
     }
@@ -113,14 +122,16 @@ adding_keeps_stream data_at stream old new entry uploads is added =
     record {
       objects =
           subst (λ v. AreOfStream v data_at (with_entry entry stream) new.uploads) volume
-          (grow.entering_keeps_stream (expected_of_volume old) data_at stream old.uploads new.uploads entry uploads is.objects entered added.window);
+          (grow.entering_keeps_stream (expected_of_volume old) data_at stream old.uploads new.uploads entry uploads is.objects
+          entered added.window);
       first = added.first ∙ is.first;
       entries =
           added.entries
           ∙ (ap (λ es. es ++ entry ∷ []) is.entries ∙ sym (drop-append-le (last - stream.end) stream.entries (entry ∷ []) less));
     }
 
-module _ (data_at : ℕ → ℕ) (stream : Stream) (old new : ObjLogState) (is : IsOfStream data_at stream old) (sealed : HasSealedObject old new) where
+module _ (data_at : ℕ → ℕ) (stream : Stream) (old new : ObjLogState) (is : IsOfStream data_at stream old)
+    (sealed : HasSealedObject old new) where
   abbrev last : ℕ
   last = end_at stream (last_number stream)
 
@@ -146,7 +157,8 @@ module _ (data_at : ℕ → ℕ) (stream : Stream) (old new : ObjLogState) (is :
       ap (λ n. expected_at (expected_of_volume old) (n + 1) old.batch.first) (sym is.objects.last)
       ∙ ap (expected_at (expected_of_volume old) (last_number stream + 1)) is.first
 
-  is_sealed_of : IsSealedOf (expected_at (expected_of_volume old) (last_number stream + 1) last) (take (end - last) (unsealed stream))
+  is_sealed_of : IsSealedOf (expected_at (expected_of_volume old) (last_number stream + 1) last)
+      (take (end - last) (unsealed stream))
       (record { content = content.Data; end = end }) (just_sealed sealed.bytes sealed.rows.items end)
   is_sealed_of = record {
     content = refl;
@@ -155,7 +167,8 @@ module _ (data_at : ℕ → ℕ) (stream : Stream) (old new : ObjLogState) (is :
     rows_of = Data sealed.rows;
     payload = sealed.payload;
     parts =
-        subst (λ e. HasParts e sealed.bytes (header_of (next_of old) old.batch.first end (Data sealed.rows)) (Data sealed.rows) sealed.payload)
+        subst (λ e. HasParts e sealed.bytes (header_of (next_of old) old.batch.first end (Data sealed.rows)) (Data sealed.rows)
+        sealed.payload)
         expected_same sealed.parts;
     rows_are = refl;
     ends = refl;
@@ -168,17 +181,21 @@ module _ (data_at : ℕ → ℕ) (stream : Stream) (old new : ObjLogState) (is :
       let sum : last - stream.end + sealed.count ≡ end - stream.end = omega (arith, order, is.first) in
       ap (drop sealed.count) is.entries
       ∙ (drop-drop sealed.count (last - stream.end) stream.entries
-      ∙ (ap (λ n. drop n stream.entries) sum ∙ ap (λ e. drop (e - stream.end) stream.entries) (sym (grow.end_of_more stream end))))
+      ∙ (ap (λ n. drop n stream.entries) sum
+      ∙ ap (λ e. drop (e - stream.end) stream.entries) (sym (grow.end_of_more stream end))))
 
   grown : IsUploads old.uploads.queue old.uploads.window → IsOfStream data_at (with_data_object end stream) new
   grown uploads = record {
     objects =
-        subst (λ v. AreOfStream v data_at (with_data_object end stream) new.uploads) (same_volume old new sealed.uploads.uuid sealed.geometry)
-        (grow.sealing_keeps_stream (expected_of_volume old) data_at stream old.uploads new.uploads sealed.bytes sealed.rows.items end uploads is.objects past within is_sealed_of sealed.uploads);
+        subst (λ v. AreOfStream v data_at (with_data_object end stream) new.uploads)
+        (same_volume old new sealed.uploads.uuid sealed.geometry)
+        (grow.sealing_keeps_stream (expected_of_volume old) data_at stream old.uploads new.uploads sealed.bytes sealed.rows.items
+        end uploads is.objects past within is_sealed_of sealed.uploads);
     first = sealed.first ∙ sym (grow.end_of_more stream end);
     entries = sealed.entries ∙ rest;
   }
 
 pub sealing_keeps_stream : SealingKeepsStreamOfList
 sealing_keeps_stream data_at stream old new uploads is sealed =
-    subst (λ e. IsOfStream data_at (with_data_object e stream) new) (sym sealed.first) (grown data_at stream old new is sealed uploads)
+    subst (λ e. IsOfStream data_at (with_data_object e stream) new) (sym sealed.first)
+    (grown data_at stream old new is sealed uploads)

@@ -39,21 +39,28 @@ pub record IsAdded (entry : Entry) (data_at : ℕ) (old new : ObjLogState) : Typ
 
 -- what is expected of the objects of a volume without ancestors, but for their numbers and ends
 abbrev pub expected_of_volume : ObjLogState → Expected
-expected_of_volume log = record { uuid = log.uploads.uuid; number = 0; sectors = log.batch.geometry.sectors; ancestors = 0; end_before = None }
+expected_of_volume log = record {
+  uuid = log.uploads.uuid;
+  number = 0;
+  sectors = log.batch.geometry.sectors;
+  ancestors = 0;
+  end_before = None;
+}
 
 -- and of the next one
 abbrev pub next_of : ObjLogState → Expected
 next_of log = expected_at (expected_of_volume log) (log.uploads.window.last + 1) log.batch.first
 
--- The fewest first entries of the batch that are full, or all where they are never full, were sealed into the next object, which does
--- to each sector just what they do. The batch goes on with the others.
+-- The fewest first entries of the batch that are full, or all where they are never full, were sealed into the next object, which
+-- does to each sector just what they do. The batch goes on with the others.
 pub record HasSealedObject (old new : ObjLogState) : Type 0 where
   pub count : ℕ
   pub is_count : IsSealedCount old.batch.geometry.batch old.batch.entries count
   pub bytes : List ℕ
   pub rows : Vec DataRow
   pub payload : List ℕ
-  pub parts : HasParts (next_of old) bytes (header_of (next_of old) old.batch.first (old.batch.first + count) (Data rows)) (Data rows) payload
+  pub parts : HasParts (next_of old) bytes (header_of (next_of old) old.batch.first (old.batch.first + count) (Data rows))
+      (Data rows) payload
   pub changes : (k : ℕ) → change_in rows.items payload k ≡ change_at (take count old.batch.entries) k
   pub uploads : uploads.IsSealed bytes rows.items (old.batch.first + count) old.uploads new.uploads
   pub geometry : new.batch.geometry ≡ old.batch.geometry
@@ -62,7 +69,8 @@ pub record HasSealedObject (old new : ObjLogState) : Type 0 where
 
 -- ---- adopting
 
--- the object of the next number, with these rows and this end, was counted as acknowledged, and the batch, without entries, goes on there
+-- the object of the next number, with these rows and this end, was counted as acknowledged, and the batch, without entries, goes
+-- on there
 pub record HasAdoptedObject (rows : List DataRow) (end : ℕ) (receipt : ReceiptState) (old new : ObjLogState) : Type 0 where
   pub geometry : new.batch.geometry ≡ old.batch.geometry
   pub first : new.batch.first ≡ end

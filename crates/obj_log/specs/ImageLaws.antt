@@ -30,30 +30,35 @@ RoomKeepsImageOfList = (old new : ObjLogState) → IsSame old new → KeepsImage
 
 abbrev pub AddingKeepsImageOfList : Type 0
 AddingKeepsImageOfList =
-    (entry : Entry) (data_at : ℕ) (old new : ObjLogState) → IsAdded entry data_at old new → KeepsImage old.uploads.queue new.uploads.queue
+    (entry : Entry) (data_at : ℕ) (old new : ObjLogState) → IsAdded entry data_at old new
+    → KeepsImage old.uploads.queue new.uploads.queue
 
 abbrev pub SealingKeepsImageOfList : Type 0
 SealingKeepsImageOfList = (old new : ObjLogState) → HasSealedObject old new → KeepsImage old.uploads.queue new.uploads.queue
 
 abbrev pub JobsKeepImageOfList : Type 0
-JobsKeepImageOfList = (number : ℕ) (started : Bool) (log : ObjLogState) → KeepsImage log.uploads.queue (with_job number started log.uploads).queue
+JobsKeepImageOfList = (number : ℕ) (started : Bool) (log : ObjLogState)
+    → KeepsImage log.uploads.queue (with_job number started log.uploads).queue
 
--- By a put that is done it becomes the image after the entries of the objects that are settled then, and receipts stay those of the objects'
--- own bytes.
+-- By a put that is done it becomes the image after the entries of the objects that are settled then, and receipts stay those of
+-- the objects' own bytes.
 abbrev pub DoneMakesImageOfList : Type 0
 DoneMakesImageOfList =
-    (data_at : ℕ → ℕ) (stream : Stream) (old new : ObjLogState) (number : ℕ) (bytes : List ℕ) (receipt : ReceiptState) (image : Image)
+    (data_at : ℕ → ℕ) (stream : Stream) (old new : ObjLogState) (number : ℕ) (bytes : List ℕ) (receipt : ReceiptState)
+    (image : Image)
     → IsUploads old.uploads.queue old.uploads.window → IsOfStream data_at stream old
     → IsPutDone number receipt old.uploads new.uploads → IsOut old.uploads number bytes → IsReceiptFor bytes receipt
     → HasOwnReceipts old.uploads.queue
     → All (EndsBy (length image)) (settled_entries stream old.uploads.queue new.uploads.queue)
     → HasImage image old.uploads.queue
-    → HasImage (after image (settled_entries stream old.uploads.queue new.uploads.queue)) new.uploads.queue × HasOwnReceipts new.uploads.queue
+    → HasImage (after image (settled_entries stream old.uploads.queue new.uploads.queue)) new.uploads.queue
+    × HasOwnReceipts new.uploads.queue
 
 -- and by an object that is adopted that after its entries
 abbrev pub AdoptingMakesImageOfList : Type 0
 AdoptingMakesImageOfList =
-    (data_at : ℕ → ℕ) (stream : Stream) (old new : ObjLogState) (entries : List Entry) (object : StreamObject) (bytes : List ℕ) (rows : List DataRow) (end : ℕ) (receipt : ReceiptState) (image : Image)
+    (data_at : ℕ → ℕ) (stream : Stream) (old new : ObjLogState) (entries : List Entry) (object : StreamObject) (bytes : List ℕ)
+    (rows : List DataRow) (end : ℕ) (receipt : ReceiptState) (image : Image)
     → IsUploads old.uploads.queue old.uploads.window → IsOfStream data_at stream old → old.uploads.queue.sealed ≡ []
     → IsSealedOf (next_of old) entries object (just_sealed bytes rows end)
     → HasAdoptedObject rows end receipt old new → IsReceiptFor bytes receipt → All (EndsBy (length image)) entries

@@ -14,19 +14,22 @@ use Rattle.obj_log.specs.State.{ObjLogState}
 use Rattle.obj_log.specs.Changes.{next_of, IsSame, IsAdded, HasSealedObject, HasAdoptedObject}
 use Rattle.obj_log.specs.Stream.{IsOfStream}
 
--- a list that was just made, whose objects up to this number have the entries up to this end, is that of a stream that begins there
+-- a list that was just made, whose objects up to this number have the entries up to this end, is that of a stream that begins
+-- there
 abbrev pub NewListBeginsStream : Type 0
 NewListBeginsStream =
     (data_at : ℕ → ℕ) (log : ObjLogState) (number end : ℕ)
     → log.batch.first ≡ end → log.batch.entries ≡ []
-    → log.uploads.window ≡ record { last = number; objects = [] } → log.uploads.queue.frontier ≡ number → log.uploads.queue.end ≡ end
+    → log.uploads.window ≡ record { last = number; objects = [] } → log.uploads.queue.frontier ≡ number
+    → log.uploads.queue.end ≡ end
     → log.uploads.queue.sealed ≡ [] → log.uploads.queue.maps.settled.rows ≡ [] → log.uploads.queue.maps.log.rows ≡ []
     → IsOfStream data_at (record { number = number; end = end; opening = λ k. None; entries = []; objects = [] }) log
 
 -- a list of a stream stays that while nothing changes but room
 abbrev pub RoomKeepsStreamOfList : Type 0
 RoomKeepsStreamOfList =
-    (data_at : ℕ → ℕ) (stream : Stream) (old new : ObjLogState) → IsOfStream data_at stream old → IsSame old new → IsOfStream data_at stream new
+    (data_at : ℕ → ℕ) (stream : Stream) (old new : ObjLogState) → IsOfStream data_at stream old → IsSame old new
+    → IsOfStream data_at stream new
 
 -- it is that of the stream with one entry more, once that was added
 abbrev pub AddingKeepsStreamOfList : Type 0
@@ -54,12 +57,14 @@ DoneKeepsStreamOfList =
     → IsUploads old.uploads.queue old.uploads.window → IsOfStream data_at stream old
     → IsPutDone number receipt old.uploads new.uploads → new.batch ≡ old.batch → IsOfStream data_at stream new
 
--- Where all objects are acknowledged, and no entry is in the batch, it is that of the stream with the next entries in a data object more,
--- once that was adopted.
+-- Where all objects are acknowledged, and no entry is in the batch, it is that of the stream with the next entries in a data
+-- object more, once that was adopted.
 abbrev pub AdoptingKeepsStreamOfList : Type 0
 AdoptingKeepsStreamOfList =
-    (data_at : ℕ → ℕ) (stream : Stream) (old new : ObjLogState) (entries : List Entry) (bytes : List ℕ) (rows : List DataRow) (end : ℕ) (receipt : ReceiptState)
-    → IsUploads old.uploads.queue old.uploads.window → IsOfStream data_at stream old → old.uploads.queue.sealed ≡ [] → old.batch.entries ≡ []
+    (data_at : ℕ → ℕ) (stream : Stream) (old new : ObjLogState) (entries : List Entry) (bytes : List ℕ) (rows : List DataRow)
+    (end : ℕ) (receipt : ReceiptState)
+    → IsUploads old.uploads.queue old.uploads.window → IsOfStream data_at stream old → old.uploads.queue.sealed ≡ []
+    → old.batch.entries ≡ []
     → end ≡ old.batch.first + length entries → 0 < length entries
     → IsSealedOf (next_of old) entries (record { content = Data; end = end }) (just_sealed bytes rows end)
     → HasAdoptedObject rows end receipt old new

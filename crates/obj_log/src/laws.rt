@@ -1,11 +1,14 @@
-ghost use Rattle.obj_log.specs.Laws.{NewListBeginsStream, RoomKeepsStreamOfList, AddingKeepsStreamOfList, SealingKeepsStreamOfList};
+ghost use Rattle.obj_log.specs.Laws.{NewListBeginsStream, RoomKeepsStreamOfList, AddingKeepsStreamOfList};
+ghost use Rattle.obj_log.specs.Laws.{SealingKeepsStreamOfList};
 ghost use Rattle.obj_log.specs.Laws.{JobsKeepStreamOfList, DoneKeepsStreamOfList, AdoptingKeepsStreamOfList};
-ghost use Rattle.obj_log.specs.ImageLaws.{NewListHasBlank, RoomKeepsImageOfList, AddingKeepsImageOfList, SealingKeepsImageOfList};
-ghost use Rattle.obj_log.specs.ImageLaws.{JobsKeepImageOfList, DoneMakesImageOfList, AdoptingMakesImageOfList};
+ghost use Rattle.obj_log.specs.ImageLaws.{NewListHasBlank, RoomKeepsImageOfList, AddingKeepsImageOfList};
+ghost use Rattle.obj_log.specs.ImageLaws.{SealingKeepsImageOfList};
+ghost use Rattle.obj_log.specs.ImageLaws.{JobsKeepImageOfList, DoneMakesImageOfList};
+ghost use Rattle.obj_log.specs.ImageLaws.{AdoptingMakesImageOfList};
 
-/// A law: a list that was just made is that of a stream without entries and objects. It stays that of a stream while nothing changes but
-/// room, while entries are added, the first of them are sealed, and puts begin, fail and are done, in any order, and while objects of the
-/// next entries are adopted.
+/// A law: a list that was just made is that of a stream without entries and objects. It stays that of a
+/// stream while nothing changes but room, while entries are added, the first of them are sealed, and puts
+/// begin, fail and are done, in any order, and while objects of the next entries are adopted.
 pub fn the_list_stays_a_stream()
     ensures begins { NewListBeginsStream }
     ensures same { RoomKeepsStreamOfList }
@@ -16,9 +19,10 @@ pub fn the_list_stays_a_stream()
     ensures adopted { AdoptingKeepsStreamOfList }
 {}
 
-/// A law: the objects of a list that was just made have the image of zeros. They keep it while nothing changes but room, while entries are
-/// added and sealed, and while puts begin and fail. By a put that is done, and by an object that is adopted, it becomes the image after the
-/// entries of the objects that are settled then, where the receipts are for the objects' own bytes.
+/// A law: the objects of a list that was just made have the image of zeros. They keep it while nothing
+/// changes but room, while entries are added and sealed, and while puts begin and fail. By a put that is
+/// done, and by an object that is adopted, it becomes the image after the entries of the objects that are
+/// settled then, where the receipts are for the objects' own bytes.
 pub fn the_objects_have_an_image()
     ensures begins { NewListHasBlank }
     ensures same { RoomKeepsImageOfList }

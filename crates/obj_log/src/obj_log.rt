@@ -1,4 +1,5 @@
-ghost use Rattle.std.specs.Prelude.{◌≡◌, ◌+◌, ◌-◌, ◌<◌, ◌≤◌, ◌^◌, ℕ, ◌↔◌, [], length, option_map, Err, IsTrue, IsErr, IfOk, IfErr, IfSome, IfNone, OnOk, OnErr, true, false};
+ghost use Rattle.std.specs.Prelude.{◌≡◌, ◌+◌, ◌-◌, ◌<◌, ◌≤◌, ◌^◌, ℕ, ◌↔◌, [], length, option_map, Err};
+ghost use Rattle.std.specs.Prelude.{IsTrue, IsErr, IfOk, IfErr, IfSome, IfNone, OnOk, OnErr, true, false};
 ghost use Rattle.std.specs.List.{sum_by, slice_get};
 ghost use Rattle.lsvd_base.specs.Limits.{is_within_limits};
 ghost use Rattle.lsvd_base.specs.Range.{is_in_range};
@@ -14,7 +15,8 @@ ghost use Rattle.object_uploads.specs.Order.{IsUploads};
 ghost use Rattle.object_uploads.specs.Changes.{with_job, IsJobOf, IsOut, IsPutDone};
 ghost use Rattle.obj_log.specs.declared.error.SealError.TheVariants as errors;
 ghost use Rattle.obj_log.specs.State.{ObjLogState};
-ghost use Rattle.obj_log.specs.Changes.{HasRoomToAdd, IsSame, IsAdded, HasSealedObject, HasAdoptedObject, next_of};
+ghost use Rattle.obj_log.specs.Changes.{HasRoomToAdd, IsSame, IsAdded, HasSealedObject, HasAdoptedObject};
+ghost use Rattle.obj_log.specs.Changes.{next_of};
 
 use crate::error::SealError;
 use batcher::Batch;
@@ -28,7 +30,8 @@ use std::marker::Model;
 use uuid::Uuid;
 use volume_maps::VolumePlace;
 
-/// The entries of a volume that are in no object yet, its objects on their way to the store, and where each sector is.
+/// The entries of a volume that are in no object yet, its objects on their way to the store, and where each
+/// sector is.
 #[derive(Drop)]
 pub struct ObjLog<R: Receipt> {
     batch: Batch,
@@ -51,11 +54,16 @@ impl<R: Receipt> Model for ObjLog<R> {
 }
 
 impl<R: Receipt> ObjLog<R> {
-    /// The list of a volume with this uuid whose geometry is within the limits (a condition). Its objects up to this number are
-    /// acknowledged, and have the entries up to this end. It takes no memory.
+    /// The list of a volume with this uuid whose geometry is within the limits (a condition). Its objects up
+    /// to this number are acknowledged, and have the entries up to this end. It takes no memory.
     pub fn new(alloc: Global, uuid: Uuid, geometry: Geometry, number: u64, end: u64) -> ObjLog<R>
         requires { IsTrue (is_within_limits geometry) }
-        ensures batch { result.batch ≡ record { geometry = geometry; first = end; entries = []; reserved = 0 } }
+        ensures batch { result.batch ≡ record {
+          geometry = geometry;
+          first = end;
+          entries = [];
+          reserved = 0;
+        } }
         ensures uuid { result.uploads.uuid ≡ uuid }
         ensures window { result.uploads.window ≡ record { last = number; objects = [] } }
         ensures frontier { result.uploads.queue.frontier ≡ number }
@@ -80,9 +88,9 @@ impl<R: Receipt> ObjLog<R> {
         self.uploads.reserve()
     }
 
-    /// Adds an entry at the end, also to a batch that is full, as a mount does. Its data begin at the sector `data_at` of the log.
-    /// Memory was taken for it, the volume takes it, its seq and the sectors of data with it fit, and its data end below 2^63
-    /// (conditions). It takes no memory.
+    /// Adds an entry at the end, also to a batch that is full, as a mount does. Its data begin at the sector
+    /// `data_at` of the log. Memory was taken for it, the volume takes it, its seq and the sectors of data
+    /// with it fit, and its data end below 2^63 (conditions). It takes no memory.
     pub fn add(&mut self, entry: Entry, data_at: u64)
         requires room { HasRoomToAdd self.old }
         requires range { IsTrue (is_in_range self.old.batch.geometry entry) }
@@ -95,13 +103,15 @@ impl<R: Receipt> ObjLog<R> {
         self.batch.add(entry);
     }
 
-    /// Seals the next data object: it has the fewest first entries of the batch that are full, or all where they are never full. Its
-    /// number is answered. `Nothing` comes where the batch has no entry, `Busy` where else 16 objects are on their way to the store.
-    /// Where memory ran out, but for room nothing changes. The numbers go on below 2^64 - 1 (a condition).
+    /// Seals the next data object: it has the fewest first entries of the batch that are full, or all where
+    /// they are never full. Its number is answered. `Nothing` comes where the batch has no entry, `Busy`
+    /// where else 16 objects are on their way to the store. Where memory ran out, but for room nothing
+    /// changes. The numbers go on below 2^64 - 1 (a condition).
     pub fn seal_data(&mut self, alloc: Global) -> Result<u64, SealError>
         requires { self.old.uploads.window.last + 1 < 2 ^ 64 - 1 }
         ensures nothing { (result ≡ Err errors.Nothing) ↔ (self.old.batch.entries ≡ []) }
-        ensures busy { (result ≡ Err errors.Busy) ↔ ((0 < length self.old.batch.entries) × (length self.old.uploads.window.objects ≡ 16)) }
+        ensures busy { (result ≡ Err errors.Busy) ↔ ((0 < length self.old.batch.entries)
+            × (length self.old.uploads.window.objects ≡ 16)) }
         ensures number { IfOk result (λ number. number ≡ self.old.uploads.window.last + 1) }
         ensures sealed { OnOk result (HasSealedObject self.old self.new) }
         ensures same { OnErr result (IsSame self.old self.new) }
@@ -120,11 +130,12 @@ impl<R: Receipt> ObjLog<R> {
         Ok(number)
     }
 
-    /// Counts the next number's object, which is in the store, as acknowledged, and settles it: these are its rows, the count of entries
-    /// up to its end, and the receipt that the store gave for it. The batch goes on at that end. No object is past the frontier, the
-    /// batch has no entry, the numbers go on below 2^64 - 1, the end is not before that of the frontier, and the rows are 65,536 at most,
-    /// end below 2^63, and their places in the object below 2^32 (conditions). The one error is out of memory; then nothing changes but
-    /// room.
+    /// Counts the next number's object, which is in the store, as acknowledged, and settles it: these are its
+    /// rows, the count of entries up to its end, and the receipt that the store gave for it. The batch goes
+    /// on at that end. No object is past the frontier, the batch has no entry, the numbers go on below 2^64 -
+    /// 1, the end is not before that of the frontier, and the rows are 65,536 at most, end below 2^63, and
+    /// their places in the object below 2^32 (conditions). The one error is out of memory; then nothing
+    /// changes but room.
     pub fn adopt(
         &mut self,
         alloc: Global,
@@ -145,24 +156,33 @@ impl<R: Receipt> ObjLog<R> {
         Ok(())
     }
 
-    /// Begins the put of the lowest ready object. None is where no object is ready; then nothing changes. It takes no memory.
+    /// Begins the put of the lowest ready object. None is where no object is ready; then nothing changes. It
+    /// takes no memory.
     pub fn take_job(&mut self) -> Option<Job>
-        ensures lowest { option_map (λ job. job.name.number) result ≡ lowest_ready self.old.uploads.window.objects }
+        ensures lowest { option_map (λ job. job.name.number) result
+            ≡ lowest_ready self.old.uploads.window.objects }
         ensures job { IfSome result (λ job. IsJobOf self.old.uploads job.name.number job) }
-        ensures started { IfSome result (λ job. self.new ≡ record self.old { uploads = with_job job.name.number true self.old.uploads }) }
+        ensures started { IfSome result
+            (λ job. self.new ≡ record self.old {
+              uploads = with_job job.name.number true
+                  self.old.uploads;
+            }) }
         ensures same { IfNone result (self.new ≡ self.old) }
     {
         self.uploads.take_job()
     }
 
-    /// A put is done, and the store gave this receipt for it. The frontier is answered. The receipt comes back where the put is not
-    /// out: its number is not started, or these are not the sealed bytes, or the receipt names another object; then nothing changes.
-    /// It takes no memory.
+    /// A put is done, and the store gave this receipt for it. The frontier is answered. The receipt comes
+    /// back where the put is not out: its number is not started, or these are not the sealed bytes, or the
+    /// receipt names another object; then nothing changes. It takes no memory.
     pub fn job_done(&mut self, job: &Job, receipt: R) -> Result<u64, R>
-        ensures nothing { IsErr result ↔ (IsOut self.old.uploads job.now.name.number job.now.bytes × ((R.state receipt).name ≡ name_of self.old.uploads.uuid job.now.name.number) → ⊥) }
+        ensures nothing { IsErr result ↔ (IsOut self.old.uploads job.now.name.number job.now.bytes
+            × ((R.state receipt).name ≡ name_of self.old.uploads.uuid job.now.name.number) → ⊥) }
         ensures out { OnOk result (IsOut self.old.uploads job.now.name.number job.now.bytes) }
-        ensures named { OnOk result ((R.state receipt).name ≡ name_of self.old.uploads.uuid job.now.name.number) }
-        ensures done { OnOk result (IsPutDone job.now.name.number (R.state receipt) self.old.uploads self.new.uploads) }
+        ensures named { OnOk result ((R.state receipt).name ≡ name_of self.old.uploads.uuid
+            job.now.name.number) }
+        ensures done { OnOk result (IsPutDone job.now.name.number (R.state receipt) self.old.uploads
+            self.new.uploads) }
         ensures batch { self.new.batch ≡ self.old.batch }
         ensures frontier { IfOk result (λ frontier. frontier ≡ self.new.uploads.queue.frontier) }
         ensures back { IfErr result (λ back. back ≡ receipt) }
@@ -171,20 +191,22 @@ impl<R: Receipt> ObjLog<R> {
         self.uploads.job_done(job, receipt)
     }
 
-    /// A put failed, and its object is ready again. The job comes back where it is not out: its number is not started, or these are
-    /// not the sealed bytes; then nothing changes. It takes no memory.
+    /// A put failed, and its object is ready again. The job comes back where it is not out: its number is not
+    /// started, or these are not the sealed bytes; then nothing changes. It takes no memory.
     pub fn job_failed(&mut self, job: Job) -> Result<(), Job>
         ensures nothing { IsErr result ↔ (IsOut self.old.uploads job.name.number job.bytes → ⊥) }
         ensures out { OnOk result (IsOut self.old.uploads job.name.number job.bytes) }
-        ensures ready { OnOk result (self.new ≡ record self.old { uploads = with_job job.name.number false self.old.uploads }) }
+        ensures ready { OnOk result (self.new ≡ record self.old
+            { uploads = with_job job.name.number false self.old.uploads }) }
         ensures back { IfErr result (λ back. back ≡ job) }
         ensures same { OnErr result (self.new ≡ self.old) }
     {
         self.uploads.job_failed(job)
     }
 
-    /// The places of the sectors from `lba` on, as the shortest list of rows in order; a sector without a place has zeros. The rows
-    /// and their places end below 2^63, and so does the range (a condition). The one error is out of memory.
+    /// The places of the sectors from `lba` on, as the shortest list of rows in order; a sector without a
+    /// place has zeros. The rows and their places end below 2^63, and so does the range (a condition). The
+    /// one error is out of memory.
     pub fn look(
         &self,
         alloc: Global,
@@ -192,17 +214,19 @@ impl<R: Receipt> ObjLog<R> {
         sectors: u64,
     ) -> Result<Vec<Extent<VolumePlace>>, AllocError>
         requires { lba + sectors < 2 ^ 63 }
-        ensures places { IfOk result (λ rows. (k : ℕ) → place_at volume_on rows.items k ≡ place_in_range lba sectors (volume_place_at self.now.uploads.queue.maps) k) }
+        ensures places { IfOk result (λ rows. (k : ℕ) → place_at volume_on rows.items k ≡ place_in_range lba
+            sectors (volume_place_at self.now.uploads.queue.maps) k) }
         ensures shortest { IfOk result (λ rows. IsShortest volume_on rows.items) }
         ensures fits { IfOk result (λ rows. AllFit volume_number rows.items) }
     {
         self.uploads.look(alloc, lba, sectors)
     }
 
-    /// What the store gave for the object of a number. None is for a number past the frontier, and for one whose object was
-    /// acknowledged before the list began.
+    /// What the store gave for the object of a number. None is for a number past the frontier, and for one
+    /// whose object was acknowledged before the list began.
     pub fn receipt(&self, number: u64) -> Option<&R>
-        ensures { option_map (λ receipt. R.state receipt.now) result ≡ receipt_of self.now.uploads.queue number }
+        ensures { option_map (λ receipt. R.state receipt.now) result
+            ≡ receipt_of self.now.uploads.queue number }
     {
         self.uploads.receipt(number)
     }
@@ -243,8 +267,8 @@ impl<R: Receipt> ObjLog<R> {
         self.uploads.uuid()
     }
 
-    /// What is so of the objects of every volume, as a fact for the proofs of callers: the open ones are those past the frontier that
-    /// are not acknowledged, the first among them. Nothing is done.
+    /// What is so of the objects of every volume, as a fact for the proofs of callers: the open ones are
+    /// those past the frontier that are not acknowledged, the first among them. Nothing is done.
     pub fn ordered(&self)
         ensures { IsUploads self.now.uploads.queue self.now.uploads.window }
     {

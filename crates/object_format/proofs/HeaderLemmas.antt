@@ -1,5 +1,6 @@
 -- The bytes of a header, and the fields that are read in them.
-use Rattle.std.proofs.Common.{◌≡◌, ℕ, ◌+◌, ◌^◌, ◌<◌, Option, Some, None, List, ◌++◌, length, take, codes, refl, sym, ◌∙◌, ap, append_assoc, subst, arith}
+use Rattle.std.proofs.Common.{◌≡◌, ℕ, ◌+◌, ◌^◌, ◌<◌, Option, Some, None, List, ◌++◌, length, take, codes, refl, sym, ◌∙◌, ap}
+use Rattle.std.proofs.Common.{append_assoc, subst, arith}
 use Rattle.std.proofs.lemmas.Bool.Decides.{nat_tests}
 use Rattle.std.proofs.lemmas.List.{length-append, take_at, take_all}
 use Rattle.std.proofs.lemmas.Nat.{from_be_bytes-to_be_bytes_4, from_be_bytes-to_be_bytes_8}
@@ -11,7 +12,8 @@ use Rattle.object_format.specs.declared.kind.Kind.TheVariants.{Data, Copy, Check
 use Rattle.object_format.specs.declared.header.Header.{Header}
 use Rattle.object_format.specs.Layout.{number_of, kind_from}
 use Rattle.object_format.specs.Header.{header_bytes, header_with, header_in, HasWidths}
-use Rattle.object_format.proofs.PartLemmas.{IsBytes, part_of_u32, part_of_u64, u32_fits, u64_fits, front_more, number_behind, length_of_part}
+use Rattle.object_format.proofs.PartLemmas.{IsBytes, part_of_u32, part_of_u64, u32_fits, u64_fits, front_more, number_behind}
+use Rattle.object_format.proofs.PartLemmas.{length_of_part}
 
 -- ---- kinds
 
@@ -54,7 +56,12 @@ header_splits header =
     (to_be_bytes w64 header.end_seq) (to_be_bytes w32 header.rows) (to_be_bytes w64 header.payload)
 
 length-front_of : (header : Header) → length header.uuid ≡ 16 → length (front_of header) ≡ 28
-length-front_of header uuid = omega (arith, length-append (codes "LSVDOBJ1" ++ to_be_bytes w32 (number_of header.kind)) header.uuid, uuid)
+length-front_of header uuid = omega (
+  arith,
+  length-append (codes "LSVDOBJ1" ++ to_be_bytes w32 (number_of header.kind))
+      header.uuid,
+  uuid,
+)
 
 length-numbers_of : (header : Header) → length (numbers_of header) ≡ 36
 unfolding numbers_of
@@ -82,7 +89,8 @@ uuid-header header uuid =
 u64-header : (at : ℕ) (header : Header) → length header.uuid ≡ 16
     → number_at w64 (28 + at) (header_bytes header) ≡ number_at w64 at (numbers_of header)
 u64-header at header uuid =
-    ap (number_at w64 (28 + at)) (header_splits header) ∙ number_behind w64 28 at (front_of header) (numbers_of header) (length-front_of header uuid)
+    ap (number_at w64 (28 + at)) (header_splits header) ∙ number_behind w64 28 at (front_of header) (numbers_of header)
+    (length-front_of header uuid)
 
 pub number-header : (header : Header) → HasWidths header → number_at w64 28 (header_bytes header) ≡ header.number
 unfolding numbers_of
@@ -122,12 +130,18 @@ header_of kind uuid number first_seq end_seq rows payload = record {
 header_with-header_bytes : (header : Header) → HasWidths header → header_with header.kind (header_bytes header) ≡ header
 header_with-header_bytes header widths =
     let head = header_bytes header in
-    ap (λ x. header_of header.kind x (number_at w64 28 head) (number_at w64 36 head) (number_at w64 44 head) (number_at w32 52 head) (number_at w64 56 head)) (uuid-header header widths.uuid)
-    ∙ ap (λ x. header_of header.kind header.uuid x (number_at w64 36 head) (number_at w64 44 head) (number_at w32 52 head) (number_at w64 56 head)) (number-header header widths)
-    ∙ ap (λ x. header_of header.kind header.uuid header.number x (number_at w64 44 head) (number_at w32 52 head) (number_at w64 56 head)) (first_seq-header header widths)
-    ∙ ap (λ x. header_of header.kind header.uuid header.number header.first_seq x (number_at w32 52 head) (number_at w64 56 head)) (end_seq-header header widths)
-    ∙ ap (λ x. header_of header.kind header.uuid header.number header.first_seq header.end_seq x (number_at w64 56 head)) (rows-header header widths)
-    ∙ ap (λ x. header_of header.kind header.uuid header.number header.first_seq header.end_seq header.rows x) (payload-header header widths)
+    ap (λ x. header_of header.kind x (number_at w64 28 head) (number_at w64 36 head) (number_at w64 44 head)
+    (number_at w32 52 head) (number_at w64 56 head)) (uuid-header header widths.uuid)
+    ∙ ap (λ x. header_of header.kind header.uuid x (number_at w64 36 head) (number_at w64 44 head) (number_at w32 52 head)
+    (number_at w64 56 head)) (number-header header widths)
+    ∙ ap (λ x. header_of header.kind header.uuid header.number x (number_at w64 44 head) (number_at w32 52 head)
+    (number_at w64 56 head)) (first_seq-header header widths)
+    ∙ ap (λ x. header_of header.kind header.uuid header.number header.first_seq x (number_at w32 52 head) (number_at w64 56 head))
+    (end_seq-header header widths)
+    ∙ ap (λ x. header_of header.kind header.uuid header.number header.first_seq header.end_seq x (number_at w64 56 head))
+    (rows-header header widths)
+    ∙ ap (λ x. header_of header.kind header.uuid header.number header.first_seq header.end_seq header.rows x)
+    (payload-header header widths)
 
 -- the header that was written is read again
 pub header_in-header_bytes : (header : Header) → HasWidths header → header_in (header_bytes header) ≡ Some header

@@ -1,5 +1,6 @@
 -- Written objects are read again, in one way.
-use Rattle.std.proofs.Common.{◌≡◌, ℕ, ◌+◌, ◌*◌, ◌^◌, ◌<◌, ◌≤◌, List, [], ◌∷◌, ◌++◌, length, take, replicate, refl, sym, ◌∙◌, ap, subst, append_assoc, arith}
+use Rattle.std.proofs.Common.{◌≡◌, ℕ, ◌+◌, ◌*◌, ◌^◌, ◌<◌, ◌≤◌, List, [], ◌∷◌, ◌++◌, length, take, replicate, refl, sym, ◌∙◌, ap}
+use Rattle.std.proofs.Common.{subst, append_assoc, arith}
 use Rattle.std.proofs.lemmas.List.{length-append, length-replicate, take_at, drop_at, take-append-le}
 use Rattle.std.proofs.Math.Nat.{mul-suc}
 use Rattle.std.specs.List.{flat_map}
@@ -105,24 +106,34 @@ writes_objects expected first_seq end_seq rows payload widths may size =
 
 -- ---- an object has one reading
 
-same_rows : (bytes : List ℕ) (size : ℕ) (expected another : Expected) (header : Header) (rows others : Rows) → expected.sectors < 2 ^ 64 → another.sectors < 2 ^ 64
+same_rows : (bytes : List ℕ) (size : ℕ) (expected another : Expected) (header : Header) (rows others : Rows)
+    → expected.sectors < 2 ^ 64 → another.sectors < 2 ^ 64
     → IsObject bytes size expected header rows → IsObject bytes size another header others → AreSameRows rows others
 same_rows bytes size expected another header (Data rows) (Data others) wide wide_too is other =
     sym (data_of_object bytes size expected header rows.items wide is.head is.rows_are.count is.rows_are.spelling is.row_bytes)
-    ∙ data_of_object bytes size another header others.items wide_too other.head other.rows_are.count other.rows_are.spelling other.row_bytes
+    ∙ data_of_object bytes size another header others.items wide_too other.head other.rows_are.count other.rows_are.spelling
+    other.row_bytes
 same_rows bytes size expected another header (Copy rows) (Copy others) wide wide_too is other =
     sym (copies_of_object bytes size expected header rows.items wide is.head is.rows_are.count is.rows_are.spelling is.row_bytes)
-    ∙ copies_of_object bytes size another header others.items wide_too other.head other.rows_are.count other.rows_are.spelling other.row_bytes
+    ∙ copies_of_object bytes size another header others.items wide_too other.head other.rows_are.count other.rows_are.spelling
+    other.row_bytes
 same_rows bytes size expected another header Checkpoint Checkpoint wide wide_too is other = tt
-same_rows bytes size expected another header (Data rows) (Copy others) wide wide_too is other = let e = is.rows_are.kind ∙ sym other.rows_are.kind in cc
-same_rows bytes size expected another header (Data rows) Checkpoint wide wide_too is other = let e = is.rows_are.kind ∙ sym other.rows_are.kind in cc
-same_rows bytes size expected another header (Copy rows) (Data others) wide wide_too is other = let e = is.rows_are.kind ∙ sym other.rows_are.kind in cc
-same_rows bytes size expected another header (Copy rows) Checkpoint wide wide_too is other = let e = is.rows_are.kind ∙ sym other.rows_are.kind in cc
-same_rows bytes size expected another header Checkpoint (Data others) wide wide_too is other = let e = is.rows_are.kind ∙ sym other.rows_are.kind in cc
-same_rows bytes size expected another header Checkpoint (Copy others) wide wide_too is other = let e = is.rows_are.kind ∙ sym other.rows_are.kind in cc
+same_rows bytes size expected another header (Data rows) (Copy others) wide wide_too is other = let e = is.rows_are.kind
+    ∙ sym other.rows_are.kind in cc
+same_rows bytes size expected another header (Data rows) Checkpoint wide wide_too is other = let e = is.rows_are.kind
+    ∙ sym other.rows_are.kind in cc
+same_rows bytes size expected another header (Copy rows) (Data others) wide wide_too is other = let e = is.rows_are.kind
+    ∙ sym other.rows_are.kind in cc
+same_rows bytes size expected another header (Copy rows) Checkpoint wide wide_too is other = let e = is.rows_are.kind
+    ∙ sym other.rows_are.kind in cc
+same_rows bytes size expected another header Checkpoint (Data others) wide wide_too is other = let e = is.rows_are.kind
+    ∙ sym other.rows_are.kind in cc
+same_rows bytes size expected another header Checkpoint (Copy others) wide wide_too is other = let e = is.rows_are.kind
+    ∙ sym other.rows_are.kind in cc
 
 -- the header too
-header_of_both : (bytes : List ℕ) (size : ℕ) (expected another : Expected) (a b : Header) → IsHeader bytes size expected a → IsHeader bytes size another b → a ≡ b
+header_of_both : (bytes : List ℕ) (size : ℕ) (expected another : Expected) (a b : Header) → IsHeader bytes size expected a
+    → IsHeader bytes size another b → a ≡ b
 header_of_both bytes size expected another a b is_a is_b =
     let e : header_in (take 64 bytes) ≡ Some a = header_in-IsHeader bytes size expected a is_a in
     let f : header_in (take 64 bytes) ≡ Some b = header_in-IsHeader bytes size another b is_b in
@@ -145,6 +156,7 @@ begins_no_other bytes more expected another a b is_a is_b =
     let long : 64 ≤ length bytes = omega (arith, is_a.has_size) in
     let front : take 64 (bytes ++ more) ≡ take 64 bytes = take-append-le 64 bytes more long in
     let e : header_in (take 64 bytes) ≡ Some a = header_in-IsHeader bytes (length bytes) expected a is_a in
-    let f : header_in (take 64 bytes) ≡ Some b = ap header_in (sym front) ∙ header_in-IsHeader (bytes ++ more) (length (bytes ++ more)) another b is_b in
+    let f : header_in (take 64 bytes) ≡ Some b = ap header_in (sym front)
+    ∙ header_in-IsHeader (bytes ++ more) (length (bytes ++ more)) another b is_b in
     let same : a ≡ b = cc in
     no_more bytes more (is_b.has_size ∙ sym (ap length_of same) ∙ sym is_a.has_size)

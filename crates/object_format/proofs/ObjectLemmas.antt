@@ -1,5 +1,6 @@
 -- Objects, and the rows that are read in them.
-use Rattle.std.proofs.Common.{◌≡◌, ℕ, ◌-◌, ◌*◌, ◌^◌, ◌<◌, ◌≤◌, IsTrue, None, List, length, take, drop, replicate, sym, ◌∙◌, ap, subst, arith}
+use Rattle.std.proofs.Common.{◌≡◌, ℕ, ◌-◌, ◌*◌, ◌^◌, ◌<◌, ◌≤◌, IsTrue, None, List, length, take, drop, replicate, sym, ◌∙◌, ap}
+use Rattle.std.proofs.Common.{subst, arith}
 use Rattle.std.proofs.lemmas.Bool.{and_parts, leb-true}
 use Rattle.std.proofs.lemmas.List.{take_all}
 use Rattle.std.specs.List.{flat_map}
@@ -13,12 +14,15 @@ use Rattle.object_format.specs.declared.rows.Rows.TheVariants.{Data, Copy, Check
 use Rattle.object_format.specs.declared.reason.BadObject.TheVariants as reasons
 use Rattle.object_format.specs.Layout.{rows_length, rows_end, front_sectors, padding}
 use Rattle.object_format.specs.Header.{IsHeader}
-use Rattle.object_format.specs.Rows.{data_row_bytes, copy_row_bytes, rows_bytes, data_row_in, copy_row_in, rows_in, data_rows_may_stand, copy_rows_may_stand, may_stand, kind_of, count_of, AreReadAs}
+use Rattle.object_format.specs.Rows.{data_row_bytes, copy_row_bytes, rows_bytes, data_row_in, copy_row_in, rows_in}
+use Rattle.object_format.specs.Rows.{data_rows_may_stand, copy_rows_may_stand, may_stand, kind_of, count_of, AreReadAs}
 use Rattle.object_format.specs.Object.{IsObject}
 use Rattle.object_format.specs.Tests.{IsRefusedAs}
 use Rattle.object_format.proofs.PartLemmas.{IsBytes, bytes_of_part, length_of_part}
 use Rattle.object_format.proofs.TestLemmas.{header_in-IsHeader, header_passes}
-use Rattle.object_format.proofs.RowLemmas.{length-rows_in, rows_in-flat_map, flat_map-rows_in, DataRowFits, data_row_of_bytes, data_row_again, length-data_row_bytes, data_rows_fit, CopyRowFits, copy_row_of_bytes, copy_row_again, length-copy_row_bytes, copy_rows_fit}
+use Rattle.object_format.proofs.RowLemmas.{length-rows_in, rows_in-flat_map, flat_map-rows_in, DataRowFits, data_row_of_bytes}
+use Rattle.object_format.proofs.RowLemmas.{data_row_again, length-data_row_bytes, data_rows_fit, CopyRowFits, copy_row_of_bytes}
+use Rattle.object_format.proofs.RowLemmas.{copy_row_again, length-copy_row_bytes, copy_rows_fit}
 
 -- ---- rows that were read
 
@@ -70,7 +74,8 @@ length-row_part bytes header room =
     length_of_part 64 (rows_length header.kind header.rows) bytes (omega (arith, room, rows_end_first header))
 
 pub object_if_read : (bytes : List ℕ) (size : ℕ) (expected : Expected) (header : Header) (rows : Rows) → IsBytes bytes
-    → IsHeader bytes size expected header → 512 * front_sectors header ≤ length bytes → AreReadAs header (row_part header bytes) rows
+    → IsHeader bytes size expected header → 512 * front_sectors header ≤ length bytes
+    → AreReadAs header (row_part header bytes) rows
     → bytes_at (rows_end header) (padding header) bytes ≡ replicate (padding header) 0
     → IsTrue (may_stand expected.sectors header rows) → IsObject bytes size expected header rows
 object_if_read bytes size expected header rows fits head room is zeros stand =
@@ -125,41 +130,49 @@ row_part_between bytes header end is_end =
 
 -- ---- an object has the rows that are read in it
 
-payload_is_low : (bytes : List ℕ) (size : ℕ) (expected : Expected) (header : Header) → IsHeader bytes size expected header → header.payload ≤ 131071
+payload_is_low : (bytes : List ℕ) (size : ℕ) (expected : Expected) (header : Header) → IsHeader bytes size expected header
+    → header.payload ≤ 131071
 payload_is_low bytes size expected header is = leb-true _ _ (and_parts _ _ is.limits).1
 
-pub data_of_object : (bytes : List ℕ) (size : ℕ) (expected : Expected) (header : Header) (rows : List DataRow) → expected.sectors < 2 ^ 64
+pub data_of_object : (bytes : List ℕ) (size : ℕ) (expected : Expected) (header : Header) (rows : List DataRow)
+    → expected.sectors < 2 ^ 64
     → IsHeader bytes size expected header → length rows ≡ header.rows
     → IsTrue (data_rows_may_stand expected.sectors header.payload None 0 rows)
     → row_part header bytes ≡ flat_map data_row_bytes rows
     → rows_in 24 data_row_in header.rows (row_part header bytes) ≡ rows
 data_of_object bytes size expected header rows wide head count stand is =
-    let fit = data_rows_fit expected.sectors header.payload None 0 rows wide (payload_is_low bytes size expected header head) stand in
+    let fit = data_rows_fit expected.sectors header.payload None 0 rows wide
+    (payload_is_low bytes size expected header head) stand in
     ap (λ n. rows_in 24 data_row_in n (row_part header bytes)) (sym count)
     ∙ ap (rows_in 24 data_row_in (length rows)) is
     ∙ rows_in-flat_map 24 data_row_in data_row_bytes DataRowFits length-data_row_bytes data_row_again rows fit
 
-pub copies_of_object : (bytes : List ℕ) (size : ℕ) (expected : Expected) (header : Header) (rows : List CopyRow) → expected.sectors < 2 ^ 64
+pub copies_of_object : (bytes : List ℕ) (size : ℕ) (expected : Expected) (header : Header) (rows : List CopyRow)
+    → expected.sectors < 2 ^ 64
     → IsHeader bytes size expected header → length rows ≡ header.rows
     → IsTrue (copy_rows_may_stand expected.sectors header.payload header.number None 0 rows)
     → row_part header bytes ≡ flat_map copy_row_bytes rows
     → rows_in 44 copy_row_in header.rows (row_part header bytes) ≡ rows
 copies_of_object bytes size expected header rows wide head count stand is =
-    let fit = copy_rows_fit expected.sectors header.payload header.number None 0 rows wide (payload_is_low bytes size expected header head) head.widths.number stand in
+    let fit = copy_rows_fit expected.sectors header.payload header.number None 0 rows wide
+    (payload_is_low bytes size expected header head) head.widths.number stand in
     ap (λ n. rows_in 44 copy_row_in n (row_part header bytes)) (sym count)
     ∙ ap (rows_in 44 copy_row_in (length rows)) is
     ∙ rows_in-flat_map 44 copy_row_in copy_row_bytes CopyRowFits length-copy_row_bytes copy_row_again rows fit
 
 -- rows that are read in an object keep the spelling that its rows keep
-pub read_may_stand : (bytes : List ℕ) (size : ℕ) (expected : Expected) (header : Header) (rows other : Rows) → expected.sectors < 2 ^ 64
+pub read_may_stand : (bytes : List ℕ) (size : ℕ) (expected : Expected) (header : Header) (rows other : Rows)
+    → expected.sectors < 2 ^ 64
     → AreReadAs header (row_part header bytes) rows → IsObject bytes size expected header other
     → IsTrue (may_stand expected.sectors header rows)
 read_may_stand bytes size expected header (Data rows) (Data other) wide is object =
-    let same = is.1 ∙ data_of_object bytes size expected header other.items wide object.head object.rows_are.count object.rows_are.spelling object.row_bytes in
+    let same = is.1 ∙ data_of_object bytes size expected header other.items wide object.head object.rows_are.count
+    object.rows_are.spelling object.row_bytes in
     let P : List DataRow → Type 0 = λ xs. IsTrue (data_rows_may_stand expected.sectors header.payload None 0 xs) in
     subst P (sym same) object.rows_are.spelling
 read_may_stand bytes size expected header (Copy rows) (Copy other) wide is object =
-    let same = is.1 ∙ copies_of_object bytes size expected header other.items wide object.head object.rows_are.count object.rows_are.spelling object.row_bytes in
+    let same = is.1 ∙ copies_of_object bytes size expected header other.items wide object.head object.rows_are.count
+    object.rows_are.spelling object.row_bytes in
     let P : List CopyRow → Type 0 = λ xs. IsTrue (copy_rows_may_stand expected.sectors header.payload header.number None 0 xs) in
     subst P (sym same) object.rows_are.spelling
 read_may_stand bytes size expected header Checkpoint Checkpoint wide is object = object.rows_are.spelling
@@ -172,7 +185,8 @@ read_may_stand bytes size expected header Checkpoint (Copy other) wide is object
 
 -- ---- the last reason
 
-pub same_header : (bytes : List ℕ) (size : ℕ) (expected : Expected) (a b : Header) → IsHeader bytes size expected a → IsHeader bytes size expected b → a ≡ b
+pub same_header : (bytes : List ℕ) (size : ℕ) (expected : Expected) (a b : Header) → IsHeader bytes size expected a
+    → IsHeader bytes size expected b → a ≡ b
 same_header bytes size expected a b is_a is_b =
     let e = header_in-IsHeader bytes size expected a is_a in
     let f = header_in-IsHeader bytes size expected b is_b in

@@ -1,7 +1,9 @@
 -- Numbers and bytes at places of a list.
-use Rattle.std.proofs.Common.{◌≡◌, ℕ, ◌+◌, ◌^◌, ◌<◌, ◌≤◌, List, ◌++◌, length, take, drop, get_or, refl, sym, ◌∙◌, ap, inl, inr, arith}
+use Rattle.std.proofs.Common.{◌≡◌, ℕ, ◌+◌, ◌^◌, ◌<◌, ◌≤◌, List, ◌++◌, length, take, drop, get_or, refl, sym, ◌∙◌, ap, inl, inr}
+use Rattle.std.proofs.Common.{arith}
 use Rattle.std.proofs.lemmas.Bool.{cases_lt}
-use Rattle.std.proofs.lemmas.List.{length-take, length-take-le, length-drop, drop_at, drop-drop, get_or-take, get_or-drop, get_or_past}
+use Rattle.std.proofs.lemmas.List.{length-take, length-take-le, length-drop, drop_at, drop-drop, get_or-take, get_or-drop}
+use Rattle.std.proofs.lemmas.List.{get_or_past}
 use Rattle.std.proofs.lemmas.Nat.{be_bytes_4, be_bytes_8}
 use Rattle.std.proofs.Math.Seq.{take-add}
 use Rattle.std.specs.Int.{Width, w32, w64, to_be_bytes}
@@ -15,7 +17,8 @@ pub bytes_of_part : (at count : ℕ) (bytes : List ℕ) → IsBytes bytes → Is
 bytes_of_part at count bytes fits i =
     elim (cases_lt i count) [
       | inl inside ↦ rw (get_or-take count (drop at bytes) i 0 inside, get_or-drop at bytes i 0) (fits (at + i))
-      | inr past ↦ rw (get_or_past (take count (drop at bytes)) i 0 (omega (arith, length-take count (drop at bytes), past))) (omega arith)
+      | inr past ↦ rw (get_or_past (take count (drop at bytes)) i 0 (omega (arith, length-take count (drop at bytes), past)))
+          (omega arith)
     ]
 
 pub length_of_part : (at count : ℕ) (bytes : List ℕ) → at + count ≤ length bytes → length (take count (drop at bytes)) ≡ count
@@ -25,12 +28,14 @@ length_of_part at count bytes room = length-take-le count (drop at bytes) (omega
 pub part_of_u32 : (at : ℕ) (bytes : List ℕ) → at + 4 ≤ length bytes → IsBytes bytes
     → bytes_at at 4 bytes ≡ to_be_bytes w32 (number_at w32 at bytes)
 part_of_u32 at bytes room fits =
-    sym (be_bytes_4 (take 4 (drop at bytes)) (number_at w32 at bytes) (length_of_part at 4 bytes room) (bytes_of_part at 4 bytes fits) refl)
+    sym (be_bytes_4 (take 4 (drop at bytes)) (number_at w32 at bytes) (length_of_part at 4 bytes room)
+    (bytes_of_part at 4 bytes fits) refl)
 
 pub part_of_u64 : (at : ℕ) (bytes : List ℕ) → at + 8 ≤ length bytes → IsBytes bytes
     → bytes_at at 8 bytes ≡ to_be_bytes w64 (number_at w64 at bytes)
 part_of_u64 at bytes room fits =
-    sym (be_bytes_8 (take 8 (drop at bytes)) (number_at w64 at bytes) (length_of_part at 8 bytes room) (bytes_of_part at 8 bytes fits) refl)
+    sym (be_bytes_8 (take 8 (drop at bytes)) (number_at w64 at bytes) (length_of_part at 8 bytes room)
+    (bytes_of_part at 8 bytes fits) refl)
 
 -- a number that was read has its width
 pub u32_fits : (at : ℕ) (bytes : List ℕ) → IsBytes bytes → number_at w32 at bytes < 2 ^ 32

@@ -1,5 +1,6 @@
 -- The bytes of rows, and the rows that are read in them.
-use Rattle.std.proofs.Common.{◌≡◌, ℕ, zero, suc, ◌+◌, ◌-◌, ◌*◌, ◌^◌, ◌<◌, ◌≤◌, ◌==◌, ◌&&◌, nat_lt, nat_le, IsTrue, Option, Some, None, List, [], ◌∷◌, ◌++◌, length, take, drop, refl, sym, ◌∙◌, ap, append_assoc, arith}
+use Rattle.std.proofs.Common.{◌≡◌, ℕ, zero, suc, ◌+◌, ◌-◌, ◌*◌, ◌^◌, ◌<◌, ◌≤◌, ◌==◌, ◌&&◌, nat_lt, nat_le, IsTrue, Option, Some}
+use Rattle.std.proofs.Common.{None, List, [], ◌∷◌, ◌++◌, length, take, drop, refl, sym, ◌∙◌, ap, append_assoc, arith}
 use Rattle.std.proofs.lemmas.Bool.{and_parts, leb-true, ltb-true, eqb-true}
 use Rattle.std.proofs.lemmas.Bool.Decides.{nat_tests}
 use Rattle.std.proofs.lemmas.List.{length-drop, drop_at, take_rest}
@@ -12,7 +13,9 @@ use Rattle.std.specs.Option.{IfSome}
 use Rattle.lsvd_bytes.specs.Places.{number_at}
 use Rattle.object_format.specs.declared.data_row.DataRow.{DataRow}
 use Rattle.object_format.specs.declared.copy_row.CopyRow.{CopyRow}
-use Rattle.object_format.specs.Rows.{place_number, place_from, data_row_bytes, copy_row_bytes, data_row_in, copy_row_in, rows_in, is_inside, data_payload, is_at, data_may_follow, data_may_stand, data_rows_may_stand, copy_may_follow, is_source, copy_may_stand, copy_rows_may_stand}
+use Rattle.object_format.specs.Rows.{place_number, place_from, data_row_bytes, copy_row_bytes, data_row_in, copy_row_in, rows_in}
+use Rattle.object_format.specs.Rows.{is_inside, data_payload, is_at, data_may_follow, data_may_stand, data_rows_may_stand}
+use Rattle.object_format.specs.Rows.{copy_may_follow, is_source, copy_may_stand, copy_rows_may_stand}
 use Rattle.object_format.proofs.PartLemmas.{IsBytes, bytes_of_rest, part_of_u32, part_of_u64, front_more}
 
 -- ---- rows of any kind
@@ -38,7 +41,8 @@ rows_in_more size row_in count counter rows rest below =
     ∙ ap (λ n. rows ++ rows_in size row_in n rest) (sym more)
 
 -- the same, after a push of the row, of what a slice shows of the rest
-pub read_more : {R : Type 0} (size : ℕ) (row_in : List ℕ → R) (count counter : ℕ) (rows pushed all : List R) (row : R) (rest : List ℕ)
+pub read_more : {R : Type 0} (size : ℕ) (row_in : List ℕ → R) (count counter : ℕ) (rows pushed all : List R) (row : R)
+    (rest : List ℕ)
     → counter < count → pushed ≡ rows ++ row ∷ [] → row ≡ row_in rest
     → rows ++ rows_in size row_in (count - counter) rest ≡ all
     → pushed ++ rows_in size row_in (count - (counter + 1)) (take (length rest - size) (drop size rest)) ≡ all
@@ -84,7 +88,8 @@ flat_map-rows_in size row_in row_bytes one zero bytes room fits =
 flat_map-rows_in size row_in row_bytes one (suc count) bytes room fits =
     let more : size * suc count ≡ size + size * count = omega (arith, mul-suc size count) in
     let rest : flat_map row_bytes (rows_in size row_in count (drop size bytes)) ≡ take (size * count) (drop size bytes) =
-    flat_map-rows_in size row_in row_bytes one count (drop size bytes) (omega (arith, length-drop size bytes)) (bytes_of_rest size bytes fits) in
+    flat_map-rows_in size row_in row_bytes one count (drop size bytes) (omega (arith, length-drop size bytes))
+    (bytes_of_rest size bytes fits) in
     ap (λ xs. xs ++ flat_map row_bytes (rows_in size row_in count (drop size bytes))) (one bytes (omega arith) fits)
     ∙ ap (λ xs. take size bytes ++ xs) rest
     ∙ sym (take-add size (size * count) bytes)
@@ -122,8 +127,10 @@ data_row_again row rest fits =
     let bytes = data_row_bytes row ++ rest in
     let lba : number_at w64 0 bytes ≡ row.lba = from_be_bytes-to_be_bytes_8 row.lba fits.lba in
     let sectors : number_at w64 8 bytes ≡ row.sectors = from_be_bytes-to_be_bytes_8 row.sectors fits.sectors in
-    let number : number_at w64 16 bytes ≡ place_number row.place = from_be_bytes-to_be_bytes_8 (place_number row.place) (place_number_fits row.place fits.place) in
-    let place : place_from (number_at w64 16 bytes) ≡ row.place = ap place_from number ∙ place_from-place_number row.place fits.place in
+    let number : number_at w64 16 bytes ≡ place_number row.place =
+    from_be_bytes-to_be_bytes_8 (place_number row.place) (place_number_fits row.place fits.place) in
+    let place : place_from (number_at w64 16 bytes) ≡ row.place = ap place_from number
+    ∙ place_from-place_number row.place fits.place in
     ap (λ x. data_row_of x (number_at w64 8 bytes) (place_from (number_at w64 16 bytes))) lba
     ∙ ap (λ x. data_row_of row.lba x (place_from (number_at w64 16 bytes))) sectors
     ∙ ap (λ x. data_row_of row.lba row.sectors x) place
@@ -133,7 +140,8 @@ unfolding data_row_bytes
 data_row_of_bytes bytes room fits =
     let to_lba : take 8 bytes ≡ to_be_bytes w64 (number_at w64 0 bytes) = part_of_u64 0 bytes (omega (arith, room)) fits in
     let to_sectors = front_more 8 8 bytes _ _ to_lba (part_of_u64 8 bytes (omega (arith, room)) fits) in
-    let place = part_of_u64 16 bytes (omega (arith, room)) fits ∙ ap (to_be_bytes w64) (sym (place_number-place_from (number_at w64 16 bytes))) in
+    let place = part_of_u64 16 bytes (omega (arith, room)) fits
+    ∙ ap (to_be_bytes w64) (sym (place_number-place_from (number_at w64 16 bytes))) in
     sym (front_more 16 8 bytes _ _ to_sectors place)
 
 -- a row that may stand has numbers of its fields' widths
@@ -153,7 +161,8 @@ data_row_fits volume payload before place row wide few stands =
       place = place_fits row.place place b.1 (omega (arith, room, few));
     }
   where
-    place_fits : (at : Option ℕ) (place : ℕ) → IsTrue (is_at place at) → place ≤ 131071 → IfSome at (λ p. p < 18446744073709551615)
+    place_fits : (at : Option ℕ) (place : ℕ) → IsTrue (is_at place at) → place ≤ 131071
+        → IfSome at (λ p. p < 18446744073709551615)
     place_fits None place is low = tt
     place_fits (Some at) place is low = omega (arith, eqb-true at place is, low)
 
@@ -161,7 +170,8 @@ pub data_rows_fit : (volume payload : ℕ) (before : Option DataRow) (place : �
     → payload ≤ 131071 → IsTrue (data_rows_may_stand volume payload before place rows) → AllFit DataRowFits rows
 data_rows_fit volume payload before place [] wide few stand = tt
 data_rows_fit volume payload before place (row ∷ rows) wide few stand =
-    let parts = and_parts (data_may_stand volume payload before place row) (data_rows_may_stand volume payload (Some row) (place + data_payload row) rows) stand in (
+    let parts = and_parts (data_may_stand volume payload before place row)
+    (data_rows_may_stand volume payload (Some row) (place + data_payload row) rows) stand in (
       data_row_fits volume payload before place row wide few parts.0,
       data_rows_fit volume payload (Some row) (place + data_payload row) rows wide few parts.1,
     )
@@ -197,9 +207,12 @@ copy_row_again row rest fits =
     let place : number_at w64 16 bytes ≡ row.place = from_be_bytes-to_be_bytes_8 row.place fits.place in
     let level : number_at w32 24 bytes ≡ row.source.level = from_be_bytes-to_be_bytes_4 row.source.level fits.level in
     let number : number_at w64 28 bytes ≡ row.source.number = from_be_bytes-to_be_bytes_8 row.source.number fits.number in
-    let source_place : number_at w64 36 bytes ≡ row.source.place = from_be_bytes-to_be_bytes_8 row.source.place fits.source_place in
-    ap (λ x. copy_row_of x (number_at w64 8 bytes) (number_at w64 16 bytes) (number_at w32 24 bytes) (number_at w64 28 bytes) (number_at w64 36 bytes)) lba
-    ∙ ap (λ x. copy_row_of row.lba x (number_at w64 16 bytes) (number_at w32 24 bytes) (number_at w64 28 bytes) (number_at w64 36 bytes)) sectors
+    let source_place : number_at w64 36 bytes ≡ row.source.place =
+    from_be_bytes-to_be_bytes_8 row.source.place fits.source_place in
+    ap (λ x. copy_row_of x (number_at w64 8 bytes) (number_at w64 16 bytes) (number_at w32 24 bytes) (number_at w64 28 bytes)
+    (number_at w64 36 bytes)) lba
+    ∙ ap (λ x. copy_row_of row.lba x (number_at w64 16 bytes) (number_at w32 24 bytes) (number_at w64 28 bytes)
+    (number_at w64 36 bytes)) sectors
     ∙ ap (λ x. copy_row_of row.lba row.sectors x (number_at w32 24 bytes) (number_at w64 28 bytes) (number_at w64 36 bytes)) place
     ∙ ap (λ x. copy_row_of row.lba row.sectors row.place x (number_at w64 28 bytes) (number_at w64 36 bytes)) level
     ∙ ap (λ x. copy_row_of row.lba row.sectors row.place row.source.level x (number_at w64 36 bytes)) number
@@ -249,7 +262,8 @@ pub copy_rows_fit : (volume payload number : ℕ) (before : Option CopyRow) (pla
     → IsTrue (copy_rows_may_stand volume payload number before place rows) → AllFit CopyRowFits rows
 copy_rows_fit volume payload number before place [] wide few own stand = tt
 copy_rows_fit volume payload number before place (row ∷ rows) wide few own stand =
-    let parts = and_parts (copy_may_stand volume payload number before place row) (copy_rows_may_stand volume payload number (Some row) (place + row.sectors) rows) stand in (
+    let parts = and_parts (copy_may_stand volume payload number before place row)
+    (copy_rows_may_stand volume payload number (Some row) (place + row.sectors) rows) stand in (
       copy_row_fits volume payload number before place row wide few own parts.0,
       copy_rows_fit volume payload number (Some row) (place + row.sectors) rows wide few own parts.1,
     )

@@ -1,5 +1,6 @@
 -- The tests of a header, one by one and together.
-use Rattle.std.proofs.Common.{◌≡◌, ℕ, ◌<◌, ◌≤◌, ◌==◌, IsTrue, Option, Some, None, List, length, take, sym, ◌∙◌, ap, subst, arith, rules}
+use Rattle.std.proofs.Common.{◌≡◌, ℕ, ◌<◌, ◌≤◌, ◌==◌, IsTrue, Option, Some, None, List, length, take, sym, ◌∙◌, ap, subst, arith}
+use Rattle.std.proofs.Common.{rules}
 use Rattle.std.proofs.lemmas.Bool.Decides.{nat_tests}
 use Rattle.std.proofs.lemmas.List.{length-take-le}
 use Rattle.std.specs.Int.{w64}
@@ -13,7 +14,8 @@ use Rattle.object_format.specs.Layout.{length_of}
 use Rattle.object_format.specs.Header.{header_in, has_due_seqs, is_within_limits, IsHeader}
 use Rattle.object_format.specs.Tests.{code_of, is_length, PassesObjectTest, IsRefusedAs}
 use Rattle.object_format.proofs.PartLemmas.{IsBytes, bytes_of_part}
-use Rattle.object_format.proofs.HeaderLemmas.{magic-header, uuid-header, number-header, header_in-header_bytes, bytes_of_header_in, widths_of_header_in, uuid_of_header_in, number_of_header_in}
+use Rattle.object_format.proofs.HeaderLemmas.{magic-header, uuid-header, number-header, header_in-header_bytes}
+use Rattle.object_format.proofs.HeaderLemmas.{bytes_of_header_in, widths_of_header_in, uuid_of_header_in, number_of_header_in}
 
 -- ---- a header passes each test
 
@@ -67,7 +69,8 @@ earlier : (bytes : List ℕ) (size : ℕ) (expected : Expected) (header : Header
     → (other : BadObject) → code_of other < n → PassesObjectTest bytes size expected other
 earlier bytes size expected header n is below uuid number seqs reasons.Length h = is.long
 earlier bytes size expected header n is below uuid number seqs reasons.Magic h = is.magic
-earlier bytes size expected header n is below uuid number seqs reasons.Kind h = kind_passes bytes size expected header is.header_is
+earlier bytes size expected header n is below uuid number seqs reasons.Kind h =
+    kind_passes bytes size expected header is.header_is
 earlier bytes size expected header n is below uuid number seqs reasons.Uuid h = uuid h
 earlier bytes size expected header n is below uuid number seqs reasons.Number h = number h
 earlier bytes size expected header n is below uuid number seqs reasons.Seqs h = seqs h
@@ -107,7 +110,8 @@ fails_counts bytes size expected header is failed passes =
 pub refused_as_uuid : (bytes : List ℕ) (size : ℕ) (expected : Expected) (header : Header) → Found bytes size expected header
     → (header.uuid ≡ expected.uuid → ⊥) → IsRefusedAs bytes size expected reasons.Uuid
 refused_as_uuid bytes size expected header is failed = record {
-  earlier = earlier bytes size expected header 4 is (omega arith) (λ h. absurd (omega (arith, h))) (λ h. absurd (omega (arith, h))) (λ h. absurd (omega (arith, h)));
+  earlier = earlier bytes size expected header 4 is (omega arith) (λ h. absurd (omega (arith, h)))
+      (λ h. absurd (omega (arith, h))) (λ h. absurd (omega (arith, h)));
   failed = fails_uuid bytes size expected header is.header_is failed;
 }
 
@@ -128,7 +132,8 @@ seqs_pass bytes size expected header is seqs =
 pub refused_as_number : (bytes : List ℕ) (size : ℕ) (expected : Expected) (header : Header) → Found bytes size expected header
     → header.uuid ≡ expected.uuid → (header.number ≡ expected.number → ⊥) → IsRefusedAs bytes size expected reasons.Number
 refused_as_number bytes size expected header is uuid failed = record {
-  earlier = earlier bytes size expected header 5 is (omega arith) (λ _. uuid_passes bytes size expected header is uuid) (λ h. absurd (omega (arith, h))) (λ h. absurd (omega (arith, h)));
+  earlier = earlier bytes size expected header 5 is (omega arith) (λ _. uuid_passes bytes size expected header is uuid)
+      (λ h. absurd (omega (arith, h))) (λ h. absurd (omega (arith, h)));
   failed = fails_number bytes size expected header is.header_is failed;
 }
 
@@ -136,7 +141,8 @@ pub refused_as_seqs : (bytes : List ℕ) (size : ℕ) (expected : Expected) (hea
     → header.uuid ≡ expected.uuid → header.number ≡ expected.number
     → (IsTrue (has_due_seqs expected header) → ⊥) → IsRefusedAs bytes size expected reasons.Seqs
 refused_as_seqs bytes size expected header is uuid number failed = record {
-  earlier = earlier bytes size expected header 6 is (omega arith) (λ _. uuid_passes bytes size expected header is uuid) (λ _. number_passes bytes size expected header is number) (λ h. absurd (omega (arith, h)));
+  earlier = earlier bytes size expected header 6 is (omega arith) (λ _. uuid_passes bytes size expected header is uuid)
+      (λ _. number_passes bytes size expected header is number) (λ h. absurd (omega (arith, h)));
   failed = fails_seqs bytes size expected header is.header_is failed;
 }
 
@@ -144,7 +150,8 @@ pub refused_as_counts : (bytes : List ℕ) (size : ℕ) (expected : Expected) (h
     → header.uuid ≡ expected.uuid → header.number ≡ expected.number → IsTrue (has_due_seqs expected header)
     → (IsTrue (is_within_limits expected header) → ⊥) → IsRefusedAs bytes size expected reasons.Counts
 refused_as_counts bytes size expected header is uuid number seqs failed = record {
-  earlier = earlier bytes size expected header 7 is (omega arith) (λ _. uuid_passes bytes size expected header is uuid) (λ _. number_passes bytes size expected header is number) (λ _. seqs_pass bytes size expected header is seqs);
+  earlier = earlier bytes size expected header 7 is (omega arith) (λ _. uuid_passes bytes size expected header is uuid)
+      (λ _. number_passes bytes size expected header is number) (λ _. seqs_pass bytes size expected header is seqs);
   failed = fails_counts bytes size expected header is.header_is failed;
 }
 

@@ -1,6 +1,8 @@
 -- What writes one after the other leave, and what an object's front has after them.
-use Rattle.std.proofs.Common.{◌≡◌, ℕ, ◌+◌, ◌-◌, ◌*◌, ◌≤◌, List, ◌++◌, length, take, drop, replicate, sym, ◌∙◌, ap, append_assoc, arith}
-use Rattle.std.proofs.lemmas.List.{length-append, length-take-le, length-drop, take_at, drop_at, drop_all, drop-drop, append-nil, take_rest}
+use Rattle.std.proofs.Common.{◌≡◌, ℕ, ◌+◌, ◌-◌, ◌*◌, ◌≤◌, List, ◌++◌, length, take, drop, replicate, sym, ◌∙◌, ap, append_assoc}
+use Rattle.std.proofs.Common.{arith}
+use Rattle.std.proofs.lemmas.List.{length-append, length-take-le, length-drop, take_at, drop_at, drop_all, drop-drop, append-nil}
+use Rattle.std.proofs.lemmas.List.{take_rest}
 use Rattle.std.proofs.lemmas.Slice.{take-put_mid}
 use borrow.Rule.Slice.PartMut.{put_mid}
 use Rattle.object_format.specs.declared.header.Header.{Header}
@@ -18,7 +20,8 @@ pub written_after : (at : ℕ) (a b old mid new : List ℕ) → at + length a + 
 written_after at a b old mid new room is_mid is_new =
     let n = at + length a in
     let front = take at old ++ a in
-    let size : length front ≡ n = length-append (take at old) a ∙ ap (λ k. k + length a) (length-take-le at old (omega (arith, room))) in
+    let size : length front ≡ n = length-append (take at old) a
+    ∙ ap (λ k. k + length a) (length-take-le at old (omega (arith, room))) in
     let end : n + length b ≡ at + (length a + length b) = omega arith in
     let before : take n mid ≡ front = ap (take n) is_mid ∙ take_at front (drop n old) n size in
     let behind : drop (n + length b) mid ≡ drop (at + (length a + length b)) old =
@@ -37,7 +40,8 @@ pub written_front : (at count : ℕ) (front value old new : List ℕ) → take a
     → take (at + count) new ≡ front ++ value
 written_front at count front value old new is_front front_size value_size is_new =
     let size : length (take at old ++ value) ≡ at + count =
-    length-append (take at old) value ∙ ap (λ n. n + length value) (ap length is_front ∙ front_size) ∙ ap (λ n. at + n) value_size in
+    length-append (take at old) value ∙ ap (λ n. n + length value) (ap length is_front ∙ front_size)
+    ∙ ap (λ n. at + n) value_size in
     ap (take (at + count)) is_new
     ∙ take_at (take at old ++ value) (drop (at + count) old) (at + count) size
     ∙ ap (λ xs. xs ++ value) is_front
@@ -74,7 +78,8 @@ take-with_rows : (at : ℕ) (old head part : List ℕ) → 64 ≤ at → length 
     → take at (with_rows at old head part) ≡ head ++ part
 take-with_rows at old head part low head_size part_size =
     let whole = head ++ drop 64 old in
-    take-put_mid 64 (at - 64) whole part at (omega (arith, part_size, low)) (omega (arith, length-append head (drop 64 old), head_size))
+    take-put_mid 64 (at - 64) whole part at (omega (arith, part_size, low))
+    (omega (arith, length-append head (drop 64 old), head_size))
     ∙ ap (λ xs. xs ++ part) (take_at head (drop 64 old) 64 head_size)
 
 -- the part of the front into which the rows are written

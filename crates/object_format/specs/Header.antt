@@ -1,5 +1,6 @@
 -- Contract: the header of an object: its bytes, and which header may stand under a number of the store.
-use Rattle.std.specs.Prelude.{ℕ, ◌≡◌, ◌==◌, ◌^◌, ◌<◌, Bool, true, ◌&&◌, nat_lt, nat_le, IsTrue, Option, Some, None, List, ◌++◌, length, take, codes}
+use Rattle.std.specs.Prelude.{ℕ, ◌≡◌, ◌==◌, ◌^◌, ◌<◌, Bool, true, ◌&&◌, nat_lt, nat_le, IsTrue, Option, Some, None, List, ◌++◌}
+use Rattle.std.specs.Prelude.{length, take, codes}
 use Rattle.std.specs.Int.{w32, w64, to_be_bytes}
 use Rattle.std.specs.Option.{option_map}
 use Rattle.lsvd_bytes.specs.Places.{bytes_at, number_at}

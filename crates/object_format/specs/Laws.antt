@@ -20,7 +20,8 @@ WritesObjects =
     → MayBeWritten expected (header_of expected first_seq end_seq rows) rows
     → length payload ≡ 512 * payload_of rows
     → IsObject (front_bytes (header_of expected first_seq end_seq rows) rows ++ payload)
-    (length (front_bytes (header_of expected first_seq end_seq rows) rows ++ payload)) expected (header_of expected first_seq end_seq rows) rows
+    (length (front_bytes (header_of expected first_seq end_seq rows) rows ++ payload)) expected
+    (header_of expected first_seq end_seq rows) rows
 
 -- two values are the same rows
 abbrev pub AreSameRows : Rows → Rows → Type 0
@@ -32,7 +33,8 @@ AreSameRows _ _ = ⊥
 -- bytes are an object with one header and with one list of rows, whatever is expected of them
 abbrev pub HasOneReading : Type 0
 HasOneReading =
-    (bytes : List ℕ) (size : ℕ) (expected another : Expected) (a b : Header) (rows others : Rows) → expected.sectors < 2 ^ 64 → another.sectors < 2 ^ 64
+    (bytes : List ℕ) (size : ℕ) (expected another : Expected) (a b : Header) (rows others : Rows) → expected.sectors < 2 ^ 64
+    → another.sectors < 2 ^ 64
     → IsObject bytes size expected a rows → IsObject bytes size another b others
     → (a ≡ b) × AreSameRows rows others
 

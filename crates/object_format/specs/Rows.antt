@@ -1,5 +1,6 @@
 -- Contract: the rows of an object: their bytes, and which may stand one after the other.
-use Rattle.std.specs.Prelude.{ℕ, zero, suc, ◌≡◌, ◌+◌, ◌==◌, IsTrue, not, Bool, true, false, ◌&&◌, ◌||◌, nat_lt, nat_le, Option, Some, None, List, [], ◌∷◌, ◌++◌, length, drop, if◌then◌else◌}
+use Rattle.std.specs.Prelude.{ℕ, zero, suc, ◌≡◌, ◌+◌, ◌==◌, IsTrue, not, Bool, true, false, ◌&&◌, ◌||◌, nat_lt, nat_le, Option}
+use Rattle.std.specs.Prelude.{Some, None, List, [], ◌∷◌, ◌++◌, length, drop, if◌then◌else◌}
 use Rattle.std.specs.List.{flat_map}
 use Rattle.std.specs.Int.{w32, w64, to_be_bytes}
 use Rattle.lsvd_bytes.specs.Places.{number_at}

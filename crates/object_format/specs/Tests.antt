@@ -36,8 +36,10 @@ PassesObjectTest bytes size expected reasons.Magic = take 8 (take 64 bytes) ≡ 
 PassesObjectTest bytes size expected reasons.Kind = IsSome (header_in (take 64 bytes))
 PassesObjectTest bytes size expected reasons.Uuid = bytes_at 12 16 (take 64 bytes) ≡ expected.uuid
 PassesObjectTest bytes size expected reasons.Number = number_at w64 28 (take 64 bytes) ≡ expected.number
-PassesObjectTest bytes size expected reasons.Seqs = IsSomeAnd (header_in (take 64 bytes)) (λ header. IsTrue (has_due_seqs expected header))
-PassesObjectTest bytes size expected reasons.Counts = IsSomeAnd (header_in (take 64 bytes)) (λ header. IsTrue (is_within_limits expected header))
+PassesObjectTest bytes size expected reasons.Seqs =
+    IsSomeAnd (header_in (take 64 bytes)) (λ header. IsTrue (has_due_seqs expected header))
+PassesObjectTest bytes size expected reasons.Counts =
+    IsSomeAnd (header_in (take 64 bytes)) (λ header. IsTrue (is_within_limits expected header))
 PassesObjectTest bytes size expected reasons.Rows = (header : Header) × (rows : Rows) × IsObject bytes size expected header rows
 
 -- the first test that they do not pass is that of this reason

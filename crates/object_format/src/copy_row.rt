@@ -1,6 +1,7 @@
 ghost use Rattle.std.specs.Prelude.{◌≡◌, ◌+◌, ◌*◌, ◌^◌, ◌<◌, ◌≤◌, ◌++◌, length, take, drop, None};
 ghost use Rattle.std.specs.List.{flat_map, sum_by};
-ghost use Rattle.object_format.specs.Rows.{copy_row_bytes, copy_row_in, breaks_off, is_source, copy_may_follow, copy_may_stand, copy_rows_may_stand};
+ghost use Rattle.object_format.specs.Rows.{copy_row_bytes, copy_row_in, breaks_off, is_source};
+ghost use Rattle.object_format.specs.Rows.{copy_may_follow, copy_may_stand, copy_rows_may_stand};
 
 use crate::rows::is_inside;
 use crate::{MAX_PAYLOAD, PLACE_AT, SECTORS_AT};
@@ -126,7 +127,8 @@ impl CopyRow {
     }
 }
 
-/// Whether these may be the rows of the copy with this number, for a volume and a payload of this many sectors.
+/// Whether these may be the rows of the copy with this number, for a volume and a payload of this many
+/// sectors.
 pub(crate) fn copy_rows_may_stand(rows: &[CopyRow], volume: u64, payload: u64, number: u64) -> bool
     ensures { result ≡ copy_rows_may_stand volume payload number None 0 rows.now }
 {

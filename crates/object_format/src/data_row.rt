@@ -1,7 +1,9 @@
 ghost use Rattle.std.specs.Prelude.{◌≡◌, ◌+◌, ◌*◌, ◌^◌, ◌<◌, ◌≤◌, ◌++◌, length, take, drop, None};
 ghost use Rattle.std.specs.List.{flat_map, sum_by};
 ghost use Rattle.object_format.specs.Layout.{data_front_sectors};
-ghost use Rattle.object_format.specs.Rows.{place_number, place_from, data_row_bytes, data_row_in, data_payload, is_at, data_may_follow, data_may_stand, data_rows_may_stand};
+ghost use Rattle.object_format.specs.Rows.{place_number, place_from, data_row_bytes, data_row_in};
+ghost use Rattle.object_format.specs.Rows.{data_payload, is_at, data_may_follow, data_may_stand};
+ghost use Rattle.object_format.specs.Rows.{data_rows_may_stand};
 
 use crate::kind::Kind;
 use crate::rows::is_inside;
@@ -128,8 +130,8 @@ pub(crate) fn data_rows_may_stand(rows: &[DataRow], volume: u64, payload: u64) -
     place == payload
 }
 
-/// The sectors of a data object before its payload, if it has so many rows: at most 65,536, the most of an object (a condition). A
-/// sector of the payload stands so many sectors further on in the object.
+/// The sectors of a data object before its payload, if it has so many rows: at most 65,536, the most of an
+/// object (a condition). A sector of the payload stands so many sectors further on in the object.
 pub fn data_front_sectors(rows: u64) -> u64
     requires { rows ≤ 65536 }
     ensures { result ≡ data_front_sectors rows }

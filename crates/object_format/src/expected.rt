@@ -16,8 +16,8 @@ pub struct Expected {
     pub number: u64,
     /// The sectors of the volume.
     pub sectors: u64,
-    /// How many ancestors the volume has, 0 to 15: the greatest level that a row may name. Level 0 is the volume itself,
-    /// and the only one that a copy's rows may name.
+    /// How many ancestors the volume has, 0 to 15: the greatest level that a row may name. Level 0 is the
+    /// volume itself, and the only one that a copy's rows may name.
     pub ancestors: u32,
     /// The end seq of the object before it, where that is known.
     pub end_before: Option<u64>,
@@ -28,7 +28,8 @@ impl Expected {
     const MAX_ROWS: u64 = 65_536;
 
     /// Whether rows may be written under this header, which is theirs: its seqs are in order for the kind and
-    /// go on where the object before ends, its counts keep their limits, and the rows keep their one spelling.
+    /// go on where the object before ends, its counts keep their limits, and the rows keep their one
+    /// spelling.
     pub fn may_be_written(&self, header: &Header, rows: &Rows) -> bool
         ensures { IsTrue result ↔ MayBeWritten self.now header.now rows.now }
     {

@@ -1,4 +1,5 @@
-ghost use Rattle.object_format.specs.Laws.{WritesObjects, HasOneReading, BeginsNoOther, DataRowsMayGoOn, CopyRowsMayGoOn, DataRowsHavePayload, CopyRowsHavePayload};
+ghost use Rattle.object_format.specs.Laws.{WritesObjects, HasOneReading, BeginsNoOther, DataRowsMayGoOn};
+ghost use Rattle.object_format.specs.Laws.{CopyRowsMayGoOn, DataRowsHavePayload, CopyRowsHavePayload};
 
 /// A law: what is written, with the payload that its rows have, is an object.
 pub fn what_is_written_is_an_object()

@@ -12,9 +12,9 @@ use crate::{
 };
 use lsvd_bytes::{read_16_bytes, read_u32, read_u64};
 
-/// Reads the header of the object with the expected number, which has `size` bytes, from the first of its bytes: at least
-/// 64, or all where it has fewer (a condition). The error names the first test that it fails, and comes exactly where it
-/// does not begin with such a header, or is not as long as its header says.
+/// Reads the header of the object with the expected number, which has `size` bytes, from the first of its
+/// bytes: at least 64, or all where it has fewer (a condition). The error names the first test that it fails,
+/// and comes exactly where it does not begin with such a header, or is not as long as its header says.
 pub fn read_header(bytes: &[u8], size: u64, expected: &Expected) -> Result<Header, BadObject>
     requires { min 64 size ≤ length bytes.now }
     ensures ok { IfOk result (IsHeader bytes.now size expected.now) }
@@ -46,7 +46,8 @@ pub fn read_header(bytes: &[u8], size: u64, expected: &Expected) -> Result<Heade
     Ok(header)
 }
 
-// Whether the object has as many bytes as its header says, or, where its kind is unknown, at least a header's.
+// Whether the object has as many bytes as its header says, or, where its kind is unknown, at least a
+// header's.
 fn has_its_length(bytes: &[u8], size: u64) -> bool
     requires { min 64 size ≤ length bytes.now }
     ensures is { IsTrue result ↔ IsTrue (is_length (header_in (take 64 bytes.now)) size) }

@@ -35,8 +35,8 @@ impl Rows {
         }
     }
 
-    /// The header of the expected object with these rows, which holds the entries from the first seq up to the
-    /// end seq. There are fewer than 2^32 rows, with fewer than 2^64 sectors of payload (conditions).
+    /// The header of the expected object with these rows, which holds the entries from the first seq up to
+    /// the end seq. There are fewer than 2^32 rows, with fewer than 2^64 sectors of payload (conditions).
     pub fn header(&self, expected: &Expected, first_seq: u64, end_seq: u64) -> Header
         requires count { count_of self.now < 2 ^ 32 }
         requires payload { payload_of self.now < 2 ^ 64 }

@@ -39,10 +39,10 @@ impl From<AllocError> for ReadError {
     }
 }
 
-/// Reads the rows of an object of `size` bytes whose header was read (a condition), from the first of its bytes: those of
-/// the header, the rows and the zeros after them at least (a condition). A checkpoint has none here (a condition): the rows
-/// of one are not of this crate. The error is that memory ran out, or comes exactly where the bytes are no object, with the
-/// reason `Rows`.
+/// Reads the rows of an object of `size` bytes whose header was read (a condition), from the first of its
+/// bytes: those of the header, the rows and the zeros after them at least (a condition). A checkpoint has
+/// none here (a condition): the rows of one are not of this crate. The error is that memory ran out, or comes
+/// exactly where the bytes are no object, with the reason `Rows`.
 pub fn read_rows(
     alloc: Global,
     bytes: &[u8],

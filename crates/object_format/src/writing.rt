@@ -37,7 +37,8 @@ impl Model for ObjectWriter {
 
 impl ObjectWriter {
     /// Begins the expected object, with the entries from the first seq up to the end seq and with these rows,
-    /// which may stand so (a condition). It has memory for the whole object. The one error is that memory ran out.
+    /// which may stand so (a condition). It has memory for the whole object. The one error is that memory ran
+    /// out.
     pub fn new(
         alloc: Global,
         expected: &Expected,
@@ -46,9 +47,12 @@ impl ObjectWriter {
         rows: &Rows,
     ) -> Result<ObjectWriter, AllocError>
         requires { MayBeWritten expected.now (header_of expected.now first_seq end_seq rows.now) rows.now }
-        ensures bytes { IfOk result (λ writer. writer.bytes ≡ front_bytes (header_of expected.now first_seq end_seq rows.now) rows.now) }
-        ensures missing { IfOk result (λ writer. length writer.bytes + 512 * payload_of rows.now ≡ writer.size) }
-        ensures size { IfOk result (λ writer. writer.size ≡ length_of (header_of expected.now first_seq end_seq rows.now)) }
+        ensures bytes { IfOk result (λ writer. writer.bytes
+            ≡ front_bytes (header_of expected.now first_seq end_seq rows.now) rows.now) }
+        ensures missing { IfOk result (λ writer. length writer.bytes + 512 * payload_of rows.now
+            ≡ writer.size) }
+        ensures size { IfOk result (λ writer. writer.size
+            ≡ length_of (header_of expected.now first_seq end_seq rows.now)) }
     {
         let header = rows.header(expected, first_seq, end_seq);
         let front = (header.front_sectors() * SECTOR_BYTES) as usize;

@@ -1,5 +1,6 @@
 -- What entries do to a sector, part by part and in an image.
-use Rattle.std.proofs.Common.{◌≡◌, ℕ, suc, ◌+◌, ◌-◌, ◌/◌, ◌<◌, ◌≤◌, ◌⊎◌, inl, inr, cond, Option, Some, None, List, [], ◌∷◌, length, refl, sym, ◌∙◌, ap, arith}
+use Rattle.std.proofs.Common.{◌≡◌, ℕ, suc, ◌+◌, ◌-◌, ◌/◌, ◌<◌, ◌≤◌, ◌⊎◌, inl, inr, cond, Option, Some, None, List, [], ◌∷◌}
+use Rattle.std.proofs.Common.{length, refl, sym, ◌∙◌, ap, arith}
 use Rattle.std.proofs.lemmas.Bool.{cases_lt}
 use Rattle.std.specs.List.{slice_get}
 use Rattle.lsvd_base.specs.declared.entry.Entry.{Entry}
@@ -37,16 +38,20 @@ abbrev by_entry : Entry → ℕ → Option Change
 by_entry (Write lba body) k = Some (Put (sector_of (k - lba) body))
 by_entry (Zero lba sectors) k = Some Clear
 
-covered : (entry : Entry) (k : ℕ) → first_sector entry ≤ k → k < first_sector entry + sector_count entry → entry_change entry k ≡ by_entry entry k
-covered (Write lba body) k from low = ap (λ b. cond b (Some (Put (sector_of (k - lba) body))) None) (within lba (length body / 512) k from low)
+covered : (entry : Entry) (k : ℕ) → first_sector entry ≤ k → k < first_sector entry + sector_count entry
+    → entry_change entry k ≡ by_entry entry k
+covered (Write lba body) k from low = ap (λ b. cond b (Some (Put (sector_of (k - lba) body))) None)
+    (within lba (length body / 512) k from low)
 covered (Zero lba sectors) k from low = ap (λ b. cond b (Some Clear) None) (within lba sectors k from low)
 
 below : (entry : Entry) (k : ℕ) → k < first_sector entry → entry_change entry k ≡ None
-below (Write lba body) k low = ap (λ b. cond b (Some (Put (sector_of (k - lba) body))) None) (not_below lba (length body / 512) k low)
+below (Write lba body) k low = ap (λ b. cond b (Some (Put (sector_of (k - lba) body))) None)
+    (not_below lba (length body / 512) k low)
 below (Zero lba sectors) k low = ap (λ b. cond b (Some Clear) None) (not_below lba sectors k low)
 
 past : (entry : Entry) (k : ℕ) → first_sector entry + sector_count entry ≤ k → entry_change entry k ≡ None
-past (Write lba body) k high = ap (λ b. cond b (Some (Put (sector_of (k - lba) body))) None) (not_past lba (length body / 512) k high)
+past (Write lba body) k high = ap (λ b. cond b (Some (Put (sector_of (k - lba) body))) None)
+    (not_past lba (length body / 512) k high)
 past (Zero lba sectors) k high = ap (λ b. cond b (Some Clear) None) (not_past lba sectors k high)
 
 -- a sector that an entry covers is as the entry makes it
@@ -58,18 +63,21 @@ applied_inside (Write lba body) image k ends from low =
     ap (λ j. slice_get (apply (Write lba body) image) j) (sym place) ∙ writes_data lba body image (k - lba) ends (omega arith)
 applied_inside (Zero lba sectors) image k ends from low =
     let place : lba + (k - lba) ≡ k = omega arith in
-    ap (λ j. slice_get (apply (Zero lba sectors) image) j) (sym place) ∙ writes_zeros lba sectors image (k - lba) ends (omega arith)
+    ap (λ j. slice_get (apply (Zero lba sectors) image) j) (sym place)
+    ∙ writes_zeros lba sectors image (k - lba) ends (omega arith)
 
 -- a sector after an entry
 applied : (entry : Entry) (image : Image) (k : ℕ) → EndsBy (length image) entry
     → slice_get (apply entry image) k ≡ changed_by (entry_change entry k) (slice_get image k)
 applied entry image k ends =
-    let same = λ (no : entry_change entry k ≡ None) (apart : (k < first_sector entry) ⊎ (first_sector entry + sector_count entry ≤ k)).
+    let same =
+    λ (no : entry_change entry k ≡ None) (apart : (k < first_sector entry) ⊎ (first_sector entry + sector_count entry ≤ k)).
     keeps_others entry image k ends apart ∙ sym (ap (λ change. changed_by change (slice_get image k)) no) in
     elim (cases_lt k (first_sector entry)) [
       | inl low ↦ same (below entry k low) (inl low)
       | inr from ↦ elim (cases_lt k (first_sector entry + sector_count entry)) [
-        | inl low ↦ applied_inside entry image k ends from low ∙ sym (ap (λ change. changed_by change (slice_get image k)) (covered entry k from low))
+        | inl low ↦ applied_inside entry image k ends from low
+            ∙ sym (ap (λ change. changed_by change (slice_get image k)) (covered entry k from low))
         | inr high ↦ same (past entry k high) (inr high)
       ]
     ]

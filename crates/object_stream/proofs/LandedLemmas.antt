@@ -10,7 +10,8 @@ not_missing : (landed : Numbers) (number : ℕ) → IsTrue (landed number) → l
 not_missing landed number there absent = search rules
 
 -- a first missing number is not past another
-not_past : (checkpoint landed : Numbers) (missing other : ℕ) → IsFirstMissing checkpoint landed missing → IsFirstMissing checkpoint landed other
+not_past : (checkpoint landed : Numbers) (missing other : ℕ) → IsFirstMissing checkpoint landed missing
+    → IsFirstMissing checkpoint landed other
     → missing ≤ other
 not_past checkpoint landed missing other a b =
     let below : a.base ≤ b.base = b.newest.newest a.base a.newest.is_checkpoint a.newest.has_landed in

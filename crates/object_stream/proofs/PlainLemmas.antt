@@ -1,5 +1,6 @@
 -- The steps of the plain program: one entry more, and one object more.
-use Rattle.std.proofs.Common.{◌≡◌, ℕ, ◌+◌, ◌-◌, ◌*◌, ◌<◌, ◌≤◌, Option, Some, None, List, [], ◌∷◌, length, get_or, take, drop, min, refl, sym, ◌∙◌, ap, arith}
+use Rattle.std.proofs.Common.{◌≡◌, ℕ, ◌+◌, ◌-◌, ◌*◌, ◌<◌, ◌≤◌, Option, Some, None, List, [], ◌∷◌, length, get_or, take, drop, min}
+use Rattle.std.proofs.Common.{refl, sym, ◌∙◌, ap, arith}
 use Rattle.std.proofs.lemmas.List.{length-drop, drop-drop, take_more, take_min, drop_min, at_drop_more}
 use Rattle.std.specs.Option.{option_or}
 use Rattle.std.specs.Prelude.{IsTrue}
@@ -19,7 +20,8 @@ use Rattle.object_stream.proofs.ChangeLemmas.{changes_in_parts}
 -- ---- bytes
 
 -- the sector of an index, between two places that are not past the end
-pub sector_between : (i start end : ℕ) (bytes : List ℕ) → start ≡ min (512 * i) (length bytes) → end ≡ min (start + 512) (length bytes)
+pub sector_between : (i start end : ℕ) (bytes : List ℕ) → start ≡ min (512 * i) (length bytes)
+    → end ≡ min (start + 512) (length bytes)
     → take (end - start) (drop start bytes) ≡ sector_of i bytes
 sector_between i start end bytes first last =
     let rest : drop start bytes ≡ drop (512 * i) bytes = ap (λ n. drop n bytes) first ∙ drop_min (512 * i) bytes in
@@ -42,7 +44,8 @@ or_is (Some change) before = refl
 
 -- the owner after a change that comes after another
 pub owner_by_later : (number : ℕ) (later earlier : Option Change) (before : Option Owner)
-    → owner_by_change number (option_or later earlier) before ≡ owner_by_change number later (owner_by_change number earlier before)
+    → owner_by_change number (option_or later earlier) before ≡ owner_by_change number later
+    (owner_by_change number earlier before)
 owner_by_later number None earlier before = refl
 owner_by_later number (Some (Put sector)) earlier before = refl
 owner_by_later number (Some Clear) earlier before = refl
@@ -80,7 +83,8 @@ beyond count start n entries is =
     sym (drop-drop count start entries) ∙ (ap (λ m. drop m (drop start entries)) same ∙ drop_min n (drop start entries))
 
 -- the owner of a sector after one object more, and then after the rest, is the one after all of them
-pub owner_more : (number end start count i k : ℕ) (entries : List Entry) (before owner : Option Owner) (list : List StreamObject) (object : StreamObject)
+pub owner_more : (number end start count i k : ℕ) (entries : List Entry) (before owner : Option Owner) (list : List StreamObject)
+    (object : StreamObject)
     → i < length list → object ≡ get_or list i object → count ≡ min (object.end - end) (length entries - start)
     → owner ≡ after_object (number + 1) object.content (take (start + count - start) (drop start entries)) (λ j. before) k
     → after_objects (number + 1) object.end (drop (start + count) entries) (λ j. owner) (drop (i + 1) list) k
@@ -90,9 +94,11 @@ owner_more number end start count i k entries before owner list object inside is
     let more = drop (i + 1) list in
     let first : Owners = after_object (number + 1) object.content (take (object.end - end) rest) (λ j. before) in
     let same : owner ≡ first k =
-    owned ∙ ap (λ part. after_object (number + 1) object.content part (λ j. before) k) (up_to count start (object.end - end) entries counted) in
+    owned ∙ ap (λ part. after_object (number + 1) object.content part (λ j. before) k)
+    (up_to count start (object.end - end) entries counted) in
     let all = λ (objects : List StreamObject). after_objects number end rest (λ j. before) objects k in
-    ap (λ part. after_objects (number + 1) object.end part (λ j. owner) more k) (beyond count start (object.end - end) entries counted)
+    ap (λ part. after_objects (number + 1) object.end part (λ j. owner) more k)
+    (beyond count start (object.end - end) entries counted)
     ∙ (after_some (number + 1) object.end (drop (object.end - end) rest) (λ j. owner) first more k same
     ∙ sym (at_drop_more all list i object inside ∙ ap (λ o. all (o ∷ more)) (sym is)))
 

@@ -19,17 +19,21 @@ use Rattle.object_stream.specs.Laws.{StoredObjectsReplay, StoredObjectsAreReplay
 -- ---- one object
 
 -- the owners after an object are by its rows what they are by its content
-by_rows : (objects : Objects) (uuid_at : ℕ → Option (List ℕ)) (number : ℕ) (content : Content) (entries : List Entry) (list other : Rows)
-    (payload : List ℕ) (before : Owners) (k : ℕ) → HasContent objects uuid_at content entries list payload → AreSameRows list other
+by_rows : (objects : Objects) (uuid_at : ℕ → Option (List ℕ)) (number : ℕ) (content : Content) (entries : List Entry)
+    (list other : Rows)
+    (payload : List ℕ) (before : Owners) (k : ℕ) → HasContent objects uuid_at content entries list payload
+    → AreSameRows list other
     → after_rows number other payload before k ≡ after_object number content entries before k
-by_rows objects uuid_at number Data entries (rows.Data list) (rows.Data other) payload before k has same = ap (λ change. owner_by_change number change (before k)) (ap (λ items. change_in items payload k) (sym same) ∙ has k)
+by_rows objects uuid_at number Data entries (rows.Data list) (rows.Data other) payload before k has same =
+    ap (λ change. owner_by_change number change (before k)) (ap (λ items. change_in items payload k) (sym same) ∙ has k)
 by_rows objects uuid_at number Data entries (rows.Data list) (rows.Copy other) payload before k has same = absurd same
 by_rows objects uuid_at number Data entries (rows.Data list) rows.Checkpoint payload before k has same = absurd same
 by_rows objects uuid_at number Data entries (rows.Copy list) other payload before k has same = absurd has
 by_rows objects uuid_at number Data entries rows.Checkpoint other payload before k has same = absurd has
 by_rows objects uuid_at number (Copy pairs) entries (rows.Data list) other payload before k has same = absurd has
 by_rows objects uuid_at number (Copy pairs) entries (rows.Copy list) (rows.Data other) payload before k has same = absurd same
-by_rows objects uuid_at number (Copy pairs) entries (rows.Copy list) (rows.Copy other) payload before k has same = ap (λ source. owner_by_copy number source (before k)) (ap (λ items. source_at items k) (sym same) ∙ has.0 k)
+by_rows objects uuid_at number (Copy pairs) entries (rows.Copy list) (rows.Copy other) payload before k has same =
+    ap (λ source. owner_by_copy number source (before k)) (ap (λ items. source_at items k) (sym same) ∙ has.0 k)
 by_rows objects uuid_at number (Copy pairs) entries (rows.Copy list) rows.Checkpoint payload before k has same = absurd same
 by_rows objects uuid_at number (Copy pairs) entries rows.Checkpoint other payload before k has same = absurd has
 by_rows objects uuid_at number Checkpoint entries (rows.Data list) other payload before k has same = absurd has
@@ -53,7 +57,8 @@ same_after_change number Data entries f g k same = ap (owner_by_change number (c
 same_after_change number (Copy pairs) entries f g k same = ap (owner_by_copy number (source_in pairs.items k)) same
 same_after_change number Checkpoint entries f g k same = same
 
-pub same_after : (number end : ℕ) (entries : List Entry) (f g : Owners) (list : List StreamObject) → ((k : ℕ) → f k ≡ g k) → (k : ℕ)
+pub same_after : (number end : ℕ) (entries : List Entry) (f g : Owners) (list : List StreamObject)
+    → ((k : ℕ) → f k ≡ g k) → (k : ℕ)
     → after_objects number end entries f list k ≡ after_objects number end entries g list k
 same_after number end entries f g [] same k = same k
 same_after number end entries f g (object ∷ list) same k =
@@ -79,15 +84,18 @@ replay_as_stream objects uuid_at volume number end last_end entries before after
     let same_bytes : is.bytes ≡ bytes = cc in
     let P : List ℕ → Type 0 = λ b. HasParts expected b is.header is.rows_of is.payload in
     let same_parts : HasParts expected bytes is.header is.rows_of is.payload = subst P same_bytes is.parts in
-    let one = has_one_reading bytes (length bytes) expected expected is.header header is.rows_of list_rows wide wide same_parts.is_object parts.is_object in
+    let one = has_one_reading bytes (length bytes) expected expected is.header header is.rows_of list_rows wide wide
+    same_parts.is_object parts.is_object in
     let same_payload : is.payload ≡ payload =
     same_parts.payload_is ∙ ap (λ h. drop (512 * front_sectors h) bytes) one.0 ∙ sym parts.payload_is in
     let Q : List ℕ → Type 0 = λ p. HasContent objects uuid_at object.content part is.rows_of p in
     let content : HasContent objects uuid_at object.content part is.rows_of payload = subst Q same_payload is.content in
-    let one_step = λ (k : ℕ). by_rows objects uuid_at (number + 1) object.content part is.rows_of list_rows payload before k content one.1 in
+    let one_step = λ (k : ℕ). by_rows objects uuid_at (number + 1) object.content part is.rows_of list_rows payload before k
+    content one.1 in
     let same_end : header.end_seq ≡ object.end = sym (ap (λ h. h.end_seq) one.0) ∙ is.ends in
     let S : ℕ → Type 0 = λ e. Replays objects volume (number + 1) e by (length list) last_end after_them in
-    let rest = replay_as_stream objects uuid_at volume (number + 1) object.end last_end later by after_them list wide stored.1 (subst S same_end replay.6) in
+    let rest = replay_as_stream objects uuid_at volume (number + 1) object.end last_end later by after_them list wide stored.1
+    (subst S same_end replay.6) in
     (λ k. rest.0 k ∙ same_after (number + 1) object.end later by first list one_step k, rest.1)
 
 pub stored_are_replayed : StoredObjectsAreReplayed
@@ -98,7 +106,8 @@ stored_are_replayed objects uuid_at volume number end entries before after_them 
     let later = drop (object.end - end) entries in
     let first = after_object (number + 1) object.content part before in
     let by = after_rows (number + 1) is.rows_of is.payload before in
-    let one_step = λ (k : ℕ). by_rows objects uuid_at (number + 1) object.content part is.rows_of is.rows_of is.payload before k is.content (same_rows is.rows_of) in
+    let one_step = λ (k : ℕ). by_rows objects uuid_at (number + 1) object.content part is.rows_of is.rows_of is.payload before k
+    is.content (same_rows is.rows_of) in
     let S : ℕ → Type 0 = λ e. Replays objects volume (number + 1) e by (length list) (end_after object.end list) after_them in
     let rest = stored_are_replayed objects uuid_at volume (number + 1) object.end later by after_them list stored.1
     (λ k. same k ∙ sym (same_after (number + 1) object.end later by first list one_step k)) in

@@ -1,5 +1,6 @@
 -- The owners and the ends of a stream, from a later object on, and which objects own sectors.
-use Rattle.std.proofs.Common.{rules, ◌≡◌, ℕ, zero, suc, ◌+◌, ◌-◌, ◌<◌, ◌≤◌, ◌⊎◌, inl, inr, Bool, true, false, cond, Option, Some, None, List, [], ◌∷◌, ◌++◌, length, take, drop, refl, sym, ◌∙◌, ap, arith}
+use Rattle.std.proofs.Common.{rules, ◌≡◌, ℕ, zero, suc, ◌+◌, ◌-◌, ◌<◌, ◌≤◌, ◌⊎◌, inl, inr, Bool, true, false, cond, Option, Some}
+use Rattle.std.proofs.Common.{None, List, [], ◌∷◌, ◌++◌, length, take, drop, refl, sym, ◌∙◌, ap, arith}
 use Rattle.std.proofs.lemmas.List.{length-take, drop-drop}
 use Rattle.std.proofs.Math.Seq.{take-add}
 use Rattle.lsvd_base.specs.declared.entry.Entry.{Entry}
@@ -10,7 +11,8 @@ use Rattle.object_stream.specs.declared.object.Content.TheVariants.{Data, Copy, 
 use Rattle.object_stream.specs.declared.object.StreamObject.{StreamObject}
 use Rattle.object_stream.specs.declared.owner.Owner.{Owner}
 use Rattle.object_stream.specs.Changes.{change_at}
-use Rattle.object_stream.specs.Stream.{Owners, owner_by_change, source_in, is_own, owner_by_copy, after_object, after_objects, objects_to, owners, end_after, end_at, GoesTo, EndsFollow}
+use Rattle.object_stream.specs.Stream.{Owners, owner_by_change, source_in, is_own, owner_by_copy, after_object, after_objects}
+use Rattle.object_stream.specs.Stream.{objects_to, owners, end_after, end_at, GoesTo, EndsFollow}
 use Rattle.object_stream.specs.Laws.{from_object, KeepsOwnersFromObject, OwnsByNumber}
 
 -- ---- some objects, and then others
@@ -41,7 +43,8 @@ follow_first end (suc n) (object ∷ objects) h = (h.0, follow_first object.end 
 -- the owners after some objects and then others
 pub after_in_parts : (number end : ℕ) (entries : List Entry) (before : Owners) (a b : List StreamObject) → EndsFollow end a
     → after_objects number end entries before (a ++ b)
-    ≡ after_objects (number + length a) (end_after end a) (drop (end_after end a - end) entries) (after_objects number end entries before a) b
+    ≡ after_objects (number + length a) (end_after end a) (drop (end_after end a - end) entries)
+    (after_objects number end entries before a) b
 after_in_parts number end entries before [] b h =
     let none : end - end ≡ 0 = omega arith in
     let same : number + 0 ≡ number = omega arith in
@@ -51,9 +54,11 @@ after_in_parts number end entries before (object ∷ a) b h =
     let rest : object.end ≤ end_after object.end a = end_no_earlier object.end a h.1 in
     let count : number + suc (length a) ≡ number + 1 + length a = omega arith in
     let dropped : end_after object.end a - end ≡ object.end - end + (end_after object.end a - object.end) = omega arith in
-    let twice : drop (end_after object.end a - object.end) (drop (object.end - end) entries) ≡ drop (object.end - end + (end_after object.end a - object.end)) entries =
+    let twice : drop (end_after object.end a - object.end) (drop (object.end - end) entries)
+    ≡ drop (object.end - end + (end_after object.end a - object.end)) entries =
     drop-drop (end_after object.end a - object.end) (object.end - end) entries in
-    after_in_parts (number + 1) object.end (drop (object.end - end) entries) (after_object (number + 1) object.content (take (object.end - end) entries) before) a b h.1
+    after_in_parts (number + 1) object.end (drop (object.end - end) entries)
+    (after_object (number + 1) object.content (take (object.end - end) entries) before) a b h.1
     ∙ rw (count, dropped, twice) refl
 
 -- ---- from a later object on
@@ -69,8 +74,10 @@ keeps_owners stream from number valid at_least at_most h =
     let count : stream.number + length first ≡ from = omega (arith, length-take (from - stream.number) stream.objects) in
     let whole : owners stream number ≡ owners (from_object from stream) number =
     ap (after_objects stream.number stream.end stream.entries stream.opening) split
-    ∙ after_in_parts stream.number stream.end stream.entries stream.opening first rest (follow_first stream.end (from - stream.number) stream.objects valid.ends)
-    ∙ ap (λ n. after_objects n (end_at stream from) (drop (end_at stream from - stream.end) stream.entries) (owners stream from) rest) count in
+    ∙ after_in_parts stream.number stream.end stream.entries stream.opening first rest
+    (follow_first stream.end (from - stream.number) stream.objects valid.ends)
+    ∙ ap (λ n. after_objects n (end_at stream from) (drop (end_at stream from - stream.end) stream.entries) (owners stream from)
+    rest) count in
     let ends : end_at (from_object from stream) number ≡ end_at stream number =
     sym (ap (end_after stream.end) split ∙ end_in_parts stream.end first rest) in
     (λ k. sym (ap (λ f. f k) whole), ends)
@@ -118,10 +125,16 @@ one_of_objects : (number end : ℕ) (entries : List Entry) (before : Owners) (ob
 one_of_objects number end entries before [] k owner h = inl h
 one_of_objects number end entries before (object ∷ objects) k owner h =
     let part = take (object.end - end) entries in
-    elim (one_of_objects (number + 1) object.end (drop (object.end - end) entries) (after_object (number + 1) object.content part before) objects k owner h) [
+    elim (one_of_objects (number + 1) object.end (drop (object.end - end) entries)
+    (after_object (number + 1) object.content part before) objects k owner h) [
       | inl early ↦ elim (new_by_object (number + 1) object.content part before k owner early) [
         | inl old ↦ inl old
-        | inr new ↦ inr (sym (ap (λ o. o.level) new), rw (sym (ap (λ o. o.number) new)) (omega arith), rw (sym (ap (λ o. o.number) new)) (omega arith))
+        | inr new ↦ inr (
+          sym (ap (λ o. o.level) new),
+          rw (sym (ap (λ o. o.number) new)) (omega arith),
+          rw
+              (sym (ap (λ o. o.number) new)) (omega arith),
+        )
       ]
       | inr late ↦ inr (late.0, omega (arith, late.1), omega (arith, late.2))
     ]

@@ -1,5 +1,6 @@
 -- The image that owners stand for, object by object.
-use Rattle.std.proofs.Common.{◌≡◌, ℕ, suc, ◌+◌, ◌-◌, ◌^◌, ◌<◌, ◌≤◌, inl, inr, Bool, true, false, cond, Option, Some, None, List, [], ◌∷◌, ◌++◌, length, take, drop, refl, sym, ◌∙◌, ap, subst, arith}
+use Rattle.std.proofs.Common.{◌≡◌, ℕ, suc, ◌+◌, ◌-◌, ◌^◌, ◌<◌, ◌≤◌, inl, inr, Bool, true, false, cond, Option, Some, None, List}
+use Rattle.std.proofs.Common.{[], ◌∷◌, ◌++◌, length, take, drop, refl, sym, ◌∙◌, ap, subst, arith}
 use Rattle.std.proofs.lemmas.Bool.Decides.{nat_tests}
 use Rattle.std.proofs.lemmas.Option.{slice_get_past}
 use Rattle.std.proofs.lemmas.Bool.{cases_lt}
@@ -21,7 +22,8 @@ use Rattle.object_stream.specs.declared.object.Content.TheVariants.{Data, Copy, 
 use Rattle.object_stream.specs.declared.object.StreamObject.{StreamObject}
 use Rattle.object_stream.specs.declared.owner.Owner.{Owner}
 use Rattle.object_stream.specs.Changes.{change_at}
-use Rattle.object_stream.specs.Stream.{Owners, owner_by_change, is_own, owner_by_copy, source_in, after_object, after_objects, end_after, GoesTo, EndsFollow}
+use Rattle.object_stream.specs.Stream.{Owners, owner_by_change, is_own, owner_by_copy, source_in, after_object, after_objects}
+use Rattle.object_stream.specs.Stream.{end_after, GoesTo, EndsFollow}
 use Rattle.object_stream.specs.Replay.{expected_at}
 use Rattle.object_stream.specs.Value.{sector_put, sector_in, HasSector, StandsForSector, IsValue}
 use Rattle.object_stream.specs.Stored.{HasContent, IsStored, AreStored}
@@ -40,7 +42,8 @@ same_owner owner source still = grind (arith, nat_tests)
 -- ---- images
 
 -- entries that lie inside an image keep its count of sectors
-pub length-after : (image : Image) (entries : List Entry) → All (EndsBy (length image)) entries → length (after image entries) ≡ length image
+pub length-after : (image : Image) (entries : List Entry) → All (EndsBy (length image)) entries
+    → length (after image entries) ≡ length image
 length-after image [] ends = refl
 length-after image (entry ∷ entries) ends =
     let count : length (apply entry image) ≡ length image = keeps_count entry image (ends 0 entry (omega arith)) in
@@ -54,10 +57,12 @@ there image k sector at =
       | inr past ↦ let none : slice_get image k ≡ None = slice_get_past image k past in absurd cc
     ]
 
-module _ (objects : Objects) (uuid_at : ℕ → Option (List ℕ)) (volume : Expected) (own : uuid_at 0 ≡ Some volume.uuid) (wide : volume.sectors < 2 ^ 64) where
+module _ (objects : Objects) (uuid_at : ℕ → Option (List ℕ)) (volume : Expected) (own : uuid_at 0 ≡ Some volume.uuid)
+    (wide : volume.sectors < 2 ^ 64) where
   -- ---- what an object has that is in the store
 
-  module _ (number end : ℕ) (object : StreamObject) (part : List Entry) (is : IsStored objects uuid_at (expected_at volume number end) object part) where
+  module _ (number end : ℕ) (object : StreamObject) (part : List Entry)
+      (is : IsStored objects uuid_at (expected_at volume number end) object part) where
     has_sector : (k : ℕ) (sector : List ℕ) → sector_in is.rows_of is.payload k ≡ Some sector
         → HasSector objects uuid_at (record { level = 0; number = number }) k sector
     has_sector k sector has = record {
@@ -90,7 +95,8 @@ module _ (objects : Objects) (uuid_at : ℕ → Option (List ℕ)) (volume : Exp
 
   -- an owner that is the volume's own object of a number
   owned : (source : ℕ) (before : Option Owner) (k : ℕ) (sector : List ℕ) → is_own source before ≡ true
-      → StandsForSector objects uuid_at before k sector → HasSector objects uuid_at (record { level = 0; number = source }) k sector
+      → StandsForSector objects uuid_at before k sector
+      → HasSector objects uuid_at (record { level = 0; number = source }) k sector
   owned source None k sector still stands = absurd cc
   owned source (Some owner) k sector still stands =
       let same : owner ≡ record { level = 0; number = source } = same_owner owner source still in
@@ -98,7 +104,8 @@ module _ (objects : Objects) (uuid_at : ℕ → Option (List ℕ)) (volume : Exp
 
   -- ---- one object
 
-  module _ (number end : ℕ) (object : StreamObject) (part : List Entry) (is : IsStored objects uuid_at (expected_at volume number end) object part)
+  module _ (number end : ℕ) (object : StreamObject) (part : List Entry)
+      (is : IsStored objects uuid_at (expected_at volume number end) object part)
       (before : Owners) (image : Image) (value : IsValue objects uuid_at before image) where
     by_change : (k : ℕ) (sector : List ℕ) (change : Option Change) → HasContent objects uuid_at Data part is.rows_of is.payload
         → change_at part k ≡ change → changed_by change (slice_get image k) ≡ Some sector
@@ -108,15 +115,18 @@ module _ (objects : Objects) (uuid_at : ℕ → Option (List ℕ)) (volume : Exp
         has_sector number end object part is k sector (data_sector part is.rows_of is.payload k has ∙ (ap sector_put e ∙ at))
     by_change k sector (Some Clear) has e at = sym (ap (sector_or zero_sector) at)
 
-    by_test : (k source : ℕ) (sector : List ℕ) (still : Bool) (pairs : _) → HasContent objects uuid_at (Copy pairs) part is.rows_of is.payload
+    by_test : (k source : ℕ) (sector : List ℕ) (still : Bool) (pairs : _)
+        → HasContent objects uuid_at (Copy pairs) part is.rows_of is.payload
         → source_in pairs.items k ≡ Some source → is_own source (before k) ≡ still → slice_get image k ≡ Some sector
         → StandsForSector objects uuid_at (cond still (Some (record { level = 0; number = number })) (before k)) k sector
     by_test k source sector false pairs has from still at = value k sector at
     by_test k source sector true pairs has from still at =
         has_sector number end object part is k sector
-        (copy_sector pairs part is.rows_of is.payload k source sector has from (owned source (before k) k sector still (value k sector at)))
+        (copy_sector pairs part is.rows_of is.payload k source sector has from
+        (owned source (before k) k sector still (value k sector at)))
 
-    by_copy : (k : ℕ) (sector : List ℕ) (source : Option ℕ) (pairs : _) → HasContent objects uuid_at (Copy pairs) part is.rows_of is.payload
+    by_copy : (k : ℕ) (sector : List ℕ) (source : Option ℕ) (pairs : _)
+        → HasContent objects uuid_at (Copy pairs) part is.rows_of is.payload
         → source_in pairs.items k ≡ source → slice_get image k ≡ Some sector
         → StandsForSector objects uuid_at (owner_by_copy number source (before k)) k sector
     by_copy k sector None pairs has from at = value k sector at
@@ -134,13 +144,16 @@ module _ (objects : Objects) (uuid_at : ℕ → Option (List ℕ)) (volume : Exp
         let inside : k < length image = rw (sym (length-after image part ends)) (there (after image part) k sector at) in
         by_change k sector (change_at part k) has refl (sym (changes_make_image image part k ends inside) ∙ at)
     by_content (Copy pairs) has none ends k sector at =
-        by_copy k sector (source_in pairs.items k) pairs has refl (ap (λ entries. slice_get (after image entries) k) (sym none) ∙ at)
+        by_copy k sector (source_in pairs.items k) pairs has refl (ap (λ entries. slice_get (after image entries) k) (sym none)
+        ∙ at)
     by_content Checkpoint has none ends k sector at =
         value k sector (ap (λ entries. slice_get (after image entries) k) (sym none) ∙ at)
 
   -- an object that is none of data has no entries
-  none_taken : (number end : ℕ) (object : StreamObject) (entries : List Entry) (is : IsStored objects uuid_at (expected_at volume number end) object (take (object.end - end) entries))
-      (before : Owners) (image : Image) (value : IsValue objects uuid_at before image) (content : Content) → GoesTo content end object.end
+  none_taken : (number end : ℕ) (object : StreamObject) (entries : List Entry)
+      (is : IsStored objects uuid_at (expected_at volume number end) object (take (object.end - end) entries))
+      (before : Owners) (image : Image) (value : IsValue objects uuid_at before image) (content : Content)
+      → GoesTo content end object.end
       → HasNone number end object (take (object.end - end) entries) is before image value content
   none_taken number end object entries is before image value Data goes = tt
   none_taken number end object entries is before image value (Copy pairs) goes =
@@ -153,7 +166,8 @@ module _ (objects : Objects) (uuid_at : ℕ → Option (List ℕ)) (volume : Exp
   value_after : (number end : ℕ) (entries : List Entry) (before : Owners) (image : Image) (list : List StreamObject)
       → All (EndsBy (length image)) entries → EndsFollow end list → AreStored objects uuid_at volume number end entries list
       → IsValue objects uuid_at before image
-      → IsValue objects uuid_at (after_objects number end entries before list) (after image (take (end_after end list - end) entries))
+      → IsValue objects uuid_at (after_objects number end entries before list)
+      (after image (take (end_after end list - end) entries))
   value_after number end entries before image [] ends follow stored value =
       let none : end - end ≡ 0 = omega arith in rw none value
   value_after number end entries before image (object ∷ list) ends follow stored value =
@@ -167,10 +181,12 @@ module _ (objects : Objects) (uuid_at : ℕ → Option (List ℕ)) (volume : Exp
       rw (length-after image part part_ends) (All-drop (EndsBy (length image)) (object.end - end) entries ends) in
       let one = by_content (number + 1) end object part stored.0 before image value object.content stored.0.content
       (none_taken (number + 1) end object entries stored.0 before image value object.content follow.0) part_ends in
-      let all = value_after (number + 1) object.end later (after_object (number + 1) object.content part before) (after image part) list later_ends follow.1 stored.1 one in
+      let all = value_after (number + 1) object.end later (after_object (number + 1) object.content part before)
+      (after image part) list later_ends follow.1 stored.1 one in
       let split : take (end_after object.end list - end) entries ≡ part ++ take (end_after object.end list - object.end) later =
       ap (λ n. take n entries) sum ∙ take-add (object.end - end) (end_after object.end list - object.end) entries in
-      let image_is : after image (take (end_after object.end list - end) entries) ≡ after (after image part) (take (end_after object.end list - object.end) later) =
+      let image_is : after image (take (end_after object.end list - end) entries) ≡ after (after image part)
+      (take (end_after object.end list - object.end) later) =
       ap (after image) split ∙ applies_in_parts image part (take (end_after object.end list - object.end) later) in
       rw image_is all
 

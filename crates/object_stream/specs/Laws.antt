@@ -12,7 +12,8 @@ use Rattle.object_stream.specs.declared.owner.Owner.{Owner}
 use Rattle.object_stream.specs.Changes.{change_at}
 use Rattle.std.specs.Option.{option_or}
 use Rattle.object_stream.specs.declared.object.StreamObject.{StreamObject}
-use Rattle.object_stream.specs.Stream.{Owners, Stream, after_objects, owners, end_after, end_at, last_number, EndsFollow, IsStream}
+use Rattle.object_stream.specs.Stream.{Owners, Stream, after_objects, owners, end_after, end_at, last_number, EndsFollow}
+use Rattle.object_stream.specs.Stream.{IsStream}
 use Rattle.object_stream.specs.Replay.{Replays}
 use Rattle.object_stream.specs.Value.{IsValue}
 use Rattle.object_stream.specs.Stored.{AreStored}
@@ -22,7 +23,8 @@ use Rattle.object_stream.specs.Landed.{Numbers, IsFirstMissing}
 
 -- entries change a sector as the later part of them does, or where that does not, as the earlier part
 abbrev pub ChangesInParts : Type 0
-ChangesInParts = (earlier later : List Entry) (k : ℕ) → change_at (earlier ++ later) k ≡ option_or (change_at later k) (change_at earlier k)
+ChangesInParts = (earlier later : List Entry) (k : ℕ) → change_at (earlier ++ later) k ≡ option_or (change_at later k)
+    (change_at earlier k)
 
 -- a sector after a change
 abbrev pub changed_by : Option Change → Option (List ℕ) → Option (List ℕ)
@@ -52,7 +54,8 @@ from_object number stream = record {
 abbrev pub KeepsOwnersFromObject : Type 0
 KeepsOwnersFromObject =
     (stream : Stream) (from number : ℕ) → IsStream stream → stream.number ≤ from → from ≤ last_number stream → from ≤ number
-    → ((k : ℕ) → owners (from_object from stream) number k ≡ owners stream number k) × (end_at (from_object from stream) number ≡ end_at stream number)
+    → ((k : ℕ) → owners (from_object from stream) number k ≡ owners stream number k)
+    × (end_at (from_object from stream) number ≡ end_at stream number)
 
 -- an owner is one that the stream opens with, or an object of the volume's own after it, up to the number
 abbrev pub OwnsByNumber : Type 0
@@ -65,14 +68,16 @@ OwnsByNumber =
 -- there is at most one first missing number
 abbrev pub HasOneFirstMissing : Type 0
 HasOneFirstMissing =
-    (checkpoint landed : Numbers) (missing other : ℕ) → IsFirstMissing checkpoint landed missing → IsFirstMissing checkpoint landed other → missing ≡ other
+    (checkpoint landed : Numbers) (missing other : ℕ) → IsFirstMissing checkpoint landed missing
+    → IsFirstMissing checkpoint landed other → missing ≡ other
 
 -- ---- what a store has
 
 -- where the store has objects of a stream, their replay by what it has is that of the stream
 abbrev pub StoredObjectsReplay : Type 0
 StoredObjectsReplay =
-    (objects : Objects) (uuid_at : ℕ → Option (List ℕ)) (volume : Expected) (number end last_end : ℕ) (entries : List Entry) (before after_them : Owners) (list : List StreamObject)
+    (objects : Objects) (uuid_at : ℕ → Option (List ℕ)) (volume : Expected) (number end last_end : ℕ) (entries : List Entry)
+    (before after_them : Owners) (list : List StreamObject)
     → volume.sectors < 2 ^ 64
     → AreStored objects uuid_at volume number end entries list
     → Replays objects volume number end before (length list) last_end after_them
@@ -81,7 +86,8 @@ StoredObjectsReplay =
 -- and there is one
 abbrev pub StoredObjectsAreReplayed : Type 0
 StoredObjectsAreReplayed =
-    (objects : Objects) (uuid_at : ℕ → Option (List ℕ)) (volume : Expected) (number end : ℕ) (entries : List Entry) (before after_them : Owners) (list : List StreamObject)
+    (objects : Objects) (uuid_at : ℕ → Option (List ℕ)) (volume : Expected) (number end : ℕ) (entries : List Entry)
+    (before after_them : Owners) (list : List StreamObject)
     → AreStored objects uuid_at volume number end entries list
     → ((k : ℕ) → after_them k ≡ after_objects number end entries before list k)
     → Replays objects volume number end before (length list) (end_after end list) after_them
@@ -89,9 +95,11 @@ StoredObjectsAreReplayed =
 -- one replay of objects gives what any other of them gives, from owners that are the same
 abbrev pub ReplaysAsOne : Type 0
 ReplaysAsOne =
-    (objects : Objects) (volume : Expected) (number end : ℕ) (before earlier : Owners) (count last_end : ℕ) (after_them : Owners) (other_end : ℕ) (others : Owners)
+    (objects : Objects) (volume : Expected) (number end : ℕ) (before earlier : Owners) (count last_end : ℕ) (after_them : Owners)
+    (other_end : ℕ) (others : Owners)
     → volume.sectors < 2 ^ 64 → ((k : ℕ) → before k ≡ earlier k)
-    → Replays objects volume number end before count last_end after_them → Replays objects volume number end earlier count other_end others
+    → Replays objects volume number end before count last_end after_them
+    → Replays objects volume number end earlier count other_end others
     → (last_end ≡ other_end) × ((k : ℕ) → after_them k ≡ others k)
 
 -- images of one length that are the value of the same owners are one
@@ -101,12 +109,14 @@ HasOneValue =
     → ((k : ℕ) → owners k ≡ others k) → length image ≡ length other
     → IsValue objects uuid_at owners image → IsValue objects uuid_at others other → image ≡ other
 
--- Where the value of the owners before some objects is an image, that of the owners after them is the image after the entries that
--- they have: the objects up to any of them hold just the writes up to its end.
+-- Where the value of the owners before some objects is an image, that of the owners after them is the image after the entries
+-- that they have: the objects up to any of them hold just the writes up to its end.
 abbrev pub ValueIsImageAfter : Type 0
 ValueIsImageAfter =
-    (objects : Objects) (uuid_at : ℕ → Option (List ℕ)) (volume : Expected) (number end : ℕ) (entries : List Entry) (before : Owners) (image : Image) (list : List StreamObject)
+    (objects : Objects) (uuid_at : ℕ → Option (List ℕ)) (volume : Expected) (number end : ℕ) (entries : List Entry)
+    (before : Owners) (image : Image) (list : List StreamObject)
     → uuid_at 0 ≡ Some volume.uuid → volume.sectors < 2 ^ 64 → All (EndsBy (length image)) entries → EndsFollow end list
     → AreStored objects uuid_at volume number end entries list
     → IsValue objects uuid_at before image
-    → IsValue objects uuid_at (after_objects number end entries before list) (after image (take (end_after end list - end) entries))
+    → IsValue objects uuid_at (after_objects number end entries before list)
+    (after image (take (end_after end list - end) entries))

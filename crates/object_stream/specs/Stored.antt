@@ -31,7 +31,8 @@ HasContent objects uuid_at Checkpoint entries rows.Checkpoint payload = Unit {0}
 HasContent objects uuid_at content entries rows payload = ⊥
 
 -- an object of the stream is in the store under its name, of the grammar
-pub record IsStored (objects : Objects) (uuid_at : ℕ → Option (List ℕ)) (expected : Expected) (object : StreamObject) (entries : List Entry) : Type 0 where
+pub record IsStored (objects : Objects) (uuid_at : ℕ → Option (List ℕ)) (expected : Expected) (object : StreamObject)
+    (entries : List Entry) : Type 0 where
   pub bytes : List ℕ
   pub header : Header
   pub rows_of : Rows

@@ -7,8 +7,8 @@ use lsvd_base::{Body, Entry, SECTOR_BYTES};
 use object_format::DataRow;
 use std::alloc::{AllocError, Global};
 
-/// What these entries do to a sector of the volume: what the last of them does that covers it, and None where none
-/// does. The one error is that memory ran out.
+/// What these entries do to a sector of the volume: what the last of them does that covers it, and None where
+/// none does. The one error is that memory ran out.
 pub fn change_at(
     alloc: Global,
     entries: &[Entry],
@@ -39,9 +39,9 @@ fn entry_change(alloc: Global, entry: &Entry, sector: u64) -> Result<Option<Chan
     }
 }
 
-/// What the rows of a data object with this payload do to a sector of the volume: what the first of them does that
-/// covers it, and None where none does. The payload is whole sectors (a condition). The one error is that memory ran
-/// out.
+/// What the rows of a data object with this payload do to a sector of the volume: what the first of them does
+/// that covers it, and None where none does. The payload is whole sectors (a condition). The one error is
+/// that memory ran out.
 pub fn change_in(
     alloc: Global,
     rows: &[DataRow],
@@ -77,8 +77,8 @@ fn change_from(
     Ok(Change::Put(data))
 }
 
-/// The sector of this index of some bytes, which are whole sectors (a condition): nothing past their end. The one error
-/// is that memory ran out.
+/// The sector of this index of some bytes, which are whole sectors (a condition): nothing past their end. The
+/// one error is that memory ran out.
 pub(crate) fn sector_of(alloc: Global, index: u128, bytes: &[u8]) -> Result<Body, AllocError>
     requires { length bytes.now % 512 ≡ 0 }
     ensures { IfOk result (λ body. body ≡ sector_of index bytes.now) }

@@ -2,9 +2,9 @@ ghost use Rattle.std.specs.Prelude.{ℕ, ◌≡◌, ◌<◌, ◌≤◌, false, I
 ghost use Rattle.object_stream.specs.Landed.{IsNewestCheckpoint, IsFirstMissing};
 ghost use Rattle.object_stream.specs.Plain.{numbers_of, HasNoCheckpoint};
 
-/// The first missing number of a store: the least above the newest checkpoint that has landed, of an object that has
-/// not. None where no checkpoint has landed. The number of an object is its index in both lists; past a list's end
-/// nothing is a checkpoint, and nothing has landed.
+/// The first missing number of a store: the least above the newest checkpoint that has landed, of an object
+/// that has not. None where no checkpoint has landed. The number of an object is its index in both lists;
+/// past a list's end nothing is a checkpoint, and nothing has landed.
 pub fn first_missing(checkpoint: &[bool], landed: &[bool]) -> Option<u64>
     ensures { MatchOption result
         (HasNoCheckpoint (numbers_of checkpoint.now) (numbers_of landed.now))
@@ -30,7 +30,8 @@ fn newest_checkpoint(checkpoint: &[bool], landed: &[bool]) -> Option<usize>
     newest
 }
 
-// The least number from this one on of an object that has not landed. The list is as long as this at least (a condition).
+// The least number from this one on of an object that has not landed. The list is as long as this at least (a
+// condition).
 fn first_absent(landed: &[bool], from: usize) -> usize
     requires { from ≤ length landed.now }
     ensures above { from ≤ result }

@@ -1,10 +1,11 @@
-//! The stream of objects that the history of a volume becomes: what objects put and clear, who owns each sector after any number
-//! of them, which of them a recovery of the store counts, and what the sectors are by their owners.
+//! The stream of objects that the history of a volume becomes: what objects put and clear, who owns each
+//! sector after any number of them, which of them a recovery of the store counts, and what the sectors are by
+//! their owners.
 //!
-//! Its contract: these definitions, the laws that join them, and beside them a plain program that computes them on lists, with
-//! which tests compare what other crates do. No product code calls it.
-//! It stands on `object_format` for the rows and the bytes of objects, on `lsvd_objstore` for what a store holds, on `lsvd_base`
-//! for entries, and on `extent_map` for ranges of sectors.
+//! Its contract: these definitions, the laws that join them, and beside them a plain program that computes
+//! them on lists, with which tests compare what other crates do. No product code calls it. It stands on
+//! `object_format` for the rows and the bytes of objects, on `lsvd_objstore` for what a store holds, on
+//! `lsvd_base` for entries, and on `extent_map` for ranges of sectors.
 #![tactic(auto)]
 
 mod change;

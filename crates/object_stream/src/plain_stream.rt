@@ -1,6 +1,7 @@
 ghost use Rattle.std.specs.Prelude.{◌≡◌, None, min, slice_index_or};
 ghost use Rattle.object_stream.specs.Changes.{entry_change, change_at};
-ghost use Rattle.object_stream.specs.Stream.{owner_by_change, source_in, owner_by_copy, after_object, objects_to, owners, end_after, end_at, unsealed};
+ghost use Rattle.object_stream.specs.Stream.{owner_by_change, source_in, owner_by_copy, after_object};
+ghost use Rattle.object_stream.specs.Stream.{objects_to, owners, end_after, end_at, unsealed};
 ghost use Rattle.object_stream.specs.Plain.{stream_of};
 
 use crate::changes::is_within;

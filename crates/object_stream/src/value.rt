@@ -7,8 +7,9 @@ use lsvd_base::Body;
 use object_format::{CopyRow, Rows};
 use std::alloc::{AllocError, Global};
 
-/// The data of a sector of the volume in an object with these rows and this payload. None is where the object does not
-/// have the sector, and in a checkpoint. The payload is whole sectors (a condition). The one error is that memory ran out.
+/// The data of a sector of the volume in an object with these rows and this payload. None is where the object
+/// does not have the sector, and in a checkpoint. The payload is whole sectors (a condition). The one error
+/// is that memory ran out.
 pub fn sector_in(
     alloc: Global,
     rows: &Rows,
@@ -35,7 +36,8 @@ fn sector_put(change: Option<Change>) -> Option<Body>
     }
 }
 
-// The data of a sector in a copy with these rows, if the copy has it. The payload is whole sectors (a condition).
+// The data of a sector in a copy with these rows, if the copy has it. The payload is whole sectors (a
+// condition).
 fn copied_in(
     alloc: Global,
     rows: &[CopyRow],

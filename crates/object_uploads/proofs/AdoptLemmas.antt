@@ -1,5 +1,6 @@
 -- An object that is adopted: the stream with it, and the image.
-use Rattle.std.proofs.Common.{◌≡◌, ℕ, ◌+◌, ◌-◌, ◌<◌, ◌≤◌, cond, Bool, true, false, None, List, [], ◌∷◌, ◌++◌, length, take, drop, refl, sym, ◌∙◌, ap, arith, length-append, length-drop}
+use Rattle.std.proofs.Common.{◌≡◌, ℕ, ◌+◌, ◌-◌, ◌<◌, ◌≤◌, cond, Bool, true, false, None, List, [], ◌∷◌, ◌++◌, length, take, drop}
+use Rattle.std.proofs.Common.{refl, sym, ◌∙◌, ap, arith, length-append, length-drop}
 use Rattle.std.proofs.Math.Seq.{take-length, drop-length, drop-append_seam}
 use Rattle.lsvd_base.specs.declared.entry.Entry.{Entry}
 use Rattle.lsvd_objstore.specs.Store.{ReceiptState}
@@ -8,7 +9,8 @@ use Rattle.object_format.specs.declared.expected.Expected.{Expected}
 use Rattle.extent_map.specs.Extents.{is_within}
 use Rattle.object_stream.specs.declared.object.Content.TheVariants.{Data}
 use Rattle.object_stream.specs.declared.object.StreamObject.{StreamObject}
-use Rattle.object_stream.specs.Stream.{Owners, Stream, after_object, after_objects, owners, objects_to, end_after, end_at, last_number, unsealed, IsStream}
+use Rattle.object_stream.specs.Stream.{Owners, Stream, after_object, after_objects, owners, objects_to, end_after, end_at}
+use Rattle.object_stream.specs.Stream.{last_number, unsealed, IsStream}
 use Rattle.object_stream.specs.Replay.{expected_at}
 use Rattle.object_stream.proofs.StreamLemmas.{after_in_parts, end_in_parts, end_no_earlier}
 use Rattle.volume_maps.specs.Places.{left_at}
@@ -26,7 +28,8 @@ use Rattle.object_uploads.proofs.GrowLemmas.{owners_more, follow_more, all_objec
 use Rattle.object_uploads.proofs.ImageLemmas.{has_one}
 
 -- rows leave a sector that is not in the log out of it
-none_by_test : (test : Bool) (end : ℕ) (rows : List DataRow) (k : ℕ) → logged_by end rows None k ≡ None → logged_by end rows (cond test None None) k ≡ None
+none_by_test : (test : Bool) (end : ℕ) (rows : List DataRow) (k : ℕ) → logged_by end rows None k ≡ None
+    → logged_by end rows (cond test None None) k ≡ None
 none_by_test true end rows k rest = rest
 none_by_test false end rows k rest = rest
 
@@ -37,10 +40,13 @@ none_logged end (row ∷ rows) k = none_by_test (is_within row.lba row.sectors k
 nothing_left : {X : Type 0} (n : ℕ) (list : List X) → drop n list ≡ [] → length list ≤ n
 nothing_left n list none = let size = length-drop n list in let zero_ = ap length none in omega (arith, size, zero_)
 
-module _ (volume : Expected) (data_at : ℕ → ℕ) (stream : Stream) (old new : UploadsState) (entries : List Entry) (bytes : List ℕ) (rows : List DataRow) (end : ℕ) (receipt : ReceiptState)
-    (uploads : IsUploads old.queue old.window) (are : AreOfStream volume data_at stream old) (none : old.queue.sealed ≡ []) (all_in : unsealed stream ≡ [])
+module _ (volume : Expected) (data_at : ℕ → ℕ) (stream : Stream) (old new : UploadsState) (entries : List Entry) (bytes : List ℕ)
+    (rows : List DataRow) (end : ℕ) (receipt : ReceiptState)
+    (uploads : IsUploads old.queue old.window) (are : AreOfStream volume data_at stream old) (none : old.queue.sealed ≡ [])
+    (all_in : unsealed stream ≡ [])
     (ends : end ≡ stream.end + length stream.entries + length entries) (some : 0 < length entries)
-    (is : IsSealedOf (expected_at volume (last_number stream + 1) (end_at stream (last_number stream))) entries (record { content = Data; end = end }) (just_sealed bytes rows end))
+    (is : IsSealedOf (expected_at volume (last_number stream + 1) (end_at stream (last_number stream))) entries
+    (record { content = Data; end = end }) (just_sealed bytes rows end))
     (adopted : IsAdopted rows end receipt old new) where
   abbrev object : StreamObject
   object = record { content = Data; end = end }
@@ -88,31 +94,39 @@ module _ (volume : Expected) (data_at : ℕ → ℕ) (stream : Stream) (old new 
       let skip : e - stream.end ≡ length stream.entries = omega (arith, last_end) in
       let rest : drop (e - stream.end) more ≡ entries = ap (λ n. drop n more) skip ∙ drop-append_seam stream.entries entries in
       let count : end - e ≡ length entries = omega (arith, last_end, ends) in
-      let part : take (end - e) (drop (e - stream.end) more) ≡ entries = ap (take (end - e)) rest ∙ (ap (λ n. take n entries) count ∙ take-length entries) in
+      let part : take (end - e) (drop (e - stream.end) more) ≡ entries = ap (take (end - e)) rest
+      ∙ (ap (λ n. take n entries) count ∙ take-length entries) in
       ap (λ os. after_objects stream.number stream.end more stream.opening os k) grown_objects
-      ∙ (ap (λ (f : Owners). f k) (after_in_parts stream.number stream.end more stream.opening stream.objects (object ∷ []) are.valid.ends)
-      ∙ (ap (λ es. after_object (last + 1) Data es (after_objects stream.number stream.end more stream.opening stream.objects) k) part
+      ∙ (ap (λ (f : Owners). f k) (after_in_parts stream.number stream.end more stream.opening stream.objects (object ∷ [])
+      are.valid.ends)
+      ∙ (ap (λ es. after_object (last + 1) Data es (after_objects stream.number stream.end more stream.opening stream.objects) k)
+      part
       ∙ (ap (λ (f : Owners). after_object (last + 1) Data entries f k)
-      (owners_more entries stream.number stream.end stream.entries stream.opening stream.objects are.valid.ends (omega (arith, last_end)))
-      ∙ ap (λ os. after_object (last + 1) Data entries (after_objects stream.number stream.end stream.entries stream.opening os) k) (sym (all_objects stream)))))
+      (owners_more entries stream.number stream.end stream.entries stream.opening stream.objects are.valid.ends
+      (omega (arith, last_end)))
+      ∙ ap (λ os. after_object (last + 1) Data entries (after_objects stream.number stream.end stream.entries stream.opening os)
+      k) (sym (all_objects stream)))))
 
   now_settled : (k : ℕ) → owner_of (settled_at new.queue.maps k) ≡ owners grown (last + 1) k
   now_settled k =
       let before = are.settled k ∙ ap (λ n. owners stream n k) at_last in
       ap owner_of (adopted.settled.settled k)
       ∙ (ap (λ n. owner_of (settled_by (n + 1) (front_of rows) rows (settled_at old.queue.maps k) k)) at_last
-      ∙ (settle_one volume data_at k (last + 1) (end_at stream last) entries object (just_sealed bytes rows end) (settled_at old.queue.maps k) (owners stream last) is before
+      ∙ (settle_one volume data_at k (last + 1) (end_at stream last) entries object (just_sealed bytes rows end)
+      (settled_at old.queue.maps k) (owners stream last) is before
       ∙ sym (grown_owners k)))
 
   -- nothing is past it
   no_entries : drop (end - stream.end) (stream.entries ++ entries) ≡ []
   no_entries =
-      let size : end - stream.end ≡ length (stream.entries ++ entries) = omega (arith, ends, length-append stream.entries entries) in
+      let size : end - stream.end ≡ length (stream.entries ++ entries) =
+      omega (arith, ends, length-append stream.entries entries) in
       ap (λ n. drop n (stream.entries ++ entries)) size ∙ drop-length (stream.entries ++ entries)
 
   no_objects : drop (last + 1 - stream.number) (stream.objects ++ object ∷ []) ≡ []
   no_objects =
-      let size : last + 1 - stream.number ≡ length (stream.objects ++ object ∷ []) = omega (arith, length-append stream.objects (object ∷ [])) in
+      let size : last + 1 - stream.number ≡ length (stream.objects ++ object ∷ []) =
+      omega (arith, length-append stream.objects (object ∷ [])) in
       ap (λ n. drop n (stream.objects ++ object ∷ [])) size ∙ drop-length (stream.objects ++ object ∷ [])
 
   pub now_end : end_at grown (last_number grown) ≡ end
@@ -123,7 +137,8 @@ module _ (volume : Expected) (data_at : ℕ → ℕ) (stream : Stream) (old new 
 
   old_log : (k : ℕ) → logged_at old.queue.maps k ≡ None
   old_log k =
-      let same : drop (end_at stream old.queue.frontier - stream.end) stream.entries ≡ [] = ap (λ n. drop (end_at stream n - stream.end) stream.entries) at_last ∙ all_in in
+      let same : drop (end_at stream old.queue.frontier - stream.end) stream.entries ≡ [] =
+      ap (λ n. drop (end_at stream n - stream.end) stream.entries) at_last ∙ all_in in
       are.logged k ∙ ap (λ es. left_at data_at old.queue.end es k) same
 
   now_logged : (k : ℕ) → logged_at new.queue.maps k ≡ None
@@ -140,7 +155,9 @@ module _ (volume : Expected) (data_at : ℕ → ℕ) (stream : Stream) (old new 
         end = adopted.settled.ends ∙ sym grown_end;
         settled = now_settled;
         sealed = rw (adopted.settled.sealed, no_objects) tt;
-        logged = λ k. now_logged k ∙ sym (ap (λ e. left_at data_at new.queue.end (drop (e - stream.end) (stream.entries ++ entries)) k) grown_end ∙ ap (λ es. left_at data_at new.queue.end es k) no_entries);
+        logged = λ k. now_logged k
+            ∙ sym (ap (λ e. left_at data_at new.queue.end (drop (e - stream.end) (stream.entries ++ entries)) k) grown_end
+            ∙ ap (λ es. left_at data_at new.queue.end es k) no_entries);
       })
 
 pub adopting_keeps_stream : AdoptingKeepsStream
@@ -148,7 +165,9 @@ adopting_keeps_stream volume data_at stream old new entries bytes rows end recei
     now_of_stream volume data_at stream old new entries bytes rows end receipt uploads are none all_in ends some is adopted
 
 pub adopting_makes_image : AdoptingMakesImage
-adopting_makes_image volume end_before entries object bytes rows end receipt old new image uploads is adopted tells ends has k sector at =
-    let held = has_one old.queue volume old.queue.frontier end_before entries object (just_sealed bytes rows end) old.queue.receipts receipt (settled_at old.queue.maps) image
+adopting_makes_image volume end_before entries object bytes rows end receipt old new image uploads is adopted tells ends has k
+    sector at =
+    let held = has_one old.queue volume old.queue.frontier end_before entries object (just_sealed bytes rows end)
+    old.queue.receipts receipt (settled_at old.queue.maps) image
     uploads.receipts is tells ends has k sector at in
     rw (adopted.settled.settled k, adopted.settled.frontier, adopted.settled.receipts) held

@@ -1,5 +1,6 @@
 -- The objects of a volume in the order of their numbers: one more that is settled, and one that is changed.
-use Rattle.std.proofs.Common.{◌≡◌, ℕ, zero, suc, ◌+◌, ◌-◌, ◌<◌, ◌≤◌, Option, Some, List, [], ◌∷◌, ◌++◌, length, take, drop, slice_index_or, slice_set, refl, sym, ◌∙◌, ap, arith, length-drop}
+use Rattle.std.proofs.Common.{◌≡◌, ℕ, zero, suc, ◌+◌, ◌-◌, ◌<◌, ◌≤◌, Option, Some, List, [], ◌∷◌, ◌++◌, length, take, drop}
+use Rattle.std.proofs.Common.{slice_index_or, slice_set, refl, sym, ◌∙◌, ap, arith, length-drop}
 use Rattle.std.specs.Prelude.{IsSome, option_to_list}
 use Rattle.std.specs.List.{AllByRecursion, sum_by}
 use Rattle.std.proofs.lemmas.List.{append-nil, append_assoc, length-take-le, drop-drop}
@@ -10,7 +11,8 @@ use Rattle.volume_maps.specs.declared.place.ObjectPlace.{ObjectPlace}
 use Rattle.volume_maps.specs.declared.place.LogPlace.{LogPlace}
 use Rattle.volume_maps.specs.Maps.{settled_at, logged_at, settled_by, logged_by}
 use Rattle.object_uploads.specs.State.{SealedState, QueueState}
-use Rattle.object_uploads.specs.Queue.{with_at, HasBytesAt, front_of, row_count, settled_by_all, logged_by_all, end_of_last, receipts_of, IsSettledBy}
+use Rattle.object_uploads.specs.Queue.{with_at, HasBytesAt, front_of, row_count, settled_by_all, logged_by_all, end_of_last}
+use Rattle.object_uploads.specs.Queue.{receipts_of, IsSettledBy}
 
 -- ---- settling
 
@@ -43,7 +45,8 @@ all_in_parts number (sealed ∷ a) b before k =
     let same : number + suc (length a) ≡ number + 1 + length a = omega arith in
     rw same (all_in_parts (number + 1) a b (settled_by (number + 1) (front_of sealed.rows) sealed.rows before k) k)
 
-pub log_in_parts : (a b : List SealedState) (before : Option LogPlace) (k : ℕ) → logged_by_all (a ++ b) before k ≡ logged_by_all b (logged_by_all a before k) k
+pub log_in_parts : (a b : List SealedState) (before : Option LogPlace) (k : ℕ)
+    → logged_by_all (a ++ b) before k ≡ logged_by_all b (logged_by_all a before k) k
 log_in_parts [] b before k = refl
 log_in_parts (sealed ∷ a) b before k = log_in_parts a b (logged_by sealed.end sealed.rows before k) k
 
@@ -58,7 +61,8 @@ receipts_in_parts (sealed ∷ a) b =
     ∙ sym (append_assoc (option_to_list sealed.receipt) (receipts_of a) (receipts_of b))
 
 acknowledged_in_parts : (a b : List SealedState) → AllByRecursion (λ (sealed : SealedState). IsSome sealed.receipt) a
-    → AllByRecursion (λ (sealed : SealedState). IsSome sealed.receipt) b → AllByRecursion (λ (sealed : SealedState). IsSome sealed.receipt) (a ++ b)
+    → AllByRecursion (λ (sealed : SealedState). IsSome sealed.receipt) b
+    → AllByRecursion (λ (sealed : SealedState). IsSome sealed.receipt) (a ++ b)
 acknowledged_in_parts [] b of_a of_b = of_b
 acknowledged_in_parts (sealed ∷ a) b of_a of_b = (of_a.0, acknowledged_in_parts a b of_a.1 of_b)
 
@@ -75,7 +79,8 @@ settles_none queue = record {
   logged = λ k. refl;
 }
 
-pub settles_more : (count more : ℕ) (old middle new : QueueState) → IsSettledBy count old middle → IsSettledBy more middle new → IsSettledBy (count + more) old new
+pub settles_more : (count more : ℕ) (old middle new : QueueState) → IsSettledBy count old middle → IsSettledBy more middle new
+    → IsSettledBy (count + more) old new
 settles_more count more old middle new first second =
     let a = take count old.sealed in
     let b = take more middle.sealed in
@@ -92,7 +97,8 @@ settles_more count more old middle new first second =
           ∙ (append_assoc old.receipts (receipts_of a) (receipts_of b)
           ∙ ap (λ xs. old.receipts ++ xs) (sym (receipts_in_parts a b) ∙ sym (ap receipts_of split))));
       frontier = omega (arith, first.frontier, second.frontier);
-      end = second.end ∙ (ap (λ e. end_of_last e b) first.end ∙ (sym (end_in_parts old.end a b) ∙ sym (ap (end_of_last old.end) split)));
+      end = second.end ∙ (ap (λ e. end_of_last e b) first.end
+          ∙ (sym (end_in_parts old.end a b) ∙ sym (ap (end_of_last old.end) split)));
       sealed = second.sealed ∙ (ap (drop more) first.sealed ∙ (drop-drop more count old.sealed ∙ refl));
       settled = λ k.
           second.settled k
@@ -115,11 +121,13 @@ fewer old new step =
 -- ---- an object that is changed
 
 -- objects of which one is changed have as many rows, where that one has
-pub rows_with : (index : ℕ) (change : SealedState → SealedState) (list : List SealedState) → ((s : SealedState) → (change s).rows ≡ s.rows)
+pub rows_with : (index : ℕ) (change : SealedState → SealedState) (list : List SealedState)
+    → ((s : SealedState) → (change s).rows ≡ s.rows)
     → sum_by row_count (with_at index change list) ≡ sum_by row_count list
 rows_with index change [] same = refl
 rows_with zero change (sealed ∷ more) same =
-    sum_by-cons row_count (change sealed) more ∙ (ap (λ rows. length rows + sum_by row_count more) (same sealed) ∙ sym (sum_by-cons row_count sealed more))
+    sum_by-cons row_count (change sealed) more ∙ (ap (λ rows. length rows + sum_by row_count more) (same sealed)
+    ∙ sym (sum_by-cons row_count sealed more))
 rows_with (suc index) change (sealed ∷ more) same =
     sum_by-cons row_count sealed (with_at index change more)
     ∙ (ap (λ n. row_count sealed + n) (rows_with index change more same) ∙ sym (sum_by-cons row_count sealed more))
@@ -129,9 +137,11 @@ pub set_with : (index : ℕ) (change : SealedState → SealedState) (list : List
     → lent ≡ slice_index_or list index lent → changed ≡ change lent → slice_set list index changed ≡ with_at index change list
 set_with index change [] lent changed at by = refl
 set_with zero change (sealed ∷ more) lent changed at by = ap (λ s. s ∷ more) (by ∙ ap change at)
-set_with (suc index) change (sealed ∷ more) lent changed at by = ap (λ xs. sealed ∷ xs) (set_with index change more lent changed at by)
+set_with (suc index) change (sealed ∷ more) lent changed at by =
+    ap (λ xs. sealed ∷ xs) (set_with index change more lent changed at by)
 
-pub length-with : (index : ℕ) (change : SealedState → SealedState) (list : List SealedState) → length (with_at index change list) ≡ length list
+pub length-with : (index : ℕ) (change : SealedState → SealedState) (list : List SealedState)
+    → length (with_at index change list) ≡ length list
 length-with index change [] = refl
 length-with zero change (sealed ∷ more) = refl
 length-with (suc index) change (sealed ∷ more) = ap suc (length-with index change more)

@@ -1,5 +1,6 @@
 -- What entries put of a sector is whole, and lies inside the bytes that have it.
-use Rattle.std.proofs.Common.{◌≡◌, ℕ, ◌+◌, ◌-◌, ◌*◌, ◌/◌, ◌<◌, ◌≤◌, cond, Bool, true, false, Option, Some, None, List, [], ◌∷◌, length, drop}
+use Rattle.std.proofs.Common.{◌≡◌, ℕ, ◌+◌, ◌-◌, ◌*◌, ◌/◌, ◌<◌, ◌≤◌, cond, Bool, true, false, Option, Some, None, List, [], ◌∷◌}
+use Rattle.std.proofs.Common.{length, drop}
 use Rattle.std.proofs.Common.{refl, ap, arith, length-take, length-drop}
 use Rattle.std.proofs.lemmas.Bool.Decides.{nat_tests}
 use Rattle.std.proofs.lemmas.List.{length-take-le}
@@ -12,7 +13,8 @@ use Rattle.object_stream.specs.declared.change.Change.TheVariants.{Put, Clear}
 use Rattle.object_stream.specs.Changes.{sector_of, entry_change, change_at}
 
 -- a sector that is found at a place lies there as a whole
-pub lies_inside : (at : ℕ) (bytes sector : List ℕ) → length sector ≡ 512 → sector_of at bytes ≡ sector → 512 * (at + 1) ≤ length bytes
+pub lies_inside : (at : ℕ) (bytes sector : List ℕ) → length sector ≡ 512 → sector_of at bytes ≡ sector
+    → 512 * (at + 1) ≤ length bytes
 lies_inside at bytes sector whole is =
     omega (arith, ap length is, whole, length-take 512 (drop (512 * at) bytes), length-drop (512 * at) bytes)
 
@@ -44,4 +46,5 @@ either_puts (Some change) earlier of_later of_earlier = of_later
 -- so it is of what entries do to a sector
 pub puts_whole : (entries : List Entry) (k : ℕ) → PutsWhole (change_at entries k)
 puts_whole [] k = tt
-puts_whole (entry ∷ entries) k = either_puts (change_at entries k) (entry_change entry k) (puts_whole entries k) (entry_puts entry k)
+puts_whole (entry ∷ entries) k = either_puts (change_at entries k) (entry_change entry k) (puts_whole entries k)
+    (entry_puts entry k)

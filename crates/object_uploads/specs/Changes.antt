@@ -5,7 +5,8 @@ use Rattle.object_format.specs.declared.data_row.DataRow.{DataRow}
 use Rattle.object_stream.specs.Replay.{name_of}
 use Rattle.upload_window.specs.Window.{entered, marked, acknowledged, is_started}
 use Rattle.object_uploads.specs.State.{JobState, QueueState, UploadsState}
-use Rattle.object_uploads.specs.Queue.{with_at, just_sealed, with_spare, with_receipt, HasBytesAt, HasSamePlaces, IsSettledBy, IsNextSettled, FirstWaits}
+use Rattle.object_uploads.specs.Queue.{with_at, just_sealed, with_spare, with_receipt, HasBytesAt, HasSamePlaces, IsSettledBy}
+use Rattle.object_uploads.specs.Queue.{IsNextSettled, FirstWaits}
 
 -- where the object of a number stands past the frontier
 abbrev pub index_of : UploadsState → ℕ → ℕ
@@ -53,18 +54,22 @@ pub record IsOut (uploads : UploadsState) (number : ℕ) (bytes : List ℕ) : Ty
   pub started : is_started number uploads.window.objects ≡ true
   pub sealed : HasBytesAt (index_of uploads number) uploads.queue.sealed bytes
 
--- The put of a number is done, and the store gave this for it: the objects past the frontier are settled up to the first that is not
--- acknowledged.
+-- The put of a number is done, and the store gave this for it: the objects past the frontier are settled up to the first that is
+-- not acknowledged.
 pub record IsPutDone (number : ℕ) (receipt : ReceiptState) (old new : UploadsState) : Type 0 where
   pub uuid : new.uuid ≡ old.uuid
   pub window : new.window ≡ acknowledged number old.window
   pub count : ℕ
-  pub settled : IsSettledBy count (record old.queue { sealed = with_at (index_of old number) (with_receipt receipt) old.queue.sealed }) new.queue
+  pub settled : IsSettledBy count (record old.queue {
+    sealed = with_at (index_of old number) (with_receipt receipt)
+        old.queue.sealed;
+  }) new.queue
   pub waits : FirstWaits new.queue.sealed
 
 -- ---- adopting
 
--- the object of the next number, with these rows and this end, was counted as acknowledged: the store gave this for it, and it is settled
+-- the object of the next number, with these rows and this end, was counted as acknowledged: the store gave this for it, and it is
+-- settled
 pub record IsAdopted (rows : List DataRow) (end : ℕ) (receipt : ReceiptState) (old new : UploadsState) : Type 0 where
   pub uuid : new.uuid ≡ old.uuid
   pub window : new.window ≡ record { last = old.window.last + 1; objects = [] }

@@ -12,7 +12,8 @@ use Rattle.object_uploads.specs.Queue.{receipt_of}
 -- there is a receipt, the place lies inside its object, and where it tells the object's bytes, they have this sector there
 abbrev pub GivesSector : Option ReceiptState → (at : ℕ) → (sector : List ℕ) → Type 0
 GivesSector None at sector = ⊥
-GivesSector (Some receipt) at sector = (512 * (at + 1) ≤ receipt.size) × IfSome receipt.told (λ bytes. sector_of at bytes ≡ sector)
+GivesSector (Some receipt) at sector = (512 * (at + 1) ≤ receipt.size)
+    × IfSome receipt.told (λ bytes. sector_of at bytes ≡ sector)
 
 -- A sector is held at a place: it is zeros where there is none, and else what the store gave for the volume's own object of the
 -- place's number gives it there.
@@ -22,7 +23,8 @@ HoldsSector queue (Some place) sector = (place.level ≡ 0) × GivesSector (rece
 
 -- each sector of an image is held where the objects' map has it
 abbrev pub HasImage : Image → QueueState → Type 0
-HasImage image queue = (k : ℕ) (sector : List ℕ) → slice_get image k ≡ Some sector → HoldsSector queue (settled_at queue.maps k) sector
+HasImage image queue = (k : ℕ) (sector : List ℕ) → slice_get image k ≡ Some sector
+    → HoldsSector queue (settled_at queue.maps k) sector
 
 -- a receipt for these bytes: it says how many they are, and tells no others
 pub record IsReceiptFor (bytes : List ℕ) (receipt : ReceiptState) : Type 0 where

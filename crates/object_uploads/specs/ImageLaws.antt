@@ -31,19 +31,22 @@ ImageBegins =
 
 -- it is kept while entries are entered
 abbrev pub EnteringKeepsImage : Type 0
-EnteringKeepsImage = (entry : Entry) (seq data_at : ℕ) (old new : QueueState) → IsEntered entry seq data_at old new → KeepsImage old new
+EnteringKeepsImage = (entry : Entry) (seq data_at : ℕ) (old new : QueueState) → IsEntered entry seq data_at old new
+    → KeepsImage old new
 
 -- while objects are sealed, or nothing changes but room
 abbrev pub SealingKeepsImage : Type 0
 SealingKeepsImage =
-    (bytes : List ℕ) (rows : List DataRow) (end : ℕ) (old new : UploadsState) → IsSealed bytes rows end old new → KeepsImage old.queue new.queue
+    (bytes : List ℕ) (rows : List DataRow) (end : ℕ) (old new : UploadsState) → IsSealed bytes rows end old new
+    → KeepsImage old.queue new.queue
 
 abbrev pub RoomKeepsImage : Type 0
 RoomKeepsImage = (old new : UploadsState) → IsNotSealed old new → KeepsImage old.queue new.queue
 
 -- and while puts begin and fail
 abbrev pub JobsKeepImage : Type 0
-JobsKeepImage = (number : ℕ) (started : Bool) (uploads : UploadsState) → KeepsImage uploads.queue (with_job number started uploads).queue
+JobsKeepImage = (number : ℕ) (started : Bool) (uploads : UploadsState)
+    → KeepsImage uploads.queue (with_job number started uploads).queue
 
 -- receipts stay those of their objects' own bytes while puts are done whose receipts are for the sealed bytes
 abbrev pub DoneKeepsReceipts : Type 0
@@ -59,7 +62,8 @@ settled_entries stream old new = take (new.end - old.end) (from_object old.front
 -- By such a put the objects of a stream come to have the image after the entries of the objects that were settled.
 abbrev pub DoneMakesImage : Type 0
 DoneMakesImage =
-    (volume : Expected) (data_at : ℕ → ℕ) (stream : Stream) (old new : UploadsState) (number : ℕ) (bytes : List ℕ) (receipt : ReceiptState) (image : Image)
+    (volume : Expected) (data_at : ℕ → ℕ) (stream : Stream) (old new : UploadsState) (number : ℕ) (bytes : List ℕ)
+    (receipt : ReceiptState) (image : Image)
     → IsUploads old.queue old.window → AreOfStream volume data_at stream old
     → IsPutDone number receipt old new → IsOut old number bytes → IsReceiptFor bytes receipt → HasOwnReceipts old.queue
     → All (EndsBy (length image)) (settled_entries stream old.queue new.queue)
@@ -68,8 +72,10 @@ DoneMakesImage =
 -- An object that is adopted, the data object of these entries, makes it the image after them.
 abbrev pub AdoptingMakesImage : Type 0
 AdoptingMakesImage =
-    (volume : Expected) (end_before : ℕ) (entries : List Entry) (object : StreamObject) (bytes : List ℕ) (rows : List DataRow) (end : ℕ) (receipt : ReceiptState)
+    (volume : Expected) (end_before : ℕ) (entries : List Entry) (object : StreamObject) (bytes : List ℕ) (rows : List DataRow)
+    (end : ℕ) (receipt : ReceiptState)
     (old new : UploadsState) (image : Image)
-    → IsUploads old.queue old.window → IsSealedOf (expected_at volume (old.queue.frontier + 1) end_before) entries object (just_sealed bytes rows end)
+    → IsUploads old.queue old.window → IsSealedOf (expected_at volume (old.queue.frontier + 1) end_before) entries object
+    (just_sealed bytes rows end)
     → IsAdopted rows end receipt old new → IsReceiptFor bytes receipt → All (EndsBy (length image)) entries
     → HasImage image old.queue → HasImage (after image entries) new.queue

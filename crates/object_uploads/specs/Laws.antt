@@ -1,5 +1,6 @@
 -- Contract: what a recovery of the store finds of the objects of a volume.
-use Rattle.std.specs.Prelude.{◌≡◌, ℕ, ◌+◌, ◌-◌, ◌<◌, ◌≤◌, ◌⊎◌, ◌&&◌, not, nat_le, Bool, IsTrue, Some, None, List, [], ◌∷◌, ◌++◌, length, take}
+use Rattle.std.specs.Prelude.{◌≡◌, ℕ, ◌+◌, ◌-◌, ◌<◌, ◌≤◌, ◌⊎◌, ◌&&◌, not, nat_le, Bool, IsTrue, Some, None, List, [], ◌∷◌, ◌++◌}
+use Rattle.std.specs.Prelude.{length, take}
 use Rattle.std.specs.List.{list_any}
 use Rattle.lsvd_base.specs.declared.entry.Entry.{Entry}
 use Rattle.lsvd_objstore.specs.Store.{ReceiptState}
@@ -26,21 +27,24 @@ acknowledged_in window number = nat_le number window.last && not (list_any (has_
 abbrev pub started_in : WindowState → Numbers
 started_in window number = was_started number window.objects
 
--- A store after a stop, in which these objects have landed: each that was acknowledged and, of those whose put was ever started, any.
--- Past the frontier it has the sealed bytes of each that has landed, and no checkpoint.
+-- A store after a stop, in which these objects have landed: each that was acknowledged and, of those whose put was ever started,
+-- any. Past the frontier it has the sealed bytes of each that has landed, and no checkpoint.
 pub record IsLeft (volume : Expected) (uploads : UploadsState) (objects : Objects) (checkpoint landed : Numbers) : Type 0 where
   pub choice : MayHaveLanded (acknowledged_in uploads.window) (started_in uploads.window) landed
   pub checkpoints : (number : ℕ) → IsTrue (checkpoint number) → number ≤ uploads.queue.frontier
   pub present : (number : ℕ) → uploads.queue.frontier < number → IsTrue (landed number)
-      → (bytes : List ℕ) × (found objects (name_of volume.uuid number) ≡ Some bytes) × HasBytesAt (index_of uploads number) uploads.queue.sealed bytes
+      → (bytes : List ℕ) × (found objects (name_of volume.uuid number) ≡ Some bytes)
+      × HasBytesAt (index_of uploads number) uploads.queue.sealed bytes
 
 -- a recovery that gets to this number finds the stream up to there
-pub record FindsStream (volume : Expected) (stream : Stream) (uploads : UploadsState) (objects : Objects) (landed : Numbers) (number : ℕ) : Type 0 where
+pub record FindsStream (volume : Expected) (stream : Stream) (uploads : UploadsState) (objects : Objects) (landed : Numbers)
+    (number : ℕ) : Type 0 where
   -- it gets at least to the frontier, and no further than objects were sealed
   pub from : uploads.queue.frontier ≤ number
   pub to : number ≤ uploads.window.last
   -- the replay of what the store has, from the frontier on, gives the owners of the stream, and its end
-  pub replay : Replays objects volume uploads.queue.frontier uploads.queue.end (owners stream uploads.queue.frontier) (number - uploads.queue.frontier) (end_at stream number) (owners stream number)
+  pub replay : Replays objects volume uploads.queue.frontier uploads.queue.end (owners stream uploads.queue.frontier)
+      (number - uploads.queue.frontier) (end_at stream number) (owners stream number)
   -- and each object that these name, but for what the stream opens with, has landed
   pub there : (k : ℕ) (owner : Owner) → owners stream number k ≡ Some owner
       → (stream.opening k ≡ Some owner) ⊎ ((owner.level ≡ 0) × IsTrue (landed owner.number))
@@ -48,8 +52,10 @@ pub record FindsStream (volume : Expected) (stream : Stream) (uploads : UploadsS
 -- For every choice of the objects that have landed, a recovery finds the stream up to the object before the first missing one.
 abbrev pub RecoveryFindsStream : Type 0
 RecoveryFindsStream =
-    (volume : Expected) (data_at : ℕ → ℕ) (stream : Stream) (uploads : UploadsState) (objects : Objects) (checkpoint landed : Numbers) (number : ℕ)
-    → IsUploads uploads.queue uploads.window → AreOfStream volume data_at stream uploads → IsLeft volume uploads objects checkpoint landed
+    (volume : Expected) (data_at : ℕ → ℕ) (stream : Stream) (uploads : UploadsState) (objects : Objects)
+    (checkpoint landed : Numbers) (number : ℕ)
+    → IsUploads uploads.queue uploads.window → AreOfStream volume data_at stream uploads
+    → IsLeft volume uploads objects checkpoint landed
     → IsFirstMissing checkpoint landed (number + 1) → FindsStream volume stream uploads objects landed number
 
 -- ---- what the calls keep
@@ -65,7 +71,8 @@ with_data_object end stream = record stream { objects = stream.objects ++ record
 abbrev pub StreamBegins : Type 0
 StreamBegins =
     (volume : Expected) (data_at : ℕ → ℕ) (uploads : UploadsState) (number end : ℕ)
-    → uploads.window ≡ record { last = number; objects = [] } → uploads.queue.frontier ≡ number → uploads.queue.end ≡ end → uploads.queue.sealed ≡ []
+    → uploads.window ≡ record { last = number; objects = [] } → uploads.queue.frontier ≡ number → uploads.queue.end ≡ end
+    → uploads.queue.sealed ≡ []
     → uploads.queue.maps.settled.rows ≡ [] → uploads.queue.maps.log.rows ≡ []
     → AreOfStream volume data_at (record { number = number; end = end; opening = λ k. None; entries = []; objects = [] }) uploads
 
@@ -74,17 +81,20 @@ abbrev pub EnteringKeepsStream : Type 0
 EnteringKeepsStream =
     (volume : Expected) (data_at : ℕ → ℕ) (stream : Stream) (old new : UploadsState) (entry : Entry)
     → IsUploads old.queue old.window → AreOfStream volume data_at stream old
-    → IsEntered entry (stream.end + length stream.entries) (data_at (stream.end + length stream.entries)) old.queue new.queue → new.window ≡ old.window
+    → IsEntered entry (stream.end + length stream.entries) (data_at (stream.end + length stream.entries)) old.queue new.queue
+    → new.window ≡ old.window
     → AreOfStream volume data_at (with_entry entry stream) new
 
 -- while the first entries that are in no object are sealed
 abbrev pub SealingKeepsStream : Type 0
 SealingKeepsStream =
-    (volume : Expected) (data_at : ℕ → ℕ) (stream : Stream) (old new : UploadsState) (bytes : List ℕ) (rows : List DataRow) (end : ℕ)
+    (volume : Expected) (data_at : ℕ → ℕ) (stream : Stream) (old new : UploadsState) (bytes : List ℕ)
+    (rows : List DataRow) (end : ℕ)
     → IsUploads old.queue old.window → AreOfStream volume data_at stream old
     → end_at stream (last_number stream) < end → end ≤ stream.end + length stream.entries
     → IsSealedOf (expected_at volume (last_number stream + 1) (end_at stream (last_number stream)))
-    (take (end - end_at stream (last_number stream)) (unsealed stream)) (record { content = Data; end = end }) (just_sealed bytes rows end)
+    (take (end - end_at stream (last_number stream)) (unsealed stream)) (record { content = Data; end = end })
+    (just_sealed bytes rows end)
     → IsSealed bytes rows end old new
     → AreOfStream volume data_at (with_data_object end stream) new
 
@@ -98,7 +108,8 @@ JobsKeepStream =
 abbrev pub DoneKeepsStream : Type 0
 DoneKeepsStream =
     (volume : Expected) (data_at : ℕ → ℕ) (stream : Stream) (old new : UploadsState) (number : ℕ) (receipt : ReceiptState)
-    → IsUploads old.queue old.window → AreOfStream volume data_at stream old → IsPutDone number receipt old new → AreOfStream volume data_at stream new
+    → IsUploads old.queue old.window → AreOfStream volume data_at stream old → IsPutDone number receipt old new
+    → AreOfStream volume data_at stream new
 
 -- ---- objects that a mount found
 
@@ -109,13 +120,15 @@ with_adopted entries end stream = record stream {
   objects = stream.objects ++ record { content = Data; end = end } ∷ [];
 }
 
--- Where all objects are acknowledged, and each entry is in one, objects of a stream stay that while the next object is adopted, which is
--- the data object of the next entries.
+-- Where all objects are acknowledged, and each entry is in one, objects of a stream stay that while the next object is adopted,
+-- which is the data object of the next entries.
 abbrev pub AdoptingKeepsStream : Type 0
 AdoptingKeepsStream =
-    (volume : Expected) (data_at : ℕ → ℕ) (stream : Stream) (old new : UploadsState) (entries : List Entry) (bytes : List ℕ) (rows : List DataRow) (end : ℕ) (receipt : ReceiptState)
+    (volume : Expected) (data_at : ℕ → ℕ) (stream : Stream) (old new : UploadsState) (entries : List Entry) (bytes : List ℕ)
+    (rows : List DataRow) (end : ℕ) (receipt : ReceiptState)
     → IsUploads old.queue old.window → AreOfStream volume data_at stream old → old.queue.sealed ≡ [] → unsealed stream ≡ []
     → end ≡ stream.end + length stream.entries + length entries → 0 < length entries
-    → IsSealedOf (expected_at volume (last_number stream + 1) (end_at stream (last_number stream))) entries (record { content = Data; end = end }) (just_sealed bytes rows end)
+    → IsSealedOf (expected_at volume (last_number stream + 1) (end_at stream (last_number stream))) entries
+    (record { content = Data; end = end }) (just_sealed bytes rows end)
     → IsAdopted rows end receipt old new
     → AreOfStream volume data_at (with_adopted entries end stream) new

@@ -1,5 +1,6 @@
 -- Contract: what changes the objects of a volume in the order of their numbers.
-use Rattle.std.specs.Prelude.{◌≡◌, ℕ, ◌+◌, ◌-◌, ◌≤◌, nat_le, zero, suc, Bool, true, Option, Some, None, IsSome, List, [], ◌∷◌, ◌++◌, length, take, drop, option_to_list, if◌then◌else◌}
+use Rattle.std.specs.Prelude.{◌≡◌, ℕ, ◌+◌, ◌-◌, ◌≤◌, nat_le, zero, suc, Bool, true, Option, Some, None, IsSome, List, [], ◌∷◌}
+use Rattle.std.specs.Prelude.{◌++◌, length, take, drop, option_to_list, if◌then◌else◌}
 use Rattle.std.specs.List.{AllByRecursion, sum_by, slice_get}
 use Rattle.std.specs.Option.{option_or}
 use Rattle.lsvd_base.specs.declared.entry.Entry.{Entry}
@@ -70,7 +71,8 @@ pub record HasSamePlaces (old new : MapsState) : Type 0 where
   pub settled : new.settled.rows ≡ old.settled.rows
   pub log : new.log.rows ≡ old.log.rows
 
--- An entry with this seq, whose data begin at a sector of the log, was entered into the log's map: each sector that it covers is there.
+-- An entry with this seq, whose data begin at a sector of the log, was entered into the log's map: each sector that it covers is
+-- there.
 pub record IsEntered (entry : Entry) (seq data_at : ℕ) (old new : QueueState) : Type 0 where
   pub logged : (k : ℕ) → logged_at new.maps k ≡ option_or (place_left_by seq data_at entry k) (logged_at old.maps k)
   pub settled : new.maps.settled ≡ old.maps.settled
@@ -84,7 +86,8 @@ pub record IsEntered (entry : Entry) (seq data_at : ℕ) (old new : QueueState) 
 -- the places after objects were settled that come after one of a number
 abbrev pub settled_by_all : (number : ℕ) → List SealedState → Option ObjectPlace → ℕ → Option ObjectPlace
 settled_by_all number [] before k = before
-settled_by_all number (sealed ∷ more) before k = settled_by_all (number + 1) more (settled_by (number + 1) (front_of sealed.rows) sealed.rows before k) k
+settled_by_all number (sealed ∷ more) before k =
+    settled_by_all (number + 1) more (settled_by (number + 1) (front_of sealed.rows) sealed.rows before k) k
 
 abbrev pub logged_by_all : List SealedState → Option LogPlace → ℕ → Option LogPlace
 logged_by_all [] before k = before

@@ -25,8 +25,8 @@ AreRows (rows.Data list) items = list.items ≡ items
 AreRows (rows.Copy list) items = ⊥
 AreRows rows.Checkpoint items = ⊥
 
--- a sealed object is the data object of these entries, of the grammar under the expected number: its rows do to each sector what the
--- entries do
+-- a sealed object is the data object of these entries, of the grammar under the expected number: its rows do to each sector what
+-- the entries do
 pub record IsSealedOf (expected : Expected) (entries : List Entry) (object : StreamObject) (sealed : SealedState) : Type 0 where
   pub content : object.content ≡ Data
   pub end : sealed.end ≡ object.end
@@ -50,7 +50,8 @@ AreSealedOf volume number end entries (object ∷ objects) (sealed ∷ more) =
 -- ---- the whole
 
 -- The objects of a volume are those of a stream: up to the frontier the objects' map has the stream's owners, past it the sealed
--- objects are the stream's, and the log's map has what the entries past the frontier's end left, each with its data where it is told.
+-- objects are the stream's, and the log's map has what the entries past the frontier's end left, each with its data where it is
+-- told.
 pub record AreOfStream (volume : Expected) (data_at : ℕ → ℕ) (stream : Stream) (uploads : UploadsState) : Type 0 where
   pub valid : IsStream stream
   pub from : stream.number ≤ uploads.queue.frontier
@@ -60,4 +61,5 @@ pub record AreOfStream (volume : Expected) (data_at : ℕ → ℕ) (stream : Str
   pub sealed :
       AreSealedOf volume uploads.queue.frontier uploads.queue.end (from_object uploads.queue.frontier stream).entries
       (from_object uploads.queue.frontier stream).objects uploads.queue.sealed
-  pub logged : (k : ℕ) → logged_at uploads.queue.maps k ≡ left_at data_at uploads.queue.end (from_object uploads.queue.frontier stream).entries k
+  pub logged : (k : ℕ) → logged_at uploads.queue.maps k ≡ left_at data_at uploads.queue.end
+      (from_object uploads.queue.frontier stream).entries k

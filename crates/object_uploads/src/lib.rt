@@ -1,10 +1,11 @@
-//! The objects of a volume on their way to the store: those past the frontier with their jobs, those up to it with what the store
-//! gave for them, and the maps of what each has.
+//! The objects of a volume on their way to the store: those past the frontier with their jobs, those up to it
+//! with what the store gave for them, and the maps of what each has.
 //!
-//! Its contract: objects may be acknowledged in any order, and are settled in the order of their numbers. Whatever lands of those
-//! past the frontier, their replay up to the first that is missing gives the owners of the stream up to there.
-//! It stands on `upload_window` for the order of uploads, on `volume_maps` for the maps, on `lsvd_objstore` for receipts, and on
-//! `object_stream` for what the stream is. It knows no device and no store.
+//! Its contract: objects may be acknowledged in any order, and are settled in the order of their numbers.
+//! Whatever lands of those past the frontier, their replay up to the first that is missing gives the owners
+//! of the stream up to there. It stands on `upload_window` for the order of uploads, on `volume_maps` for the
+//! maps, on `lsvd_objstore` for receipts, and on `object_stream` for what the stream is. It knows no device
+//! and no store.
 #![tactic(auto)]
 
 mod job;

@@ -1,10 +1,14 @@
-ghost use Rattle.std.specs.Prelude.{◌≡◌, ◌+◌, ◌-◌, ◌<◌, ◌≤◌, ◌^◌, ℕ, ◌++◌, ◌∷◌, [], length, OnOk, OnErr, IsTrue, IsSome, IfSome, ◌↔◌, false, true, option_map};
+ghost use Rattle.std.specs.Prelude.{◌≡◌, ◌+◌, ◌-◌, ◌<◌, ◌≤◌, ◌^◌, ℕ, ◌++◌, ◌∷◌, [], length, OnOk, OnErr};
+ghost use Rattle.std.specs.Prelude.{IsTrue, IsSome, IfSome, ◌↔◌, false, true, option_map};
 ghost use Rattle.std.specs.List.{sum_by, slice_get};
 ghost use Rattle.lsvd_base.specs.Laws.{first_sector, sector_count};
 ghost use Rattle.volume_maps.specs.Places.{log_number, row_left_by};
 ghost use Rattle.object_uploads.specs.Invariant.{IsOpenAt};
 ghost use Rattle.object_uploads.specs.State.{QueueState};
-ghost use Rattle.object_uploads.specs.Queue.{with_at, just_sealed, with_spare, with_receipt, front_of, FitObject, row_count, HasBytesAt, HasRoomForEntry, HasSamePlaces, IsEntered, IsSettledBy, IsNextSettled, FirstWaits, receipt_of};
+ghost use Rattle.object_uploads.specs.Queue.{with_at, just_sealed, with_spare, with_receipt, front_of};
+ghost use Rattle.object_uploads.specs.Queue.{FitObject, row_count, HasBytesAt, HasRoomForEntry};
+ghost use Rattle.object_uploads.specs.Queue.{HasSamePlaces, IsEntered, IsSettledBy, IsNextSettled};
+ghost use Rattle.object_uploads.specs.Queue.{FirstWaits, receipt_of};
 ghost use Rattle.object_uploads.specs.Changes.{HasSameSettled};
 
 use crate::sealed::Sealed;
@@ -84,7 +88,8 @@ impl<R: Receipt> Queue<R> {
         requires spare { spare ≡ object }
         requires fit { FitObject rows.items }
         requires numbers { self.old.frontier + length self.old.sealed + 1 < 2 ^ 64 }
-        ensures sealed { OnOk result (self.new.sealed ≡ self.old.sealed ++ just_sealed object rows.items end ∷ []) }
+        ensures sealed { OnOk result (self.new.sealed ≡ self.old.sealed ++ just_sealed object rows.items
+            end ∷ []) }
         ensures same { OnErr result (self.new.sealed ≡ self.old.sealed) }
         ensures frontier { self.new.frontier ≡ self.old.frontier }
         ensures end { self.new.end ≡ self.old.end }
@@ -135,7 +140,8 @@ impl<R: Receipt> Queue<R> {
         }
     }
 
-    // Settles the next number's object, where none is past the frontier. The one error is out of memory; then only room changed.
+    // Settles the next number's object, where none is past the frontier. The one error is out of memory; then
+    // only room changed.
     pub(crate) fn adopt(&mut self, rows: &[DataRow], end: u64, receipt: R) -> Result<(), AllocError>
         requires none { self.old.sealed ≡ [] }
         requires numbers { self.old.frontier + 1 < 2 ^ 64 }
@@ -153,7 +159,8 @@ impl<R: Receipt> Queue<R> {
         Ok(())
     }
 
-    // Settles the objects past the frontier in the order of their numbers, up to the first that is not acknowledged.
+    // Settles the objects past the frontier in the order of their numbers, up to the first that is not
+    // acknowledged.
     pub(crate) fn settle(&mut self)
         ensures settled { (count : ℕ) × IsSettledBy count self.old self.new }
         ensures waits { FirstWaits self.new.sealed }
@@ -166,7 +173,10 @@ impl<R: Receipt> Queue<R> {
     // The store gave this for the object at an index past the frontier.
     pub(crate) fn acknowledge(&mut self, index: usize, receipt: R)
         requires { index < length self.old.sealed }
-        ensures { self.new ≡ record self.old { sealed = with_at index (with_receipt (R.state receipt)) self.old.sealed } }
+        ensures { self.new ≡ record self.old {
+          sealed = with_at index (with_receipt (R.state receipt))
+              self.old.sealed;
+        } }
     {
         let Some(sealed) = self.sealed.get_mut(index) else {
             return;
@@ -178,7 +188,10 @@ impl<R: Receipt> Queue<R> {
     pub(crate) fn take_spare(&mut self, index: usize) -> ObjectBytes
         requires { IsOpenAt index self.old.sealed true }
         ensures bytes { HasBytesAt index self.old.sealed result }
-        ensures taken { self.new ≡ record self.old { sealed = with_at index (with_spare false) self.old.sealed } }
+        ensures taken { self.new ≡ record self.old {
+          sealed = with_at index (with_spare false)
+              self.old.sealed;
+        } }
     {
         self.sealed.get_mut(index).unwrap().take_spare().unwrap()
     }
@@ -195,7 +208,8 @@ impl<R: Receipt> Queue<R> {
         sealed.give_spare(bytes);
     }
 
-    // Whether these are the bytes of the object at an index past the frontier. False is for an index past the last.
+    // Whether these are the bytes of the object at an index past the frontier. False is for an index past the
+    // last.
     pub(crate) fn has_bytes(&self, index: usize, bytes: &ObjectBytes) -> bool
         ensures { IsTrue result ↔ HasBytesAt index self.now.sealed bytes.now }
     {
@@ -205,7 +219,8 @@ impl<R: Receipt> Queue<R> {
         }
     }
 
-    // Makes room for a change of the log's map, beside that for the objects' rows. The one error is out of memory.
+    // Makes room for a change of the log's map, beside that for the objects' rows. The one error is out of
+    // memory.
     pub(crate) fn reserve_entry(&mut self) -> Result<(), AllocError>
         ensures room { OnOk result (HasRoomForEntry self.new) }
         ensures sealed { self.new.sealed ≡ self.old.sealed }
@@ -225,7 +240,8 @@ impl<R: Receipt> Queue<R> {
     pub(crate) fn enter(&mut self, entry: &Entry, seq: u64, data_at: u64)
         requires room { HasRoomForEntry self.old }
         requires range { first_sector entry.now + sector_count entry.now < 2 ^ 63 }
-        requires places { log_number (row_left_by seq data_at entry.now).place + sector_count entry.now < 2 ^ 63 }
+        requires places { log_number (row_left_by seq data_at entry.now).place + sector_count
+            entry.now < 2 ^ 63 }
         ensures { IsEntered entry.now seq data_at self.old self.new }
     {
         self.maps.enter(entry, seq, data_at);

@@ -1,4 +1,5 @@
-ghost use Rattle.std.specs.Prelude.{◌≡◌, ◌+◌, ◌-◌, ◌<◌, ◌≤◌, ◌^◌, ℕ, ◌↔◌, [], length, option_map, IsTrue, IsErr, IfOk, IfErr, IfSome, IfNone, OnOk, OnErr, true, false};
+ghost use Rattle.std.specs.Prelude.{◌≡◌, ◌+◌, ◌-◌, ◌<◌, ◌≤◌, ◌^◌, ℕ, ◌↔◌, [], length, option_map, IsTrue};
+ghost use Rattle.std.specs.Prelude.{IsErr, IfOk, IfErr, IfSome, IfNone, OnOk, OnErr, true, false};
 ghost use Rattle.lsvd_base.specs.Laws.{first_sector, sector_count};
 ghost use Rattle.extent_map.specs.Extents.{place_at, place_in_range, IsShortest, AllFit};
 ghost use Rattle.object_stream.specs.Replay.{name_of};
@@ -8,7 +9,8 @@ ghost use Rattle.volume_maps.specs.Maps.{volume_place_at};
 ghost use Rattle.object_uploads.specs.Queue.{FitObject, HasRoomForEntry, IsEntered, receipt_of};
 ghost use Rattle.object_uploads.specs.Order.{IsUploads};
 ghost use Rattle.object_uploads.specs.Invariant.{IsOpenAt};
-ghost use Rattle.object_uploads.specs.Changes.{index_of, IsSealed, IsNotSealed, with_job, IsJobOf, IsOut, IsPutDone, IsAdopted};
+ghost use Rattle.object_uploads.specs.Changes.{index_of, IsSealed, IsNotSealed, with_job, IsJobOf, IsOut};
+ghost use Rattle.object_uploads.specs.Changes.{IsPutDone, IsAdopted};
 
 use crate::job::Job;
 use crate::queue::Queue;
@@ -25,7 +27,8 @@ use volume_maps::VolumePlace;
 
 /// The objects of a volume on their way to the store, and the maps of what the log and the objects have.
 ///
-/// Contracts see the objects past the frontier, with which of them are open, what the store gave for those up to it, and the maps.
+/// Contracts see the objects past the frontier, with which of them are open, what the store gave for those up
+/// to it, and the maps.
 #[derive(Drop)]
 pub struct Uploads<R: Receipt> {
     uuid: Uuid,
@@ -45,8 +48,8 @@ impl<R: Receipt> Model for Uploads<R> {
 }
 
 impl<R: Receipt> Uploads<R> {
-    /// The volume with this uuid, whose objects up to this number are acknowledged, and have the entries up to this end. It takes no
-    /// memory.
+    /// The volume with this uuid, whose objects up to this number are acknowledged, and have the entries up
+    /// to this end. It takes no memory.
     pub fn new(alloc: Global, uuid: Uuid, number: u64, end: u64) -> Uploads<R>
         ensures uuid { result.uuid ≡ uuid }
         ensures window { result.window ≡ record { last = number; objects = [] } }
@@ -64,10 +67,11 @@ impl<R: Receipt> Uploads<R> {
         }
     }
 
-    /// Seals a data object, which is given twice, with its rows and the count of entries up to its end, and answers its number: the
-    /// next one. Fewer than 16 objects are open, the numbers go on below 2^64 - 1, and the rows are 65,536 at most, end below 2^63, and
-    /// their places in the object below 2^32 (conditions). The one error is out of memory, after which the objects are as before: all
-    /// that acknowledging it takes is made here.
+    /// Seals a data object, which is given twice, with its rows and the count of entries up to its end, and
+    /// answers its number: the next one. Fewer than 16 objects are open, the numbers go on below 2^64 - 1,
+    /// and the rows are 65,536 at most, end below 2^63, and their places in the object below 2^32
+    /// (conditions). The one error is out of memory, after which the objects are as before: all that
+    /// acknowledging it takes is made here.
     pub fn seal(
         &mut self,
         object: ObjectBytes,
@@ -89,10 +93,11 @@ impl<R: Receipt> Uploads<R> {
         Ok(number)
     }
 
-    /// Counts the next number's object, which is in the store, as acknowledged, and settles it: these are its rows, the count of entries
-    /// up to its end, and the receipt that the store gave for it. No object is past the frontier, the numbers go on below 2^64 - 1, the
-    /// end is not before that of the frontier, and the rows are 65,536 at most, end below 2^63, and their places in the object below
-    /// 2^32 (conditions). The one error is out of memory; then nothing changes but room.
+    /// Counts the next number's object, which is in the store, as acknowledged, and settles it: these are its
+    /// rows, the count of entries up to its end, and the receipt that the store gave for it. No object is
+    /// past the frontier, the numbers go on below 2^64 - 1, the end is not before that of the frontier, and
+    /// the rows are 65,536 at most, end below 2^63, and their places in the object below 2^32 (conditions).
+    /// The one error is out of memory; then nothing changes but room.
     pub fn adopt(&mut self, rows: &[DataRow], end: u64, receipt: R) -> Result<(), AllocError>
         requires none { self.old.queue.sealed ≡ [] }
         requires numbers { self.old.window.last + 1 < 2 ^ 64 - 1 }
@@ -106,7 +111,8 @@ impl<R: Receipt> Uploads<R> {
         Ok(())
     }
 
-    /// Begins the put of the lowest ready object. None is where no object is ready; then nothing changes. It takes no memory.
+    /// Begins the put of the lowest ready object. None is where no object is ready; then nothing changes. It
+    /// takes no memory.
     pub fn take_job(&mut self) -> Option<Job>
         ensures lowest { option_map (λ job. job.name.number) result ≡ lowest_ready self.old.window.objects }
         ensures job { IfSome result (λ job. IsJobOf self.old job.name.number job) }
@@ -120,11 +126,12 @@ impl<R: Receipt> Uploads<R> {
         Some(Job::new(name, object))
     }
 
-    /// A put is done, and the store gave this receipt for it. The frontier is answered. The receipt comes back where the put is not
-    /// out: its number is not started, or these are not the sealed bytes, or the receipt names another object; then nothing changes.
-    /// It takes no memory.
+    /// A put is done, and the store gave this receipt for it. The frontier is answered. The receipt comes
+    /// back where the put is not out: its number is not started, or these are not the sealed bytes, or the
+    /// receipt names another object; then nothing changes. It takes no memory.
     pub fn job_done(&mut self, job: &Job, receipt: R) -> Result<u64, R>
-        ensures nothing { IsErr result ↔ (IsOut self.old job.now.name.number job.now.bytes × ((R.state receipt).name ≡ name_of self.old.uuid job.now.name.number) → ⊥) }
+        ensures nothing { IsErr result ↔ (IsOut self.old job.now.name.number job.now.bytes
+            × ((R.state receipt).name ≡ name_of self.old.uuid job.now.name.number) → ⊥) }
         ensures out { OnOk result (IsOut self.old job.now.name.number job.now.bytes) }
         ensures named { OnOk result ((R.state receipt).name ≡ name_of self.old.uuid job.now.name.number) }
         ensures done { OnOk result (IsPutDone job.now.name.number (R.state receipt) self.old self.new) }
@@ -145,8 +152,8 @@ impl<R: Receipt> Uploads<R> {
         Ok(self.queue.frontier())
     }
 
-    /// A put failed, and its object is ready again. The job comes back where it is not out: its number is not started, or these are
-    /// not the sealed bytes; then nothing changes. It takes no memory.
+    /// A put failed, and its object is ready again. The job comes back where it is not out: its number is not
+    /// started, or these are not the sealed bytes; then nothing changes. It takes no memory.
     pub fn job_failed(&mut self, job: Job) -> Result<(), Job>
         ensures nothing { IsErr result ↔ (IsOut self.old job.name.number job.bytes → ⊥) }
         ensures out { OnOk result (IsOut self.old job.name.number job.bytes) }
@@ -171,12 +178,14 @@ impl<R: Receipt> Uploads<R> {
         self.queue.reserve_entry()
     }
 
-    /// Enters an entry with this seq, which is past all objects, and whose data begin at the sector `data_at` of the log. Room was
-    /// made for it, and its sectors and its data's end below 2^63 (conditions). It takes no memory.
+    /// Enters an entry with this seq, which is past all objects, and whose data begin at the sector `data_at`
+    /// of the log. Room was made for it, and its sectors and its data's end below 2^63 (conditions). It takes
+    /// no memory.
     pub fn enter(&mut self, entry: &Entry, seq: u64, data_at: u64)
         requires room { HasRoomForEntry self.old.queue }
         requires range { first_sector entry.now + sector_count entry.now < 2 ^ 63 }
-        requires places { log_number (row_left_by seq data_at entry.now).place + sector_count entry.now < 2 ^ 63 }
+        requires places { log_number (row_left_by seq data_at entry.now).place + sector_count
+            entry.now < 2 ^ 63 }
         ensures entered { IsEntered entry.now seq data_at self.old.queue self.new.queue }
         ensures window { self.new.window ≡ self.old.window }
         ensures uuid { self.new.uuid ≡ self.old.uuid }
@@ -184,8 +193,9 @@ impl<R: Receipt> Uploads<R> {
         self.queue.enter(entry, seq, data_at);
     }
 
-    /// The places of the sectors from `lba` on, as the shortest list of rows in order; a sector without a place has zeros. The rows
-    /// and their places end below 2^63, and so does the range (a condition). The one error is out of memory.
+    /// The places of the sectors from `lba` on, as the shortest list of rows in order; a sector without a
+    /// place has zeros. The rows and their places end below 2^63, and so does the range (a condition). The
+    /// one error is out of memory.
     pub fn look(
         &self,
         alloc: Global,
@@ -193,15 +203,16 @@ impl<R: Receipt> Uploads<R> {
         sectors: u64,
     ) -> Result<Vec<Extent<VolumePlace>>, AllocError>
         requires { lba + sectors < 2 ^ 63 }
-        ensures places { IfOk result (λ rows. (k : ℕ) → place_at volume_on rows.items k ≡ place_in_range lba sectors (volume_place_at self.now.queue.maps) k) }
+        ensures places { IfOk result (λ rows. (k : ℕ) → place_at volume_on rows.items k ≡ place_in_range lba
+            sectors (volume_place_at self.now.queue.maps) k) }
         ensures shortest { IfOk result (λ rows. IsShortest volume_on rows.items) }
         ensures fits { IfOk result (λ rows. AllFit volume_number rows.items) }
     {
         self.queue.maps().look(alloc, lba, sectors)
     }
 
-    /// What the store gave for the object of a number. None is for a number past the frontier, and for one whose object was
-    /// acknowledged before the objects were taken up.
+    /// What the store gave for the object of a number. None is for a number past the frontier, and for one
+    /// whose object was acknowledged before the objects were taken up.
     pub fn receipt(&self, number: u64) -> Option<&R>
         ensures { option_map (λ receipt. R.state receipt.now) result ≡ receipt_of self.now.queue number }
     {
@@ -237,8 +248,8 @@ impl<R: Receipt> Uploads<R> {
         &self.window
     }
 
-    /// What is so of the objects of every volume, as a fact for the proofs of callers: the open ones are those past the frontier that
-    /// are not acknowledged, the first among them. Nothing is done.
+    /// What is so of the objects of every volume, as a fact for the proofs of callers: the open ones are
+    /// those past the frontier that are not acknowledged, the first among them. Nothing is done.
     pub fn ordered(&self)
         ensures { IsUploads self.now.queue self.now.window }
     {

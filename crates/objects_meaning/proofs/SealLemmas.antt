@@ -1,5 +1,6 @@
 -- A seal of the list is that of the plain volume.
-use Rattle.std.proofs.Common.{◌≡◌, ℕ, zero, suc, ◌+◌, ◌-◌, ◌<◌, ◌≤◌, ◌⊎◌, ◌&&◌, ◌==◌, inl, inr, not, Bool, true, false, cond, Some}
+use Rattle.std.proofs.Common.{◌≡◌, ℕ, zero, suc, ◌+◌, ◌-◌, ◌<◌, ◌≤◌, ◌⊎◌, ◌&&◌, ◌==◌, inl, inr, not, Bool, true, false, cond}
+use Rattle.std.proofs.Common.{Some}
 use Rattle.std.proofs.Common.{unwrap_or, is_some, List, [], ◌∷◌, ◌++◌, length, take, refl, sym, ◌∙◌, ap, subst, arith}
 use Rattle.std.specs.List.{find, range_with_len}
 use Rattle.std.proofs.lemmas.Bool.{cases_lt}
@@ -46,7 +47,8 @@ module _ (test : ℕ → Bool) (n last : ℕ) (most : n ≤ last) (passes_or_las
       → n ≡ unwrap_or (find test (range_with_len from count)) last
   searched from zero ends low fails = omega arith
   searched from (suc count) ends low fails =
-      elim (test from) as (λ b. test from ≡ b → n ≡ unwrap_or (cond b (Some from) (find test (range_with_len (from + 1) count))) last) [
+      elim (test from) as (λ b. test from ≡ b
+      → n ≡ unwrap_or (cond b (Some from) (find test (range_with_len (from + 1) count))) last) [
         | true ↦ λ passes.
             elim (cases_lt from n) [
               | inl later ↦ let none = fails from later in let bad : ⊥ = cc in absurd bad
@@ -88,10 +90,17 @@ with_sealed plain = record plain {
 pub sealed_end : (plain : PlainState) → IsPlainVolume plain → frontier_end (with_sealed plain) ≡ frontier_end plain
 sealed_end plain valid =
     let object : StreamObject = record { content = Data; end = end_of_next plain } in
-    let opened : OpenObject = record { number = plain.window.last + 1; is_checkpoint = false; is_started = false; was_started = false } in
+    let opened : OpenObject = record {
+      number = plain.window.last + 1;
+      is_checkpoint = false;
+      is_started =
+          false;
+      was_started = false;
+    } in
     let objects = plain.objects ++ object ∷ [] in
     let count = frontier_of plain - plain.number in
-    let below : frontier_of (with_sealed plain) ≡ frontier_of plain = below_entered plain.window.objects plain.window.last opened refl in
+    let below : frontier_of (with_sealed plain) ≡ frontier_of plain =
+    below_entered plain.window.objects plain.window.last opened refl in
     let within : count ≤ length plain.objects = omega (arith, frontier_is_sealed plain valid) in
     ap (λ n. end_after plain.end (take (n - plain.number) objects)) below
     ∙ ap (end_after plain.end) (take-append-le count plain.objects (object ∷ []) within)
@@ -117,7 +126,8 @@ module _ (data_at : ℕ → ℕ) (old new : ObjLogState) (plain : PlainState) (u
         geometry = sealed.geometry ∙ shows.geometry;
         stream = subst (λ end. IsOfStream data_at (with_data_object end (stream_in plain)) new) end_is stream;
         window = sealed.uploads.window ∙ ap (λ (w : WindowState). entered (w.last + 1) false w) shows.window;
-        image = subst (λ image. HasImage image new.uploads.queue) (sym (image_same plain valid)) (kept.image (settled_image plain) shows.image);
+        image = subst (λ image. HasImage image new.uploads.queue) (sym (image_same plain valid))
+            (kept.image (settled_image plain) shows.image);
         receipts = kept.receipts shows.receipts;
       }
 
@@ -137,7 +147,8 @@ pub refused_seal_shows_none : RefusedSealShowsNone
 refused_seal_shows_none data_at objects plain shows =
     let reply : PlainReply = Sealed (plain.window.last + 1) in (
       λ none.
-          let has : has_unsealed plain ≡ false = ap (λ (list : List Entry). not (length list == 0)) (sym shows.stream.entries ∙ none) in (
+          let has : has_unsealed plain ≡ false = ap (λ (list : List Entry). not (length list == 0)) (sym shows.stream.entries
+          ∙ none) in (
             ap (λ b. cond b (cond (is_busy plain) Busy reply) Nothing) has,
             ap (λ b. cond (b && not (is_busy plain)) (with_sealed plain) plain) has,
           ),
@@ -145,6 +156,7 @@ refused_seal_shows_none data_at objects plain shows =
           let has : has_unsealed plain ≡ true = grind (arith, nat_tests, shows.stream.entries) in
           let busy : is_busy plain ≡ true = grind (arith, nat_tests, shows.window) in (
             ap (λ b. cond b (cond (is_busy plain) Busy reply) Nothing) has ∙ ap (λ b. cond b Busy reply) busy,
-            ap (λ b. cond (b && not (is_busy plain)) (with_sealed plain) plain) has ∙ ap (λ b. cond (not b) (with_sealed plain) plain) busy,
+            ap (λ b. cond (b && not (is_busy plain)) (with_sealed plain) plain) has
+                ∙ ap (λ b. cond (not b) (with_sealed plain) plain) busy,
           ),
     )

@@ -1,5 +1,6 @@
 -- What a list has in common with the plain volume that it shows, and that it goes on showing it.
-use Rattle.std.proofs.Common.{◌≡◌, ℕ, ◌+◌, ◌-◌, ◌<◌, ◌≤◌, List, [], ◌∷◌, length, drop, refl, sym, ◌∙◌, ap, subst, arith, length-drop}
+use Rattle.std.proofs.Common.{◌≡◌, ℕ, ◌+◌, ◌-◌, ◌<◌, ◌≤◌, List, [], ◌∷◌, length, drop, refl, sym, ◌∙◌, ap, subst, arith}
+use Rattle.std.proofs.Common.{length-drop}
 use Rattle.std.specs.Option.{option_or}
 use Rattle.std.proofs.lemmas.List.{take-append-le}
 use Rattle.lsvd_base.specs.declared.entry.Entry.{Entry}
@@ -15,7 +16,8 @@ use Rattle.obj_log.proofs.ImageLemmas.{new_list_has_blank, room_keeps_image, add
 use Rattle.plain_disk.specs.State.{stream_in, history_length, frontier_of, frontier_end}
 use Rattle.plain_disk.proofs.EndLemmas.{frontier_ends}
 use Rattle.objects_meaning.specs.Shows.{settled_image}
-use Rattle.objects_meaning.specs.Laws.{ShownHaveCounts, NewShowsCreated, ShownWithOtherCache, ShownWithOtherPlaces, RoomShowsSame, AddedShowsEntry}
+use Rattle.objects_meaning.specs.Laws.{ShownHaveCounts, NewShowsCreated, ShownWithOtherCache, ShownWithOtherPlaces, RoomShowsSame}
+use Rattle.objects_meaning.specs.Laws.{AddedShowsEntry}
 
 pub shown_have_counts : ShownHaveCounts
 shown_have_counts data_at objects plain uploads valid shows =
@@ -110,6 +112,7 @@ added_shows_entry data_at old new plain entry uploads valid shows added =
       geometry = added.geometry ∙ shows.geometry;
       stream = adding_keeps_stream data_at (stream_in plain) old new entry uploads shows.stream added;
       window = added.window ∙ shows.window;
-      image = subst (λ entries. HasImage (after plain.opening entries) new.uploads.queue) (sym same) (kept.image (settled_image plain) shows.image);
+      image = subst (λ entries. HasImage (after plain.opening entries) new.uploads.queue) (sym same)
+          (kept.image (settled_image plain) shows.image);
       receipts = kept.receipts shows.receipts;
     }

@@ -37,12 +37,13 @@ abbrev pub NewShowsCreated : Type 0
 NewShowsCreated =
     (data_at : ℕ → ℕ) (objects : ObjLogState) (geometry : Geometry) → IsTrue (is_within_limits geometry)
     → objects.batch ≡ record { geometry = geometry; first = 0; entries = []; reserved = objects.batch.reserved }
-    → objects.uploads.window ≡ record { last = 1; objects = [] } → objects.uploads.queue.frontier ≡ 1 → objects.uploads.queue.end ≡ 0
+    → objects.uploads.window ≡ record { last = 1; objects = [] } → objects.uploads.queue.frontier ≡ 1
+    → objects.uploads.queue.end ≡ 0
     → objects.uploads.queue.sealed ≡ [] → objects.uploads.queue.maps.settled.rows ≡ [] → objects.uploads.queue.maps.log.rows ≡ []
     → ShowsObjects data_at objects (created_volume geometry)
 
--- It shows the same whatever the cache is and the pins are, and wherever else data of entries up to the frontier's end, or past the
--- last entry, are said to begin.
+-- It shows the same whatever the cache is and the pins are, and wherever else data of entries up to the frontier's end, or past
+-- the last entry, are said to begin.
 abbrev pub ShownWithOtherCache : Type 0
 ShownWithOtherCache =
     (data_at : ℕ → ℕ) (objects : ObjLogState) (plain : PlainState) (cache : PlainCache) (pins : List ℕ)
@@ -83,7 +84,8 @@ abbrev pub RefusedSealShowsNone : Type 0
 RefusedSealShowsNone =
     (data_at : ℕ → ℕ) (objects : ObjLogState) (plain : PlainState) → ShowsObjects data_at objects plain
     → (objects.batch.entries ≡ [] → (seal_reply plain ≡ Nothing) × (after_seal plain ≡ plain))
-    × (0 < length objects.batch.entries → length objects.uploads.window.objects ≡ 16 → (seal_reply plain ≡ Busy) × (after_seal plain ≡ plain))
+    × (0 < length objects.batch.entries → length objects.uploads.window.objects ≡ 16 → (seal_reply plain ≡ Busy)
+    × (after_seal plain ≡ plain))
 
 -- a put begins, or fails
 abbrev pub TakenShowsTake : Type 0
@@ -103,5 +105,6 @@ abbrev pub DoneShowsDone : Type 0
 DoneShowsDone =
     (data_at : ℕ → ℕ) (old new : ObjLogState) (plain : PlainState) (number : ℕ) (bytes : List ℕ) (receipt : ReceiptState)
     → IsUploads old.uploads.queue old.uploads.window → IsPlainVolume plain → ShowsObjects data_at old plain
-    → IsOut old.uploads number bytes → IsReceiptFor bytes receipt → IsPutDone number receipt old.uploads new.uploads → new.batch ≡ old.batch
+    → IsOut old.uploads number bytes → IsReceiptFor bytes receipt → IsPutDone number receipt old.uploads new.uploads
+    → new.batch ≡ old.batch
     → ShowsObjects data_at new (after_done (Some number) plain)

@@ -10,9 +10,9 @@ use Rattle.plain_disk.specs.State.{PlainState, stream_in, frontier_end}
 abbrev pub settled_image : PlainState → Image
 settled_image plain = after plain.opening (take (frontier_end plain - plain.end) plain.entries)
 
--- The list shows the entries and objects of a plain volume, whatever its cache: it is of the volume's stream, the same objects are on
--- their way to the store, and the objects up to the frontier have their image, as far as receipts tell the bytes. The data of each
--- entry past the frontier's end begin at the sector of the log that is told.
+-- The list shows the entries and objects of a plain volume, whatever its cache: it is of the volume's stream, the same objects
+-- are on their way to the store, and the objects up to the frontier have their image, as far as receipts tell the bytes. The data
+-- of each entry past the frontier's end begin at the sector of the log that is told.
 pub record ShowsObjects (data_at : ℕ → ℕ) (objects : ObjLogState) (plain : PlainState) : Type 0 where
   pub geometry : objects.batch.geometry ≡ plain.geometry
   pub stream : IsOfStream data_at (stream_in plain) objects

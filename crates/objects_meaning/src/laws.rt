@@ -1,9 +1,12 @@
-ghost use Rattle.objects_meaning.specs.Laws.{ShownHaveCounts, NewShowsCreated, ShownWithOtherCache, ShownWithOtherPlaces};
-ghost use Rattle.objects_meaning.specs.Laws.{RoomShowsSame, AddedShowsEntry, SealedShowsSeal, RefusedSealShowsNone};
+ghost use Rattle.objects_meaning.specs.Laws.{ShownHaveCounts, NewShowsCreated, ShownWithOtherCache};
+ghost use Rattle.objects_meaning.specs.Laws.{ShownWithOtherPlaces};
+ghost use Rattle.objects_meaning.specs.Laws.{RoomShowsSame, AddedShowsEntry, SealedShowsSeal};
+ghost use Rattle.objects_meaning.specs.Laws.{RefusedSealShowsNone};
 ghost use Rattle.objects_meaning.specs.Laws.{TakenShowsTake, FailedShowsFailed, DoneShowsDone};
 
-/// A law: the list of a volume that was just created shows it. A list has the counts of the plain volume that it shows. It shows it
-/// whatever the volume's cache is, and wherever data of entries before the frontier's end, or of entries to come, are said to begin.
+/// A law: the list of a volume that was just created shows it. A list has the counts of the plain volume that
+/// it shows. It shows it whatever the volume's cache is, and wherever data of entries before the frontier's
+/// end, or of entries to come, are said to begin.
 pub fn the_list_shows_a_plain_volume()
     ensures created { NewShowsCreated }
     ensures counts { ShownHaveCounts }
@@ -11,8 +14,8 @@ pub fn the_list_shows_a_plain_volume()
     ensures places { ShownWithOtherPlaces }
 {}
 
-/// A law: after each call the list shows what the plain volume becomes by the same event. A seal gives the plain volume's number, and
-/// where none is made the plain volume makes none.
+/// A law: after each call the list shows what the plain volume becomes by the same event. A seal gives the
+/// plain volume's number, and where none is made the plain volume makes none.
 pub fn calls_show_what_the_plain_volume_does()
     ensures room { RoomShowsSame }
     ensures added { AddedShowsEntry }

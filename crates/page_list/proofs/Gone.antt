@@ -1,5 +1,6 @@
 -- Pages of which some that follow one another were taken out.
-use Rattle.std.proofs.Common.{ℕ, ◌+◌, ◌-◌, ◌<◌, ◌≤◌, ◌≡◌, List, ◌++◌, length, take, drop, sym, ◌∙◌, ap, subst, arith, length-append, length-take-le, length-drop, take-append-drop, drop-drop}
+use Rattle.std.proofs.Common.{ℕ, ◌+◌, ◌-◌, ◌<◌, ◌≤◌, ◌≡◌, List, ◌++◌, length, take, drop, sym, ◌∙◌, ap, subst, arith}
+use Rattle.std.proofs.Common.{length-append, length-take-le, length-drop, take-append-drop, drop-drop}
 use Rattle.std.specs.List.{sum, sum_by}
 use Rattle.std.proofs.lemmas.List.{length-map, map-append, take-map, drop-map, drop-take, take-take, take_at, drop_at}
 use Rattle.std.proofs.lemmas.List.Elements.{All-append, All-take, All-drop}
@@ -22,7 +23,8 @@ module _ {T : Type 0} (pages : List (List T)) (first last : ℕ) (order : first 
   mid_is : lengths_of (take (last - first) (drop first pages)) ≡ take (last - first) (drop first (lengths_of pages))
   mid_is = sym (take-map length (last - first) (drop first pages)) ∙ ap (take (last - first)) (sym (drop-map length first pages))
 
-  pub mid_sum : sum (lengths_of (take (last - first) (drop first pages))) + page_start (lengths_of pages) first ≡ page_start (lengths_of pages) last
+  pub mid_sum : sum (lengths_of (take (last - first) (drop first pages))) + page_start (lengths_of pages) first
+      ≡ page_start (lengths_of pages) last
   mid_sum =
       let ns = lengths_of pages in
       let is : first + (last - first) ≡ last = omega arith in
@@ -32,7 +34,8 @@ module _ {T : Type 0} (pages : List (List T)) (first last : ℕ) (order : first 
       omega (arith, parts, ap sum (take-take first last ns order), ap sum (sym shown ∙ back), ap sum mid_is)
 
   pub mid_surplus : surplus_of (lengths_of pages)
-      ≡ surplus_of (take first (lengths_of pages) ++ drop last (lengths_of pages)) + surplus_of (lengths_of (take (last - first) (drop first pages)))
+      ≡ surplus_of (take first (lengths_of pages) ++ drop last (lengths_of pages)) + surplus_of
+      (lengths_of (take (last - first) (drop first pages)))
   mid_surplus =
       let ns = lengths_of pages in
       let f : ℕ → ℕ = λ n. n - 64 in
@@ -55,12 +58,14 @@ module _ {T : Type 0} (pages : List (List T)) (first last : ℕ) (order : first 
   -- the items before a page, and those from it on
   items_front : (p : ℕ) → take (page_start (lengths_of pages) p) (items_of pages) ≡ items_of (take p pages)
   items_front p =
-      ap (take (page_start (lengths_of pages) p)) (ap items_of (sym (take-append-drop p pages)) ∙ items_append (take p pages) (drop p pages))
+      ap (take (page_start (lengths_of pages) p)) (ap items_of (sym (take-append-drop p pages))
+      ∙ items_append (take p pages) (drop p pages))
       ∙ take_at (items_of (take p pages)) (items_of (drop p pages)) (page_start (lengths_of pages) p) (start_is pages p)
 
   items_back : (p : ℕ) → drop (page_start (lengths_of pages) p) (items_of pages) ≡ items_of (drop p pages)
   items_back p =
-      ap (drop (page_start (lengths_of pages) p)) (ap items_of (sym (take-append-drop p pages)) ∙ items_append (take p pages) (drop p pages))
+      ap (drop (page_start (lengths_of pages) p)) (ap items_of (sym (take-append-drop p pages))
+      ∙ items_append (take p pages) (drop p pages))
       ∙ drop_at (items_of (take p pages)) (items_of (drop p pages)) (page_start (lengths_of pages) p) (start_is pages p)
 
   gone_items : items_of (take first pages ++ drop last pages)
@@ -84,7 +89,8 @@ module _ {T : Type 0} (pages : List (List T)) (first last : ℕ) (order : first 
           length-drop last pages,
         )
 
-    pub gone_kept : (free left : List (List T)) (surplus room free_room next_surplus next_room next_free : ℕ) → AreKept pages free surplus room free_room
+    pub gone_kept : (free left : List (List T)) (surplus room free_room next_surplus next_room next_free : ℕ)
+        → AreKept pages free surplus room free_room
         → length left ≡ length free + (last - first) → length (items_of left) ≡ length (items_of free)
         → next_surplus ≡ surplus - surplus_of (lengths_of (take (last - first) (drop first pages)))
         → next_room ≡ room → free_room ≤ next_free
@@ -95,7 +101,8 @@ module _ {T : Type 0} (pages : List (List T)) (first last : ℕ) (order : first 
         record {
           filled =
               subst AreFilled (sym shown)
-              (All-append F (take first (lengths_of pages)) (drop last (lengths_of pages)) (All-take F first (lengths_of pages) kept.filled)
+              (All-append F (take first (lengths_of pages)) (drop last (lengths_of pages))
+              (All-take F first (lengths_of pages) kept.filled)
               (All-drop F last (lengths_of pages) kept.filled));
           empty = empty ∙ kept.empty;
           surplus_is = omega (arith, surplus_is, kept.surplus_is, mid_surplus, ap surplus_of shown);
@@ -109,13 +116,20 @@ module _ {T : Type 0} (pages : List (List T)) (first last : ℕ) (order : first 
         × (lengths_of next ≡ take first s.lengths ++ drop last s.lengths)
     gone_seen n s view =
         subst (λ s. (items_of next ≡ take (page_start s.lengths first) s.items ++ drop (page_start s.lengths last) s.items)
-        × (lengths_of next ≡ take first s.lengths ++ drop last s.lengths)) view (ap items_of next_is ∙ gone_items, ap lengths_of next_is ∙ gone_lengths)
+        × (lengths_of next ≡ take first s.lengths ++ drop last s.lengths)) view (
+          ap items_of next_is
+              ∙ gone_items,
+          ap lengths_of next_is ∙ gone_lengths,
+        )
 
   pub mid_seen : (n : ℕ) (s : ListState T) → seen pages n ≡ s
       → sum (lengths_of (take (last - first) (drop first pages))) + page_start s.lengths first ≡ page_start s.lengths last
   mid_seen n s view =
-      subst (λ s. sum (lengths_of (take (last - first) (drop first pages))) + page_start s.lengths first ≡ page_start s.lengths last) view mid_sum
+      subst (λ s. sum (lengths_of (take (last - first) (drop first pages))) + page_start s.lengths first ≡ page_start s.lengths
+      last) view mid_sum
 
-pub pages_bound : {T : Type 0} (pages : List (List T)) (n : ℕ) (s : ListState T) → seen pages n ≡ s → (last : ℕ) → last ≤ length s.lengths → last ≤ length pages
+pub pages_bound : {T : Type 0} (pages : List (List T)) (n : ℕ) (s : ListState T) → seen pages n ≡ s → (last : ℕ)
+    → last ≤ length s.lengths → last ≤ length pages
 pages_bound pages n s view =
-    subst (λ s. (last : ℕ) → last ≤ length s.lengths → last ≤ length pages) view (λ last inside. omega (arith, inside, length-map pages length))
+    subst (λ s. (last : ℕ) → last ≤ length s.lengths → last ≤ length pages) view
+    (λ last inside. omega (arith, inside, length-map pages length))

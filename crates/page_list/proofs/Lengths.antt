@@ -56,13 +56,20 @@ page_bound ns at place =
     ]
 
 -- of two cursors, the first stands in a page no later
-pub page_order : (ns : List ℕ) (from to : Cursor) → IsIn ns from → IsIn ns to → cursor_index ns from ≤ cursor_index ns to → from.page ≤ to.page
+pub page_order : (ns : List ℕ) (from to : Cursor) → IsIn ns from → IsIn ns to → cursor_index ns from ≤ cursor_index ns to
+    → from.page ≤ to.page
 page_order ns from to at place order =
     elim (cases_lt to.page from.page) [
       | inl later ↦
           elim place [
             | inl inside ↦
-                absurd (omega (arith, order, item_bound ns to.page to.item inside, start_rises ns (to.page + 1) from.page (omega (arith, later))))
+                absurd (omega (
+                  arith,
+                  order,
+                  item_bound ns to.page to.item inside,
+                  start_rises ns (to.page + 1) from.page
+                      (omega (arith, later)),
+                ))
             | inr end ↦ absurd (omega (arith, later, end.0, page_bound ns from at))
           ]
       | inr no_later ↦ no_later
@@ -76,7 +83,8 @@ start_between ns p q order =
     let back = ap (λ k. drop p (take k ns)) is in
     omega (arith, sum_by-take-drop (λ n. n) (take q ns) p, ap sum (take-take p q ns order), ap sum (sym back ∙ shown))
 
-pub start_same : (ns ms : List ℕ) (p q : ℕ) → p ≤ q → drop p ns ≡ drop p ms → page_start ns q + page_start ms p ≡ page_start ms q + page_start ns p
+pub start_same : (ns ms : List ℕ) (p q : ℕ) → p ≤ q → drop p ns ≡ drop p ms
+    → page_start ns q + page_start ms p ≡ page_start ms q + page_start ns p
 start_same ns ms p q order same =
     omega (arith, start_between ns p q order, start_between ms p q order, ap (λ xs. sum (take (q - p) xs)) same)
 

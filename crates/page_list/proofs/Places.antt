@@ -1,8 +1,10 @@
 -- The items of pages, and where a page has its own among them.
-use Rattle.std.proofs.Common.{ℕ, zero, suc, ◌+◌, ◌<◌, ◌≤◌, ◌≡◌, List, [], ◌∷◌, ◌++◌, length, get_or, take, drop, sym, ◌∙◌, ap, arith, refl, length-append, zero-add, suc-add, add-one}
+use Rattle.std.proofs.Common.{ℕ, zero, suc, ◌+◌, ◌<◌, ◌≤◌, ◌≡◌, List, [], ◌∷◌, ◌++◌, length, get_or, take, drop, sym, ◌∙◌, ap}
+use Rattle.std.proofs.Common.{arith, refl, length-append, zero-add, suc-add, add-one}
 use Rattle.std.proofs.Math.ListN.{set}
 use Rattle.std.specs.List.{sum, slice_get}
-use Rattle.std.proofs.lemmas.List.{drop_at, drop-drop, take-append-le, drop-append-le, set_split, set-append_left, take-append-drop, drop_more, take-map}
+use Rattle.std.proofs.lemmas.List.{drop_at, drop-drop, take-append-le, drop-append-le, set_split, set-append_left}
+use Rattle.std.proofs.lemmas.List.{take-append-drop, drop_more, take-map}
 use Rattle.std.proofs.lemmas.List.Concat.{flat_map-append}
 use Rattle.std.proofs.lemmas.List.Sums.{sum_by-cons}
 use Rattle.page_list.specs.Items.{length_at, page_start}
@@ -18,7 +20,13 @@ module _ {T : Type 0} where
   pub items_length : (pages : List (List T)) → length (items_of pages) ≡ sum (lengths_of pages)
   items_length [] = refl
   items_length (page ∷ pages) =
-      omega (arith, length-append page (items_of pages), items_length pages, sum_by-cons (λ n. n) (length page) (lengths_of pages))
+      omega (
+        arith,
+        length-append page (items_of pages),
+        items_length pages,
+        sum_by-cons (λ n. n) (length page)
+            (lengths_of pages),
+      )
 
   pub start_is : (pages : List (List T)) (p : ℕ) → length (items_of (take p pages)) ≡ page_start (lengths_of pages) p
   start_is pages p = items_length (take p pages) ∙ ap sum (sym (take-map length p pages))
@@ -58,7 +66,8 @@ module _ {T : Type 0} (a b c : List T) (i : ℕ) where
 
   drop_mid : i ≤ length b → drop (length a + i) (a ++ (b ++ c)) ≡ drop i b ++ c
   drop_mid inside =
-      sym (drop-drop i (length a) (a ++ (b ++ c))) ∙ ap (drop i) (drop_at a (b ++ c) (length a) refl) ∙ drop-append-le i b c inside
+      sym (drop-drop i (length a) (a ++ (b ++ c))) ∙ ap (drop i) (drop_at a (b ++ c) (length a) refl)
+      ∙ drop-append-le i b c inside
 
   get_mid : i < length b → slice_get (a ++ (b ++ c)) (length a + i) ≡ slice_get b i
   get_mid inside = get_past a (b ++ c) i ∙ get_front b c i inside

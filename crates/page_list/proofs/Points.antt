@@ -1,5 +1,6 @@
 -- Where a search of pages, and of one page, ends: at the first item that does not pass the test.
-use Rattle.std.proofs.Common.{ℕ, ◌+◌, ◌-◌, ◌<◌, ◌≤◌, ◌≡◌, inl, inr, Bool, true, false, cond, List, [], ◌∷◌, length, get_or, refl, sym, ◌∙◌, ap, subst, arith}
+use Rattle.std.proofs.Common.{ℕ, ◌+◌, ◌-◌, ◌<◌, ◌≤◌, ◌≡◌, inl, inr, Bool, true, false, cond, List, [], ◌∷◌, length, get_or, refl}
+use Rattle.std.proofs.Common.{sym, ◌∙◌, ap, subst, arith}
 use Rattle.std.specs.List.{sum, prefix_len}
 use Rattle.std.specs.List.Sorted.{IsPartitionedBy}
 use Rattle.std.proofs.lemmas.Bool.{cases_lt}
@@ -22,23 +23,27 @@ few_pages (n ∷ ns) filled =
     let some = All-head F n ns filled in
     omega (arith, some.0, few_pages ns (All-tail F n ns filled), sum_by-cons (λ n. n) n ns)
 
-pub fewer_pages : {T : Type 0} (pages : List (List T)) (n : ℕ) (s : ListState T) → seen pages n ≡ s → AreFilled (lengths_of pages) → length pages ≤ length s.items
+pub fewer_pages : {T : Type 0} (pages : List (List T)) (n : ℕ) (s : ListState T) → seen pages n ≡ s → AreFilled (lengths_of pages)
+    → length pages ≤ length s.items
 fewer_pages pages n s view filled =
     subst (λ s. length pages ≤ length s.items) view
     (omega (arith, few_pages (lengths_of pages) filled, items_length pages, length-map pages length))
 
-starts_at : {T : Type 0} (p : T → Bool) (page : List T) (b : Bool) (d : T) → 0 < length page → passes_at_start p page ≡ b → p (get_or page 0 d) ≡ b
+starts_at : {T : Type 0} (p : T → Bool) (page : List T) (b : Bool) (d : T) → 0 < length page → passes_at_start p page ≡ b
+    → p (get_or page 0 d) ≡ b
 starts_at p [] b d some is = absurd (omega arith)
 starts_at p (x ∷ page) b d some is = is
 
-none_passes : {T : Type 0} (p : T → Bool) (xs : List T) → ((d : T) → 0 < length xs → p (get_or xs 0 d) ≡ false) → 0 ≡ prefix_len p xs
+none_passes : {T : Type 0} (p : T → Bool) (xs : List T) → ((d : T) → 0 < length xs → p (get_or xs 0 d) ≡ false)
+    → 0 ≡ prefix_len p xs
 none_passes p [] fails = omega arith
 none_passes p (x ∷ xs) fails =
     let no : p x ≡ false = fails x (omega arith) in
     sym (ap (λ b. cond b (1 + prefix_len p xs) 0) no)
 
 -- where the last item passes, all do
-pub all_pass : {T : Type 0} (p : T → Bool) (xs : List T) → IsPartitionedBy p xs → ((d : T) → 0 < length xs → p (get_or xs (length xs - 1) d) ≡ true)
+pub all_pass : {T : Type 0} (p : T → Bool) (xs : List T) → IsPartitionedBy p xs
+    → ((d : T) → 0 < length xs → p (get_or xs (length xs - 1) d) ≡ true)
     → length xs ≡ prefix_len p xs
 all_pass p [] partitioned last = refl
 all_pass p (x ∷ xs) partitioned last =
@@ -73,18 +78,29 @@ module _ {T : Type 0} (pages : List (List T)) (filled : AreFilled (lengths_of pa
       (item_is pages k i page inside ∙ slice_get-get_or (get_or pages k []) i d inside)
 
   some_in : (k : ℕ) → k < length pages → 0 < length (get_or pages k [])
-  some_in k page = omega (arith, length_is pages k, filled_at (lengths_of pages) k filled (omega (arith, page, length-map pages length)))
+  some_in k page = omega (
+    arith,
+    length_is pages k,
+    filled_at (lengths_of pages) k filled
+        (omega (arith, page, length-map pages length)),
+  )
 
   start_inside : (k : ℕ) → k ≤ length pages → page_start (lengths_of pages) k < length (items_of pages) → k < length pages
   start_inside k bound before =
       elim (cases_lt k (length pages)) [
         | inl inside ↦ inside
-        | inr past ↦ absurd (omega (arith, before, start_all (lengths_of pages) k (omega (arith, past, length-map pages length)), items_length pages))
+        | inr past ↦ absurd (omega (
+          arith,
+          before,
+          start_all (lengths_of pages) k (omega (arith, past, length-map pages length)),
+          items_length pages,
+        ))
       ]
 
   -- the item at the start of a page, by the first item of the page
   fails_at : (k : ℕ) → ((d : List T) → k < length pages → passes_at_start p (get_or pages k d) ≡ false) → k ≤ length pages
-      → (d : T) → page_start (lengths_of pages) k < length (items_of pages) → p (get_or (items_of pages) (page_start (lengths_of pages) k) d) ≡ false
+      → (d : T) → page_start (lengths_of pages) k < length (items_of pages)
+      → p (get_or (items_of pages) (page_start (lengths_of pages) k) d) ≡ false
   fails_at k fails bound d before =
       let page : k < length pages = start_inside k bound before in
       let at : page_start (lengths_of pages) k ≡ page_start (lengths_of pages) k + 0 = omega arith in
@@ -92,7 +108,8 @@ module _ {T : Type 0} (pages : List (List T)) (filled : AreFilled (lengths_of pa
       ∙ ap p (read_at k 0 d page (some_in k page))
       ∙ starts_at p (get_or pages k []) false d (some_in k page) (fails [] page)
 
-  point_none : ((d : List T) → 0 < length pages → passes_at_start p (get_or pages 0 d) ≡ false) → 0 ≡ prefix_len p (items_of pages)
+  point_none : ((d : List T) → 0 < length pages → passes_at_start p (get_or pages 0 d) ≡ false)
+      → 0 ≡ prefix_len p (items_of pages)
   point_none fails = none_passes p (items_of pages) (λ d some. fails_at 0 fails (omega arith) d some)
 
   module _ (n k j : ℕ) (next : n ≡ k + 1) (page : List T) (here : k < length pages) (read : page ≡ get_or pages k page)
@@ -115,7 +132,8 @@ module _ {T : Type 0} (pages : List (List T)) (filled : AreFilled (lengths_of pa
           | inr none ↦
               let d = first_of page some_page in
               let is : j ≡ 0 = omega (arith, none) in
-              let yes = ap (λ xs. p (get_or xs 0 d)) is_page ∙ starts_at p (get_or pages k []) true d (some_in k here) (starts []) in
+              let yes = ap (λ xs. p (get_or xs 0 d)) is_page ∙ starts_at p (get_or pages k []) true d (some_in k here)
+              (starts []) in
               let no = ap (λ n. p (get_or page n d)) (sym is) ∙ fails_in d (omega (arith, is, some_page)) in
               absurd (cc (yes, no))
         ]
@@ -126,7 +144,8 @@ module _ {T : Type 0} (pages : List (List T)) (filled : AreFilled (lengths_of pa
         ∙ ap (λ xs. p (get_or xs (j - 1) d)) (sym is_page)
         ∙ passes_in d item_some
 
-    next_fails : (d : T) → page_start (lengths_of pages) k + j < length (items_of pages) → p (get_or (items_of pages) (page_start (lengths_of pages) k + j) d) ≡ false
+    next_fails : (d : T) → page_start (lengths_of pages) k + j < length (items_of pages)
+        → p (get_or (items_of pages) (page_start (lengths_of pages) k + j) d) ≡ false
     next_fails d before =
         elim (cases_lt j (length page)) [
           | inl inside ↦
@@ -158,12 +177,15 @@ module _ {T : Type 0} (pages : List (List T)) (filled : AreFilled (lengths_of pa
         let d = first_of page some_page in
         let n = page_start (lengths_of pages) k + j in
         sym (prefix_len_is p (items_of pages) (page_start (lengths_of pages) k + j) d item_bound
-        (λ i low. partitioned i (page_start (lengths_of pages) k + (j - 1)) d (omega (arith, low, item_some)) (omega (arith, item_bound, item_some)) (last_passes d))
+        (λ i low. partitioned i (page_start (lengths_of pages) k + (j - 1)) d (omega (arith, low, item_some))
+        (omega (arith, item_bound, item_some)) (last_passes d))
         (next_fails d))
 
 -- the same by what contracts see
-module _ {T : Type 0} (pages : List (List T)) (free : ℕ) (s : ListState T) (view : seen pages free ≡ s) (filled : AreFilled (lengths_of pages)) (p : T → Bool) where
-  pub point_none_seen : ((d : List T) → 0 < length pages → passes_at_start p (get_or pages 0 d) ≡ false) → 0 ≡ prefix_len p s.items
+module _ {T : Type 0} (pages : List (List T)) (free : ℕ) (s : ListState T) (view : seen pages free ≡ s)
+    (filled : AreFilled (lengths_of pages)) (p : T → Bool) where
+  pub point_none_seen : ((d : List T) → 0 < length pages → passes_at_start p (get_or pages 0 d) ≡ false)
+      → 0 ≡ prefix_len p s.items
   point_none_seen fails = subst (λ s. 0 ≡ prefix_len p s.items) view (point_none pages filled p fails)
 
   pub point_seen : (n k j : ℕ) (next : n ≡ k + 1) (page : List T) (here : k < length pages) (read : page ≡ get_or pages k page)

@@ -1,5 +1,6 @@
 -- Items taken out in three steps: the last of them, the first, and those between.
-use Rattle.std.proofs.Common.{ℕ, ◌+◌, ◌-◌, ◌<◌, ◌≤◌, ◌≡◌, List, ◌++◌, length, take, drop, sym, ◌∙◌, ap, arith, length-take-le, length-drop}
+use Rattle.std.proofs.Common.{ℕ, ◌+◌, ◌-◌, ◌<◌, ◌≤◌, ◌≡◌, List, ◌++◌, length, take, drop, sym, ◌∙◌, ap, arith, length-take-le}
+use Rattle.std.proofs.Common.{length-drop}
 use Rattle.std.specs.List.{sum}
 use Rattle.page_list.specs.declared.cursor.Cursor.{Cursor}
 use Rattle.page_list.specs.Items.{length_at, page_start, IsIn, cursor_index}
@@ -18,16 +19,19 @@ module _ {T : Type 0} (xs : List T) (a m c b : ℕ) (first : a ≤ m) (mid : m �
   mid_length = omega (arith, length-drop m (take c xs), kept_length)
 
   front_once : take a (take c xs ++ drop b xs) ≡ take a xs
-  front_once = take-append-le a (take c xs) (drop b xs) (omega (arith, first, mid, kept_length)) ∙ take-take a c xs (omega (arith, first, mid))
+  front_once = take-append-le a (take c xs) (drop b xs) (omega (arith, first, mid, kept_length))
+      ∙ take-take a c xs (omega (arith, first, mid))
 
   back_once : drop m (take c xs ++ drop b xs) ≡ drop m (take c xs) ++ drop b xs
   back_once = drop-append-le m (take c xs) (drop b xs) (omega (arith, mid, kept_length))
 
   -- after two steps
-  twice : (ys : List T) → ys ≡ take a (take c xs ++ drop b xs) ++ drop m (take c xs ++ drop b xs) → ys ≡ take a xs ++ (drop m (take c xs) ++ drop b xs)
+  twice : (ys : List T) → ys ≡ take a (take c xs ++ drop b xs) ++ drop m (take c xs ++ drop b xs)
+      → ys ≡ take a xs ++ (drop m (take c xs) ++ drop b xs)
   twice ys is = is ∙ ap (λ zs. zs ++ drop m (take c xs ++ drop b xs)) front_once ∙ ap (λ zs. take a xs ++ zs) back_once
 
-  thrice : (ys : List T) → ys ≡ take a xs ++ (drop m (take c xs) ++ drop b xs) → take a ys ++ drop (a + (c - m)) ys ≡ take a xs ++ drop b xs
+  thrice : (ys : List T) → ys ≡ take a xs ++ (drop m (take c xs) ++ drop b xs)
+      → take a ys ++ drop (a + (c - m)) ys ≡ take a xs ++ drop b xs
   thrice ys is =
       ap (λ zs. take a zs ++ drop (a + (c - m)) zs) is
       ∙ ap (λ zs. zs ++ drop (a + (c - m)) (take a xs ++ (drop m (take c xs) ++ drop b xs)))
@@ -40,7 +44,8 @@ module _ {T : Type 0} (xs : List T) (a m c b : ℕ) (first : a ≤ m) (mid : m �
   pub taken_thrice : (ys zs ws : List T) → ys ≡ take c xs ++ drop b xs → zs ≡ take a ys ++ drop m ys → (k : ℕ) → k ≡ a + (c - m)
       → ws ≡ take a zs ++ drop k zs → ws ≡ take a xs ++ drop b xs
   taken_thrice ys zs ws one two k at three =
-      let second : zs ≡ take a (take c xs ++ drop b xs) ++ drop m (take c xs ++ drop b xs) = two ∙ ap (λ vs. take a vs ++ drop m vs) one in
+      let second : zs ≡ take a (take c xs ++ drop b xs) ++ drop m (take c xs ++ drop b xs) = two
+      ∙ ap (λ vs. take a vs ++ drop m vs) one in
       three ∙ ap (λ n. take a zs ++ drop n zs) at ∙ thrice zs (twice zs second)
 
 -- the pages before, after the last page was cut in front, and after the first was cut behind
@@ -71,7 +76,8 @@ module _ (was one two : List ℕ) (from to : Cursor) (first : ℕ) (front : take
       (taken ∙ ap (λ n. take n zs ++ drop (page_start two to.page) zs) (start ∙ from_same))
 
 -- a cursor in a page that is no later than another, and not the same
-pub stands_before : (ns : List ℕ) (from to : Cursor) → IsIn ns from → IsIn ns to → cursor_index ns from ≤ cursor_index ns to → (from.page ≡ to.page → ⊥)
+pub stands_before : (ns : List ℕ) (from to : Cursor) → IsIn ns from → IsIn ns to → cursor_index ns from ≤ cursor_index ns to
+    → (from.page ≡ to.page → ⊥)
     → (from.page < to.page) × (from.item < length_at ns from.page)
 stands_before ns from to at place order other =
     let pages = page_order ns from to at place order in
@@ -79,6 +85,7 @@ stands_before ns from to at place order other =
     (page, stands_inside ns from at (omega (arith, page, page_bound ns to place)))
 
 -- where the first of the later pages starts, once those between are gone
-pub front_start : (ns : List ℕ) (first last : ℕ) → first ≤ length ns → page_start (take first ns ++ drop last ns) first ≡ page_start ns first
+pub front_start : (ns : List ℕ) (first last : ℕ) → first ≤ length ns → page_start (take first ns ++ drop last ns) first
+    ≡ page_start ns first
 front_start ns first last inside =
     ap sum (take_at (take first ns) (drop last ns) first (length-take-le first ns inside))

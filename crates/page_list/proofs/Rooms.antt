@@ -1,5 +1,6 @@
 -- What a change of pages does to the room, by the lengths of the pages.
-use Rattle.std.proofs.Common.{ℕ, ◌+◌, ◌-◌, ◌<◌, ◌≤◌, ◌≡◌, ◌⊎◌, inl, inr, List, [], ◌∷◌, ◌++◌, length, get_or, take, drop, ◌∙◌, ap, arith, refl, length-append, length-take-le, take-append-drop, drop-drop}
+use Rattle.std.proofs.Common.{ℕ, ◌+◌, ◌-◌, ◌<◌, ◌≤◌, ◌≡◌, ◌⊎◌, inl, inr, List, [], ◌∷◌, ◌++◌, length, get_or, take, drop, ◌∙◌, ap}
+use Rattle.std.proofs.Common.{arith, refl, length-append, length-take-le, take-append-drop, drop-drop}
 use Rattle.std.proofs.Math.ListN.{set, length-set}
 use Rattle.std.specs.List.{sum, sum_by}
 use Rattle.std.proofs.lemmas.Bool.{cases_lt, cases_eq}
@@ -34,7 +35,8 @@ lack_with ns p m inside =
           inr (ap (λ i. 64 - get_or (set ns p m) i 64) at ∙ ap (λ n. 64 - n) (get_or-set_other ns p (length ns - 1) m 64 other))
     ]
 
-pub surplus_with : (ns : List ℕ) (p m : ℕ) → p < length ns → surplus_of (set ns p m) + (length_at ns p - 64) ≡ surplus_of ns + (m - 64)
+pub surplus_with : (ns : List ℕ) (p m : ℕ) → p < length ns → surplus_of (set ns p m) + (length_at ns p - 64)
+    ≡ surplus_of ns + (m - 64)
 surplus_with ns p m inside = sum_by-set (λ n. n - 64) ns p m 0 inside
 
 lack_full : (ns : List ℕ) → get_or ns (length ns - 1) 128 ≡ 128 → lack_of ns ≡ 0
@@ -63,7 +65,8 @@ split_last n [] is = omega (arith, is)
 split_last n (m ∷ ns) is =
     omega (arith, lack_back (n ∷ []) (m ∷ ns) (omega arith), lack_back (64 ∷ 64 ∷ []) (m ∷ ns) (omega arith))
 
-split_lack : (ns : List ℕ) (p : ℕ) → p < length ns → length_at ns p ≡ 128 → lack_of ns ≤ lack_of (take p ns ++ 64 ∷ 64 ∷ drop (p + 1) ns)
+split_lack : (ns : List ℕ) (p : ℕ) → p < length ns → length_at ns p ≡ 128
+    → lack_of ns ≤ lack_of (take p ns ++ 64 ∷ 64 ∷ drop (p + 1) ns)
 split_lack ns p inside is =
     omega (
       arith,
@@ -90,7 +93,8 @@ gone_surplus ns first last order =
 
 module _ {T : Type 0} (old new : ListState T) where
   -- an item more in a page
-  pub halves_put : (p : ℕ) → p < length old.lengths → new.lengths ≡ set old.lengths p (length_at old.lengths p + 1) → new.free ≡ old.free
+  pub halves_put : (p : ℕ) → p < length old.lengths → new.lengths ≡ set old.lengths p (length_at old.lengths p + 1)
+      → new.free ≡ old.free
       → halves_of old ≤ halves_of new + 1
   halves_put p inside lengths free =
       let n = length_at old.lengths p in
@@ -101,7 +105,8 @@ module _ {T : Type 0} (old new : ListState T) where
       ]
 
   -- fewer items in a page
-  pub halves_trim : (p m : ℕ) → p < length old.lengths → m ≤ length_at old.lengths p → new.lengths ≡ set old.lengths p m → new.free ≡ old.free
+  pub halves_trim : (p m : ℕ) → p < length old.lengths → m ≤ length_at old.lengths p → new.lengths ≡ set old.lengths p m
+      → new.free ≡ old.free
       → halves_of old ≤ halves_of new
   halves_trim p m inside fewer lengths free =
       let more = surplus_with old.lengths p m inside in
@@ -111,7 +116,8 @@ module _ {T : Type 0} (old new : ListState T) where
       ]
 
   -- a page begun at the end, after one that is full
-  pub room_push : get_or old.lengths (length old.lengths - 1) 128 ≡ 128 → new.lengths ≡ old.lengths ++ 1 ∷ [] → new.free + 1 ≡ old.free
+  pub room_push : get_or old.lengths (length old.lengths - 1) 128 ≡ 128 → new.lengths ≡ old.lengths ++ 1 ∷ []
+      → new.free + 1 ≡ old.free
       → insert_room old ≤ insert_room new + 1
   room_push full lengths free =
       let f : ℕ → ℕ = λ n. n - 64 in
@@ -131,17 +137,35 @@ module _ {T : Type 0} (old new : ListState T) where
       → new.lengths ≡ take p old.lengths ++ 64 ∷ 64 ∷ drop (p + 1) old.lengths → new.free + 1 ≡ old.free
       → halves_of old ≤ halves_of new
   halves_split p inside full lengths free =
-      omega (arith, free, ap lack_of lengths, ap surplus_of lengths, split_surplus old.lengths p inside full, split_lack old.lengths p inside full)
+      omega (
+        arith,
+        free,
+        ap lack_of lengths,
+        ap surplus_of lengths,
+        split_surplus old.lengths p inside full,
+        split_lack
+            old.lengths p inside full,
+      )
 
   -- pages taken out
-  pub halves_gone : (first last : ℕ) → first ≤ last → new.lengths ≡ take first old.lengths ++ drop last old.lengths → new.free ≡ old.free + (last - first)
+  pub halves_gone : (first last : ℕ) → first ≤ last → new.lengths ≡ take first old.lengths ++ drop last old.lengths
+      → new.free ≡ old.free + (last - first)
       → halves_of old ≤ halves_of new
   halves_gone first last order lengths free =
       elim (cases_lt first last) [
-        | inl some ↦ omega (arith, some, free, ap surplus_of lengths, gone_surplus old.lengths first last order, lack_small old.lengths)
+        | inl some ↦ omega (
+          arith,
+          some,
+          free,
+          ap surplus_of lengths,
+          gone_surplus old.lengths first last order,
+          lack_small
+              old.lengths,
+        )
         | inr none ↦
             let is : last ≡ first = omega (arith, order, none) in
-            let same : new.lengths ≡ old.lengths = lengths ∙ ap (λ k. take first old.lengths ++ drop k old.lengths) is ∙ take-append-drop first old.lengths in
+            let same : new.lengths ≡ old.lengths = lengths ∙ ap (λ k. take first old.lengths ++ drop k old.lengths) is
+            ∙ take-append-drop first old.lengths in
             omega (arith, is, free, ap surplus_of same, ap lack_of same)
       ]
 
@@ -153,7 +177,8 @@ module _ {T : Type 0} (old new : ListState T) where
   room_kept free halves = omega (arith, free, halves)
 
 -- where the second half of a page that was split starts
-pub split_start : (ns : List ℕ) (p : ℕ) → p < length ns → page_start (take p ns ++ 64 ∷ 64 ∷ drop (p + 1) ns) (p + 1) ≡ page_start ns p + 64
+pub split_start : (ns : List ℕ) (p : ℕ) → p < length ns → page_start (take p ns ++ 64 ∷ 64 ∷ drop (p + 1) ns) (p + 1)
+    ≡ page_start ns p + 64
 split_start ns p inside =
     let back = 64 ∷ 64 ∷ drop (p + 1) ns in
     let long = length-take-le p ns (omega (arith, inside)) in
@@ -163,5 +188,6 @@ split_start ns p inside =
       arith,
       ap sum front,
       half,
-      start_more (take p ns ++ 64 ∷ 64 ∷ drop (p + 1) ns) p (omega (arith, long, length-append (take p ns) (64 ∷ 64 ∷ drop (p + 1) ns))),
+      start_more (take p ns ++ 64 ∷ 64 ∷ drop (p + 1) ns) p
+          (omega (arith, long, length-append (take p ns) (64 ∷ 64 ∷ drop (p + 1) ns))),
     )

@@ -20,7 +20,8 @@ module _ {T : Type 0} where
   -- a list is stored as the tuple of its parts
   abbrev pub list_state_code : Coded T → Coded (ListState T)
   list_state_code c =
-      code_by (List T × (List ℕ × ℕ)) (coded× (coded_list c) (coded× (coded_list coded_ℕ) coded_ℕ)) (λ s. (s.items, (s.lengths, s.free))) list_state
+      code_by (List T × (List ℕ × ℕ)) (coded× (coded_list c) (coded× (coded_list coded_ℕ) coded_ℕ))
+      (λ s. (s.items, (s.lengths, s.free))) list_state
       (λ _. refl)
 
 -- how many items a page has, by its index among pages of these lengths; none past the last

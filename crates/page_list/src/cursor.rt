@@ -1,5 +1,5 @@
-/// A place in a list in pages: that of an item, or the end. It is good for the list that answered it, until that is
-/// changed by an insert or a removal.
+/// A place in a list in pages: that of an item, or the end. It is good for the list that answered it, until
+/// that is changed by an insert or a removal.
 #[derive(Clone, Copy, Debug, PartialEq, Eq)]
 pub struct Cursor {
     // The page, by its index; at the end, how many pages there are.

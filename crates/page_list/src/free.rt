@@ -1,4 +1,5 @@
-ghost use Rattle.std.specs.Prelude.{◌≡◌, ◌+◌, ◌-◌, ◌^◌, ◌<◌, ◌≤◌, ◌++◌, length, take, drop, vec_capacity, OnOk};
+ghost use Rattle.std.specs.Prelude.{◌≡◌, ◌+◌, ◌-◌, ◌^◌, ◌<◌, ◌≤◌, ◌++◌, length, take, drop, vec_capacity};
+ghost use Rattle.std.specs.Prelude.{OnOk};
 ghost use Rattle.std.specs.List.{sum};
 ghost use Rattle.page_list.specs.Items.{surplus_of};
 ghost use Rattle.page_list.specs.Pages.{items_of, lengths_of};
@@ -8,7 +9,8 @@ use crate::steps::Steps;
 use std::alloc::{AllocError, Global};
 use std::sync::ledger::Ledger;
 
-// Adds empty pages, for which the list has room. The one error is out of memory; those that were made then stay.
+// Adds empty pages, for which the list has room. The one error is out of memory; those that were made then
+// stay.
 pub(crate) fn add_pages<T: Copy>(
     alloc: Global,
     free: &mut Vec<Page<T>>,
@@ -56,7 +58,8 @@ pub(crate) fn release<T: Copy, L: Ledger>(
     ensures free { length free.new.items ≡ length free.old.items + (last - first) }
     ensures empty { length (items_of free.new.items) ≡ length (items_of free.old.items) }
     ensures free_capacity { vec_capacity free.old ≤ vec_capacity free.new }
-    ensures steps { steps.new ≡ steps.old + sum (lengths_of (take (last - first) (drop first pages.old.items))) }
+    ensures steps { steps.new ≡ steps.old + sum
+        (lengths_of (take (last - first) (drop first pages.old.items))) }
 {
     for mut page in pages.drain(first..last) {
         page.clear(steps);

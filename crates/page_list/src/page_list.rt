@@ -1,4 +1,6 @@
-ghost use Rattle.std.specs.Prelude.{◌≡◌, ◌≢◌, ◌↔◌, ◌+◌, ◌-◌, ◌^◌, ◌<◌, ◌≤◌, ◌++◌, ◌∷◌, ℕ, Bool, [], length, take, drop, slice_get, slice_set, slice_index_or, OnOk, IfOk, IsOk, IsTrue, true, MatchOption, Some};
+ghost use Rattle.std.specs.Prelude.{◌≡◌, ◌≢◌, ◌↔◌, ◌+◌, ◌-◌, ◌^◌, ◌<◌, ◌≤◌, ◌++◌, ◌∷◌, ℕ, Bool, [], length};
+ghost use Rattle.std.specs.Prelude.{take, drop, slice_get, slice_set, slice_index_or, OnOk, IfOk, IsOk};
+ghost use Rattle.std.specs.Prelude.{IsTrue, true, MatchOption, Some};
 ghost use Rattle.std.specs.List.{prefix_len};
 ghost use Rattle.std.specs.List.Sorted.{IsPartitionedBy};
 ghost use Rattle.page_list.specs.Items.{IsIn, cursor_index, page_start, length_at, insert_room, halves_of};
@@ -16,8 +18,8 @@ use std::sync::ledger::Ledger;
 // More pages than memory can have. So fewer than 2^55 items stand in a list.
 const MAX_PAGES: usize = 1 << 47;
 
-/// A list whose items stand in pages of at most 128, none of them empty. Each page has the memory for all of its items
-/// from the beginning, and one that becomes empty is kept for later.
+/// A list whose items stand in pages of at most 128, none of them empty. Each page has the memory for all of
+/// its items from the beginning, and one that becomes empty is kept for later.
 ///
 /// Contracts see its items in order, how many each page has, and how many empty pages it keeps.
 #[derive(Drop)]
@@ -42,9 +44,14 @@ impl<T: Copy> Model for PageList<T> {
     ghost use Rattle.page_list.specs.Items.{surplus_of};
     ghost use Rattle.page_list.specs.Pages.{items_of, lengths_of, AreKept};
 
-    ghost view = { λ m. record { items = items_of m.pages.items; lengths = lengths_of m.pages.items; free = length m.free.items } };
+    ghost view = { λ m. record {
+      items = items_of m.pages.items;
+      lengths = lengths_of m.pages.items;
+      free = length m.free.items;
+    } };
 
-    ghost invariant = { λ m. AreKept m.pages.items m.free.items m.surplus (vec_capacity m.pages) (vec_capacity m.free) };
+    ghost invariant = { λ m. AreKept m.pages.items m.free.items m.surplus (vec_capacity m.pages)
+        (vec_capacity m.free) };
 }
 
 impl<T: Copy> PageList<T> {
@@ -72,8 +79,8 @@ impl<T: Copy> PageList<T> {
         free.max((HALF * free + lack).saturating_sub(self.surplus))
     }
 
-    /// Makes room for N inserts. The one error is out of memory, which comes only where that room is missing. The items
-    /// stay where they are, so cursors stay good, and no room is lost.
+    /// Makes room for N inserts. The one error is out of memory, which comes only where that room is missing.
+    /// The items stay where they are, so cursors stay good, and no room is lost.
     pub fn reserve(&mut self, inserts: usize) -> Result<(), AllocError>
         ensures ok { OnOk result (inserts ≤ insert_room self.new) }
         ensures items { self.new.items ≡ self.old.items }
@@ -183,8 +190,10 @@ impl<T: Copy> PageList<T> {
     /// The item before a place of this list (a condition), with its own place; none at the start.
     pub fn before(&self, at: Cursor) -> Option<(Cursor, T)>
         requires { IsIn self.now.lengths at }
-        ensures { MatchOption result (cursor_index self.now.lengths at ≡ 0) (λ last. IsIn self.now.lengths last.0
-            × (cursor_index self.now.lengths last.0 + 1 ≡ cursor_index self.now.lengths at) × (slice_get self.now.items (cursor_index self.now.lengths last.0) ≡ Some last.1)) }
+        ensures { MatchOption result (cursor_index self.now.lengths at ≡ 0)
+            (λ last. IsIn self.now.lengths last.0
+            × (cursor_index self.now.lengths last.0 + 1 ≡ cursor_index self.now.lengths at)
+            × (slice_get self.now.items (cursor_index self.now.lengths last.0) ≡ Some last.1)) }
     {
         let _ = &self.pages;
         let last = self.previous(at)?;
@@ -194,7 +203,9 @@ impl<T: Copy> PageList<T> {
     // The place before one, unless that is the start.
     fn previous(&self, at: Cursor) -> Option<Cursor>
         requires { IsIn self.now.lengths at }
-        ensures { MatchOption result (cursor_index self.now.lengths at ≡ 0) (λ last. IsIn self.now.lengths last × (cursor_index self.now.lengths last + 1 ≡ cursor_index self.now.lengths at)) }
+        ensures { MatchOption result (cursor_index self.now.lengths at ≡ 0)
+            (λ last. IsIn self.now.lengths last
+            × (cursor_index self.now.lengths last + 1 ≡ cursor_index self.now.lengths at)) }
     {
         if at.item != 0 {
             return Some(Cursor {
@@ -220,10 +231,10 @@ impl<T: Copy> PageList<T> {
         self.pages[at.page].replace(at.item, item);
     }
 
-    /// The place of the first item that does not pass a test, or the end. That is what it answers where the items that pass
-    /// stand before those that do not; else it is some place of the list. The test may be called at any item (a condition).
-    /// Each call of it is a step: at most 9 more than the number of items has binary digits, and at most 57 in any list. It
-    /// is one where all items pass.
+    /// The place of the first item that does not pass a test, or the end. That is what it answers where the
+    /// items that pass stand before those that do not; else it is some place of the list. The test may be
+    /// called at any item (a condition). Each call of it is a step: at most 9 more than the number of items
+    /// has binary digits, and at most 57 in any list. It is one where all items pass.
     pub fn partition_point<F: Fn(&T) -> bool, L: Ledger>(
         &self,
         test: F,
@@ -231,7 +242,8 @@ impl<T: Copy> PageList<T> {
     ) -> Cursor
         requires { F.IsAlwaysCallable test }
         ensures place { IsIn self.now.lengths result }
-        ensures partitioned { (p : T → Bool) → AnswersBy F.Fn test p → IsPartitionedBy p self.now.items → cursor_index self.now.lengths result ≡ prefix_len p self.now.items }
+        ensures partitioned { (p : T → Bool) → AnswersBy F.Fn test p → IsPartitionedBy p self.now.items
+            → cursor_index self.now.lengths result ≡ prefix_len p self.now.items }
         ensures steps { (k : ℕ) → length self.now.items < 2 ^ k → steps.new ≤ steps.old + k + 9 }
         ensures bound { steps.new ≤ steps.old + 57 }
         ensures rises { steps.old ≤ steps.new }
@@ -243,12 +255,14 @@ impl<T: Copy> PageList<T> {
         self.first_failing(&test, steps)
     }
 
-    /// Puts an item at a place of this list, before the item there, and answers its place. There is room for an insert
-    /// (conditions). Other cursors are good no more. It takes no memory. An item that moves is a step: at most 128 do.
+    /// Puts an item at a place of this list, before the item there, and answers its place. There is room for
+    /// an insert (conditions). Other cursors are good no more. It takes no memory. An item that moves is a
+    /// step: at most 128 do.
     pub fn insert<L: Ledger>(&mut self, at: Cursor, item: T, steps: &mut Steps<L>) -> Cursor
         requires room { 1 ≤ insert_room self.old }
         requires place { IsIn self.old.lengths at }
-        ensures items { self.new.items ≡ take (cursor_index self.old.lengths at) self.old.items ++ item ∷ drop (cursor_index self.old.lengths at) self.old.items }
+        ensures items { self.new.items ≡ take (cursor_index self.old.lengths at) self.old.items ++ item ∷ drop
+            (cursor_index self.old.lengths at) self.old.items }
         ensures place { IsIn self.new.lengths result }
         ensures index { cursor_index self.new.lengths result ≡ cursor_index self.old.lengths at }
         ensures room { insert_room self.old ≤ insert_room self.new + 1 }
@@ -267,7 +281,9 @@ impl<T: Copy> PageList<T> {
     // Whether the last item passes a test, or there is no item.
     fn last_passes<F: Fn(&T) -> bool, L: Ledger>(&self, test: &F, steps: &mut Steps<L>) -> bool
         requires { F.IsAlwaysCallable test.now }
-        ensures passes { (p : T → Bool) (d : T) → AnswersBy F.Fn test.now p → IsTrue result → 0 < length self.now.items → p (slice_index_or self.now.items (length self.now.items - 1) d) ≡ true }
+        ensures passes { (p : T → Bool) (d : T) → AnswersBy F.Fn test.now p → IsTrue result
+            → 0 < length self.now.items → p (slice_index_or self.now.items (length self.now.items - 1) d)
+            ≡ true }
         ensures steps { steps.new ≤ steps.old + 1 }
         ensures rises { steps.old ≤ steps.new }
     {
@@ -292,7 +308,8 @@ impl<T: Copy> PageList<T> {
     fn first_failing<F: Fn(&T) -> bool, L: Ledger>(&self, test: &F, steps: &mut Steps<L>) -> Cursor
         requires { F.IsAlwaysCallable test.now }
         ensures place { IsIn self.now.lengths result }
-        ensures partitioned { (p : T → Bool) → AnswersBy F.Fn test.now p → IsPartitionedBy p self.now.items → cursor_index self.now.lengths result ≡ prefix_len p self.now.items }
+        ensures partitioned { (p : T → Bool) → AnswersBy F.Fn test.now p → IsPartitionedBy p self.now.items
+            → cursor_index self.now.lengths result ≡ prefix_len p self.now.items }
         ensures steps { (k : ℕ) → length self.now.items < 2 ^ k → steps.new ≤ steps.old + k + 8 }
         ensures bound { steps.new ≤ steps.old + 56 }
         ensures rises { steps.old ≤ steps.new }
@@ -334,12 +351,13 @@ impl<T: Copy> PageList<T> {
         }
     }
 
-    // A place where an item may be put, at the same index: at the end of the page before, if there is room, or in its page,
-    // which is split if it is full.
+    // A place where an item may be put, at the same index: at the end of the page before, if there is room,
+    // or in its page, which is split if it is full.
     fn place_for<L: Ledger>(&mut self, at: Cursor, steps: &mut Steps<L>) -> Cursor
         requires room { 1 ≤ insert_room self.old }
         requires place { IsIn self.old.lengths at }
-        requires last { at.page ≡ length self.old.lengths → slice_index_or self.old.lengths (length self.old.lengths - 1) 128 ≢ 128 }
+        requires last { at.page ≡ length self.old.lengths
+            → slice_index_or self.old.lengths (length self.old.lengths - 1) 128 ≢ 128 }
         ensures items { self.new.items ≡ self.old.items }
         ensures page { result.page < length self.new.lengths }
         ensures place { result.item ≤ length_at self.new.lengths result.page }
@@ -371,8 +389,10 @@ impl<T: Copy> PageList<T> {
     // The end of the page before, at the start of a page, where that page is not full.
     fn end_before(&self, at: Cursor) -> Option<Cursor>
         requires { IsIn self.now.lengths at }
-        ensures { MatchOption result (at.item ≡ 0 → 0 < at.page → length_at self.now.lengths (at.page - 1) ≡ 128) (λ end. (end.page < length self.now.lengths)
-            × (end.item ≡ length_at self.now.lengths end.page) × (end.item < 128) × (cursor_index self.now.lengths end ≡ cursor_index self.now.lengths at)) }
+        ensures { MatchOption result (at.item ≡ 0 → 0 < at.page → length_at self.now.lengths (at.page - 1)
+            ≡ 128) (λ end. (end.page < length self.now.lengths)
+            × (end.item ≡ length_at self.now.lengths end.page) × (end.item < 128)
+            × (cursor_index self.now.lengths end ≡ cursor_index self.now.lengths at)) }
     {
         if at.item != 0 {
             return None;
@@ -391,7 +411,8 @@ impl<T: Copy> PageList<T> {
         requires full { length_at self.old.lengths page ≡ 128 }
         requires free { 1 ≤ self.old.free }
         ensures items { self.new.items ≡ self.old.items }
-        ensures lengths { self.new.lengths ≡ take page self.old.lengths ++ 64 ∷ 64 ∷ drop (page + 1) self.old.lengths }
+        ensures lengths { self.new.lengths ≡ take page self.old.lengths ++ 64 ∷ 64 ∷ drop (page + 1)
+            self.old.lengths }
         ensures free { self.new.free + 1 ≡ self.old.free }
         ensures steps { steps.new ≡ steps.old + 64 }
     {
@@ -407,8 +428,10 @@ impl<T: Copy> PageList<T> {
         requires page { at.page < length self.old.lengths }
         requires place { at.item ≤ length_at self.old.lengths at.page }
         requires room { length_at self.old.lengths at.page < 128 }
-        ensures items { self.new.items ≡ take (cursor_index self.old.lengths at) self.old.items ++ item ∷ drop (cursor_index self.old.lengths at) self.old.items }
-        ensures lengths { self.new.lengths ≡ slice_set self.old.lengths at.page (length_at self.old.lengths at.page + 1) }
+        ensures items { self.new.items ≡ take (cursor_index self.old.lengths at) self.old.items ++ item ∷ drop
+            (cursor_index self.old.lengths at) self.old.items }
+        ensures lengths { self.new.lengths ≡ slice_set self.old.lengths at.page
+            (length_at self.old.lengths at.page + 1) }
         ensures free { self.new.free ≡ self.old.free }
         ensures steps { steps.new ≡ steps.old + (length_at self.old.lengths at.page - at.item) }
     {
@@ -417,18 +440,20 @@ impl<T: Copy> PageList<T> {
         self.surplus += self.pages[at.page].surplus();
     }
 
-    /// Takes the items between two places of this list out, and answers the place where they stood. The first place is not
-    /// past the other (conditions). Other cursors are good no more. It takes no memory, and gives none back. An item that
-    /// is taken out or moves is a step: at most 128 move.
+    /// Takes the items between two places of this list out, and answers the place where they stood. The first
+    /// place is not past the other (conditions). Other cursors are good no more. It takes no memory, and
+    /// gives none back. An item that is taken out or moves is a step: at most 128 move.
     pub fn remove<L: Ledger>(&mut self, from: Cursor, to: Cursor, steps: &mut Steps<L>) -> Cursor
         requires from { IsIn self.old.lengths from }
         requires to { IsIn self.old.lengths to }
         requires order { cursor_index self.old.lengths from ≤ cursor_index self.old.lengths to }
-        ensures items { self.new.items ≡ take (cursor_index self.old.lengths from) self.old.items ++ drop (cursor_index self.old.lengths to) self.old.items }
+        ensures items { self.new.items ≡ take (cursor_index self.old.lengths from) self.old.items ++ drop
+            (cursor_index self.old.lengths to) self.old.items }
         ensures place { IsIn self.new.lengths result }
         ensures index { cursor_index self.new.lengths result ≡ cursor_index self.old.lengths from }
         ensures room { insert_room self.old ≤ insert_room self.new }
-        ensures steps { steps.new ≤ steps.old + (cursor_index self.old.lengths to - cursor_index self.old.lengths from) + 128 }
+        ensures steps { steps.new ≤ steps.old + (cursor_index self.old.lengths to - cursor_index
+            self.old.lengths from) + 128 }
         ensures rises { steps.old ≤ steps.new }
     {
         if from.page == self.pages.len() {
@@ -447,7 +472,8 @@ impl<T: Copy> PageList<T> {
     // Takes the items of a page before a place of it out.
     fn cut_front<L: Ledger>(&mut self, to: Cursor, steps: &mut Steps<L>)
         requires { IsIn self.old.lengths to }
-        ensures items { self.new.items ≡ take (page_start self.old.lengths to.page) self.old.items ++ drop (cursor_index self.old.lengths to) self.old.items }
+        ensures items { self.new.items ≡ take (page_start self.old.lengths to.page) self.old.items ++ drop
+            (cursor_index self.old.lengths to) self.old.items }
         ensures front { take to.page self.new.lengths ≡ take to.page self.old.lengths }
         ensures count { length self.new.lengths ≡ length self.old.lengths }
         ensures free { self.new.free ≡ self.old.free }
@@ -460,11 +486,12 @@ impl<T: Copy> PageList<T> {
         }
     }
 
-    // Takes the items of a page from a place of it on out, unless that are all of them. Answers the first page of those that
-    // are whole.
+    // Takes the items of a page from a place of it on out, unless that are all of them. Answers the first
+    // page of those that are whole.
     fn cut_back<L: Ledger>(&mut self, from: Cursor, steps: &mut Steps<L>) -> usize
         requires { from.item < length_at self.old.lengths from.page }
-        ensures items { self.new.items ≡ take (cursor_index self.old.lengths from) self.old.items ++ drop (page_start self.old.lengths result) self.old.items }
+        ensures items { self.new.items ≡ take (cursor_index self.old.lengths from) self.old.items ++ drop
+            (page_start self.old.lengths result) self.old.items }
         ensures start { page_start self.new.lengths result ≡ cursor_index self.old.lengths from }
         ensures rest { drop result self.new.lengths ≡ drop result self.old.lengths }
         ensures count { length self.new.lengths ≡ length self.old.lengths }
@@ -472,7 +499,8 @@ impl<T: Copy> PageList<T> {
         ensures order { cursor_index self.old.lengths from ≤ page_start self.old.lengths result }
         ensures free { self.new.free ≡ self.old.free }
         ensures halves { halves_of self.old ≤ halves_of self.new }
-        ensures steps { steps.new + cursor_index self.old.lengths from ≡ steps.old + page_start self.old.lengths result }
+        ensures steps { steps.new + cursor_index self.old.lengths from ≡ steps.old + page_start
+            self.old.lengths result }
     {
         let _ = &self.pages;
         if from.item == 0 {
@@ -489,8 +517,10 @@ impl<T: Copy> PageList<T> {
         requires order { from ≤ to }
         requires inside { to ≤ length_at self.old.lengths page }
         requires keeps { to - from < length_at self.old.lengths page }
-        ensures items { self.new.items ≡ take (page_start self.old.lengths page + from) self.old.items ++ drop (page_start self.old.lengths page + to) self.old.items }
-        ensures lengths { self.new.lengths ≡ slice_set self.old.lengths page (length_at self.old.lengths page - (to - from)) }
+        ensures items { self.new.items ≡ take (page_start self.old.lengths page + from) self.old.items ++ drop
+            (page_start self.old.lengths page + to) self.old.items }
+        ensures lengths { self.new.lengths ≡ slice_set self.old.lengths page
+            (length_at self.old.lengths page - (to - from)) }
         ensures free { self.new.free ≡ self.old.free }
         ensures steps { steps.new ≡ steps.old + (length_at self.old.lengths page - from) }
         ensures bound { length_at self.old.lengths page ≤ 128 }
@@ -504,10 +534,12 @@ impl<T: Copy> PageList<T> {
     fn take_out<L: Ledger>(&mut self, first: usize, last: usize, steps: &mut Steps<L>)
         requires order { first ≤ last }
         requires inside { last ≤ length self.old.lengths }
-        ensures items { self.new.items ≡ take (page_start self.old.lengths first) self.old.items ++ drop (page_start self.old.lengths last) self.old.items }
+        ensures items { self.new.items ≡ take (page_start self.old.lengths first) self.old.items ++ drop
+            (page_start self.old.lengths last) self.old.items }
         ensures lengths { self.new.lengths ≡ take first self.old.lengths ++ drop last self.old.lengths }
         ensures free { self.new.free ≡ self.old.free + (last - first) }
-        ensures steps { steps.new + page_start self.old.lengths first ≡ steps.old + page_start self.old.lengths last }
+        ensures steps { steps.new + page_start self.old.lengths first ≡ steps.old + page_start
+            self.old.lengths last }
     {
         self.surplus -= surplus_in(&self.pages[first..last]);
         release(&mut self.pages, first, last, &mut self.free, steps);

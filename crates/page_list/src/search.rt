@@ -1,4 +1,5 @@
-ghost use Rattle.std.specs.Prelude.{◌≡◌, ◌+◌, ◌-◌, ◌^◌, ◌<◌, ◌≤◌, ℕ, Bool, List, true, false, length, slice_index_or};
+ghost use Rattle.std.specs.Prelude.{◌≡◌, ◌+◌, ◌-◌, ◌^◌, ◌<◌, ◌≤◌, ℕ, Bool, List, true, false, length};
+ghost use Rattle.std.specs.Prelude.{slice_index_or};
 ghost use Rattle.page_list.specs.Pages.{passes_at_start};
 ghost use Rattle.page_list.specs.Test.{AnswersBy};
 
@@ -6,8 +7,8 @@ use crate::page::Page;
 use crate::steps::Steps;
 use std::sync::ledger::Ledger;
 
-// Searches a list, in halves, for the end of what passes a test: what is before it passes, and what is at it does not.
-// Each call of the test is a step.
+// Searches a list, in halves, for the end of what passes a test: what is before it passes, and what is at it
+// does not. Each call of the test is a step.
 pub(crate) fn search<X, F: Fn(&X) -> bool, L: Ledger>(
     xs: &[X],
     test: &F,
@@ -15,8 +16,10 @@ pub(crate) fn search<X, F: Fn(&X) -> bool, L: Ledger>(
 ) -> usize
     requires { F.IsAlwaysCallable test.now }
     ensures bound { result ≤ length xs.now }
-    ensures passes { (p : X → Bool) (d : X) → AnswersBy F.Fn test.now p → 0 < result → p (slice_index_or xs.now (result - 1) d) ≡ true }
-    ensures fails { (p : X → Bool) (d : X) → AnswersBy F.Fn test.now p → result < length xs.now → p (slice_index_or xs.now result d) ≡ false }
+    ensures passes { (p : X → Bool) (d : X) → AnswersBy F.Fn test.now p → 0 < result
+        → p (slice_index_or xs.now (result - 1) d) ≡ true }
+    ensures fails { (p : X → Bool) (d : X) → AnswersBy F.Fn test.now p → result < length xs.now
+        → p (slice_index_or xs.now result d) ≡ false }
     ensures steps { (k : ℕ) → length xs.now < 2 ^ k → steps.new ≤ steps.old + k }
     ensures rises { steps.old ≤ steps.new }
 {
@@ -42,8 +45,10 @@ pub(crate) fn search_pages<T: Copy, F: Fn(&T) -> bool, L: Ledger>(
 ) -> usize
     requires { F.IsAlwaysCallable test.now }
     ensures bound { result ≤ length pages.now }
-    ensures passes { (p : T → Bool) (d : List T) → AnswersBy F.Fn test.now p → 0 < result → passes_at_start p (slice_index_or pages.now (result - 1) d) ≡ true }
-    ensures fails { (p : T → Bool) (d : List T) → AnswersBy F.Fn test.now p → result < length pages.now → passes_at_start p (slice_index_or pages.now result d) ≡ false }
+    ensures passes { (p : T → Bool) (d : List T) → AnswersBy F.Fn test.now p → 0 < result
+        → passes_at_start p (slice_index_or pages.now (result - 1) d) ≡ true }
+    ensures fails { (p : T → Bool) (d : List T) → AnswersBy F.Fn test.now p → result < length pages.now
+        → passes_at_start p (slice_index_or pages.now result d) ≡ false }
     ensures steps { (k : ℕ) → length pages.now < 2 ^ k → steps.new ≤ steps.old + k }
     ensures rises { steps.old ≤ steps.new }
 {

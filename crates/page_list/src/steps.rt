@@ -3,10 +3,10 @@ ghost use Rattle.std.specs.Prelude.{◌≡◌, ◌+◌, ◌<◌};
 use std::marker::Model;
 use std::sync::ledger::{Blank, Book, Ledger, Share};
 
-/// How many steps were taken. A step is a comparison in a search, which is a call of its test; an item that is taken out,
-/// or one that moves from its place; and what a caller counts of its own, as its comparisons with items that it got. What
-/// moves of the list of the pages when a page is begun or taken out is not counted. It takes no bytes, and to count does
-/// nothing when the program runs.
+/// How many steps were taken. A step is a comparison in a search, which is a call of its test; an item that
+/// is taken out, or one that moves from its place; and what a caller counts of its own, as its comparisons
+/// with items that it got. What moves of the list of the pages when a page is begun or taken out is not
+/// counted. It takes no bytes, and to count does nothing when the program runs.
 #[derive(Drop)]
 pub struct Steps<L: Ledger> {
     book: Book<L>,

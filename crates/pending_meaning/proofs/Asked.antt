@@ -1,5 +1,6 @@
 -- What calls within the room of a disk leave of it, and how many writes are pending on it then.
-use Rattle.std.proofs.Common.{◌≡◌, ℕ, ◌+◌, ◌≤◌, Bool, true, false, zero, suc, List, [], ◌∷◌, ◌++◌, length, take, refl, sym, ◌∙◌, ap, subst, inl, inr, arith, length-append}
+use Rattle.std.proofs.Common.{◌≡◌, ℕ, ◌+◌, ◌≤◌, Bool, true, false, zero, suc, List, [], ◌∷◌, ◌++◌, length, take, refl, sym, ◌∙◌}
+use Rattle.std.proofs.Common.{ap, subst, inl, inr, arith, length-append}
 use Rattle.std.specs.Prelude.{Option, Some, None, is_some, IfSome, IsTrue}
 use Rattle.std.proofs.lemmas.Bool.{cases_Bool}
 use Rattle.std.proofs.lemmas.List.{take_all, take-append-le, length-take-le}
@@ -23,7 +24,8 @@ passed_on : (fuse : Fuse) (m n : ℕ) → passes fuse m ≡ true → passed_of f
 passed_on None m n made = refl
 passed_on (Some left) m n made = grind arith
 
-passed_short : (fuse : Fuse) (m n : ℕ) → passes fuse m ≡ false → (passed_of fuse (m + n) ≡ passed_of fuse m) × (passed_of fuse m ≤ m)
+passed_short : (fuse : Fuse) (m n : ℕ) → passes fuse m ≡ false → (passed_of fuse (m + n) ≡ passed_of fuse m)
+    × (passed_of fuse m ≤ m)
 passed_short None m n stopped = cc
 passed_short (Some left) m n stopped = (grind arith, omega arith)
 
@@ -47,7 +49,8 @@ spent_after fuse n spent = ap (λ f. fuse_after f n) spent ∙ ap Some (omega ar
 abbrev pub moments_passed : Fuse → List Call → List Medium → List Medium
 moments_passed fuse calls moments = moments_with_all (take (passed_of fuse (length calls)) calls) moments
 
-pub one_by_one : (a b : List Call) (moments : List Medium) → moments_with_all (a ++ b) moments ≡ moments_with_all b (moments_with_all a moments)
+pub one_by_one : (a b : List Call) (moments : List Medium)
+    → moments_with_all (a ++ b) moments ≡ moments_with_all b (moments_with_all a moments)
 one_by_one [] b moments = refl
 one_by_one (call ∷ a) b moments = one_by_one a b (moments_with call moments)
 
@@ -57,7 +60,8 @@ all_made fuse calls moments made =
     ap (λ n. moments_with_all (take n calls) moments) (all_passed fuse (length calls) made)
     ∙ ap (λ list. moments_with_all list moments) (take_all (length calls) calls (omega arith))
 
-pub none_made : (fuse : Fuse) (calls : List Call) (moments : List Medium) → fuse ≡ Some 0 → moments_passed fuse calls moments ≡ moments
+pub none_made : (fuse : Fuse) (calls : List Call) (moments : List Medium) → fuse ≡ Some 0
+    → moments_passed fuse calls moments ≡ moments
 none_made fuse calls moments spent =
     ap (λ f. moments_passed f calls moments) spent ∙ ap (λ n. moments_with_all (take n calls) moments) (none_of (length calls))
 
@@ -103,10 +107,12 @@ pub record IsAsked (calls : List Call) (old new : DiskState) : Type 0 where
   pub fuse : fuse_in new.budget ≡ fuse_after (fuse_in old.budget) (length calls)
   pub moments : new.moments ≡ moments_passed (fuse_in old.budget) calls old.moments
 
-asked_in : (cost : Cost) (calls : List Call) (are_made : Bool) (before after : Option Budget) (old new : List Medium) → AreCovered calls cost
+asked_in : (cost : Cost) (calls : List Call) (are_made : Bool) (before after : Option Budget) (old new : List Medium)
+    → AreCovered calls cost
     → HasRoom cost.changes cost.bytes before → Takes cost are_made before after
     → IfSome before (λ b. HasRoomFor calls b → new ≡ moments_passed b.fuse calls old)
-    → IsTrue (is_some after) × (fuse_in after ≡ fuse_after (fuse_in before) (length calls)) × (new ≡ moments_passed (fuse_in before) calls old)
+    → IsTrue (is_some after) × (fuse_in after ≡ fuse_after (fuse_in before) (length calls))
+    × (new ≡ moments_passed (fuse_in before) calls old)
 asked_in cost calls are_made None after old new covered room takes those = absurd room
 asked_in cost calls are_made (Some budget) after old new covered room takes those =
     let within = takes.2 room.0 room.1 in
@@ -121,7 +127,8 @@ asked_in cost calls are_made (Some budget) after old new covered room takes thos
 pub asked : (cost : Cost) (calls : List Call) (are_made : Bool) (old new : DiskState) → AreCovered calls cost
     → HasRoom cost.changes cost.bytes old.budget → Costs cost calls are_made old new → IsAsked calls old new
 asked cost calls are_made old new covered room costs =
-    let all = asked_in cost calls are_made old.budget new.budget old.moments new.moments covered room costs.calls.budget costs.performed in
+    let all = asked_in cost calls are_made old.budget new.budget old.moments new.moments covered room costs.calls.budget
+    costs.performed in
     record { told = all.0; fuse = all.1; moments = all.2 }
 
 -- ---- pending writes
@@ -152,10 +159,12 @@ writes_pend (Write at piece ∷ calls) [] count total are sum has = absurd has
 writes_pend (Write at piece ∷ calls) (now ∷ past) count total are sum has =
     let long : length (Write at piece ∷ calls) ≡ 1 + length calls = omega arith in
     let one : length (after_write at piece now).pending ≡ 1 + length now.pending = omega arith in
-    writes_pend calls (after_write at piece now ∷ now ∷ past) (1 + count) total are (omega (arith, sum, long)) (omega (arith, has, one))
+    writes_pend calls (after_write at piece now ∷ now ∷ past) (1 + count) total are (omega (arith, sum, long))
+    (omega (arith, has, one))
 writes_pend (Sync ∷ calls) moments count total are sum has = absurd are
 
-pub passed_pend : (fuse : Fuse) (calls : List Call) (moments : List Medium) (count : ℕ) → AreWrites calls → HasPending count moments
+pub passed_pend : (fuse : Fuse) (calls : List Call) (moments : List Medium) (count : ℕ) → AreWrites calls
+    → HasPending count moments
     → HasPending (count + passed_of fuse (length calls)) (moments_passed fuse calls moments)
 passed_pend fuse calls moments count are has =
     let k : ℕ = passed_of fuse (length calls) in

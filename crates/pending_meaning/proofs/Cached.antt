@@ -1,5 +1,6 @@
 -- As many writes are pending on the plain cache as on a disk that is asked for the same calls.
-use Rattle.std.proofs.Common.{◌≡◌, ℕ, ◌+◌, ◌%◌, Bool, true, false, List, [], ◌∷◌, ◌++◌, length, take, refl, sym, ◌∙◌, ap, subst, arith, if◌then◌else◌, length-append, append-nil}
+use Rattle.std.proofs.Common.{◌≡◌, ℕ, ◌+◌, ◌%◌, Bool, true, false, List, [], ◌∷◌, ◌++◌, length, take, refl, sym, ◌∙◌, ap, subst}
+use Rattle.std.proofs.Common.{arith, if◌then◌else◌, length-append, append-nil}
 use Rattle.std.specs.Prelude.{Option, Some, None, option_map}
 use Rattle.std.proofs.lemmas.List.{take_all, take-append-le, length-take-le}
 use Rattle.lsvd_device.specs.Medium.{Medium}
@@ -14,12 +15,14 @@ use Rattle.plain_disk.specs.declared.cache.PendingWrite.{PendingWrite}
 use Rattle.plain_disk.specs.declared.cache.PendingWrite.TheVariants.{Body, ClosedGate, OpenedGate}
 use Rattle.plain_disk.specs.declared.log.PlainCommit.{PlainCommit}
 use Rattle.plain_disk.specs.Log.{PlainLog, commit_from, with_commit}
-use Rattle.plain_disk.specs.Cache.{PlainCache, after_writes, after_sync_of, after_first_half, after_second_half, after_finishing, cache_after_commit}
+use Rattle.plain_disk.specs.Cache.{PlainCache, after_writes, after_sync_of, after_first_half, after_second_half, after_finishing}
+use Rattle.plain_disk.specs.Cache.{cache_after_commit}
 use Rattle.log_meaning.specs.Shows.{commit_of}
-use Rattle.pending_meaning.proofs.Asked.{passed_most, none_of, spent_after, moments_passed, one_by_one, all_made, passed_then, HasPending, AreWrites, writes_pend, passed_pend, sync_clears}
+use Rattle.pending_meaning.proofs.Asked.{passed_most, none_of, spent_after, moments_passed, one_by_one, all_made, passed_then}
+use Rattle.pending_meaning.proofs.Asked.{HasPending, AreWrites, writes_pend, passed_pend, sync_clears}
 
--- The plain cache is asked for these calls, and is this one then. As many writes are pending on it as on a disk that is asked for them,
--- and where none passes, those that were.
+-- The plain cache is asked for these calls, and is this one then. As many writes are pending on it as on a disk that is asked for
+-- them, and where none passes, those that were.
 pub record PendsAs (calls : List Call) (old new : PlainCache) : Type 0 where
   pub left : new.left ≡ fuse_after old.left (length calls)
   pub pends : (moments : List Medium) → HasPending (length old.pending) moments
@@ -59,7 +62,8 @@ then_as a b old middle new first second = record {
 
 -- ---- writes
 
-pub writes_as : (calls : List Call) (writes : List PendingWrite) (cache : PlainCache) → AreWrites calls → length calls ≡ length writes
+pub writes_as : (calls : List Call) (writes : List PendingWrite) (cache : PlainCache) → AreWrites calls
+    → length calls ≡ length writes
     → PendsAs calls cache (after_writes writes cache)
 writes_as calls writes cache are count =
     let k : ℕ = passed_of cache.left (length writes) in
@@ -97,7 +101,8 @@ chosen P true x y is other = is refl
 chosen P false x y is other = other refl
 
 -- the sync passes
-synced_as : (calls : List Call) (n : ℕ) (cache : PlainCache) → AreWrites calls → length calls ≡ n → passes cache.left (n + 1) ≡ true
+synced_as : (calls : List Call) (n : ℕ) (cache : PlainCache) → AreWrites calls → length calls ≡ n
+    → passes cache.left (n + 1) ≡ true
     → PendsAs (calls ++ Sync ∷ []) cache (record cache { left = fuse_after cache.left (n + 1); pending = [] })
 synced_as calls n cache are count made =
     let size : length (calls ++ Sync ∷ []) ≡ n + 1 = length-append calls (Sync ∷ []) ∙ ap (λ m. m + 1) count in
@@ -106,13 +111,16 @@ synced_as calls n cache are count made =
       pends = λ moments has.
           let total : ℕ = length cache.pending + length calls in
           subst (HasPending 0)
-          (sym (all_made cache.left (calls ++ Sync ∷ []) moments (ap (passes cache.left) size ∙ made) ∙ one_by_one calls (Sync ∷ []) moments))
-          (sync_clears (moments_with_all calls moments) total (writes_pend calls moments (length cache.pending) total are refl has));
+          (sym (all_made cache.left (calls ++ Sync ∷ []) moments (ap (passes cache.left) size ∙ made)
+          ∙ one_by_one calls (Sync ∷ []) moments))
+          (sync_clears (moments_with_all calls moments) total (writes_pend calls moments (length cache.pending) total are
+          refl has));
       spent = λ is. absurd (let e : ◌≡◌ {A = Bool} true false = sym made ∙ ap (λ f. passes f (n + 1)) is ∙ spent_stops n in cc);
     }
 
 -- it does not, nor does a call after it
-stopped_as : (calls : List Call) (writes : List PendingWrite) (cache : PlainCache) → AreWrites calls → length calls ≡ length writes
+stopped_as : (calls : List Call) (writes : List PendingWrite) (cache : PlainCache) → AreWrites calls
+    → length calls ≡ length writes
     → passes cache.left (length writes + 1) ≡ false → PendsAs (calls ++ Sync ∷ []) cache (after_writes writes cache)
 stopped_as calls writes cache are count stopped =
     let n : ℕ = length writes in
@@ -152,12 +160,15 @@ first_half_as : (number : ℕ) (body : CommitBody) (commit : PlainCommit) (cache
 first_half_as number body commit cache =
     log_as (first_half_calls number body) (passes cache.left 3) cache (after_sync_of (Body ∷ ClosedGate ∷ []) cache)
     (record cache.log { unfinished = Some commit })
-    (sync_as (Write (body_at ((number + 1) % 3)) (body_bytes body (number + 1)) ∷ Write (gate_at ((number + 2) % 3)) (0 ∷ []) ∷ [])
+    (sync_as (Write (body_at ((number + 1) % 3)) (body_bytes body (number + 1)) ∷ Write (gate_at ((number + 2) % 3))
+    (0 ∷ []) ∷ [])
     (Body ∷ ClosedGate ∷ []) cache tt refl)
 
-second_half_as : (number : ℕ) (commit : PlainCommit) (cache : PlainCache) → PendsAs (second_half_calls number) cache (after_second_half commit cache)
+second_half_as : (number : ℕ) (commit : PlainCommit) (cache : PlainCache)
+    → PendsAs (second_half_calls number) cache (after_second_half commit cache)
 second_half_as number commit cache =
-    log_as (second_half_calls number) (passes cache.left 2) cache (after_sync_of (OpenedGate ∷ []) cache) (with_commit commit cache.log)
+    log_as (second_half_calls number) (passes cache.left 2) cache (after_sync_of (OpenedGate ∷ []) cache)
+    (with_commit commit cache.log)
     (sync_as (Write (gate_at ((number + 1) % 3)) (1 ∷ []) ∷ []) (OpenedGate ∷ []) cache tt refl)
 
 finish_as : (number : ℕ) (unfinished : Option CommitBody) (cache : PlainCache)
@@ -174,8 +185,10 @@ commit_as number unfinished body seq cache same =
     let ready : PlainCache = after_finishing cache.log.unfinished cache in
     let commit : PlainCommit = commit_from seq ready.log in
     let P : Option PlainCommit → Type 0 = λ u. PendsAs (finish_calls number unfinished) cache (after_finishing u cache) in
-    then_as (finish_calls number unfinished) (first_half_calls last body ++ second_half_calls last) cache ready (cache_after_commit seq cache)
+    then_as (finish_calls number unfinished) (first_half_calls last body ++ second_half_calls last) cache ready
+    (cache_after_commit seq cache)
     (subst P (sym same) (finish_as number unfinished cache))
-    (then_as (first_half_calls last body) (second_half_calls last) ready (after_first_half commit ready) (cache_after_commit seq cache)
+    (then_as (first_half_calls last body) (second_half_calls last) ready (after_first_half commit ready)
+    (cache_after_commit seq cache)
     (first_half_as last body commit ready)
     (second_half_as last commit (after_first_half commit ready)))

@@ -1,5 +1,6 @@
 -- A commit that a fuse broke off after its first half, before its gate was opened or after.
-use Rattle.std.proofs.Common.{◌≡◌, ◌≢◌, ℕ, ◌+◌, ◌%◌, ◌<◌, ◌≤◌, ◌⊎◌, true, false, zero, suc, List, [], ◌∷◌, length, take, refl, sym, ◌∙◌, ap, inl, inr, arith}
+use Rattle.std.proofs.Common.{◌≡◌, ◌≢◌, ℕ, ◌+◌, ◌%◌, ◌<◌, ◌≤◌, ◌⊎◌, true, false, zero, suc, List, [], ◌∷◌, length, take, refl}
+use Rattle.std.proofs.Common.{sym, ◌∙◌, ap, inl, inr, arith}
 use Rattle.std.specs.Prelude.{Some, None, slice_index}
 use Rattle.std.proofs.lemmas.Bool.{cases_lt}
 use Rattle.lsvd_bytes.specs.Places.{with_bytes}
@@ -28,7 +29,8 @@ use Rattle.pending_meaning.proofs.Asked.{moments_passed, IsAsked}
 -- the bytes after the writes of a first half
 abbrev bytes_after : ℕ → CommitBody → List ℕ → List ℕ
 bytes_after number body bytes =
-    with_bytes (gate_at ((number + 2) % 3)) (0 ∷ []) (with_bytes (body_at ((number + 1) % 3)) (body_bytes body (number + 1)) bytes)
+    with_bytes (gate_at ((number + 2) % 3)) (0 ∷ [])
+    (with_bytes (body_at ((number + 1) % 3)) (body_bytes body (number + 1)) bytes)
 
 slots_differ : (n : ℕ) → ((n + 2) % 3 < (n + 1) % 3) ⊎ ((n + 1) % 3 < (n + 2) % 3)
 slots_differ n =
@@ -46,13 +48,16 @@ gate_kept number body bytes uuid fits =
     let next : (number + 1) % 3 < 3 = omega arith in
     let third : (number + 2) % 3 < 3 = omega arith in
     let middle : List ℕ = with_bytes (body_at ((number + 1) % 3)) piece bytes in
-    let long : length middle ≡ length bytes = length-put Kept (body_at ((number + 1) % 3)) piece bytes (omega (arith, whole, next, fits)) in
-    get_outside (gate_at ((number + 2) % 3)) 1 (gate_at ((number + 1) % 3)) (0 ∷ []) middle (omega arith) (omega (arith, long, third, fits))
+    let long : length middle ≡ length bytes =
+    length-put Kept (body_at ((number + 1) % 3)) piece bytes (omega (arith, whole, next, fits)) in
+    get_outside (gate_at ((number + 2) % 3)) 1 (gate_at ((number + 1) % 3)) (0 ∷ []) middle (omega arith)
+    (omega (arith, long, third, fits))
     (elim (slots_differ number) [
       | inl less ↦ inr (omega (arith, less))
       | inr less ↦ inl (omega (arith, less))
     ])
-    ∙ get_outside (body_at ((number + 1) % 3)) 512 (gate_at ((number + 1) % 3)) piece bytes (omega (arith, whole)) (omega (arith, next, fits))
+    ∙ get_outside (body_at ((number + 1) % 3)) 512 (gate_at ((number + 1) % 3)) piece bytes (omega (arith, whole))
+    (omega (arith, next, fits))
     (inr (omega arith))
 
 -- ---- the moments
@@ -92,10 +97,12 @@ gate_opened number body now past moments is made = record {
 three_pend : (commit : PlainCommit) (cache : PlainCache) → (after_halves commit (record cache { left = Some 3 })).pending ≡ []
 three_pend commit cache = refl
 
-four_pend : (commit : PlainCommit) (cache : PlainCache) → (after_halves commit (record cache { left = Some 4 })).pending ≡ OpenedGate ∷ []
+four_pend : (commit : PlainCommit) (cache : PlainCache) → (after_halves commit (record cache { left = Some 4 })).pending
+    ≡ OpenedGate ∷ []
 four_pend commit cache = refl
 
-commit_pends : (seq : ℕ) (cache : PlainCache) (left : Fuse) (pending : List PendingWrite) → cache.log.unfinished ≡ None → cache.left ≡ left
+commit_pends : (seq : ℕ) (cache : PlainCache) (left : Fuse) (pending : List PendingWrite) → cache.log.unfinished ≡ None
+    → cache.left ≡ left
     → ((commit : PlainCommit) → (after_halves commit (record cache { left = left })).pending ≡ pending)
     → (cache_after_commit seq cache).pending ≡ pending
 commit_pends seq cache left pending none is done =
@@ -115,7 +122,8 @@ three_or_four (Some (suc (suc (suc (suc zero))))) made failed = inr refl
 three_or_four (Some (suc (suc (suc (suc (suc left)))))) made failed = absurd (grind (arith, failed))
 
 -- a commit of which the fuse passed the first half, and not the second
-pub record IsBegunOn (number : ℕ) (body : CommitBody) (cache : PlainCache) (old new : DiskState) (now : Medium) (past : List Medium) : Type 0 where
+pub record IsBegunOn (number : ℕ) (body : CommitBody) (cache : PlainCache) (old new : DiskState) (now : Medium)
+    (past : List Medium) : Type 0 where
   pub moments : old.moments ≡ now ∷ past
   pub closed : HasNextGateClosed number body now
   pub none : cache.log.unfinished ≡ None
@@ -124,7 +132,8 @@ pub record IsBegunOn (number : ℕ) (body : CommitBody) (cache : PlainCache) (ol
   pub stopped : passes cache.left 5 ≡ false
   pub asked : IsAsked (commit_calls number None body) old new
 
-passed_from : (number : ℕ) (body : CommitBody) (cache : PlainCache) (old new : DiskState) (now : Medium) (past : List Medium) (n k : ℕ)
+passed_from : (number : ℕ) (body : CommitBody) (cache : PlainCache) (old new : DiskState) (now : Medium)
+    (past : List Medium) (n k : ℕ)
     → IsBegunOn number body cache old new now past → cache.left ≡ Some n → passed_of (Some n) 5 ≡ k
     → new.moments ≡ moments_with_all (take k (commit_calls number None body)) (now ∷ past)
 passed_from number body cache old new now past n k is left passed =
@@ -140,7 +149,8 @@ spent_by number body cache old new now past n is left few =
     is.asked.fuse ∙ ap (λ f. fuse_after f 5) (sym is.left ∙ left) ∙ ap Some (omega (arith, few))
 
 -- it broke the commit off
-pub broken_off : (number : ℕ) (body : CommitBody) (seq : ℕ) (cache : PlainCache) (old new : DiskState) (now : Medium) (past : List Medium)
+pub broken_off : (number : ℕ) (body : CommitBody) (seq : ℕ) (cache : PlainCache) (old new : DiskState) (now : Medium)
+    (past : List Medium)
     → IsBegunOn number body cache old new now past
     → IsBrokenOff (gate_at ((number + 1) % 3)) new (cache_after_commit seq cache).pending
 broken_off number body seq cache old new now past is =
@@ -150,7 +160,8 @@ broken_off number body seq cache old new now past is =
             fuse = spent_by number body cache old new now past 3 is three (omega arith);
             where_ =
                 inl (
-                  first_made number body now past new.moments is.closed (passed_from number body cache old new now past 3 3 is three (omega arith)),
+                  first_made number body now past new.moments is.closed (passed_from number body cache old new now past 3 3 is
+                      three (omega arith)),
                   commit_pends seq cache (Some 3) [] is.none three (λ commit. three_pend commit cache),
                 );
           }
@@ -159,7 +170,8 @@ broken_off number body seq cache old new now past is =
             fuse = spent_by number body cache old new now past 4 is four (omega arith);
             where_ =
                 inr (
-                  gate_opened number body now past new.moments is.closed (passed_from number body cache old new now past 4 4 is four (omega arith)),
+                  gate_opened number body now past new.moments is.closed (passed_from number body cache old new now past 4 4 is
+                      four (omega arith)),
                   commit_pends seq cache (Some 4) (OpenedGate ∷ []) is.none four (λ commit. four_pend commit cache),
                 );
           }

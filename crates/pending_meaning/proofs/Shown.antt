@@ -1,5 +1,6 @@
 -- What each call of the log leaves pending.
-use Rattle.std.proofs.Common.{◌≡◌, ◌≢◌, ℕ, ◌+◌, ◌*◌, ◌%◌, ◌≤◌, ◌⊎◌, ◌==◌, Bool, true, false, List, [], ◌∷◌, ◌++◌, length, refl, sym, ◌∙◌, ap, subst, inl, inr, arith, if◌then◌else◌}
+use Rattle.std.proofs.Common.{◌≡◌, ◌≢◌, ℕ, ◌+◌, ◌*◌, ◌%◌, ◌≤◌, ◌⊎◌, ◌==◌, Bool, true, false, List, [], ◌∷◌, ◌++◌, length, refl}
+use Rattle.std.proofs.Common.{sym, ◌∙◌, ap, subst, inl, inr, arith, if◌then◌else◌}
 use Rattle.std.specs.Prelude.{Option, Some, None, IfSome, IfNone, slice_index, option_map}
 use Rattle.std.specs.List.{AllByRecursion}
 use Rattle.std.proofs.Math.Path.{subst₂}
@@ -31,8 +32,10 @@ use Rattle.log_meaning.specs.Laws.{CostsCommit}
 use Rattle.log_meaning.proofs.Shown.{some_as}
 use Rattle.log_meaning.proofs.FuseLemmas.{failed_commit_has_fuse}
 use Rattle.pending_meaning.specs.Pending.{HasGateClosed, HasGateOpened, IsBrokenOff, ShowsPending}
-use Rattle.pending_meaning.specs.Laws.{CanTake, SyncedShowsPending, StillShowsPending, EntryShowsPending, CommitShowsPending, FailedCommitShowsPending}
-use Rattle.pending_meaning.proofs.Asked.{spent_after, moments_passed, none_made, AreCovered, IsAsked, asked, HasPending, AreWrites, newest_of}
+use Rattle.pending_meaning.specs.Laws.{CanTake, SyncedShowsPending, StillShowsPending, EntryShowsPending, CommitShowsPending}
+use Rattle.pending_meaning.specs.Laws.{FailedCommitShowsPending}
+use Rattle.pending_meaning.proofs.Asked.{spent_after, moments_passed, none_made, AreCovered, IsAsked, asked, HasPending}
+use Rattle.pending_meaning.proofs.Asked.{AreWrites, newest_of}
 use Rattle.pending_meaning.proofs.Cached.{PendsAs, writes_as, log_as, commit_as}
 use Rattle.pending_meaning.proofs.Bodies.{now_is, last_uuid}
 use Rattle.pending_meaning.proofs.Gates.{broken_off}
@@ -62,10 +65,12 @@ still_off old new before after number stays broken =
 
 -- where a commit is unfinished, it is broken off
 abbrev AreBrokenOff : CommitsState → List PendingWrite → Type 0
-AreBrokenOff commits pending = IfSome commits.unfinished (λ more. IsBrokenOff (gate_at ((commits.number + 1) % 3)) commits.disk pending)
+AreBrokenOff commits pending = IfSome commits.unfinished (λ more. IsBrokenOff (gate_at ((commits.number + 1) % 3))
+    commits.disk pending)
 
 still_broken : (old new : CommitsState) (before after : List PendingWrite) → IsAsBefore old new
-    → (fuse_in old.disk.budget ≡ Some 0 → IsStill old.disk new.disk before after) → AreBrokenOff old before → AreBrokenOff new after
+    → (fuse_in old.disk.budget ≡ Some 0 → IsStill old.disk new.disk before after) → AreBrokenOff old before
+    → AreBrokenOff new after
 still_broken old new before after same stays broken =
     let P : Option CommitBody → Type 0 = λ u. IfSome u (λ more. IsBrokenOff (gate_at ((new.number + 1) % 3)) new.disk after) in
     subst P (sym same.same_unfinished)
@@ -75,12 +80,14 @@ still_broken old new before after same stays broken =
 
 none_broken : (commits : CommitsState) (pending : List PendingWrite) → commits.unfinished ≡ None → AreBrokenOff commits pending
 none_broken commits pending none =
-    let P : Option CommitBody → Type 0 = λ u. IfSome u (λ more. IsBrokenOff (gate_at ((commits.number + 1) % 3)) commits.disk pending) in
+    let P : Option CommitBody → Type 0 = λ u. IfSome u (λ more. IsBrokenOff (gate_at ((commits.number + 1) % 3)) commits.disk
+    pending) in
     subst P (sym none) tt
 
 -- ---- no call
 
-none_pend : (moments : List Medium) (pending : List PendingWrite) → HasNow IsSynced moments → pending ≡ [] → HasPending (length pending) moments
+none_pend : (moments : List Medium) (pending : List PendingWrite) → HasNow IsSynced moments → pending ≡ []
+    → HasPending (length pending) moments
 none_pend [] pending synced none = synced
 none_pend (now ∷ past) pending synced none = ap length synced.pending ∙ sym (ap length none)
 
@@ -113,7 +120,8 @@ pending_after : (calls : List Call) (old new : LogState) (cache after : PlainCac
     → HasPending (length after.pending) new.commits.disk.moments
 pending_after calls old new cache after is =
     let P : Fuse → Type 0 = λ f. HasPending (length after.pending) (moments_passed f calls old.commits.disk.moments) in
-    subst (HasPending (length after.pending)) (sym is.asked.moments) (subst P is.left (is.pends.pends old.commits.disk.moments is.shows.pending))
+    subst (HasPending (length after.pending)) (sym is.asked.moments)
+    (subst P is.left (is.pends.pends old.commits.disk.moments is.shows.pending))
 
 -- as before, where the fuse is spent
 spent_stays : (calls : List Call) (old new : LogState) (cache after : PlainCache) → AreAsked calls old new cache after
@@ -136,19 +144,22 @@ shows_after calls old new cache after is broken = record {
 same_after : (calls : List Call) (old new : LogState) (cache after : PlainCache) → AreAsked calls old new cache after
     → IsAsBefore old.commits new.commits → AreBrokenOff new.commits after.pending
 same_after calls old new cache after is same =
-    still_broken old.commits new.commits cache.pending after.pending same (spent_stays calls old new cache after is) is.shows.broken
+    still_broken old.commits new.commits cache.pending after.pending same (spent_stays calls old new cache after is)
+    is.shows.broken
 
 -- ---- an entry
 
 -- the writes of an entry, by whether it needs no pad
 record AreWritesOf (has_none : Bool) (at head sectors : ℕ) (pad bytes : List ℕ) : Type 0 where
   covered : AreCovered ((if has_none then [] else Write head pad ∷ []) ++ Write at bytes ∷ [])
-      (if has_none then write_cost (sector_bytes * sectors) else together (write_cost sector_bytes) (write_cost (sector_bytes * sectors)))
+      (if has_none then write_cost (sector_bytes * sectors) else together (write_cost sector_bytes)
+      (write_cost (sector_bytes * sectors)))
   writes : AreWrites ((if has_none then [] else Write head pad ∷ []) ++ Write at bytes ∷ [])
   count : length ((if has_none then [] else Write head pad ∷ []) ++ Write at bytes ∷ [])
       ≡ length (if has_none then Record ∷ [] else Pad ∷ Record ∷ [])
 
-are_writes_of : (has_none : Bool) (at head sectors : ℕ) (pad bytes : List ℕ) → length pad ≤ sector_bytes → length bytes ≡ sector_bytes * sectors
+are_writes_of : (has_none : Bool) (at head sectors : ℕ) (pad bytes : List ℕ) → length pad ≤ sector_bytes
+    → length bytes ≡ sector_bytes * sectors
     → AreWritesOf has_none at head sectors pad bytes
 are_writes_of true at head sectors pad bytes short whole = record {
   covered = record { count = refl; changes = omega arith; bytes = omega (arith, whole) };
@@ -166,7 +177,8 @@ entry_shows_pending old new cache entry are_made shows log same can costs =
     let sectors : ℕ = record_sectors entry in
     let calls : List Call = append_writes old.room sectors costs.pad costs.bytes in
     let written : PlainCache = after_writes (writes_of cache.log entry) cache in
-    let of = are_writes_of (pad_before old.room sectors == 0) (byte_of (position old.room sectors)) (byte_of old.room.head) sectors
+    let of = are_writes_of (pad_before old.room sectors == 0) (byte_of (position old.room sectors))
+    (byte_of old.room.head) sectors
     costs.pad costs.bytes costs.pad_size costs.size in
     let count : length calls ≡ length (writes_of cache.log entry) =
     of.count ∙ sym (ap (λ r. length (if pad_before r sectors == 0 then Record ∷ [] else Pad ∷ Record ∷ [])) log.room) in
@@ -175,7 +187,8 @@ entry_shows_pending old new cache entry are_made shows log same can costs =
     record {
       shows = shows;
       left = can.left;
-      asked = asked (append_cost old.room sectors) calls are_made old.commits.disk new.commits.disk of.covered can.room costs.costs;
+      asked = asked (append_cost old.room sectors) calls are_made old.commits.disk new.commits.disk of.covered can.room
+          costs.costs;
       pends =
           log_as calls (passes_entry cache entry) cache written (with_record cache.log entry)
           (writes_as calls (writes_of cache.log entry) cache of.writes count);
@@ -202,7 +215,8 @@ uuid_of log cache shows on_disk =
     let newest = newest_of log.commits.disk.moments (length cache.pending) shows.pending in
     last_uuid log.commits cache.pending newest.now newest.past newest.is on_disk shows.broken
 
-commit_asked : (seq : ℕ) (is_made : Bool) (old new : LogState) (cache : PlainCache) → ShowsPending old cache → ShowsLog old cache.log
+commit_asked : (seq : ℕ) (is_made : Bool) (old new : LogState) (cache : PlainCache) → ShowsPending old cache
+    → ShowsLog old cache.log
     → AreOnDisk old.commits → CanTake (commit_cost old.commits.unfinished) old.commits.disk cache → CostsCommit is_made old new
     → AreAsked (calls_of old) old new cache (cache_after_commit seq cache)
 commit_asked seq is_made old new cache shows log on_disk can costs =
@@ -232,10 +246,12 @@ commit_shows_pending seq old new cache shows log on_disk can costs made =
 -- ---- a commit that failed
 
 none_passes : (fuse : Fuse) (n : ℕ) → fuse ≡ Some 0 → passes fuse (n + 1) ≡ true → ⊥
-none_passes fuse n spent passed = (let e : passes (Some 0) (n + 1) ≡ true = sym (ap (λ f. passes f (n + 1)) spent) ∙ passed in grind (arith, e))
+none_passes fuse n spent passed = (let e : passes (Some 0) (n + 1) ≡ true = sym (ap (λ f. passes f (n + 1)) spent) ∙ passed in
+    grind (arith, e))
 
 -- its second half is left, where none was before
-begun_off : (seq : ℕ) (old new : LogState) (cache : PlainCache) → AreAsked (calls_of old) old new cache (cache_after_commit seq cache)
+begun_off : (seq : ℕ) (old new : LogState) (cache : PlainCache)
+    → AreAsked (calls_of old) old new cache (cache_after_commit seq cache)
     → AreOnDisk old.commits → cache.log.unfinished ≡ None → old.commits.unfinished ≡ None
     → passes cache.left 3 ≡ true → passes cache.left 5 ≡ false
     → IsBrokenOff (gate_at ((old.commits.number + 1) % 3)) new.commits.disk (cache_after_commit seq cache).pending
@@ -244,17 +260,20 @@ begun_off seq old new cache both on_disk none finished begun stopped =
     let newest = newest_of commits.disk.moments (length cache.pending) both.shows.pending in
     let gate : ℕ = gate_at ((commits.number + 1) % 3) in
     let P : Option CommitBody → Type 0 = λ u. IfNone u (HoldsNow (λ m. slice_index m.bytes gate ≢ 1) commits.disk.moments) in
-    let size : HasSize commits.disk.size newest.now = (subst (AllByRecursion (HasSize commits.disk.size)) newest.is on_disk.is_disk.media).0 in
+    let size : HasSize commits.disk.size newest.now =
+    (subst (AllByRecursion (HasSize commits.disk.size)) newest.is on_disk.is_disk.media).0 in
     let bytes = size.bytes in
     let least = on_disk.size in
-    let A : Option CommitBody → Type 0 = λ u. IsAsked (commit_calls commits.number u (body_of old)) commits.disk new.commits.disk in
+    let A : Option CommitBody → Type 0 = λ u. IsAsked (commit_calls commits.number u (body_of old)) commits.disk
+    new.commits.disk in
     broken_off commits.number (body_of old) seq cache commits.disk new.commits.disk newest.now newest.past
     (record {
       moments = newest.is;
       closed = record {
         uuid = uuid_of old cache both.shows on_disk;
         least = omega (arith, bytes, least);
-        closed = now_is (λ m. slice_index m.bytes gate ≢ 1) commits.disk.moments newest.now newest.past newest.is (subst P finished on_disk.closed);
+        closed = now_is (λ m. slice_index m.bytes gate ≢ 1) commits.disk.moments newest.now newest.past newest.is
+            (subst P finished on_disk.closed);
       };
       none = none;
       left = both.left;
@@ -275,11 +294,14 @@ begun_in None seq old new cache both on_disk shown is begun passed stopped =
     let off = begun_off seq old new cache both on_disk (shown ∙ ap (option_map commit_of) is) is passed stopped in
     let number : new.commits.number ≡ old.commits.number = begun.same_number ∙ ap (finished_number old.commits.number) is in
     let P : ℕ → Type 0 = λ n. IsBrokenOff (gate_at ((n + 1) % 3)) new.commits.disk after in
-    let Q : Option CommitBody → Type 0 = λ u. IfSome u (λ more. IsBrokenOff (gate_at ((new.commits.number + 1) % 3)) new.commits.disk after) in
+    let Q : Option CommitBody → Type 0 = λ u.
+    IfSome u (λ more. IsBrokenOff (gate_at ((new.commits.number + 1) % 3)) new.commits.disk after) in
     subst Q (sym begun.same_unfinished) (subst P (sym number) off)
 begun_in (Some more) seq old new cache both on_disk shown is begun passed stopped =
-    let P : Option CommitBody → Type 0 = λ u. IfSome u (λ b. IsBrokenOff (gate_at ((old.commits.number + 1) % 3)) old.commits.disk cache.pending) in
-    let broken : IsBrokenOff (gate_at ((old.commits.number + 1) % 3)) old.commits.disk cache.pending = subst P is both.shows.broken in
+    let P : Option CommitBody → Type 0 = λ u. IfSome u (λ b. IsBrokenOff (gate_at ((old.commits.number + 1) % 3)) old.commits.disk
+    cache.pending) in
+    let broken : IsBrokenOff (gate_at ((old.commits.number + 1) % 3)) old.commits.disk cache.pending =
+    subst P is both.shows.broken in
     absurd (none_passes cache.left 4 (both.left ∙ broken.fuse) passed)
 
 -- the same of a commit that failed

@@ -1,4 +1,5 @@
--- Contract: each call of the log, on a device that fails by its fuse alone, leaves the pending writes that it leaves of the plain cache.
+-- Contract: each call of the log, on a device that fails by its fuse alone, leaves the pending writes that it leaves of the plain
+-- cache.
 use Rattle.std.specs.Prelude.{◌≡◌, ℕ, Bool, true, false, Some, None, is_some, IsTrue, []}
 use Rattle.lsvd_base.specs.declared.entry.Entry.{Entry}
 use Rattle.lsvd_device.specs.Calls.{Cost}
@@ -25,7 +26,8 @@ pub record CanTake (cost : Cost) (disk : DiskState) (cache : PlainCache) : Type 
 abbrev pub SyncedShowsPending : Type 0
 SyncedShowsPending =
     (log : LogState) (cache : PlainCache)
-    → IsTrue (is_some log.commits.disk.budget) → HasNow IsSynced log.commits.disk.moments → log.commits.unfinished ≡ None → cache.pending ≡ []
+    → IsTrue (is_some log.commits.disk.budget) → HasNow IsSynced log.commits.disk.moments → log.commits.unfinished ≡ None
+    → cache.pending ≡ []
     → ShowsPending log cache
 
 -- the pending writes stay while calls change none, as reads do, or a trim, or lending of the device

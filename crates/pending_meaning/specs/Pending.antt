@@ -27,11 +27,13 @@ pub record HasGateOpened (gate : ℕ) (moments : List Medium) : Type 0 where
 -- A fuse broke a commit off: the device passes no call, since before its gate was opened or since after.
 pub record IsBrokenOff (gate : ℕ) (disk : DiskState) (pending : List PendingWrite) : Type 0 where
   pub fuse : fuse_in disk.budget ≡ Some 0
-  pub where_ : (HasGateClosed gate disk.moments × (pending ≡ [])) ⊎ (HasGateOpened gate disk.moments × (pending ≡ OpenedGate ∷ []))
+  pub where_ : (HasGateClosed gate disk.moments × (pending ≡ []))
+      ⊎ (HasGateOpened gate disk.moments × (pending ≡ OpenedGate ∷ []))
 
--- The disk tells what it holds and what it passes. As many writes are pending on it as on that of the plain cache, and where a commit's
--- second half is left, a fuse broke it off.
+-- The disk tells what it holds and what it passes. As many writes are pending on it as on that of the plain cache, and where a
+-- commit's second half is left, a fuse broke it off.
 pub record ShowsPending (log : LogState) (cache : PlainCache) : Type 0 where
   pub told : IsTrue (is_some log.commits.disk.budget)
   pub pending : HasNow (λ now. length now.pending ≡ length cache.pending) log.commits.disk.moments
-  pub broken : IfSome log.commits.unfinished (λ more. IsBrokenOff (gate_at ((log.commits.number + 1) % 3)) log.commits.disk cache.pending)
+  pub broken : IfSome log.commits.unfinished (λ more. IsBrokenOff (gate_at ((log.commits.number + 1) % 3)) log.commits.disk
+      cache.pending)

@@ -45,7 +45,8 @@ ends_within state number h is =
 
 pub ends_from : (state : PlainState) (number : ℕ) → IsPlainVolume state → state.end ≤ end_at (stream_in state) number
 ends_from state number h =
-    end_no_earlier state.end (take (number - state.number) state.objects) (follow_first state.end (number - state.number) state.objects h.stream.ends)
+    end_no_earlier state.end (take (number - state.number) state.objects)
+    (follow_first state.end (number - state.number) state.objects h.stream.ends)
 
 pub frontier_ends : (state : PlainState) → IsPlainVolume state → frontier_end state ≤ history_length state
 frontier_ends state h = ends_within state (frontier_of state) h (frontier_is_sealed state h)

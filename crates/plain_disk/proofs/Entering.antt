@@ -1,5 +1,6 @@
 -- What an entry answers and leaves, by whether its record was written.
-use Rattle.std.proofs.Common.{◌≡◌, ℕ, ◌+◌, Bool, true, false, not, ◌&&◌, ◌||◌, if◌then◌else◌, Option, Some, None, is_some, unwrap_or, List, [], ◌∷◌, ◌++◌, refl, sym, ap, ◌∙◌}
+use Rattle.std.proofs.Common.{◌≡◌, ℕ, ◌+◌, Bool, true, false, not, ◌&&◌, ◌||◌, if◌then◌else◌, Option, Some, None, is_some}
+use Rattle.std.proofs.Common.{unwrap_or, List, [], ◌∷◌, ◌++◌, refl, sym, ap, ◌∙◌}
 use Rattle.lsvd_base.specs.declared.entry.Entry.{Entry}
 use Rattle.log_room.specs.Room.{need, free, record_sectors}
 use Rattle.plain_disk.specs.declared.event.PlainReply.{PlainReply}
@@ -7,7 +8,8 @@ use Rattle.plain_disk.specs.declared.event.PlainReply.TheVariants.{Entered, NoRo
 use Rattle.plain_disk.specs.Log.{room_in}
 use Rattle.plain_disk.specs.Cache.{PlainCache, passes_entry, cache_after_entry, passes_commit}
 use Rattle.plain_disk.specs.State.{PlainState, history_length, frontier_end, unsealed_entries}
-use Rattle.plain_disk.specs.Entries.{has_room_for, batch_refusal, commits_for_room, commits_are_made, cache_for, room_reply, enter_reply, after_entering}
+use Rattle.plain_disk.specs.Entries.{has_room_for, batch_refusal, commits_for_room, commits_are_made, cache_for, room_reply}
+use Rattle.plain_disk.specs.Entries.{enter_reply, after_entering}
 use Rattle.plain_disk.specs.Fields.{batch_refusal_of, record_refusal, cache_with_record}
 
 -- A commit comes first or not, and is made or not; then there is room or not, and the record's writes pass or not.
@@ -19,7 +21,8 @@ abbrev answer_of : (first made room passes : Bool) → (no_room entered : PlainR
 answer_of first made room passes no_room entered =
     if not (not first || made) then Fault else (if not room then no_room else (if passes then entered else Fault))
 
-refused_by : (first made room passes : Bool) (no_room entered reply : PlainReply) → refusal_of first made room passes no_room ≡ Some reply
+refused_by : (first made room passes : Bool) (no_room entered reply : PlainReply) → refusal_of first made room passes no_room
+    ≡ Some reply
     → reply ≡ answer_of first made room passes no_room entered
 refused_by true false room passes no_room entered reply is = cc
 refused_by true true false passes no_room entered reply is = cc
@@ -40,7 +43,8 @@ taken_by false made true true no_room entered is = refl
 taken_by false made true false no_room entered is = cc
 
 cache_by : (first made room : Bool) (ready written : PlainCache)
-    → (if (first && not made) || not room then ready else written) ≡ (if not false && (not first || made) && room then written else ready)
+    → (if (first && not made) || not room then ready else written)
+    ≡ (if not false && (not first || made) && room then written else ready)
 cache_by true false true ready written = refl
 cache_by true false false ready written = refl
 cache_by true true true ready written = refl
@@ -106,7 +110,8 @@ left_by state entry refusal = record state {
 }
 
 with_parts : (state : PlainState) (c d : PlainCache) (xs ys : List Entry) → c ≡ d → xs ≡ ys
-    → (let old : PlainState = record state { cache = c; entries = xs } in old) ≡ (let new : PlainState = record state { cache = d; entries = ys } in new)
+    → (let old : PlainState = record state { cache = c; entries = xs } in old) ≡ (let new : PlainState =
+    record state { cache = d; entries = ys } in new)
 with_parts state c d xs ys same_cache same_entries =
     ap (λ (x : PlainCache). let s : PlainState = record state { cache = x; entries = xs } in s) same_cache
     ∙ ap (λ (x : List Entry). let s : PlainState = record state { cache = d; entries = x } in s) same_entries
@@ -122,7 +127,8 @@ refused_leaves state entry reply cache entries none is written same =
     let room = has_room_for ready entry in
     with_parts state _ _ _ _
     (written ∙ cache_by first made room ready (cache_after_entry entry ready))
-    (same ∙ refused_keeps first made room (passes_entry ready entry) (no_room_for ready entry) reply state.entries (state.entries ++ entry ∷ []) is)
+    (same ∙ refused_keeps first made room (passes_entry ready entry) (no_room_for ready entry) reply state.entries
+    (state.entries ++ entry ∷ []) is)
     ∙ sym (ap (left_by state entry) none)
 
 pub taken_leaves : (state : PlainState) (entry : Entry) (cache : PlainCache) (entries : List Entry)
@@ -136,7 +142,8 @@ taken_leaves state entry cache entries none is written longer =
     let room = has_room_for ready entry in
     with_parts state _ _ _ _
     (written ∙ cache_by first made room ready (cache_after_entry entry ready))
-    (longer ∙ taken_adds first made room (passes_entry ready entry) (no_room_for ready entry) state.entries (state.entries ++ entry ∷ []) is)
+    (longer ∙ taken_adds first made room (passes_entry ready entry) (no_room_for ready entry) state.entries
+    (state.entries ++ entry ∷ []) is)
     ∙ sym (ap (left_by state entry) none)
 
 -- what is known once a record was to be written
@@ -145,9 +152,11 @@ pub record IsWritten (state : PlainState) (entry : Entry) (refusal : Option Plai
   pub refused : refusal ≡ record_refusal state.cache (frontier_end state) entry
   pub written : cache ≡ cache_with_record state.cache (frontier_end state) entry
 
-pub written_is : (state now : PlainState) (entry : Entry) (unsealed : List Entry) (copied cache : PlainCache) (end : ℕ) (refusal : Option PlainReply)
+pub written_is : (state now : PlainState) (entry : Entry) (unsealed : List Entry) (copied cache : PlainCache) (end : ℕ)
+    (refusal : Option PlainReply)
     → state ≡ now → unsealed ≡ unsealed_entries state → batch_refusal_of state.geometry unsealed entry ≡ None
-    → copied ≡ state.cache → end ≡ frontier_end now → refusal ≡ record_refusal copied end entry → cache ≡ cache_with_record copied end entry
+    → copied ≡ state.cache → end ≡ frontier_end now → refusal ≡ record_refusal copied end entry
+    → cache ≡ cache_with_record copied end entry
     → IsWritten state entry refusal cache
 written_is state now entry unsealed copied cache end refusal sees listed none same ends refuses writes =
     let at : end ≡ frontier_end state = ends ∙ sym (ap frontier_end sees) in

@@ -1,5 +1,6 @@
 -- Entries of a plain volume may be folded before an event or after it.
-use Rattle.std.proofs.Common.{arith, ℕ, ◌+◌, ◌-◌, ◌≤◌, ◌≡◌, Bool, true, false, cond, not, ◌&&◌, eqb, Option, is_some, List, [], ◌∷◌, ◌++◌, map, length, take, drop, refl, sym, ◌∙◌, ap}
+use Rattle.std.proofs.Common.{arith, ℕ, ◌+◌, ◌-◌, ◌≤◌, ◌≡◌, Bool, true, false, cond, not, ◌&&◌, eqb, Option, is_some, List, []}
+use Rattle.std.proofs.Common.{◌∷◌, ◌++◌, map, length, take, drop, refl, sym, ◌∙◌, ap}
 use Rattle.std.proofs.lemmas.List.{take-append-le, drop-append-le}
 use Rattle.std.specs.List.{range_with_len}
 use Rattle.lsvd_base.specs.declared.entry.Entry.{Entry}
@@ -14,7 +15,8 @@ use Rattle.object_stream.specs.Stream.{Owners, after_objects, end_after, end_at,
 use Rattle.object_stream.proofs.StreamLemmas.{follow_first}
 use Rattle.upload_window.specs.Window.{WindowState, entered}
 use Rattle.plain_disk.specs.declared.event.PlainEvent.{PlainEvent}
-use Rattle.plain_disk.specs.declared.event.PlainEvent.TheVariants.{Write, Zero, Flush, Look, Release, Seal, TakeJob, JobDone, JobFailed, Status}
+use Rattle.plain_disk.specs.declared.event.PlainEvent.TheVariants.{Write, Zero, Flush, Look, Release, Seal, TakeJob, JobDone}
+use Rattle.plain_disk.specs.declared.event.PlainEvent.TheVariants.{JobFailed, Status}
 use Rattle.plain_disk.specs.Writers.{read_calls}
 use Rattle.plain_disk.specs.Cache.{PlainCache, after_reads, passes_entry, cache_after_entry, cache_after_commit}
 use Rattle.plain_disk.specs.State.{PlainState, stream_in, frontier_end, unsealed_entries, folded_to}
@@ -23,7 +25,8 @@ use Rattle.plain_disk.specs.Reads.{objects_read, look_calls, passes_look, after_
 use Rattle.plain_disk.specs.Objects.{sealed_count, is_busy, has_unsealed, end_of_next, after_seal}
 use Rattle.plain_disk.specs.Step.{plain_after}
 use Rattle.plain_disk.specs.Valid.{FoldingCommutesWithEvents, FoldingCommutesWithStops}
-use Rattle.plain_disk.proofs.FoldLemmas.{MayFold, fold_sealed, fold_from, fold_within, frontier_end_of_fold, logged_of_fold, unsealed_of_fold, last_end_of_fold, owners_of_first}
+use Rattle.plain_disk.proofs.FoldLemmas.{MayFold, fold_sealed, fold_from, fold_within, frontier_end_of_fold, logged_of_fold}
+use Rattle.plain_disk.proofs.FoldLemmas.{unsealed_of_fold, last_end_of_fold, owners_of_first}
 use Rattle.plain_disk.proofs.FoldReplyLemmas.{by_three, refusal_by, cache_by, made_by, objects_of_fold}
 
 -- the volume that opens after some first objects, where these are its entries, and these the objects after those
@@ -32,7 +35,8 @@ opened_by state number entries first rest = record state {
   opening = after state.opening (take (end_after state.end first - state.end) entries);
   number = number;
   end = end_after state.end first;
-  owned = map (after_objects state.number state.end entries (stream_in state).opening first) (range_with_len 0 state.geometry.sectors);
+  owned = map (after_objects state.number state.end entries (stream_in state).opening first)
+      (range_with_len 0 state.geometry.sectors);
   entries = drop (end_after state.end first - state.end) entries;
   objects = rest;
 }
@@ -42,7 +46,8 @@ opened_by state number entries first rest = record state {
 -- more entries are not folded
 opened_with_more : (state : PlainState) (number : ℕ) (more : List Entry) → MayFold state number
     → record (folded_to number state) { entries = (folded_to number state).entries ++ more }
-    ≡ opened_by state number (state.entries ++ more) (take (number - state.number) state.objects) (drop (number - state.number) state.objects)
+    ≡ opened_by state number (state.entries ++ more) (take (number - state.number) state.objects)
+    (drop (number - state.number) state.objects)
 opened_with_more state number more h =
     let first = take (number - state.number) state.objects in
     let ends = end_at (stream_in state) number in
@@ -51,9 +56,14 @@ opened_with_more state number more h =
     let inside : ends - state.end ≤ length state.entries = omega arith in
     let opening = ap (after state.opening) (sym (take-append-le (ends - state.end) state.entries more inside)) in
     let owned = ap (λ (f : Owners). map f (range_with_len 0 state.geometry.sectors))
-    (sym (owners_of_first state.number state.end state.entries more (stream_in state).opening first (follow_first state.end (number - state.number) state.objects h.valid.stream.ends) within)) in
+    (sym (owners_of_first state.number state.end state.entries more (stream_in state).opening first
+    (follow_first state.end (number - state.number) state.objects h.valid.stream.ends) within)) in
     let rest = sym (drop-append-le (ends - state.end) state.entries more inside) in
-    by_three (λ (o : Image) (w : List (Option Owner)) (e : List Entry). record (folded_to number state) { opening = o; owned = w; entries = e })
+    by_three (λ (o : Image) (w : List (Option Owner)) (e : List Entry). record (folded_to number state) {
+      opening = o;
+      owned = w;
+      entries = e;
+    })
     _ _ _ _ _ _ opening owned rest
 
 -- one entry more or none
@@ -63,21 +73,25 @@ fold_with : (state : PlainState) (number : ℕ) (entry : Entry) (cache : PlainCa
       entries = cond is_taken ((folded_to number state).entries ++ entry ∷ []) (folded_to number state).entries;
     }
     ≡ folded_to number (record state { cache = cache; entries = cond is_taken (state.entries ++ entry ∷ []) state.entries })
-fold_with state number entry cache true h = ap (λ (s : PlainState). record s { cache = cache }) (opened_with_more state number (entry ∷ []) h)
+fold_with state number entry cache true h =
+    ap (λ (s : PlainState). record s { cache = cache }) (opened_with_more state number (entry ∷ []) h)
 fold_with state number entry cache false h = refl
 
 -- what an entry leaves, by the unsealed entries and the frontier's end
 abbrev comes_by : PlainState → Entry → List Entry → ℕ → Bool
 comes_by state entry unsealed end =
-    not (is_some (refusal_by state.geometry unsealed entry)) && made_by state.cache end entry && has_room_for (cache_by state.cache end entry) entry
+    not (is_some (refusal_by state.geometry unsealed entry)) && made_by state.cache end entry
+    && has_room_for (cache_by state.cache end entry) entry
 
 abbrev entered_by : PlainState → Entry → List Entry → ℕ → PlainState
 entered_by state entry unsealed end = record state {
   cache =
       cond (is_some (refusal_by state.geometry unsealed entry)) state.cache
-      (cond (comes_by state entry unsealed end) (cache_after_entry entry (cache_by state.cache end entry)) (cache_by state.cache end entry));
+      (cond (comes_by state entry unsealed end) (cache_after_entry entry (cache_by state.cache end entry))
+      (cache_by state.cache end entry));
   entries =
-      cond (comes_by state entry unsealed end && passes_entry (cache_by state.cache end entry) entry) (state.entries ++ entry ∷ []) state.entries;
+      cond (comes_by state entry unsealed end && passes_entry (cache_by state.cache end entry) entry)
+      (state.entries ++ entry ∷ []) state.entries;
 }
 
 entering_of_fold : (state : PlainState) (number : ℕ) (entry : Entry) → MayFold state number
@@ -86,7 +100,8 @@ entering_of_fold state number entry h =
     let folded : PlainState = folded_to number state in
     ap (λ (u : List Entry). entered_by folded entry u (frontier_end folded)) (unsealed_of_fold state number h)
     ∙ ap (λ (e : ℕ). entered_by folded entry (unsealed_entries state) e) (frontier_end_of_fold state number h)
-    ∙ fold_with state number entry (cache_after state entry) (comes_to_log state entry && passes_entry (cache_for state entry) entry) h
+    ∙ fold_with state number entry (cache_after state entry)
+    (comes_to_log state entry && passes_entry (cache_for state entry) entry) h
 
 -- ---- a read, and a plan that is given back
 
@@ -99,22 +114,32 @@ fold_either state number false cache pins = refl
 abbrev looked_by : PlainState → (lba sectors : ℕ) → (calls : ℕ) → List ℕ → PlainState
 looked_by state lba sectors calls objects =
     cond (may_transfer state.geometry lba sectors)
-    (record state { cache = after_reads calls state.cache; pins = cond (passes state.cache.left calls) (state.pins ++ objects) state.pins })
+    (record state {
+      cache = after_reads calls state.cache;
+      pins = cond (passes state.cache.left calls) (state.pins ++ objects)
+          state.pins;
+    })
     state
 
 look_of_fold : (state : PlainState) (number lba sectors : ℕ) → MayFold state number
     → after_look lba sectors (folded_to number state) ≡ folded_to number (after_look lba sectors state)
 look_of_fold state number lba sectors h =
     let folded : PlainState = folded_to number state in
-    ap (λ (l : List Entry). looked_by folded lba sectors (read_calls l lba sectors) (objects_read folded lba sectors)) (logged_of_fold state number h)
-    ∙ ap (λ (o : List ℕ). looked_by folded lba sectors (look_calls state lba sectors) o) (objects_of_fold state number lba sectors h)
+    ap (λ (l : List Entry). looked_by folded lba sectors (read_calls l lba sectors) (objects_read folded lba sectors))
+    (logged_of_fold state number h)
+    ∙ ap (λ (o : List ℕ). looked_by folded lba sectors (look_calls state lba sectors) o)
+    (objects_of_fold state number lba sectors h)
     ∙ fold_either state number (may_transfer state.geometry lba sectors) (after_reads (look_calls state lba sectors) state.cache)
     (cond (passes_look state lba sectors) (state.pins ++ objects_read state lba sectors) state.pins)
 
 -- ---- a seal
 
-fold_with_object : (state : PlainState) (number : ℕ) (object : StreamObject) (window : WindowState) (is_sealed : Bool) → MayFold state number
-    → cond is_sealed (record (folded_to number state) { objects = (folded_to number state).objects ++ object ∷ []; window = window }) (folded_to number state)
+fold_with_object : (state : PlainState) (number : ℕ) (object : StreamObject) (window : WindowState) (is_sealed : Bool)
+    → MayFold state number
+    → cond is_sealed (record (folded_to number state) {
+      objects = (folded_to number state).objects ++ object ∷ [];
+      window = window;
+    }) (folded_to number state)
     ≡ folded_to number (cond is_sealed (record state { objects = state.objects ++ object ∷ []; window = window }) state)
 fold_with_object state number object window false h = refl
 fold_with_object state number object window true h =
@@ -123,8 +148,10 @@ fold_with_object state number object window true h =
     let inside : n ≤ length state.objects = omega arith in
     let first = sym (take-append-le n state.objects (object ∷ []) inside) in
     let rest = sym (drop-append-le n state.objects (object ∷ []) inside) in
-    ap (λ (r : List StreamObject). record (opened_by state number state.entries (take n state.objects) r) { window = window }) rest
-    ∙ ap (λ (f : List StreamObject). record (opened_by state number state.entries f (drop n (state.objects ++ object ∷ []))) { window = window }) first
+    ap (λ (r : List StreamObject). record (opened_by state number state.entries (take n state.objects) r) { window = window })
+    rest
+    ∙ ap (λ (f : List StreamObject). record (opened_by state number state.entries f (drop n (state.objects ++ object ∷ [])))
+    { window = window }) first
 
 abbrev sealed_by : PlainState → (last_end : ℕ) → List Entry → PlainState
 sealed_by state last_end unsealed =
@@ -135,12 +162,15 @@ sealed_by state last_end unsealed =
     })
     state
 
-seal_of_fold : (state : PlainState) (number : ℕ) → MayFold state number → after_seal (folded_to number state) ≡ folded_to number (after_seal state)
+seal_of_fold : (state : PlainState) (number : ℕ) → MayFold state number
+    → after_seal (folded_to number state) ≡ folded_to number (after_seal state)
 seal_of_fold state number h =
     let folded : PlainState = folded_to number state in
     ap (λ (e : ℕ). sealed_by folded e (unsealed_entries folded)) (last_end_of_fold state number h)
-    ∙ ap (λ (u : List Entry). sealed_by folded (end_at (stream_in state) (last_number (stream_in state))) u) (unsealed_of_fold state number h)
-    ∙ fold_with_object state number (record { content = Data; end = end_of_next state }) (entered (state.window.last + 1) false state.window)
+    ∙ ap (λ (u : List Entry). sealed_by folded (end_at (stream_in state) (last_number (stream_in state))) u)
+    (unsealed_of_fold state number h)
+    ∙ fold_with_object state number (record { content = Data; end = end_of_next state })
+    (entered (state.window.last + 1) false state.window)
     (has_unsealed state && not (is_busy state)) h
 
 -- ---- each event
@@ -150,7 +180,8 @@ event_of_fold : (state : PlainState) (number : ℕ) (event : PlainEvent) → May
 event_of_fold state number (Write lba body) h = entering_of_fold state number (entries.Write lba body) h
 event_of_fold state number (Zero lba sectors) h = entering_of_fold state number (entries.Zero lba sectors) h
 event_of_fold state number Flush h =
-    ap (λ (e : ℕ). record (folded_to number state) { cache = cache_after_commit e state.cache }) (frontier_end_of_fold state number h)
+    ap (λ (e : ℕ). record (folded_to number state) { cache = cache_after_commit e state.cache })
+    (frontier_end_of_fold state number h)
 event_of_fold state number (Look lba sectors) h = look_of_fold state number lba sectors h
 event_of_fold state number (Release numbers) h =
     fold_either state number (are_pinned numbers state.pins) state.cache (without_pins numbers state.pins)
@@ -161,7 +192,8 @@ event_of_fold state number (JobFailed job) h = refl
 event_of_fold state number Status h = refl
 
 pub folding_commutes_with_events : FoldingCommutesWithEvents
-folding_commutes_with_events state number event h from to = event_of_fold state number event (record { valid = h; from = from; to = to })
+folding_commutes_with_events state number event h from to =
+    event_of_fold state number event (record { valid = h; from = from; to = to })
 
 pub folding_commutes_with_stops : FoldingCommutesWithStops
 folding_commutes_with_stops state number calls = refl

@@ -1,5 +1,6 @@
 -- A plain volume that opens after a later object has the same objects, entries and owners.
-use Rattle.std.proofs.Common.{arith, ℕ, ◌+◌, ◌-◌, ◌/◌, ◌≤◌, ◌≡◌, true, false, cond, ◌&&◌, nat_lt, nat_le, Option, Some, None, List, [], ◌∷◌, ◌++◌, map, get_or, length, take, drop, length-drop, refl, sym, ◌∙◌, ap, inl, inr}
+use Rattle.std.proofs.Common.{arith, ℕ, ◌+◌, ◌-◌, ◌/◌, ◌≤◌, ◌≡◌, true, false, cond, ◌&&◌, nat_lt, nat_le, Option, Some, None}
+use Rattle.std.proofs.Common.{List, [], ◌∷◌, ◌++◌, map, get_or, length, take, drop, length-drop, refl, sym, ◌∙◌, ap, inl, inr}
 use Rattle.std.proofs.lemmas.Bool.{cases_lt}
 use Rattle.std.proofs.lemmas.Bool.Decides.{nat_tests}
 use Rattle.std.proofs.lemmas.List.{take-append-le, drop-append-le, take-append-drop, drop-drop, get_or_past}
@@ -21,10 +22,12 @@ use Rattle.object_stream.specs.declared.object.Content.TheVariants.{Data, Copy, 
 use Rattle.object_stream.specs.declared.object.StreamObject.{StreamObject}
 use Rattle.object_stream.specs.declared.owner.Owner.{Owner}
 use Rattle.object_stream.specs.Changes.{entry_change, change_at, sector_of}
-use Rattle.object_stream.specs.Stream.{Owners, owner_by_change, source_in, owner_by_copy, after_object, after_objects, objects_to, owners, end_after, end_at, last_number, EndsFollow}
+use Rattle.object_stream.specs.Stream.{Owners, owner_by_change, source_in, owner_by_copy, after_object, after_objects, objects_to}
+use Rattle.object_stream.specs.Stream.{owners, end_after, end_at, last_number, EndsFollow}
 use Rattle.object_stream.specs.Laws.{from_object}
 use Rattle.object_stream.proofs.StreamLemmas.{goes_on, end_no_earlier, keeps_owners}
-use Rattle.plain_disk.specs.State.{PlainState, stream_in, history_length, image_now, frontier_of, frontier_end, logged_entries, unsealed_entries, owned_after, folded_to}
+use Rattle.plain_disk.specs.State.{PlainState, stream_in, history_length, image_now, frontier_of, frontier_end, logged_entries}
+use Rattle.plain_disk.specs.State.{unsealed_entries, owned_after, folded_to}
 use Rattle.plain_disk.specs.Valid.{IsPlainVolume}
 use Rattle.plain_disk.proofs.EndLemmas.{ends_grow, frontier_is_sealed, ends_from, ends_within}
 
@@ -35,7 +38,8 @@ not_past lba sectors k past = grind (arith, nat_tests)
 
 no_change_past : (g : Geometry) (entry : Entry) (k : ℕ) → is_in_range g entry ≡ true → g.sectors ≤ k → entry_change entry k ≡ None
 no_change_past g (Write lba body) k range past =
-    ap (λ b. cond b (Some (Put (sector_of (k - lba) body))) None) (not_past lba (length body / 512) k (omega (arith, Write-ends g lba body range)))
+    ap (λ b. cond b (Some (Put (sector_of (k - lba) body))) None)
+    (not_past lba (length body / 512) k (omega (arith, Write-ends g lba body range)))
 no_change_past g (Zero lba sectors) k range past =
     ap (λ b. cond b (Some Clear) None) (not_past lba sectors k (omega (arith, Zero-ends g lba sectors range)))
 
@@ -48,31 +52,37 @@ no_changes_past g (entry ∷ entries) k range past =
     let rest = no_changes_past g entries k (All-tail P entry entries range) past in
     ap (λ c. option_or c (entry_change entry k)) rest ∙ first
 
-none_by_copy : (number : ℕ) (source : Option ℕ) (before : Option Owner) → before ≡ None → owner_by_copy number source before ≡ None
+none_by_copy : (number : ℕ) (source : Option ℕ) (before : Option Owner) → before ≡ None
+    → owner_by_copy number source before ≡ None
 none_by_copy number None before none = none
 none_by_copy number (Some source) before none = ap (owner_by_copy number (Some source)) none
 
 none_after_object : (g : Geometry) (number : ℕ) (content : Content) (entries : List Entry) (before : Owners) (k : ℕ)
-    → All (λ e. is_in_range g e ≡ true) entries → g.sectors ≤ k → before k ≡ None → after_object number content entries before k ≡ None
+    → All (λ e. is_in_range g e ≡ true) entries → g.sectors ≤ k → before k ≡ None
+    → after_object number content entries before k ≡ None
 none_after_object g number Data entries before k range past none =
     ap (λ c. owner_by_change number c (before k)) (no_changes_past g entries k range past) ∙ none
-none_after_object g number (Copy pairs) entries before k range past none = none_by_copy number (source_in pairs.items k) (before k) none
+none_after_object g number (Copy pairs) entries before k range past none =
+    none_by_copy number (source_in pairs.items k) (before k) none
 none_after_object g number Checkpoint entries before k range past none = none
 
 none_after : (g : Geometry) (number end : ℕ) (entries : List Entry) (before : Owners) (objects : List StreamObject) (k : ℕ)
-    → All (λ e. is_in_range g e ≡ true) entries → g.sectors ≤ k → before k ≡ None → after_objects number end entries before objects k ≡ None
+    → All (λ e. is_in_range g e ≡ true) entries → g.sectors ≤ k → before k ≡ None
+    → after_objects number end entries before objects k ≡ None
 none_after g number end entries before [] k range past none = none
 none_after g number end entries before (object ∷ objects) k range past none =
     let P : Entry → Type 0 = λ e. is_in_range g e ≡ true in
     let part = take (object.end - end) entries in
-    none_after g (number + 1) object.end (drop (object.end - end) entries) (after_object (number + 1) object.content part before) objects k
+    none_after g (number + 1) object.end (drop (object.end - end) entries) (after_object (number + 1) object.content part before)
+    objects k
     (All-drop P (object.end - end) entries range) past
     (none_after_object g (number + 1) object.content part before k (All-take P (object.end - end) entries range) past none)
 
 none_owns_past : (state : PlainState) (number k : ℕ) → IsPlainVolume state → state.geometry.sectors ≤ k
     → owners (stream_in state) number k ≡ None
 none_owns_past state number k h past =
-    none_after state.geometry state.number state.end state.entries (stream_in state).opening (objects_to (stream_in state) number) k h.in_range past
+    none_after state.geometry state.number state.end state.entries (stream_in state).opening (objects_to (stream_in state) number)
+    k h.in_range past
     (get_or_past state.owned k None (omega (arith, h.owned)))
 
 -- ---- the stream from a later object on
@@ -84,12 +94,15 @@ owned_at state number h k =
     let f = owners (stream_in state) number in
     elim (cases_lt k all) [
       | inl inside ↦ get_or-map-range_with_len f 0 all k k None inside (omega arith)
-      | inr past ↦ get_or_past (map f (range_with_len 0 all)) k None (omega (arith, length-map-range_with_len f 0 all)) ∙ sym (none_owns_past state number k h past)
+      | inr past ↦ get_or_past (map f (range_with_len 0 all)) k None (omega (arith, length-map-range_with_len f 0 all))
+          ∙ sym (none_owns_past state number k h past)
     ]
 
-stream_of_fold : (state : PlainState) (number : ℕ) → IsPlainVolume state → stream_in (folded_to number state) ≡ from_object number (stream_in state)
+stream_of_fold : (state : PlainState) (number : ℕ) → IsPlainVolume state
+    → stream_in (folded_to number state) ≡ from_object number (stream_in state)
 stream_of_fold state number h =
-    let same : (stream_in (folded_to number state)).opening ≡ owners (stream_in state) number = fun_ext (owned_at state number h) in
+    let same : (stream_in (folded_to number state)).opening ≡ owners (stream_in state) number =
+    fun_ext (owned_at state number h) in
     ap (λ (f : Owners). record (from_object number (stream_in state)) { opening = f }) same
 
 -- what is between the volume's number and its frontier
@@ -108,12 +121,14 @@ module _ (state : PlainState) (number : ℕ) (h : MayFold state number) where
   pub fold_within : end_at (stream_in state) number ≤ history_length state
   fold_within = ends_within state number h.valid fold_sealed
 
-  pub owners_of_fold : (other : ℕ) → number ≤ other → owners (stream_in (folded_to number state)) other ≡ owners (stream_in state) other
+  pub owners_of_fold : (other : ℕ) → number ≤ other → owners (stream_in (folded_to number state)) other
+      ≡ owners (stream_in state) other
   owners_of_fold other after_it =
       ap (λ s. owners s other) (stream_of_fold state number h.valid)
       ∙ fun_ext (keeps_owners (stream_in state) number other h.valid.stream h.from fold_sealed after_it).0
 
-  pub ends_of_fold : (other : ℕ) → number ≤ other → end_at (stream_in (folded_to number state)) other ≡ end_at (stream_in state) other
+  pub ends_of_fold : (other : ℕ) → number ≤ other → end_at (stream_in (folded_to number state)) other
+      ≡ end_at (stream_in state) other
   ends_of_fold other after_it =
       ap (λ s. end_at s other) (stream_of_fold state number h.valid)
       ∙ (keeps_owners (stream_in state) number other h.valid.stream h.from fold_sealed after_it).1
@@ -135,7 +150,8 @@ module _ (state : PlainState) (number : ℕ) (h : MayFold state number) where
 
   -- the entries from a later end on
   pub entries_of_fold : (end : ℕ) → end_at (stream_in state) number ≤ end
-      → drop (end - end_at (stream_in state) number) (drop (end_at (stream_in state) number - state.end) state.entries) ≡ drop (end - state.end) state.entries
+      → drop (end - end_at (stream_in state) number) (drop (end_at (stream_in state) number - state.end) state.entries)
+      ≡ drop (end - state.end) state.entries
   entries_of_fold end after_it =
       let ends = end_at (stream_in state) number in
       let from = fold_from in
@@ -148,7 +164,8 @@ module _ (state : PlainState) (number : ℕ) (h : MayFold state number) where
       ap (λ end. drop (end - ends) (drop (ends - state.end) state.entries)) frontier_end_of_fold
       ∙ entries_of_fold (frontier_end state) (ends_grow (stream_in state) number (frontier_of state) h.valid.stream.ends h.to)
 
-  pub last_end_of_fold : end_at (stream_in (folded_to number state)) (last_number (stream_in (folded_to number state))) ≡ end_at (stream_in state) (last_number (stream_in state))
+  pub last_end_of_fold : end_at (stream_in (folded_to number state)) (last_number (stream_in (folded_to number state)))
+      ≡ end_at (stream_in state) (last_number (stream_in state))
   last_end_of_fold =
       ap (end_at (stream_in (folded_to number state))) last_of_fold ∙ ends_of_fold (last_number (stream_in state)) fold_sealed
 
@@ -162,11 +179,13 @@ module _ (state : PlainState) (number : ℕ) (h : MayFold state number) where
   pub image_of_fold : image_now (folded_to number state) ≡ image_now state
   image_of_fold =
       let n = end_at (stream_in state) number - state.end in
-      sym (applies_in_parts state.opening (take n state.entries) (drop n state.entries)) ∙ ap (after state.opening) (take-append-drop n state.entries)
+      sym (applies_in_parts state.opening (take n state.entries) (drop n state.entries))
+      ∙ ap (after state.opening) (take-append-drop n state.entries)
 
 -- ---- owners do not depend on entries past the objects' end
 
-pub owners_of_first : (number end : ℕ) (entries more : List Entry) (before : Owners) (objects : List StreamObject) → EndsFollow end objects
+pub owners_of_first : (number end : ℕ) (entries more : List Entry) (before : Owners) (objects : List StreamObject)
+    → EndsFollow end objects
     → end_after end objects ≤ end + length entries
     → after_objects number end (entries ++ more) before objects ≡ after_objects number end entries before objects
 owners_of_first number end entries more before [] h within = refl
@@ -177,6 +196,9 @@ owners_of_first number end entries more before (object ∷ objects) h within =
     let inside : n ≤ length entries = omega arith in
     let long = length-drop n entries in
     let rest : end_after object.end objects ≤ object.end + length (drop n entries) = omega arith in
-    ap (λ es. after_objects (number + 1) object.end es (after_object (number + 1) object.content (take n (entries ++ more)) before) objects) (drop-append-le n entries more inside)
-    ∙ ap (λ es. after_objects (number + 1) object.end (drop n entries ++ more) (after_object (number + 1) object.content es before) objects) (take-append-le n entries more inside)
-    ∙ owners_of_first (number + 1) object.end (drop n entries) more (after_object (number + 1) object.content (take n entries) before) objects h.1 rest
+    ap (λ es. after_objects (number + 1) object.end es (after_object (number + 1) object.content (take n (entries ++ more))
+    before) objects) (drop-append-le n entries more inside)
+    ∙ ap (λ es. after_objects (number + 1) object.end (drop n entries ++ more)
+    (after_object (number + 1) object.content es before) objects) (take-append-le n entries more inside)
+    ∙ owners_of_first (number + 1) object.end (drop n entries) more (after_object (number + 1) object.content (take n entries)
+    before) objects h.1 rest

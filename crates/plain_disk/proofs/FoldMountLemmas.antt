@@ -13,7 +13,8 @@ use Rattle.plain_disk.specs.declared.log.PlainCommit.{PlainCommit}
 use Rattle.plain_disk.specs.Log.{mounted_log, empty_from}
 use Rattle.plain_disk.specs.Cache.{PlainCache, cache_with, kept_commit}
 use Rattle.plain_disk.specs.State.{PlainState, stream_in, folded_to}
-use Rattle.plain_disk.specs.Stops.{landed_after, recovered_number, recovered_end, kept_count, cut_to_count, mounted_kept, mounted_lost}
+use Rattle.plain_disk.specs.Stops.{landed_after, recovered_number, recovered_end, kept_count, cut_to_count, mounted_kept}
+use Rattle.plain_disk.specs.Stops.{mounted_lost}
 use Rattle.plain_disk.specs.Valid.{MayLand, FoldingCommutesWithMounts}
 use Rattle.plain_disk.proofs.EndLemmas.{ends_grow}
 use Rattle.plain_disk.proofs.StopLemmas.{recovers_frontier}
@@ -53,16 +54,22 @@ cut_of_fold state number last count cache h above ends_first =
     ap (λ k. take k (drop n state.objects)) (sym objects_left) ∙ part_of_first n m state.objects fewer in
     let entries : take (count - ends) (drop d all) ≡ drop d (take q all) =
     ap (λ k. take k (drop d all)) (sym entries_left) ∙ part_of_first d q all less in
-    let opening : after state.opening (take d all) ≡ after state.opening (take d (take q all)) = ap (after state.opening) (sym (take-take d q all less)) in
-    let same_owners : after_objects state.number state.end all (stream_in state).opening first ≡ after_objects state.number state.end (take q all) (stream_in state).opening first =
-    ap (λ (es : List Entry). after_objects state.number state.end es (stream_in state).opening first) (sym (take-append-drop q all))
-    ∙ owners_of_first state.number state.end (take q all) (drop q all) (stream_in state).opening first (follow_first state.end n state.objects h.valid.stream.ends) inside in
+    let opening : after state.opening (take d all) ≡ after state.opening (take d (take q all)) =
+    ap (after state.opening) (sym (take-take d q all less)) in
+    let same_owners : after_objects state.number state.end all (stream_in state).opening first ≡ after_objects state.number
+    state.end (take q all) (stream_in state).opening first =
+    ap (λ (es : List Entry). after_objects state.number state.end es (stream_in state).opening first)
+    (sym (take-append-drop q all))
+    ∙ owners_of_first state.number state.end (take q all) (drop q all) (stream_in state).opening first
+    (follow_first state.end n state.objects h.valid.stream.ends) inside in
     let owned = ap (λ (f : Owners). map f (range_with_len 0 state.geometry.sectors)) same_owners in
     let cut : PlainState = record (cut_to_count last count state) { cache = cache } in
-    by_three (λ (o : Image) (w : List (Option Owner)) (e : List Entry). record (cut_to_count last count (folded_to number state)) { opening = o; owned = w; entries = e; cache = cache })
+    by_three (λ (o : Image) (w : List (Option Owner)) (e : List Entry). record (cut_to_count last count (folded_to number state))
+    { opening = o; owned = w; entries = e; cache = cache })
     _ _ _ _ _ _ opening owned entries
     ∙ ap (λ (r : List StreamObject). opened_by cut number (take q all) first r) objects
-    ∙ ap (λ (f : List StreamObject). opened_by cut number (take q all) f (drop n (take m state.objects))) (sym (take-take n m state.objects fewer))
+    ∙ ap (λ (f : List StreamObject). opened_by cut number (take q all) f (drop n (take m state.objects)))
+    (sym (take-take n m state.objects fewer))
 
 module _ (state : PlainState) (number : ℕ) (landed : Numbers) (h : MayFold state number) (may : MayLand state landed) where
   number_of_fold : recovered_number landed (folded_to number state) ≡ recovered_number landed state
@@ -73,26 +80,36 @@ module _ (state : PlainState) (number : ℕ) (landed : Numbers) (h : MayFold sta
 
   end_of_fold : recovered_end landed (folded_to number state) ≡ recovered_end landed state
   end_of_fold =
-      ap (end_at (stream_in (folded_to number state))) number_of_fold ∙ ends_of_fold state number h (recovered_number landed state) is_recovered
+      ap (end_at (stream_in (folded_to number state))) number_of_fold
+      ∙ ends_of_fold state number h (recovered_number landed state) is_recovered
 
   recovers_from : end_at (stream_in state) number ≤ recovered_end landed state
   recovers_from = ends_grow (stream_in state) number (recovered_number landed state) h.valid.stream.ends is_recovered
 
-  kept_of_fold : (kept : List Bool) → mounted_kept landed kept (folded_to number state) ≡ folded_to number (mounted_kept landed kept state)
+  kept_of_fold : (kept : List Bool) → mounted_kept landed kept (folded_to number state)
+      ≡ folded_to number (mounted_kept landed kept state)
   kept_of_fold kept =
       let found : PlainCommit = kept_commit kept state.cache in
-      let at = λ (last end : ℕ). record (cut_to_count last (max end found.head.seq) (folded_to number state)) { cache = cache_with (mounted_log found end state.cache.log) } in
+      let at = λ (last end : ℕ). record (cut_to_count last (max end found.head.seq) (folded_to number state)) {
+        cache =
+            cache_with (mounted_log found end state.cache.log);
+      } in
       let from = recovers_from in
       ap (λ (last : ℕ). at last (recovered_end landed (folded_to number state))) number_of_fold
       ∙ ap (λ (end : ℕ). at (recovered_number landed state) end) end_of_fold
-      ∙ cut_of_fold state number (recovered_number landed state) (kept_count landed found state) (cache_with (mounted_log found (recovered_end landed state) state.cache.log)) h is_recovered (omega arith)
+      ∙ cut_of_fold state number (recovered_number landed state) (kept_count landed found state)
+      (cache_with (mounted_log found (recovered_end landed state) state.cache.log)) h is_recovered (omega arith)
 
   lost_of_fold : mounted_lost landed (folded_to number state) ≡ folded_to number (mounted_lost landed state)
   lost_of_fold =
-      let at = λ (last end : ℕ). record (cut_to_count last end (folded_to number state)) { cache = cache_with (empty_from state.cache.log.size end) } in
+      let at = λ (last end : ℕ). record (cut_to_count last end (folded_to number state)) {
+        cache =
+            cache_with (empty_from state.cache.log.size end);
+      } in
       ap (λ (last : ℕ). at last (recovered_end landed (folded_to number state))) number_of_fold
       ∙ ap (λ (end : ℕ). at (recovered_number landed state) end) end_of_fold
-      ∙ cut_of_fold state number (recovered_number landed state) (recovered_end landed state) (cache_with (empty_from state.cache.log.size (recovered_end landed state))) h is_recovered recovers_from
+      ∙ cut_of_fold state number (recovered_number landed state) (recovered_end landed state)
+      (cache_with (empty_from state.cache.log.size (recovered_end landed state))) h is_recovered recovers_from
 
 pub folding_commutes_with_mounts : FoldingCommutesWithMounts
 folding_commutes_with_mounts state number landed kept h may from to =

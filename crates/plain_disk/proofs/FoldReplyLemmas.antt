@@ -1,5 +1,6 @@
 -- A plain volume that opens after a later object answers as before.
-use Rattle.std.proofs.Common.{ℕ, ◌+◌, ◌≡◌, Bool, cond, not, ◌&&◌, ◌||◌, nat_lt, eqb, Option, Some, unwrap_or, option_map, List, length, refl, ◌∙◌, ap}
+use Rattle.std.proofs.Common.{ℕ, ◌+◌, ◌≡◌, Bool, cond, not, ◌&&◌, ◌||◌, nat_lt, eqb, Option, Some, unwrap_or, option_map, List}
+use Rattle.std.proofs.Common.{length, refl, ◌∙◌, ap}
 use Rattle.std.specs.List.{sum_by, filter, list_any, range_with_len}
 use Rattle.lsvd_base.specs.declared.geometry.Geometry.{Geometry}
 use Rattle.lsvd_base.specs.declared.entry.Entry.{Entry}
@@ -12,20 +13,23 @@ use Rattle.batcher.specs.Batch.{data_sectors, fullness}
 use Rattle.log_room.specs.Room.{need, free, record_sectors}
 use Rattle.object_stream.specs.Stream.{Owners, owners, is_own}
 use Rattle.plain_disk.specs.declared.event.PlainEvent.{PlainEvent}
-use Rattle.plain_disk.specs.declared.event.PlainEvent.TheVariants.{Write, Zero, Flush, Look, Release, Seal, TakeJob, JobDone, JobFailed, Status}
+use Rattle.plain_disk.specs.declared.event.PlainEvent.TheVariants.{Write, Zero, Flush, Look, Release, Seal, TakeJob, JobDone}
+use Rattle.plain_disk.specs.declared.event.PlainEvent.TheVariants.{JobFailed, Status}
 use Rattle.plain_disk.specs.declared.event.PlainReply.{PlainReply}
 use Rattle.plain_disk.specs.declared.event.PlainReply.TheVariants as replies
 use Rattle.plain_disk.specs.Sectors.{sectors_at}
 use Rattle.plain_disk.specs.Writers.{covers_sector, read_calls}
 use Rattle.plain_disk.specs.Log.{room_in}
 use Rattle.plain_disk.specs.Cache.{PlainCache, passes_entry, cache_after_commit, passes_commit}
-use Rattle.plain_disk.specs.State.{PlainState, stream_in, history_length, image_now, frontier_of, frontier_end, logged_entries, unsealed_entries, folded_to}
+use Rattle.plain_disk.specs.State.{PlainState, stream_in, history_length, image_now, frontier_of, frontier_end, logged_entries}
+use Rattle.plain_disk.specs.State.{unsealed_entries, folded_to}
 use Rattle.plain_disk.specs.Entries.{reply_of_full, has_room_for, enter_reply}
 use Rattle.plain_disk.specs.Reads.{objects_read, look_reply}
 use Rattle.plain_disk.specs.Objects.{is_busy}
 use Rattle.plain_disk.specs.Step.{plain_reply}
 use Rattle.plain_disk.specs.Valid.{FoldingChangesNoReply}
-use Rattle.plain_disk.proofs.FoldLemmas.{MayFold, owners_of_fold, frontier_end_of_fold, count_of_fold, logged_of_fold, unsealed_of_fold, image_of_fold}
+use Rattle.plain_disk.proofs.FoldLemmas.{MayFold, owners_of_fold, frontier_end_of_fold, count_of_fold, logged_of_fold}
+use Rattle.plain_disk.proofs.FoldLemmas.{unsealed_of_fold, image_of_fold}
 
 -- a value by three others that are the same
 pub by_three : {A B C D : Type 0} (f : A → B → C → D) (a x : A) (b y : B) (c z : C) → a ≡ x → b ≡ y → c ≡ z → f a b c ≡ f x y z
@@ -35,7 +39,8 @@ by_three f a x b y c z first second third = ap (λ v. f v b c) first ∙ ap (λ 
 
 abbrev pub refusal_by : Geometry → List Entry → Entry → Option PlainReply
 refusal_by g unsealed entry =
-    cond (is_in_range g entry) (option_map reply_of_full (fullness g.batch (sum_by data_sectors unsealed) (length unsealed))) (Some replies.Range)
+    cond (is_in_range g entry) (option_map reply_of_full (fullness g.batch (sum_by data_sectors unsealed) (length unsealed)))
+    (Some replies.Range)
 
 abbrev pub commits_by : PlainCache → ℕ → Entry → Bool
 commits_by cache end entry = not (has_room_for cache entry) && nat_lt cache.log.last.tail.seq end
@@ -49,7 +54,8 @@ made_by cache end entry = not (commits_by cache end entry) || passes_commit cach
 abbrev room_reply_by : Bool → PlainCache → ℕ → Entry → PlainReply
 room_reply_by made ready count entry =
     cond (not made) replies.Fault
-    (cond (not (has_room_for ready entry)) (replies.NoRoom (need (room_in ready.log) (record_sectors entry)) (free (room_in ready.log)))
+    (cond (not (has_room_for ready entry)) (replies.NoRoom (need (room_in ready.log) (record_sectors entry))
+    (free (room_in ready.log)))
     (cond (passes_entry ready entry) (replies.Entered (count + 1)) replies.Fault))
 
 abbrev enter_by : Geometry → PlainCache → Entry → List Entry → ℕ → ℕ → PlainReply
@@ -69,13 +75,16 @@ enter_of_fold state number entry h =
 
 abbrev objects_by : (frontier lba sectors : ℕ) → Owners → List Entry → List ℕ
 objects_by frontier lba sectors owned logged =
-    filter (λ number. list_any (λ k. is_own number (owned k) && not (list_any (λ entry. covers_sector entry k) logged)) (range_with_len lba sectors)) (range_with_len 1 frontier)
+    filter (λ number. list_any (λ k. is_own number (owned k) && not (list_any (λ entry. covers_sector entry k) logged))
+    (range_with_len lba sectors)) (range_with_len 1 frontier)
 
 pub objects_of_fold : (state : PlainState) (number lba sectors : ℕ) → MayFold state number
     → objects_read (folded_to number state) lba sectors ≡ objects_read state lba sectors
 objects_of_fold state number lba sectors h =
-    ap (λ o. objects_by (frontier_of state) lba sectors o (logged_entries (folded_to number state))) (owners_of_fold state number h (frontier_of state) h.to)
-    ∙ ap (λ l. objects_by (frontier_of state) lba sectors (owners (stream_in state) (frontier_of state)) l) (logged_of_fold state number h)
+    ap (λ o. objects_by (frontier_of state) lba sectors o (logged_entries (folded_to number state)))
+    (owners_of_fold state number h (frontier_of state) h.to)
+    ∙ ap (λ l. objects_by (frontier_of state) lba sectors (owners (stream_in state) (frontier_of state)) l)
+    (logged_of_fold state number h)
 
 abbrev look_by : PlainState → (lba sectors : ℕ) → (calls count : ℕ) → Image → List ℕ → PlainReply
 look_by state lba sectors calls count image objects =
@@ -88,7 +97,8 @@ look_of_fold : (state : PlainState) (number lba sectors : ℕ) → MayFold state
 look_of_fold state number lba sectors h =
     let folded = folded_to number state in
     let calls = read_calls (logged_entries folded) lba sectors in
-    ap (λ l. look_by state lba sectors (read_calls l lba sectors) (history_length folded) (image_now folded) (objects_read folded lba sectors))
+    ap (λ l. look_by state lba sectors (read_calls l lba sectors) (history_length folded) (image_now folded)
+    (objects_read folded lba sectors))
     (logged_of_fold state number h)
     ∙ by_three (look_by state lba sectors (read_calls (logged_entries state) lba sectors))
     (history_length folded) (history_length state) (image_now folded) (image_now state)
@@ -101,16 +111,20 @@ reply_of_fold : (state : PlainState) (number : ℕ) (event : PlainEvent) → May
     → plain_reply (folded_to number state) event ≡ plain_reply state event
 reply_of_fold state number (Write lba body) h = enter_of_fold state number (entries.Write lba body) h
 reply_of_fold state number (Zero lba sectors) h = enter_of_fold state number (entries.Zero lba sectors) h
-reply_of_fold state number Flush h = ap (λ n. cond (passes_commit state.cache) (replies.Flushed n) replies.Fault) (count_of_fold state number h)
+reply_of_fold state number Flush h = ap (λ n. cond (passes_commit state.cache) (replies.Flushed n) replies.Fault)
+    (count_of_fold state number h)
 reply_of_fold state number (Look lba sectors) h = look_of_fold state number lba sectors h
 reply_of_fold state number (Release numbers) h = refl
 reply_of_fold state number Seal h =
-    ap (λ (unsealed : List Entry). cond (not (eqb (length unsealed) 0)) (cond (is_busy state) replies.Busy (replies.Sealed (state.window.last + 1))) replies.Nothing)
+    ap (λ (unsealed : List Entry). cond (not (eqb (length unsealed) 0))
+    (cond (is_busy state) replies.Busy (replies.Sealed (state.window.last + 1))) replies.Nothing)
     (unsealed_of_fold state number h)
 reply_of_fold state number TakeJob h = refl
 reply_of_fold state number (JobDone job) h = refl
 reply_of_fold state number (JobFailed job) h = refl
-reply_of_fold state number Status h = ap (λ n. replies.Told n state.window.last (frontier_of state) state.checkpoint) (count_of_fold state number h)
+reply_of_fold state number Status h = ap (λ n. replies.Told n state.window.last (frontier_of state) state.checkpoint)
+    (count_of_fold state number h)
 
 pub folding_changes_no_reply : FoldingChangesNoReply
-folding_changes_no_reply state number event h from to = reply_of_fold state number event (record { valid = h; from = from; to = to })
+folding_changes_no_reply state number event h from to =
+    reply_of_fold state number event (record { valid = h; from = from; to = to })

@@ -1,5 +1,6 @@
 -- A plain volume whose entries were folded is one, and folding in parts is folding at once.
-use Rattle.std.proofs.Common.{arith, ℕ, zero, suc, ◌+◌, ◌-◌, ◌≤◌, ◌≡◌, true, Option, List, [], ◌∷◌, map, length, take, drop, sym, ◌∙◌, ap, subst₂}
+use Rattle.std.proofs.Common.{arith, ℕ, zero, suc, ◌+◌, ◌-◌, ◌≤◌, ◌≡◌, true, Option, List, [], ◌∷◌, map, length, take, drop, sym}
+use Rattle.std.proofs.Common.{◌∙◌, ap, subst₂}
 use Rattle.std.proofs.lemmas.List.{drop-drop}
 use Rattle.std.proofs.lemmas.List.Elements.{All-take, All-drop, All-head, All-tail}
 use Rattle.std.proofs.lemmas.List.FromFn.{length-map-range_with_len}
@@ -19,17 +20,20 @@ use Rattle.object_stream.specs.Stream.{Owners, owners, end_after, end_at, EndsFo
 use Rattle.plain_disk.specs.State.{PlainState, stream_in, folded_to}
 use Rattle.plain_disk.specs.Valid.{IsPlainLog, IsPlainVolume, FoldingKeepsPlainVolume, FoldsInParts}
 use Rattle.plain_disk.proofs.EndLemmas.{ends_grow}
-use Rattle.plain_disk.proofs.FoldLemmas.{MayFold, owners_of_fold, ends_of_fold, last_of_fold, frontier_end_of_fold, count_of_fold, entries_of_fold, last_end_of_fold, fold_from}
+use Rattle.plain_disk.proofs.FoldLemmas.{MayFold, owners_of_fold, ends_of_fold, last_of_fold, frontier_end_of_fold, count_of_fold}
+use Rattle.plain_disk.proofs.FoldLemmas.{entries_of_fold, last_end_of_fold, fold_from}
 use Rattle.plain_disk.proofs.FoldReplyLemmas.{by_three}
 
 -- ---- a folded volume
 
-ends_by : (g : Geometry) (entry : Entry) (image : Image) → is_in_range g entry ≡ true → length image ≡ g.sectors → EndsBy (length image) entry
+ends_by : (g : Geometry) (entry : Entry) (image : Image) → is_in_range g entry ≡ true → length image ≡ g.sectors
+    → EndsBy (length image) entry
 ends_by g (Write lba body) image range size = omega (arith, Write-ends g lba body range)
 ends_by g (Zero lba sectors) image range size = omega (arith, Zero-ends g lba sectors range)
 
 -- entries in range leave as many sectors
-sectors_after : (g : Geometry) (image : Image) (entries : List Entry) → All (λ e. is_in_range g e ≡ true) entries → length image ≡ g.sectors
+sectors_after : (g : Geometry) (image : Image) (entries : List Entry) → All (λ e. is_in_range g e ≡ true) entries
+    → length image ≡ g.sectors
     → length (after image entries) ≡ g.sectors
 sectors_after g image [] range size = size
 sectors_after g image (entry ∷ entries) range size =
@@ -38,7 +42,8 @@ sectors_after g image (entry ∷ entries) range size =
     sectors_after g (apply entry image) entries (All-tail P entry entries range) (keeps_count entry image ends ∙ size)
 
 -- the objects after some first ones follow those
-follow_rest : (end n : ℕ) (objects : List StreamObject) → EndsFollow end objects → EndsFollow (end_after end (take n objects)) (drop n objects)
+follow_rest : (end n : ℕ) (objects : List StreamObject) → EndsFollow end objects
+    → EndsFollow (end_after end (take n objects)) (drop n objects)
 follow_rest end zero objects h = h
 follow_rest end (suc n) [] h = tt
 follow_rest end (suc n) (object ∷ objects) h = follow_rest object.end n objects h.1
@@ -56,7 +61,8 @@ fold_is state number h =
     let checkpoint = was.checkpoint in
     record {
       limits = was.limits;
-      sectors = sectors_after state.geometry state.opening (take n state.entries) (All-take P n state.entries was.in_range) was.sectors;
+      sectors = sectors_after state.geometry state.opening (take n state.entries) (All-take P n state.entries was.in_range)
+          was.sectors;
       owned = omega (arith, length-map-range_with_len (owners (stream_in state) number) 0 all);
       in_range = All-drop P n state.entries was.in_range;
       stream = record {
@@ -87,15 +93,26 @@ folds_in_parts state number later h from above to =
     let first : state.end ≤ ends = fold_from state number fold in
     let d = ends - state.end in
     let sum : next - state.end ≡ d + (next - ends) = omega arith in
-    let opening : after (after state.opening (take d state.entries)) (take (next - ends) (drop d state.entries)) ≡ after state.opening (take (next - state.end) state.entries) =
+    let opening : after (after state.opening (take d state.entries)) (take (next - ends) (drop d state.entries))
+    ≡ after state.opening (take (next - state.end) state.entries) =
     sym (applies_in_parts state.opening (take d state.entries) (take (next - ends) (drop d state.entries)))
-    ∙ ap (after state.opening) (sym (take-add d (next - ends) state.entries)) ∙ ap (λ k. after state.opening (take k state.entries)) (sym sum) in
-    let owned = ap (λ (f : Owners). map f (range_with_len 0 state.geometry.sectors)) (owners_of_fold state number fold later above) in
+    ∙ ap (after state.opening) (sym (take-add d (next - ends) state.entries))
+    ∙ ap (λ k. after state.opening (take k state.entries)) (sym sum) in
+    let owned = ap (λ (f : Owners). map f (range_with_len 0 state.geometry.sectors))
+    (owners_of_fold state number fold later above) in
     let entries = entries_of_fold state number fold next order in
     let count : number - state.number + (later - number) ≡ later - state.number = omega arith in
     let objects = drop-drop (later - number) (number - state.number) state.objects ∙ ap (λ k. drop k state.objects) count in
-    let at = λ (end : ℕ). record (folded_to later folded) { opening = after folded.opening (take (end - ends) folded.entries); end = end; entries = drop (end - ends) folded.entries } in
+    let at = λ (end : ℕ). record (folded_to later folded) {
+      opening = after folded.opening (take (end - ends) folded.entries);
+      end = end;
+      entries = drop (end - ends) folded.entries;
+    } in
     ap at (ends_of_fold state number fold later above)
-    ∙ by_three (λ (o : Image) (w : List (Option Owner)) (e : List Entry). record (at next) { opening = o; owned = w; entries = e })
+    ∙ by_three (λ (o : Image) (w : List (Option Owner)) (e : List Entry). record (at next) {
+      opening = o;
+      owned = w;
+      entries = e;
+    })
     _ _ _ _ _ _ opening owned entries
     ∙ ap (λ (r : List StreamObject). record (folded_to later state) { objects = r }) objects

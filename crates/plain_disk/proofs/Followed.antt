@@ -1,5 +1,7 @@
 -- The last writers of sectors, when an entry comes after a history, and the runs that they make.
-use Rattle.std.proofs.Common.{length-append, length-take, length-drop, ◌≡◌, ℕ, ◌+◌, ◌-◌, ◌<◌, ◌≤◌, Option, Some, None, true, false, List, [], ◌∷◌, ◌++◌, get_or, length, take, drop, replicate, min, inl, inr, sym, ◌∙◌, ap, refl, arith, rules}
+use Rattle.std.proofs.Common.{length-append, length-take, length-drop, ◌≡◌, ℕ, ◌+◌, ◌-◌, ◌<◌, ◌≤◌, Option, Some, None, true}
+use Rattle.std.proofs.Common.{false, List, [], ◌∷◌, ◌++◌, get_or, length, take, drop, replicate, min, inl, inr, sym, ◌∙◌, ap}
+use Rattle.std.proofs.Common.{refl, arith, rules}
 use Rattle.std.proofs.lemmas.List.{same_lists, length-replicate, get_or-replicate, places}
 use Rattle.std.proofs.lemmas.List.FromFn.{get_or-map-range_with_len, length-map-range_with_len}
 use Rattle.std.proofs.lemmas.Bool.{cases_lt}
@@ -41,7 +43,8 @@ pub is_inside : (entry : Entry) (sector : ℕ) → first_sector entry ≤ sector
     → covers_sector entry sector ≡ true
 is_inside entry sector h l = grind (arith, nat_tests)
 
-pub is_behind : (entry : Entry) (sector : ℕ) → first_sector entry + sector_count entry ≤ sector → covers_sector entry sector ≡ false
+pub is_behind : (entry : Entry) (sector : ℕ) → first_sector entry + sector_count entry ≤ sector
+    → covers_sector entry sector ≡ false
 is_behind entry sector h = grind (arith, nat_tests)
 
 -- the last writer of each of the sectors
@@ -56,32 +59,38 @@ length-writers history lba sectors = length-map-range_with_len (last_writer hist
 abbrev pub filled : {A : Type 0} → ℕ → ℕ → A → List A → List A
 filled start end a xs = take start xs ++ (replicate (end - start) a ++ drop (end - start) (drop start xs))
 
-length-filled : (start end : ℕ) (a : Option ℕ) (xs : List (Option ℕ)) → start ≤ end → end ≤ length xs → length (filled start end a xs) ≡ length xs
+length-filled : (start end : ℕ) (a : Option ℕ) (xs : List (Option ℕ)) → start ≤ end → end ≤ length xs
+    → length (filled start end a xs) ≡ length xs
 length-filled start end a xs h l =
     simp (length-append, length-take, length-drop, length-replicate) (omega arith)
 
-filled-below : (start end : ℕ) (a : Option ℕ) (xs : List (Option ℕ)) (k : ℕ) (d : Option ℕ) → start ≤ end → end ≤ length xs → k < start
+filled-below : (start end : ℕ) (a : Option ℕ) (xs : List (Option ℕ)) (k : ℕ) (d : Option ℕ) → start ≤ end → end ≤ length xs
+    → k < start
     → get_or (filled start end a xs) k d ≡ get_or xs k d
 filled-below start end a xs k d h l b = search (rules, places)
 
-filled-inside : (start end : ℕ) (a : Option ℕ) (xs : List (Option ℕ)) (k : ℕ) (d : Option ℕ) → start ≤ end → end ≤ length xs → start ≤ k → k < end
+filled-inside : (start end : ℕ) (a : Option ℕ) (xs : List (Option ℕ)) (k : ℕ) (d : Option ℕ) → start ≤ end → end ≤ length xs
+    → start ≤ k → k < end
     → get_or (filled start end a xs) k d ≡ a
 filled-inside start end a xs k d h l b i = search (rules, places)
 
-filled-behind : (start end : ℕ) (a : Option ℕ) (xs : List (Option ℕ)) (k : ℕ) (d : Option ℕ) → start ≤ end → end ≤ length xs → end ≤ k → k < length xs
+filled-behind : (start end : ℕ) (a : Option ℕ) (xs : List (Option ℕ)) (k : ℕ) (d : Option ℕ) → start ≤ end → end ≤ length xs
+    → end ≤ k → k < length xs
     → get_or (filled start end a xs) k d ≡ get_or xs k d
 filled-behind start end a xs k d h l b i = search (rules, places)
 
 -- with no entry no sector has a last writer
 pub writers-none : (lba sectors : ℕ) → writers [] lba sectors ≡ replicate sectors None
 writers-none lba sectors =
-    same_lists (writers [] lba sectors) (replicate sectors None) (length-writers [] lba sectors ∙ sym (length-replicate sectors None))
+    same_lists (writers [] lba sectors) (replicate sectors None) (length-writers [] lba sectors
+    ∙ sym (length-replicate sectors None))
     (λ k d h. let inside : k < sectors = omega (arith, length-writers [] lba sectors) in
     get_or-writers [] lba sectors k d inside ∙ sym (get_or-replicate sectors k None d inside))
 
 -- one of the sectors, before the entry, in it or after it
 at_sector : (history : List Entry) (entry : Entry) (lba sectors start end k : ℕ) (d : Option ℕ)
-    → start ≡ min sectors (first_sector entry - lba) → end ≡ min sectors (first_sector entry + sector_count entry - lba) → k < sectors
+    → start ≡ min sectors (first_sector entry - lba) → end ≡ min sectors (first_sector entry + sector_count entry - lba)
+    → k < sectors
     → get_or (filled start end (writer_of (length history) entry) (writers history lba sectors)) k d
     ≡ writer_after (length history) entry (lba + k) (last_writer history (lba + k))
 at_sector history entry lba sectors start end k d s e h =
@@ -90,26 +99,32 @@ at_sector history entry lba sectors start end k d s e h =
     let size : length old ≡ sectors = length-writers history lba sectors in
     let order : start ≤ end = omega arith in
     let within : end ≤ length old = omega arith in
-    elim (cases_lt k start) as (λ _. get_or (filled start end writer old) k d ≡ writer_after (length history) entry (lba + k) (last_writer history (lba + k))) [
+    elim (cases_lt k start) as (λ _. get_or (filled start end writer old) k d ≡ writer_after (length history) entry (lba + k)
+    (last_writer history (lba + k))) [
       | inl below ↦
           filled-below start end writer old k d order within below
           ∙ (get_or-writers history lba sectors k d h
-          ∙ sym (writer_after-outside (length history) entry (lba + k) (last_writer history (lba + k)) (is_below entry (lba + k) (omega arith))))
-      | inr from ↦ elim (cases_lt k end) as (λ _. get_or (filled start end writer old) k d ≡ writer_after (length history) entry (lba + k) (last_writer history (lba + k))) [
-        | inl inside ↦
-            filled-inside start end writer old k d order within from inside
-            ∙ sym (writer_after-inside (length history) entry (lba + k) (last_writer history (lba + k)) (is_inside entry (lba + k) (omega arith) (omega arith)))
-        | inr behind ↦
-            filled-behind start end writer old k d order within behind (omega arith)
-            ∙ (get_or-writers history lba sectors k d h
-            ∙ sym (writer_after-outside (length history) entry (lba + k) (last_writer history (lba + k)) (is_behind entry (lba + k) (omega arith))))
-      ]
+          ∙ sym (writer_after-outside (length history) entry (lba + k) (last_writer history (lba + k))
+          (is_below entry (lba + k) (omega arith))))
+      | inr from ↦ elim (cases_lt k end) as (λ _. get_or (filled start end writer old) k d ≡ writer_after (length history) entry
+          (lba + k) (last_writer history (lba + k))) [
+            | inl inside ↦
+                filled-inside start end writer old k d order within from inside
+                ∙ sym (writer_after-inside (length history) entry (lba + k) (last_writer history (lba + k))
+                (is_inside entry (lba + k) (omega arith) (omega arith)))
+            | inr behind ↦
+                filled-behind start end writer old k d order within behind (omega arith)
+                ∙ (get_or-writers history lba sectors k d h
+                ∙ sym (writer_after-outside (length history) entry (lba + k) (last_writer history (lba + k))
+                (is_behind entry (lba + k) (omega arith))))
+          ]
     ]
 
 -- the sectors that the entry covers have its writer, and the others keep theirs
 pub filled_is : (history : List Entry) (entry : Entry) (lba sectors start end : ℕ)
     → start ≡ min sectors (first_sector entry - lba) → end ≡ min sectors (first_sector entry + sector_count entry - lba)
-    → filled start end (writer_of (length history) entry) (writers history lba sectors) ≡ writers (history ++ entry ∷ []) lba sectors
+    → filled start end (writer_of (length history) entry) (writers history lba sectors) ≡ writers (history ++ entry ∷ [])
+    lba sectors
 filled_is history entry lba sectors start end s e =
     let old = writers history lba sectors in
     let writer = writer_of (length history) entry in

@@ -1,5 +1,6 @@
 -- A mount of the plain volume, with its cache or without it, gives a plain volume.
-use Rattle.std.proofs.Common.{arith, ℕ, ◌+◌, ◌-◌, ◌<◌, ◌≤◌, ◌≡◌, Bool, true, None, List, length, take, drop, max, length-drop, sym, ◌∙◌, ap, subst₂}
+use Rattle.std.proofs.Common.{arith, ℕ, ◌+◌, ◌-◌, ◌<◌, ◌≤◌, ◌≡◌, Bool, true, None, List, length, take, drop, max, length-drop}
+use Rattle.std.proofs.Common.{sym, ◌∙◌, ap, subst₂}
 use Rattle.std.proofs.lemmas.List.{length-take, take-take}
 use Rattle.std.proofs.lemmas.List.Elements.{All-nil, All-take}
 use Rattle.std.proofs.lemmas.List.Sums.{sum_by-take-le}
@@ -30,7 +31,13 @@ mounted_log_is end seq count log found from h later =
     let older = found.tail.seq - log.last.tail.seq in
     let kept = found.head.seq - found.tail.seq in
     let held : List PlainRecord = take kept (records_from log found.tail.seq) in
-    let made : PlainCommit = commit_from seq (record log { head = found.head.position; last = found; records = held; unfinished = None }) in
+    let made : PlainCommit = commit_from seq (record log {
+      head = found.head.position;
+      last = found;
+      records =
+          held;
+      unfinished = None;
+    }) in
     let rest : List PlainRecord = drop (seq - found.tail.seq) held in
     let all = length-drop older log.records in
     let held_long = length-take kept (records_from log found.tail.seq) in
@@ -48,7 +55,15 @@ mounted_log_is end seq count log found from h later =
       room = record {
         limit = h.room.limit;
         head = later.within.place;
-        used = omega (arith, past_used made.tail.position rest, left_used (seq - found.tail.seq) held, sum_by-take-le size (records_from log found.tail.seq) kept, left_used older log.records, h.room.used);
+        used = omega (
+          arith,
+          past_used made.tail.position rest,
+          left_used (seq - found.tail.seq) held,
+          sum_by-take-le size
+              (records_from log found.tail.seq) kept,
+          left_used older log.records,
+          h.room.used,
+        );
       };
       last = record { order = omega arith; tail = omega arith; head = omega (arith, next); place = later.within.place };
       unfinished = tt;
@@ -73,7 +88,8 @@ cut_is state number count cache h from sealed ends within size log =
     let counted : state.end + length (take (count - state.end) state.entries) ≡ count = omega arith in
     let end : end_after state.end (take n objects) ≡ end_at (stream_in state) number =
     ap (end_after state.end) (take-take n n state.objects (omega arith)) in
-    let last_end : end_after state.end (take (state.number + length objects - state.number) objects) ≡ end_at (stream_in state) number =
+    let last_end : end_after state.end (take (state.number + length objects - state.number) objects)
+    ≡ end_at (stream_in state) number =
     ap (λ k. end_after state.end (take (k - state.number) objects)) last ∙ end in
     record {
       limits = h.limits;
@@ -99,18 +115,21 @@ kept_is state landed kept h may =
     let head = later.within.head in
     let frontier = recovers_frontier state landed h may in
     cut_is state (recovered_number landed state) (kept_count landed found state)
-    (cache_with (mounted_log found (recovered_end landed state) state.cache.log)) h (omega (arith, frontier, h.opened)) (recovers_sealed state landed h)
+    (cache_with (mounted_log found (recovered_end landed state) state.cache.log)) h (omega (arith, frontier, h.opened))
+    (recovers_sealed state landed h)
     (omega arith) (omega arith) h.size
     (mounted_log_is (frontier_end state) (recovered_end landed state) (history_length state) state.cache.log found
     (recovers_end state landed h may) h.log later)
 
-pub lost_is : (state : PlainState) (landed : Numbers) → IsPlainVolume state → MayLand state landed → IsPlainVolume (mounted_lost landed state)
+pub lost_is : (state : PlainState) (landed : Numbers) → IsPlainVolume state → MayLand state landed
+    → IsPlainVolume (mounted_lost landed state)
 lost_is state landed h may =
     let end = recovered_end landed state in
     let size = state.cache.log.size in
     let frontier = recovers_frontier state landed h may in
     let some : 0 < size = omega (arith, h.log.room.head) in
-    cut_is state (recovered_number landed state) end (cache_with (empty_from size end)) h (omega (arith, frontier, h.opened)) (recovers_sealed state landed h)
+    cut_is state (recovered_number landed state) end (cache_with (empty_from size end)) h (omega (arith, frontier, h.opened))
+    (recovers_sealed state landed h)
     (omega arith) (recovers_within state landed h) h.size
     (record {
       counted = omega arith;
@@ -125,7 +144,8 @@ mounts_keep state landed kept h may = (kept_is state landed kept h may, lost_is 
 -- ---- what is committed then
 
 -- the entries of the volume that was cut off
-pub cut_count : (state : PlainState) (number count : ℕ) → IsPlainVolume state → end_at (stream_in state) number ≤ count → count ≤ history_length state
+pub cut_count : (state : PlainState) (number count : ℕ) → IsPlainVolume state → end_at (stream_in state) number ≤ count
+    → count ≤ history_length state
     → state.end + length (take (count - state.end) state.entries) ≡ count
 cut_count state number count h ends within =
     let first = ends_from state number h in

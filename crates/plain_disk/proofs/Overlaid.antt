@@ -1,5 +1,6 @@
 -- A window on an image, when an entry is applied to it.
-use Rattle.std.proofs.Common.{◌≡◌, ℕ, ◌+◌, ◌-◌, ◌*◌, ◌/◌, ◌%◌, ◌^◌, IsTrue, ◌<◌, ◌≤◌, List, [], ◌∷◌, ◌++◌, get_or, true, length, take, drop, replicate, sym, ◌∙◌, ap, arith, length-drop}
+use Rattle.std.proofs.Common.{◌≡◌, ℕ, ◌+◌, ◌-◌, ◌*◌, ◌/◌, ◌%◌, ◌^◌, IsTrue, ◌<◌, ◌≤◌, List, [], ◌∷◌, ◌++◌, get_or, true, length}
+use Rattle.std.proofs.Common.{take, drop, replicate, sym, ◌∙◌, ap, arith, length-drop}
 use Rattle.std.proofs.lemmas.List.{length-take-le, length-replicate, take_all, take_more, take-replicate, drop-replicate}
 use Rattle.std.proofs.lemmas.List.Elements.{All-take}
 use Rattle.std.specs.List.{All, concat}
@@ -10,7 +11,9 @@ use Rattle.lsvd_base.specs.Limits.{is_within_limits, may_transfer}
 use Rattle.lsvd_base.specs.Range.{is_in_range}
 use Rattle.lsvd_base.specs.declared.entry.Entry.TheVariants.{Write, Zero}
 use Rattle.lsvd_base.specs.Image.{Image, zero_sector, blank, cut_into_sectors, overwritten, after}
-use Rattle.lsvd_base.proofs.ImageLemmas.{AllOfLength, concat-window, length-concat, concat-overwritten, All-overwritten, concat-cut, length-cut, All-cut, concat-zeros, All-zeros, IsOfLength, IsImage, IsImage-after, IsImage-blank, after-push, Write-ends, Zero-ends}
+use Rattle.lsvd_base.proofs.ImageLemmas.{AllOfLength, concat-window, length-concat, concat-overwritten, All-overwritten}
+use Rattle.lsvd_base.proofs.ImageLemmas.{concat-cut, length-cut, All-cut, concat-zeros, All-zeros, IsOfLength, IsImage}
+use Rattle.lsvd_base.proofs.ImageLemmas.{IsImage-after, IsImage-blank, after-push, Write-ends, Zero-ends}
 use Rattle.plain_disk.specs.Sectors.{sectors_at, AllInRange}
 use Rattle.lsvd_bytes.specs.Window.{Pastes}
 use Rattle.lsvd_bytes.specs.Places.{with_bytes}
@@ -41,7 +44,8 @@ overlaid lba sectors at piece old new pieces image whole whole_pieces are window
     concat-overwritten 512 at pieces image whole whole_pieces ∙ ap (λ bytes. with_bytes (512 * at) bytes (concat image)) are in
     splices (concat image) (omega arith) (omega arith) flat
     ∙ (ap (λ n. take n (drop (512 * lba) (with_bytes (512 * at) piece (concat image)))) old_size
-    ∙ sym (concat-window 512 lba sectors (overwritten at pieces image) (All-overwritten (IsOfLength 512) at pieces image whole whole_pieces)
+    ∙ sym (concat-window 512 lba sectors (overwritten at pieces image) (All-overwritten (IsOfLength 512) at pieces image whole
+    whole_pieces)
     ∙ ap (λ bytes. take (512 * sectors) (drop (512 * lba) bytes)) put))
 
 -- a write is its data put into the bytes
@@ -63,7 +67,8 @@ overlaid-Zero lba at count old new splices image sectors whole window ends shows
     (concat-zeros count) window (omega (arith, length-replicate count zero_sector)) shows splices
 
 -- a disk that was just created shows zeros
-pub sectors_at-blank : (lba sectors all : ℕ) → lba + sectors ≤ all → sectors_at lba sectors (blank all) ≡ replicate (512 * sectors) 0
+pub sectors_at-blank : (lba sectors all : ℕ) → lba + sectors ≤ all
+    → sectors_at lba sectors (blank all) ≡ replicate (512 * sectors) 0
 sectors_at-blank lba sectors all h =
     ap (λ rest. concat (take sectors rest)) (drop-replicate lba all zero_sector)
     ∙ (ap concat (take-replicate sectors (all - lba) zero_sector (omega arith)) ∙ concat-zeros sectors)
@@ -78,9 +83,11 @@ EndsBy-more m n (Write lba body) h l = omega arith
 EndsBy-more m n (Zero lba sectors) h l = omega arith
 
 -- a history in range makes an image of the volume
-pub history_whole : (g : Geometry) (history : List Entry) (n : ℕ) → AllInRange g history → IsImage g.sectors (after (blank g.sectors) (take n history))
+pub history_whole : (g : Geometry) (history : List Entry) (n : ℕ) → AllInRange g history
+    → IsImage g.sectors (after (blank g.sectors) (take n history))
 history_whole g history n h =
-    IsImage-after g (blank g.sectors) (take n history) (All-take (λ entry. is_in_range g entry ≡ true) n history h) (IsImage-blank g.sectors)
+    IsImage-after g (blank g.sectors) (take n history) (All-take (λ entry. is_in_range g entry ≡ true) n history h)
+    (IsImage-blank g.sectors)
 
 -- the window after one entry more of the history
 pub one_more : (g : Geometry) (history : List Entry) (n lba sectors : ℕ) (entry : Entry) (old new : List ℕ)
@@ -112,6 +119,8 @@ pub sectors_limit : (g : Geometry) → IsTrue (is_within_limits g) → g.sectors
 sectors_limit g h = grind (arith, nat_tests)
 
 -- the entries of a history in range end below the greatest number of 64 bits, as `last_writers` asks
-pub history_ends : (g : Geometry) (history : List Entry) → IsTrue (is_within_limits g) → AllInRange g history → All (EndsBy (2 ^ 64 - 1)) history
+pub history_ends : (g : Geometry) (history : List Entry) → IsTrue (is_within_limits g) → AllInRange g history
+    → All (EndsBy (2 ^ 64 - 1)) history
 history_ends g history limits range = λ k d inside.
-    EndsBy-more g.sectors (2 ^ 64 - 1) (get_or history k d) (EndsBy-in_range g (get_or history k d) (range k d inside)) (omega (arith, sectors_limit g limits))
+    EndsBy-more g.sectors (2 ^ 64 - 1) (get_or history k d) (EndsBy-in_range g (get_or history k d) (range k d inside))
+    (omega (arith, sectors_limit g limits))

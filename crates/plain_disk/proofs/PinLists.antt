@@ -1,5 +1,6 @@
 -- Pins that are given back one by one.
-use Rattle.std.proofs.Common.{◌≡◌, ℕ, zero, suc, ◌+◌, ◌<◌, ◌==◌, Bool, true, false, ◌&&◌, Some, None, List, [], ◌∷◌, length, get_or, drop, refl, sym, ap, ◌∙◌, arith}
+use Rattle.std.proofs.Common.{◌≡◌, ℕ, zero, suc, ◌+◌, ◌<◌, ◌==◌, Bool, true, false, ◌&&◌, Some, None, List, [], ◌∷◌, length}
+use Rattle.std.proofs.Common.{get_or, drop, refl, sym, ap, ◌∙◌, arith}
 use Rattle.std.specs.List.{remove, position, list_any}
 use Rattle.std.proofs.lemmas.List.{at_drop_more}
 use Rattle.upload_window.proofs.Places.{IsFirst, Nowhere, first_after, nowhere_after, first_place, nowhere}
@@ -38,7 +39,8 @@ not_pinned numbers pins i inside absent =
     (any_nowhere number pins (nowhere (is_pin_of number) pins 0 absent))
 
 -- a number that is, once it is taken out
-pub pinned_more : (numbers pins left : List ℕ) (i place : ℕ) → i < length numbers → position (λ pin. pin == get_or numbers i 0) pins ≡ Some place
+pub pinned_more : (numbers pins left : List ℕ) (i place : ℕ) → i < length numbers
+    → position (λ pin. pin == get_or numbers i 0) pins ≡ Some place
     → left ≡ remove pins place → are_pinned (drop (i + 1) numbers) left ≡ are_pinned (drop i numbers) pins
 pinned_more numbers pins left i place inside at taken =
     let number = get_or numbers i 0 in
@@ -47,7 +49,8 @@ pinned_more numbers pins left i place inside at taken =
     ∙ ap (λ b. b && are_pinned (drop (i + 1) numbers) (unpinned number pins)) (any_at number pins place is)
     ∙ ap (are_pinned (drop (i + 1) numbers)) (sym (taken ∙ unpinned_at number pins place is)))
 
-pub without_more : (numbers pins left : List ℕ) (i place : ℕ) → i < length numbers → position (λ pin. pin == get_or numbers i 0) pins ≡ Some place
+pub without_more : (numbers pins left : List ℕ) (i place : ℕ) → i < length numbers
+    → position (λ pin. pin == get_or numbers i 0) pins ≡ Some place
     → left ≡ remove pins place → without_pins (drop (i + 1) numbers) left ≡ without_pins (drop i numbers) pins
 without_more numbers pins left i place inside at taken =
     let number = get_or numbers i 0 in

@@ -1,5 +1,6 @@
 -- The sectors in use when records are released, and what the log keeps of its fields.
-use Rattle.std.proofs.Common.{◌≡◌, ℕ, ◌+◌, ◌-◌, ◌<◌, ◌≤◌, ◌==◌, true, false, cond, List, [], ◌∷◌, length, get_or, take, drop, if◌then◌else◌, sym, subst, arith}
+use Rattle.std.proofs.Common.{◌≡◌, ℕ, ◌+◌, ◌-◌, ◌<◌, ◌≤◌, ◌==◌, true, false, cond, List, [], ◌∷◌, length, get_or, take, drop}
+use Rattle.std.proofs.Common.{if◌then◌else◌, sym, subst, arith}
 use Rattle.std.proofs.lemmas.List.Sums.{sum_by-cons, sum_by_more_le, sum_by-take-le, sum_by-take-drop}
 use Rattle.plain_disk.specs.declared.log.PlainRecord.{PlainRecord}
 use Rattle.plain_disk.specs.declared.log.PlainCommit.{PlainCommit}
@@ -38,13 +39,19 @@ held_is found log inside is = record {
   room = record {
     limit = is.room.limit;
     head = inside.head;
-    used = omega (arith, is.room.used, used_of_part log.records (found.tail.seq - log.last.tail.seq) (found.head.seq - found.tail.seq));
+    used = omega (
+      arith,
+      is.room.used,
+      used_of_part log.records (found.tail.seq - log.last.tail.seq)
+          (found.head.seq - found.tail.seq),
+    );
   };
   last = inside;
   unfinished = tt;
 }
 
-made_is : (commit : PlainCommit) (log : PlainLog) → IsInside log.size commit → IsRecordLog log → IsRecordLog (with_commit commit log)
+made_is : (commit : PlainCommit) (log : PlainLog) → IsInside log.size commit → IsRecordLog log
+    → IsRecordLog (with_commit commit log)
 made_is commit log inside is = record {
   room = record {
     limit = is.room.limit;
@@ -62,14 +69,16 @@ made_is commit log inside is = record {
 }
 
 -- of the fields before a call and what contracts see of them
-pub held_keeps : (found : PlainCommit) (log seen : PlainLog) (records : List PlainRecord) → log ≡ seen → IsInside seen.size found → IsRecordLog log
+pub held_keeps : (found : PlainCommit) (log seen : PlainLog) (records : List PlainRecord) → log ≡ seen → IsInside seen.size found
+    → IsRecordLog log
     → records ≡ take (found.head.seq - found.tail.seq) (records_from log found.tail.seq)
     → IsRecordLog (record (held_from found log) { records = records })
 held_keeps found log seen records sees inside is are =
     subst (λ (list : List PlainRecord). IsRecordLog (record (held_from found log) { records = list })) (sym are)
     (held_is found log (subst (λ (l : PlainLog). IsInside l.size found) (sym sees) inside) is)
 
-pub made_keeps : (commit : PlainCommit) (log seen : PlainLog) (records : List PlainRecord) → log ≡ seen → IsInside seen.size commit → IsRecordLog log
+pub made_keeps : (commit : PlainCommit) (log seen : PlainLog) (records : List PlainRecord) → log ≡ seen
+    → IsInside seen.size commit → IsRecordLog log
     → records ≡ past_pad commit.tail.position (records_from log commit.tail.seq)
     → IsRecordLog (record (with_commit commit log) { records = records })
 made_keeps commit log seen records sees inside is are =

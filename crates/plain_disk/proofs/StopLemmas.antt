@@ -1,5 +1,6 @@
 -- What a stop of the plain volume keeps, and how far a recovery gets.
-use Rattle.std.proofs.Common.{arith, ℕ, zero, suc, ◌+◌, ◌-◌, ◌<◌, ◌≤◌, ◌≡◌, ◌==◌, Bool, true, false, cond, IsTrue, Option, Some, None, IfSome, List, refl, sym, ◌∙◌, inl, inr}
+use Rattle.std.proofs.Common.{arith, ℕ, zero, suc, ◌+◌, ◌-◌, ◌<◌, ◌≤◌, ◌≡◌, ◌==◌, Bool, true, false, cond, IsTrue, Option, Some}
+use Rattle.std.proofs.Common.{None, IfSome, List, refl, sym, ◌∙◌, inl, inr}
 use Rattle.std.proofs.lemmas.Bool.{cases_lt}
 use Rattle.std.proofs.lemmas.Bool.Decides.{nat_tests}
 use Rattle.object_stream.specs.Landed.{Numbers}
@@ -10,7 +11,8 @@ use Rattle.plain_disk.specs.Log.{PlainLog}
 use Rattle.plain_disk.specs.Cache.{PlainCache, commit_or, keeps_opened_gate, kept_commit}
 use Rattle.plain_disk.specs.State.{PlainState, stream_in, history_length, frontier_of, frontier_end}
 use Rattle.plain_disk.specs.Stops.{landed_after, recovered_number, recovered_end}
-use Rattle.plain_disk.specs.Valid.{IsLaterCommit, IsPlainLog, IsPlainVolume, MayLand, StopsKeepPlainVolume, StopKeepsAcknowledged, RecoversBeforeFirstMissing}
+use Rattle.plain_disk.specs.Valid.{IsLaterCommit, IsPlainLog, IsPlainVolume, MayLand, StopsKeepPlainVolume, StopKeepsAcknowledged}
+use Rattle.plain_disk.specs.Valid.{RecoversBeforeFirstMissing}
 use Rattle.plain_disk.proofs.EndLemmas.{ends_grow, ends_within, frontier_is_sealed}
 
 -- ---- numbers that have landed
@@ -49,7 +51,8 @@ reaches landed number (suc count) to all is =
 have_landed : (landed : Numbers) (number count k : ℕ) → number < k → k ≤ landed_after landed number count → IsTrue (landed k)
 have_landed landed number zero k above most = absurd (omega arith)
 have_landed landed number (suc count) k above most =
-    elim (landed (number + 1)) as (λ b. landed (number + 1) ≡ b → k ≤ cond b (landed_after landed (number + 1) count) number → IsTrue (landed k)) [
+    elim (landed (number + 1)) as (λ b. landed (number + 1) ≡ b → k ≤ cond b (landed_after landed (number + 1) count) number
+    → IsTrue (landed k)) [
       | true ↦ λ here reached. elim (cases_lt (number + 1) k) [
         | inl later ↦ have_landed landed (number + 1) count k later reached
         | inr first ↦ let same : k ≡ number + 1 = omega arith in rw same here
@@ -62,7 +65,8 @@ next_has_not : (landed : Numbers) (number count : ℕ) → landed (number + coun
 next_has_not landed number zero absent = let same : number + 1 ≡ number + 0 + 1 = omega arith in rw same absent
 next_has_not landed number (suc count) absent =
     let same : number + 1 + count + 1 ≡ number + suc count + 1 = omega arith in
-    elim (landed (number + 1)) as (λ b. landed (number + 1) ≡ b → landed (cond b (landed_after landed (number + 1) count) number + 1) ≡ false) [
+    elim (landed (number + 1)) as (λ b. landed (number + 1) ≡ b
+    → landed (cond b (landed_after landed (number + 1) count) number + 1) ≡ false) [
       | true ↦ λ here. next_has_not landed (number + 1) count (rw same absent)
       | false ↦ λ here. here
     ] refl
@@ -90,9 +94,11 @@ recovers_sealed state landed h =
 pub recovers_end : (state : PlainState) (landed : Numbers) → IsPlainVolume state → MayLand state landed
     → frontier_end state ≤ recovered_end landed state
 recovers_end state landed h may =
-    ends_grow (stream_in state) (frontier_of state) (recovered_number landed state) h.stream.ends (recovers_frontier state landed h may)
+    ends_grow (stream_in state) (frontier_of state) (recovered_number landed state) h.stream.ends
+    (recovers_frontier state landed h may)
 
-pub recovers_within : (state : PlainState) (landed : Numbers) → IsPlainVolume state → recovered_end landed state ≤ history_length state
+pub recovers_within : (state : PlainState) (landed : Numbers) → IsPlainVolume state
+    → recovered_end landed state ≤ history_length state
 recovers_within state landed h = ends_within state (recovered_number landed state) h (recovers_sealed state landed h)
 
 -- ---- the commit that a stop leaves
@@ -111,7 +117,8 @@ pub kept_is_later : (end count : ℕ) (kept : List Bool) (cache : PlainCache) �
 kept_is_later end count kept cache h =
     let last = cache.log.last in
     let same : IsLaterCommit cache.log.size end count last last = last_is_later end count cache.log h in
-    elim (keeps_opened_gate cache.pending kept) as (λ b. IsLaterCommit cache.log.size end count last (cond b (commit_or cache.log.unfinished last) last)) [
+    elim (keeps_opened_gate cache.pending kept) as (λ b. IsLaterCommit cache.log.size end count last
+    (cond b (commit_or cache.log.unfinished last) last)) [
       | true ↦ unfinished_is_later cache.log.size end count last cache.log.unfinished same h.unfinished
       | false ↦ same
     ]
@@ -139,8 +146,14 @@ stop_keeps_acknowledged state landed kept h may =
     let found = kept_is_later (frontier_end state) (history_length state) kept state.cache h.log in
     let within = recovers_within state landed h in
     let last = found.head in
-    let count = found.within.head in
-    (recovers_frontier state landed h may, recovers_end state landed h may, omega arith, omega (arith, last), omega (arith, within, count))
+    let count = found.within.head in (
+      recovers_frontier state landed h may,
+      recovers_end state landed h may,
+      omega arith,
+      omega (arith, last),
+      omega
+          (arith, within, count),
+    )
 
 pub recovers_before_missing : RecoversBeforeFirstMissing
 recovers_before_missing state landed checkpoint h may is =

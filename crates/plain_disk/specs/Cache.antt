@@ -1,6 +1,7 @@
 -- Contract: the cache device of the plain volume, which may stop: its calls, the writes since the last sync, and the two halves
 -- of a commit.
-use Rattle.std.specs.Prelude.{ℕ, ◌+◌, ◌==◌, Option, Some, None, Bool, true, false, List, [], ◌∷◌, ◌++◌, length, take, if◌then◌else◌}
+use Rattle.std.specs.Prelude.{ℕ, ◌+◌, ◌==◌, Option, Some, None, Bool, true, false, List, [], ◌∷◌, ◌++◌, length, take}
+use Rattle.std.specs.Prelude.{if◌then◌else◌}
 use Rattle.lsvd_base.specs.declared.entry.Entry.{Entry}
 use Rattle.log_room.specs.Room.{record_sectors, pad_before}
 use Rattle.lsvd_device.specs.Calls.{Fuse, passes, fuse_after}
@@ -115,4 +116,5 @@ commit_or None last = last
 commit_or (Some commit) last = commit
 
 abbrev pub kept_commit : (kept : List Bool) → PlainCache → PlainCommit
-kept_commit kept cache = if keeps_opened_gate cache.pending kept then commit_or cache.log.unfinished cache.log.last else cache.log.last
+kept_commit kept cache = if keeps_opened_gate cache.pending kept then commit_or cache.log.unfinished cache.log.last else
+    cache.log.last

@@ -1,5 +1,6 @@
 -- Contract: what a write or a zeroing of the plain volume answers and leaves, and a flush.
-use Rattle.std.specs.Prelude.{◌+◌, Option, Some, is_some, unwrap_or, option_map, Bool, not, ◌&&◌, ◌||◌, nat_lt, nat_le, [], ◌∷◌, ◌++◌, length, if◌then◌else◌}
+use Rattle.std.specs.Prelude.{◌+◌, Option, Some, is_some, unwrap_or, option_map, Bool, not, ◌&&◌, ◌||◌, nat_lt, nat_le, [], ◌∷◌}
+use Rattle.std.specs.Prelude.{◌++◌, length, if◌then◌else◌}
 use Rattle.std.specs.List.{sum_by}
 use Rattle.lsvd_base.specs.declared.entry.Entry.{Entry}
 use Rattle.lsvd_base.specs.Range.{is_in_range}
@@ -33,7 +34,8 @@ reply_of_full (full.Entries count) = EntriesFull count
 abbrev pub batch_refusal : PlainState → Entry → Option PlainReply
 batch_refusal state entry =
     if is_in_range state.geometry entry
-    then option_map reply_of_full (fullness state.geometry.batch (sum_by data_sectors (unsealed_entries state)) (length (unsealed_entries state)))
+    then option_map reply_of_full (fullness state.geometry.batch (sum_by data_sectors (unsealed_entries state))
+    (length (unsealed_entries state)))
     else Some Range
 
 -- the log has room for the entry's record
@@ -58,7 +60,8 @@ commits_are_made state entry = not (commits_for_room state entry) || passes_comm
 abbrev pub room_reply : PlainState → (ready : PlainCache) → Entry → PlainReply
 room_reply state ready entry =
     if not (commits_are_made state entry) then Fault else
-    (if not (has_room_for ready entry) then NoRoom (need (room_in ready.log) (record_sectors entry)) (free (room_in ready.log)) else
+    (if not (has_room_for ready entry) then NoRoom (need (room_in ready.log) (record_sectors entry))
+    (free (room_in ready.log)) else
     (if passes_entry ready entry then Entered (history_length state + 1) else Fault))
 
 abbrev pub enter_reply : PlainState → Entry → PlainReply
@@ -80,5 +83,6 @@ abbrev pub after_entering : Entry → PlainState → PlainState
 after_entering entry state = record state {
   cache = cache_after state entry;
   entries =
-      if comes_to_log state entry && passes_entry (cache_for state entry) entry then state.entries ++ entry ∷ [] else state.entries;
+      if comes_to_log state entry && passes_entry (cache_for state entry) entry then state.entries ++ entry ∷ [] else
+      state.entries;
 }

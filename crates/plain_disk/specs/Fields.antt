@@ -1,5 +1,6 @@
 -- For this crate's own clauses: what the program of the plain volume keeps of its fields.
-use Rattle.std.specs.Prelude.{◌≡◌, ℕ, ◌+◌, ◌^◌, ◌<◌, ◌≤◌, not, ◌&&◌, IfSome, IsTrue, Option, Some, None, option_map, Bool, true, false, ◌||◌, nat_lt, List, length, if◌then◌else◌}
+use Rattle.std.specs.Prelude.{◌≡◌, ℕ, ◌+◌, ◌^◌, ◌<◌, ◌≤◌, not, ◌&&◌, IfSome, IsTrue, Option, Some, None, option_map, Bool, true}
+use Rattle.std.specs.Prelude.{false, ◌||◌, nat_lt, List, length, if◌then◌else◌}
 use Rattle.std.specs.List.{All, list_any, range_with_len, filter, sum_by}
 use Rattle.lsvd_base.specs.declared.geometry.Geometry.{Geometry}
 use Rattle.lsvd_base.specs.declared.entry.Entry.{Entry}
@@ -42,12 +43,14 @@ is_opened_gate write = false
 
 -- a read gets the sector from the object of this number, where the entries past the frontier's end are these
 abbrev pub is_read_at : Stream → (frontier : ℕ) → (logged : List Entry) → (number k : ℕ) → Bool
-is_read_at stream frontier logged number k = is_own number (owners stream frontier k) && not (list_any (λ entry. covers_sector entry k) logged)
+is_read_at stream frontier logged number k = is_own number (owners stream frontier k)
+    && not (list_any (λ entry. covers_sector entry k) logged)
 
 -- the objects that a read gets sectors from
 abbrev pub objects_at : Stream → (frontier : ℕ) → (logged : List Entry) → (lba sectors : ℕ) → List ℕ
 objects_at stream frontier logged lba sectors =
-    filter (λ number. list_any (is_read_at stream frontier logged number) (range_with_len lba sectors)) (range_with_len 1 frontier)
+    filter (λ number. list_any (is_read_at stream frontier logged number) (range_with_len lba sectors))
+    (range_with_len 1 frontier)
 
 -- What the program keeps: the limits of the geometry, entries in range, a stream that begins at object 1, and numbers that fit.
 pub record IsPlainFields (geometry : Geometry) (stream : PlainStream) (greatest : ℕ) : Type 0 where
@@ -76,12 +79,14 @@ cache_ready cache end entry = if commits_first cache end entry then cache_after_
 -- why the entry, which the batch takes, has no record then
 abbrev pub refusal_by : (ready : PlainCache) → Entry → Option PlainReply
 refusal_by ready entry =
-    if not (has_room_for ready entry) then Some (NoRoom (need (room_in ready.log) (record_sectors entry)) (free (room_in ready.log))) else
+    if not (has_room_for ready entry) then Some (NoRoom (need (room_in ready.log) (record_sectors entry))
+    (free (room_in ready.log))) else
     (if passes_entry ready entry then None else Some Fault)
 
 abbrev pub record_refusal : PlainCache → (end : ℕ) → Entry → Option PlainReply
 record_refusal cache end entry =
-    if commits_first cache end entry && not (passes_commit cache) then Some Fault else refusal_by (cache_ready cache end entry) entry
+    if commits_first cache end entry && not (passes_commit cache) then Some Fault else refusal_by
+    (cache_ready cache end entry) entry
 
 -- and the cache then
 abbrev pub cache_with_record : PlainCache → (end : ℕ) → Entry → PlainCache

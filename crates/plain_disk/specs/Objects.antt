@@ -1,5 +1,6 @@
 -- Contract: what seals, puts and the question for the status answer, and what they leave.
-use Rattle.std.specs.Prelude.{ℕ, ◌+◌, ◌==◌, Option, Some, None, is_some, Bool, true, false, not, ◌&&◌, List, [], ◌∷◌, ◌++◌, length, find, if◌then◌else◌, unwrap_or}
+use Rattle.std.specs.Prelude.{ℕ, ◌+◌, ◌==◌, Option, Some, None, is_some, Bool, true, false, not, ◌&&◌, List, [], ◌∷◌, ◌++◌}
+use Rattle.std.specs.Prelude.{length, find, if◌then◌else◌, unwrap_or}
 use Rattle.std.specs.List.{range_with_len}
 use Rattle.lsvd_base.specs.declared.entry.Entry.{Entry}
 use Rattle.batcher.specs.Batch.{fullness_of_first}
@@ -14,7 +15,8 @@ use Rattle.plain_disk.specs.State.{PlainState, stream_in, history_length, unseal
 
 -- how many of some entries the next object takes: the fewest first ones that fill a batch, or all where they do not
 abbrev pub sealed_count : (batch : ℕ) → List Entry → ℕ
-sealed_count batch entries = unwrap_or (find (λ n. is_some (fullness_of_first batch entries n)) (range_with_len 0 (length entries))) (length entries)
+sealed_count batch entries = unwrap_or (find (λ n. is_some (fullness_of_first batch entries n))
+    (range_with_len 0 (length entries))) (length entries)
 
 -- 16 objects are on their way to the store
 abbrev pub is_busy : PlainState → Bool

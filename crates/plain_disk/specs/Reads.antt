@@ -14,7 +14,8 @@ use Rattle.plain_disk.specs.State.{PlainState, stream_in, history_length, image_
 -- a read gets the sector from the object of this number: it owns it at the frontier, and no later entry covers it
 abbrev pub is_read_from : PlainState → (number k : ℕ) → Bool
 is_read_from state number k =
-    is_own number (owners (stream_in state) (frontier_of state) k) && not (list_any (λ entry. covers_sector entry k) (logged_entries state))
+    is_own number (owners (stream_in state) (frontier_of state) k)
+    && not (list_any (λ entry. covers_sector entry k) (logged_entries state))
 
 -- the objects that a read gets sectors from, by their numbers in ascending order
 abbrev pub objects_read : PlainState → (lba sectors : ℕ) → List ℕ

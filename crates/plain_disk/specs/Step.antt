@@ -1,12 +1,14 @@
 -- Contract: the plain volume as a machine: what each event answers, and what it leaves.
 use Rattle.lsvd_base.specs.declared.entry.Entry.TheVariants as entries
 use Rattle.plain_disk.specs.declared.event.PlainEvent.{PlainEvent}
-use Rattle.plain_disk.specs.declared.event.PlainEvent.TheVariants.{Write, Zero, Flush, Look, Release, Seal, TakeJob, JobDone, JobFailed, Status}
+use Rattle.plain_disk.specs.declared.event.PlainEvent.TheVariants.{Write, Zero, Flush, Look, Release, Seal, TakeJob, JobDone}
+use Rattle.plain_disk.specs.declared.event.PlainEvent.TheVariants.{JobFailed, Status}
 use Rattle.plain_disk.specs.declared.event.PlainReply.{PlainReply}
 use Rattle.plain_disk.specs.State.{PlainState}
 use Rattle.plain_disk.specs.Entries.{enter_reply, after_entering, flush_reply, after_flush}
 use Rattle.plain_disk.specs.Reads.{look_reply, after_look, release_reply, after_plan_release}
-use Rattle.plain_disk.specs.Objects.{seal_reply, after_seal, take_reply, after_take, done_reply, after_done, failed_reply, after_failed, status_reply}
+use Rattle.plain_disk.specs.Objects.{seal_reply, after_seal, take_reply, after_take, done_reply, after_done, failed_reply}
+use Rattle.plain_disk.specs.Objects.{after_failed, status_reply}
 
 abbrev pub plain_reply : PlainState → PlainEvent → PlainReply
 plain_reply state (Write lba body) = enter_reply state (entries.Write lba body)

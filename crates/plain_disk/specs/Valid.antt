@@ -125,23 +125,27 @@ FoldingKeepsPlainVolume =
 
 abbrev pub FoldsInParts : Type 0
 FoldsInParts =
-    (state : PlainState) (number later : ℕ) → IsPlainVolume state → state.number ≤ number → number ≤ later → later ≤ frontier_of state
+    (state : PlainState) (number later : ℕ) → IsPlainVolume state → state.number ≤ number → number ≤ later
+    → later ≤ frontier_of state
     → folded_to later (folded_to number state) ≡ folded_to later state
 
 -- Folding changes no reply, and it does not matter whether it is done before an event, a stop or a mount, or after it.
 abbrev pub FoldingChangesNoReply : Type 0
 FoldingChangesNoReply =
-    (state : PlainState) (number : ℕ) (event : PlainEvent) → IsPlainVolume state → state.number ≤ number → number ≤ frontier_of state
+    (state : PlainState) (number : ℕ) (event : PlainEvent) → IsPlainVolume state → state.number ≤ number
+    → number ≤ frontier_of state
     → plain_reply (folded_to number state) event ≡ plain_reply state event
 
 abbrev pub FoldingCommutesWithEvents : Type 0
 FoldingCommutesWithEvents =
-    (state : PlainState) (number : ℕ) (event : PlainEvent) → IsPlainVolume state → state.number ≤ number → number ≤ frontier_of state
+    (state : PlainState) (number : ℕ) (event : PlainEvent) → IsPlainVolume state → state.number ≤ number
+    → number ≤ frontier_of state
     → plain_after event (folded_to number state) ≡ folded_to number (plain_after event state)
 
 abbrev pub FoldingCommutesWithStops : Type 0
 FoldingCommutesWithStops =
-    (state : PlainState) (number calls : ℕ) → stopping_after_calls calls (folded_to number state) ≡ folded_to number (stopping_after_calls calls state)
+    (state : PlainState) (number calls : ℕ) → stopping_after_calls calls (folded_to number state)
+    ≡ folded_to number (stopping_after_calls calls state)
 
 abbrev pub FoldingCommutesWithMounts : Type 0
 FoldingCommutesWithMounts =

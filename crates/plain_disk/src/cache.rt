@@ -1,10 +1,15 @@
-ghost use Rattle.std.specs.Prelude.{◌≡◌, ◌&&◌, ◌+◌, ◌<◌, ◌≤◌, IfOk, OnOk, IfSome, IsTrue, is_some, Some, length};
+ghost use Rattle.std.specs.Prelude.{◌≡◌, ◌&&◌, ◌+◌, ◌<◌, ◌≤◌, IfOk, OnOk, IfSome, IsTrue, is_some, Some};
+ghost use Rattle.std.specs.Prelude.{length};
 ghost use Rattle.lsvd_device.specs.Calls.{passes};
 ghost use Rattle.lsvd_device.specs.Sequence.{passed_of};
 ghost use Rattle.log_room.specs.Room.{max_log};
 ghost use Rattle.plain_disk.specs.Fields.{max_seq, IsInside, is_opened_gate};
 ghost use Rattle.plain_disk.specs.Log.{empty_from, mounted_log};
-ghost use Rattle.plain_disk.specs.Cache.{cache_with, after_reads, after_writes, after_sync_of, writes_of, passes_entry, cache_after_entry, after_first_half, after_second_half, after_finishing, commit_calls_after, passes_commit, after_halves, cache_after_commit, keeps_opened_gate, kept_commit};
+ghost use Rattle.plain_disk.specs.Cache.{cache_with, after_reads, after_writes, after_sync_of, writes_of};
+ghost use Rattle.plain_disk.specs.Cache.{passes_entry, cache_after_entry, after_first_half};
+ghost use Rattle.plain_disk.specs.Cache.{after_second_half, after_finishing, commit_calls_after};
+ghost use Rattle.plain_disk.specs.Cache.{passes_commit, after_halves, cache_after_commit, keeps_opened_gate};
+ghost use Rattle.plain_disk.specs.Cache.{kept_commit};
 ghost use Rattle.plain_disk.specs.Entries.{has_room_for};
 
 use crate::log::{PlainCommit, RecordLog};
@@ -28,7 +33,8 @@ pub enum PendingWrite {
     OpenedGate,
 }
 
-/// The cache device with its log. After an error, which is that memory ran out, it is of no use: a caller changes a copy.
+/// The cache device with its log. After an error, which is that memory ran out, it is of no use: a caller
+/// changes a copy.
 #[derive(Drop)]
 pub(crate) struct CacheDevice {
     log: RecordLog,
@@ -142,7 +148,8 @@ impl CacheDevice {
     // Makes writes and syncs: whether all of these calls pass.
     fn write_and_sync(&mut self, writes: &[PendingWrite]) -> Result<bool, AllocError>
         requires { length writes.now < 16 }
-        ensures passed { IfOk result (λ are_passed. are_passed ≡ passes self.old.left (length writes.now + 1)) }
+        ensures passed { IfOk result (λ are_passed. are_passed ≡ passes self.old.left
+            (length writes.now + 1)) }
         ensures device { OnOk result (self.new ≡ after_sync_of writes.now self.old) }
     {
         if !self.passes(writes.len() as u64 + 1) {
@@ -162,7 +169,8 @@ impl CacheDevice {
         room.need(record_sectors(entry)) <= room.free()
     }
 
-    /// Writes the entry's record, for which there is room (a condition), and the pad before it: whether these writes pass.
+    /// Writes the entry's record, for which there is room (a condition), and the pad before it: whether these
+    /// writes pass.
     pub(crate) fn enter(&mut self, entry: &Entry) -> Result<bool, AllocError>
         requires { IsTrue (has_room_for self.old entry.now) }
         ensures passed { IfOk result (λ are_passed. are_passed ≡ passes_entry self.old entry.now) }
@@ -208,8 +216,8 @@ impl CacheDevice {
         }
     }
 
-    /// Makes a commit of all entries whose tail is at the entry with this seq: whether its calls, and those of finishing an
-    /// earlier one, all pass.
+    /// Makes a commit of all entries whose tail is at the entry with this seq: whether its calls, and those
+    /// of finishing an earlier one, all pass.
     pub(crate) fn commit(&mut self, seq: u64) -> Result<bool, AllocError>
         requires { seq ≤ max_seq }
         ensures passed { IfOk result (λ are_passed. are_passed ≡ passes_commit self.old) }

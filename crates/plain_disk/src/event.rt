@@ -18,10 +18,11 @@ pub enum PlainEvent {
     Seal,
     /// Begins the put of the lowest ready object.
     TakeJob,
-    /// A put is done: that of the object with this number; None where its bytes, or what the store gave for it, are not those of
-    /// the sealed object.
+    /// A put is done: that of the object with this number; None where its bytes, or what the store gave for
+    /// it, are not those of the sealed object.
     JobDone { job: Option<u64> },
-    /// A put failed: that of the object with this number; None where its bytes are not those of the sealed object.
+    /// A put failed: that of the object with this number; None where its bytes are not those of the sealed
+    /// object.
     JobFailed { job: Option<u64> },
     /// Asks for the counts.
     Status,
@@ -34,8 +35,8 @@ pub enum PlainReply {
     Entered(u64),
     /// Each entry so far is durable; the history has this length.
     Flushed(u64),
-    /// A plan of a read: how long the history is, the data of its sectors in the image that this history makes, and the objects
-    /// that the plan pins, in ascending order.
+    /// A plan of a read: how long the history is, the data of its sectors in the image that this history
+    /// makes, and the objects that the plan pins, in ascending order.
     Planned {
         front: u64,
         data: Body,
@@ -51,8 +52,8 @@ pub enum PlainReply {
     Done(u64),
     /// The object of the put that failed is ready again.
     Returned,
-    /// How many entries the history has, and the numbers of the last object that was sealed, of the frontier, and of the newest
-    /// checkpoint.
+    /// How many entries the history has, and the numbers of the last object that was sealed, of the frontier,
+    /// and of the newest checkpoint.
     Told {
         writes: u64,
         sealed: u64,
@@ -63,7 +64,8 @@ pub enum PlainReply {
     BatchFull(u64),
     /// There are this many unsealed entries, the most of a batch.
     EntriesFull(u64),
-    /// The log has no room: the record of the entry, with the pad before it, needs `need` sectors, and `free` are free.
+    /// The log has no room: the record of the entry, with the pad before it, needs `need` sectors, and `free`
+    /// are free.
     NoRoom {
         need: u64,
         free: u64,

@@ -11,8 +11,9 @@ use std::alloc::{AllocError, Global};
 /// The most entries of a batch.
 pub(crate) const MAX_ENTRIES: u64 = 16_384;
 
-/// The data that a volume of this geometry which took these entries has in `sectors` sectors from `lba` on. None is where no read may
-/// cover them. The one error is that memory ran out. A read costs as much as the history is long.
+/// The data that a volume of this geometry which took these entries has in `sectors` sectors from `lba` on.
+/// None is where no read may cover them. The one error is that memory ran out. A read costs as much as the
+/// history is long.
 pub(crate) fn read_history(
     alloc: Global,
     geometry: &Geometry,
@@ -48,7 +49,8 @@ pub(crate) fn data_sectors(entry: &Entry) -> u64
     }
 }
 
-/// How many sectors of data these entries carry; None where their number does not fit, as that of no entries in memory does not.
+/// How many sectors of data these entries carry; None where their number does not fit, as that of no entries
+/// in memory does not.
 pub(crate) fn count_data_sectors(entries: &[Entry]) -> Option<u64>
     ensures { IfSome result (λ sectors. sectors ≡ sum_by data_sectors entries.now) }
 {

@@ -2,7 +2,8 @@ ghost use Rattle.std.specs.Prelude.{◌≡◌, ◌+◌, ◌^◌, ◌<◌, ◌≤
 ghost use Rattle.object_stream.specs.Plain.{numbers_of};
 ghost use Rattle.plain_disk.specs.Stops.{landed_after};
 
-/// Of `count` numbers after one the last of those before the first that has not landed. They fit (a condition).
+/// Of `count` numbers after one the last of those before the first that has not landed. They fit (a
+/// condition).
 pub(crate) fn landed_after(landed: &[bool], number: u64, count: u64) -> u64
     requires { number + count < 2 ^ 64 }
     ensures last { result ≡ landed_after (numbers_of landed.now) number count }

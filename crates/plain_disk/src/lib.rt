@@ -1,10 +1,12 @@
-//! The plain volume: what each event of a virtual disk answers and leaves, told by lists of entries and objects.
+//! The plain volume: what each event of a virtual disk answers and leaves, told by lists of entries and
+//! objects.
 //!
-//! Its contract: `PlainVolume::step` is the step of the machine in `specs/Step.antt`, which the volume is held against, with its stops and
-//! its mounts. What was flushed before a stop is kept. Its definitions are what a volume is proved to answer; its code is a plain program
-//! for tests, which no product code calls.
-//! It stands on `lsvd_base`, `batcher` and `log_room` for what an entry is and when there is room for one, on `object_stream`,
-//! `upload_window` and `commit_body` for objects and commits, and on `lsvd_device` for what a fuse is.
+//! Its contract: `PlainVolume::step` is the step of the machine in `specs/Step.antt`, which the volume is
+//! held against, with its stops and its mounts. What was flushed before a stop is kept. Its definitions are
+//! what a volume is proved to answer; its code is a plain program for tests, which no product code calls. It
+//! stands on `lsvd_base`, `batcher` and `log_room` for what an entry is and when there is room for one, on
+//! `object_stream`, `upload_window` and `commit_body` for objects and commits, and on `lsvd_device` for what
+//! a fuse is.
 #![tactic(auto)]
 
 mod cache;

@@ -1,7 +1,9 @@
 ghost use Rattle.std.specs.Prelude.{◌≡◌, ◌<◌, ◌≤◌, Some, OnOk, IfOk, IfSome, drop};
 ghost use Rattle.log_room.specs.Room.{max_log, need, free, record_sectors, pad_before};
 ghost use Rattle.plain_disk.specs.Fields.{max_seq, IsInside};
-ghost use Rattle.plain_disk.specs.Log.{empty_from, next_seq, room_in, used_by, with_record, place_of_first, records_from, commit_from, past_pad, with_commit, held_from, mounted_log};
+ghost use Rattle.plain_disk.specs.Log.{empty_from, next_seq, room_in, used_by, with_record, place_of_first};
+ghost use Rattle.plain_disk.specs.Log.{records_from, commit_from, past_pad, with_commit, held_from};
+ghost use Rattle.plain_disk.specs.Log.{mounted_log};
 
 use commit_body::Mark;
 use log_room::{LogRoom, record_sectors};
@@ -45,9 +47,22 @@ impl Model for RecordLog {
 
     ghost Value = { PlainLog };
 
-    ghost view = { λ l. record { size = l.size; head = l.head; last = l.last; records = l.records.items; unfinished = l.unfinished } };
+    ghost view = { λ l. record {
+      size = l.size;
+      head = l.head;
+      last = l.last;
+      records = l.records.items;
+      unfinished = l.unfinished;
+    } };
 
-    ghost invariant = { λ l. IsRecordLog (record { size = l.size; head = l.head; last = l.last; records = l.records.items; unfinished = l.unfinished }) };
+    ghost invariant = { λ l. IsRecordLog
+        (record {
+          size = l.size;
+          head = l.head;
+          last = l.last;
+          records = l.records.items;
+          unfinished = l.unfinished;
+        }) };
 }
 
 impl RecordLog {
@@ -124,7 +139,8 @@ impl RecordLog {
         self.last.tail.seq + self.records.len() as u64
     }
 
-    /// Puts the entry's record at the head. There is room for it (a condition). The one error is that memory ran out.
+    /// Puts the entry's record at the head. There is room for it (a condition). The one error is that memory
+    /// ran out.
     pub(crate) fn enter(&mut self, entry: &Entry) -> Result<(), AllocError>
         requires { need (room_in self.old) (record_sectors entry.now) ≤ free (room_in self.old) }
         ensures { OnOk result (self.new ≡ with_record self.old entry.now) }

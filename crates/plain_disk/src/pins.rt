@@ -3,8 +3,8 @@ ghost use Rattle.plain_disk.specs.Reads.{are_pinned, without_pins};
 
 use std::alloc::{AllocError, Global};
 
-/// The pins without those of a plan; None where one of the plan's numbers is not among them, as often as the plan has it. The one
-/// error is that memory ran out.
+/// The pins without those of a plan; None where one of the plan's numbers is not among them, as often as the
+/// plan has it. The one error is that memory ran out.
 pub(crate) fn without_pins(
     alloc: Global,
     pins: &[u64],
@@ -12,7 +12,8 @@ pub(crate) fn without_pins(
 ) -> Result<Option<Vec<u64>>, AllocError>
     ensures { IfOk result (λ left. MatchOption left
         (are_pinned numbers.now pins.now ≡ false)
-        (λ left. (are_pinned numbers.now pins.now ≡ true) × (left.items ≡ without_pins numbers.now pins.now))) }
+        (λ left. (are_pinned numbers.now pins.now ≡ true)
+        × (left.items ≡ without_pins numbers.now pins.now))) }
 {
     let mut left = Vec::from_slice(alloc, pins)?;
     for number in numbers {

@@ -1,8 +1,13 @@
-ghost use Rattle.plain_disk.specs.Valid.{CreatedIsPlainVolume, EventsKeepCommitted, EventsKeepPlainVolume, FlushCommitsEntries, FoldingChangesNoReply, FoldingCommutesWithEvents, FoldingCommutesWithMounts, FoldingCommutesWithStops, FoldingKeepsPlainVolume, FoldsInParts, MountsCommitEntries, MountsKeepPlainVolume, StopsKeepPlainVolume, StopKeepsAcknowledged, RecoversBeforeFirstMissing};
+ghost use Rattle.plain_disk.specs.Valid.{CreatedIsPlainVolume, EventsKeepCommitted, EventsKeepPlainVolume};
+ghost use Rattle.plain_disk.specs.Valid.{FlushCommitsEntries, FoldingChangesNoReply};
+ghost use Rattle.plain_disk.specs.Valid.{FoldingCommutesWithEvents, FoldingCommutesWithMounts};
+ghost use Rattle.plain_disk.specs.Valid.{FoldingCommutesWithStops, FoldingKeepsPlainVolume, FoldsInParts};
+ghost use Rattle.plain_disk.specs.Valid.{MountsCommitEntries, MountsKeepPlainVolume, StopsKeepPlainVolume};
+ghost use Rattle.plain_disk.specs.Valid.{StopKeepsAcknowledged, RecoversBeforeFirstMissing};
 
-/// A law: a flush that is acknowledged commits each entry so far, and so does a mount; no event leaves fewer committed. A stop keeps
-/// what was committed and the objects up to the frontier, and no more than was taken. A recovery gets to the last object before the
-/// first missing one.
+/// A law: a flush that is acknowledged commits each entry so far, and so does a mount; no event leaves fewer
+/// committed. A stop keeps what was committed and the objects up to the frontier, and no more than was taken.
+/// A recovery gets to the last object before the first missing one.
 pub fn a_stop_keeps_what_was_acknowledged()
     ensures flushed { FlushCommitsEntries }
     ensures mounted { MountsCommitEntries }
@@ -19,8 +24,8 @@ pub fn each_state_is_a_plain_volume()
     ensures mounts { MountsKeepPlainVolume }
 {}
 
-/// A law: a volume may fold the entries of its first objects, up to the frontier, into the image that it opens with, before an
-/// event, a stop or a mount, or after it; no reply changes.
+/// A law: a volume may fold the entries of its first objects, up to the frontier, into the image that it
+/// opens with, before an event, a stop or a mount, or after it; no reply changes.
 pub fn entries_may_be_folded_at_any_time()
     ensures kept { FoldingKeepsPlainVolume }
     ensures parts { FoldsInParts }

@@ -9,8 +9,9 @@ use lsvd_base::Entry;
 use object_stream::{Owner, PlainStream};
 use std::alloc::{AllocError, Global};
 
-/// The objects that a read of `sectors` sectors from `lba` on gets some of, in ascending order: those up to the frontier that own
-/// a sector there, which no entry past its end covers. The one error is that memory ran out.
+/// The objects that a read of `sectors` sectors from `lba` on gets some of, in ascending order: those up to
+/// the frontier that own a sector there, which no entry past its end covers. The one error is that memory ran
+/// out.
 pub(crate) fn objects_read(
     alloc: Global,
     stream: &PlainStream,
@@ -20,7 +21,8 @@ pub(crate) fn objects_read(
     sectors: u64,
 ) -> Result<Vec<u64>, AllocError>
     requires { lba + sectors < 2 ^ 64 }
-    ensures { IfOk result (λ numbers. numbers.items ≡ objects_at (stream_of stream.now) frontier logged.now lba sectors) }
+    ensures { IfOk result (λ numbers. numbers.items ≡ objects_at (stream_of stream.now) frontier logged.now
+        lba sectors) }
 {
     let mut numbers = Vec::new(alloc);
     for before in 0..frontier {
@@ -42,7 +44,8 @@ fn is_object_read(
     sectors: u64,
 ) -> bool
     requires { lba + sectors < 2 ^ 64 }
-    ensures { result ≡ list_any (is_read_at (stream_of stream.now) frontier logged.now number) (range_with_len lba sectors) }
+    ensures { result ≡ list_any (is_read_at (stream_of stream.now) frontier logged.now number)
+        (range_with_len lba sectors) }
 {
     for sector in lba..lba + sectors {
         if is_sector_read(stream, frontier, logged, number, sector) {

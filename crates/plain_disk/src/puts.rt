@@ -1,6 +1,7 @@
 ghost use Rattle.std.specs.Prelude.{◌≡◌, nat_lt, position};
 ghost use Rattle.std.specs.List.{list_any};
-ghost use Rattle.upload_window.specs.Window.{has_number, is_ready, lowest_ready, is_started, with_started, without, below_lowest};
+ghost use Rattle.upload_window.specs.Window.{has_number, is_ready, lowest_ready, is_started, with_started};
+ghost use Rattle.upload_window.specs.Window.{without, below_lowest};
 
 use upload_window::OpenObject;
 

@@ -5,7 +5,8 @@ ghost use Rattle.plain_disk.specs.Objects.{sealed_count};
 use crate::history::{MAX_ENTRIES, data_sectors};
 use lsvd_base::Entry;
 
-/// How many of the entries the next object takes: the fewest first ones that fill a batch, or all where they do not.
+/// How many of the entries the next object takes: the fewest first ones that fill a batch, or all where they
+/// do not.
 pub(crate) fn sealed_count(batch: u64, entries: &[Entry]) -> u64
     requires { batch ≤ 65536 }
     ensures { result ≡ sealed_count batch entries.now }

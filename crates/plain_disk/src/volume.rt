@@ -4,15 +4,20 @@ ghost use Rattle.log_room.specs.Room.{need, free, record_sectors};
 ghost use Rattle.object_stream.specs.Stream.{end_at, last_number};
 ghost use Rattle.object_stream.specs.Plain.{numbers_of};
 ghost use Rattle.plain_disk.specs.Fields.{max_seq, batch_refusal_of, record_refusal, cache_with_record};
-ghost use Rattle.plain_disk.specs.State.{created_volume, stream_in, frontier_of, frontier_end, history_length, logged_entries};
+ghost use Rattle.plain_disk.specs.State.{created_volume, stream_in, frontier_of, frontier_end};
+ghost use Rattle.plain_disk.specs.State.{history_length, logged_entries};
 ghost use Rattle.plain_disk.specs.Cache.{kept_commit};
-ghost use Rattle.plain_disk.specs.Reads.{look_calls, look_reply, after_look, release_reply, after_plan_release, objects_read};
-ghost use Rattle.plain_disk.specs.Entries.{has_room_for, enter_reply, after_entering, flush_reply, after_flush};
-ghost use Rattle.plain_disk.specs.Objects.{seal_reply, after_seal, take_reply, after_take, done_reply, after_done, failed_reply, after_failed, status_reply};
+ghost use Rattle.plain_disk.specs.Reads.{look_calls, look_reply, after_look, release_reply};
+ghost use Rattle.plain_disk.specs.Reads.{after_plan_release, objects_read};
+ghost use Rattle.plain_disk.specs.Entries.{has_room_for, enter_reply, after_entering, flush_reply};
+ghost use Rattle.plain_disk.specs.Entries.{after_flush};
+ghost use Rattle.plain_disk.specs.Objects.{seal_reply, after_seal, take_reply, after_take, done_reply};
+ghost use Rattle.plain_disk.specs.Objects.{after_done, failed_reply, after_failed, status_reply};
 ghost use Rattle.plain_disk.specs.declared.event.PlainReply.TheVariants.{NoRoom};
 ghost use Rattle.plain_disk.specs.Log.{room_in};
 ghost use Rattle.plain_disk.specs.Step.{plain_reply, plain_after};
-ghost use Rattle.plain_disk.specs.Stops.{stopping_after_calls, recovered_number, recovered_end, kept_count, cut_to_count, mounted_kept, mounted_lost};
+ghost use Rattle.plain_disk.specs.Stops.{stopping_after_calls, recovered_number, recovered_end, kept_count};
+ghost use Rattle.plain_disk.specs.Stops.{cut_to_count, mounted_kept, mounted_lost};
 
 use crate::cache::{CacheDevice, PendingWrite};
 use crate::event::{PlainEvent, PlainReply};
@@ -143,11 +148,12 @@ impl PlainVolume {
         self.cache.stop_after(calls);
     }
 
-    /// Stops the machine, of whose objects those have landed whose numbers are the indexes of `true` in `landed`, and of whose
-    /// pending writes those are kept that `kept` has `true` for, and mounts the volume with its cache: how many entries it has,
-    /// and the number of the last object that was found.
+    /// Stops the machine, of whose objects those have landed whose numbers are the indexes of `true` in
+    /// `landed`, and of whose pending writes those are kept that `kept` has `true` for, and mounts the volume
+    /// with its cache: how many entries it has, and the number of the last object that was found.
     pub fn crash_kept(&mut self, landed: &[bool], kept: &[bool]) -> (u64, u64)
-        ensures count { result.0 ≡ kept_count (numbers_of landed.now) (kept_commit kept.now self.old.cache) self.old }
+        ensures count { result.0 ≡ kept_count (numbers_of landed.now)
+            (kept_commit kept.now self.old.cache) self.old }
         ensures number { result.1 ≡ recovered_number (numbers_of landed.now) self.old }
         ensures volume { self.new ≡ mounted_kept (numbers_of landed.now) kept.now self.old }
     {
@@ -160,9 +166,9 @@ impl PlainVolume {
         (count, number)
     }
 
-    /// Stops the machine, of whose objects those have landed whose numbers are the indexes of `true` in `landed`, and mounts the
-    /// volume without its cache, on a new device of the same length: how many entries it has, and the number of the last object
-    /// that was found.
+    /// Stops the machine, of whose objects those have landed whose numbers are the indexes of `true` in
+    /// `landed`, and mounts the volume without its cache, on a new device of the same length: how many
+    /// entries it has, and the number of the last object that was found.
     pub fn crash_lost(&mut self, landed: &[bool]) -> (u64, u64)
         ensures count { result.0 ≡ recovered_end (numbers_of landed.now) self.old }
         ensures number { result.1 ≡ recovered_number (numbers_of landed.now) self.old }
@@ -215,8 +221,9 @@ impl PlainVolume {
         &entries[skipped.min(entries.len())..]
     }
 
-    // Takes the entry if it is in range, the batch is not full, the log has room, after a commit if that releases any, and the
-    // device passes its calls. The one error is that memory ran out, after which the volume is as before.
+    // Takes the entry if it is in range, the batch is not full, the log has room, after a commit if that
+    // releases any, and the device passes its calls. The one error is that memory ran out, after which the
+    // volume is as before.
     fn enter(&mut self, entry: Entry) -> Result<PlainReply, AllocError>
         ensures reply { IfOk result (λ reply. reply ≡ enter_reply self.old entry) }
         ensures volume { OnOk result (self.new ≡ after_entering entry self.old) }
@@ -237,8 +244,8 @@ impl PlainVolume {
         Ok(PlainReply::Entered(self.history_length()))
     }
 
-    // Makes each entry so far durable by a commit, if the device passes its calls. The one error is that memory ran out, after
-    // which the volume is as before.
+    // Makes each entry so far durable by a commit, if the device passes its calls. The one error is that
+    // memory ran out, after which the volume is as before.
     fn flush(&mut self) -> Result<PlainReply, AllocError>
         ensures reply { IfOk result (λ reply. reply ≡ flush_reply self.old) }
         ensures volume { OnOk result (self.new ≡ after_flush self.old) }
@@ -255,8 +262,8 @@ impl PlainVolume {
         }
     }
 
-    // Plans a read of `sectors` sectors from `lba` on, if one read may cover them and the device passes its calls. The one error
-    // is that memory ran out, after which the volume is as before.
+    // Plans a read of `sectors` sectors from `lba` on, if one read may cover them and the device passes its
+    // calls. The one error is that memory ran out, after which the volume is as before.
     fn look(&mut self, lba: u64, sectors: u64) -> Result<PlainReply, AllocError>
         ensures reply { IfOk result (λ reply. reply ≡ look_reply self.old lba sectors) }
         ensures volume { OnOk result (self.new ≡ after_look lba sectors self.old) }
@@ -282,8 +289,8 @@ impl PlainVolume {
         })
     }
 
-    // The calls of a read that may be made: one for each maximal run of its sectors that one same entry past the frontier's end
-    // wrote last. The one error is that memory ran out.
+    // The calls of a read that may be made: one for each maximal run of its sectors that one same entry past
+    // the frontier's end wrote last. The one error is that memory ran out.
     fn look_calls(&self, lba: u64, sectors: u64) -> Result<u64, AllocError>
         ensures { IfOk result (λ calls. calls ≡ look_calls self.now lba sectors) }
     {
@@ -310,7 +317,8 @@ impl PlainVolume {
         )
     }
 
-    // Gives back the pins of a plan, if it has them. The one error is that memory ran out, after which the volume is as before.
+    // Gives back the pins of a plan, if it has them. The one error is that memory ran out, after which the
+    // volume is as before.
     fn release(&mut self, objects: &ObjectNumbers) -> Result<PlainReply, AllocError>
         ensures reply { IfOk result (λ reply. reply ≡ release_reply self.old objects.now) }
         ensures volume { OnOk result (self.new ≡ after_plan_release objects.now self.old) }
@@ -326,8 +334,8 @@ impl PlainVolume {
         }
     }
 
-    // Seals the next data object, if there is an unsealed entry and fewer than 16 objects are open. The one error is that memory
-    // ran out, after which the volume is as before.
+    // Seals the next data object, if there is an unsealed entry and fewer than 16 objects are open. The one
+    // error is that memory ran out, after which the volume is as before.
     fn seal(&mut self) -> Result<PlainReply, AllocError>
         ensures reply { IfOk result (λ reply. reply ≡ seal_reply self.old) }
         ensures volume { OnOk result (self.new ≡ after_seal self.old) }
@@ -446,8 +454,8 @@ impl PlainVolume {
     }
 }
 
-// Why a volume with these unsealed entries does not take an entry, whatever room its log has. The one error is that memory ran
-// out.
+// Why a volume with these unsealed entries does not take an entry, whatever room its log has. The one error
+// is that memory ran out.
 fn batch_refusal(
     geometry: &Geometry,
     unsealed: &[Entry],
@@ -471,8 +479,8 @@ fn batch_refusal(
     }
 }
 
-// Writes the record of an entry that the batch takes, and makes a commit for it where it has no room, if that releases any; why
-// it was not written. The one error is that memory ran out.
+// Writes the record of an entry that the batch takes, and makes a commit for it where it has no room, if that
+// releases any; why it was not written. The one error is that memory ran out.
 fn write_record(
     cache: &mut CacheDevice,
     end: u64,
@@ -497,7 +505,8 @@ fn write_record(
 
 // Why the log has no room for the entry's record.
 fn room_refusal(cache: &CacheDevice, entry: &Entry) -> Option<PlainReply>
-    ensures { result ≡ (if has_room_for cache.now entry.now then None else Some (NoRoom (need (room_in cache.now.log) (record_sectors entry.now)) (free (room_in cache.now.log)))) }
+    ensures { result ≡ (if has_room_for cache.now entry.now then None else Some
+        (NoRoom (need (room_in cache.now.log) (record_sectors entry.now)) (free (room_in cache.now.log)))) }
 {
     if cache.has_room_for(entry) {
         return None;

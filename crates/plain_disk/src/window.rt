@@ -50,8 +50,8 @@ fn shown(window: &[u8], lba: u64, at: u64, sectors: u64) -> (usize, usize)
     )
 }
 
-/// From which sector to which a window that holds `held` sectors shows `sectors` of them from `at` on; its first one is `lba`.
-/// The two are the same where it shows none of them.
+/// From which sector to which a window that holds `held` sectors shows `sectors` of them from `at` on; its
+/// first one is `lba`. The two are the same where it shows none of them.
 pub(crate) fn shown_sectors(held: u64, lba: u64, at: u64, sectors: u64) -> (u64, u64)
     requires { at + sectors < 2 ^ 64 }
     ensures start { result.0 ≡ min held (at - lba) }

@@ -7,9 +7,9 @@ use crate::window::shown_sectors;
 use lsvd_base::Entry;
 use std::alloc::{AllocError, Global};
 
-/// For each of `sectors` sectors from `lba` on the index of the entry that wrote it last; None where the history has none
-/// that covers it, or the last that does is a zeroing. The one error is that memory ran out. It costs as much as the
-/// history is long.
+/// For each of `sectors` sectors from `lba` on the index of the entry that wrote it last; None where the
+/// history has none that covers it, or the last that does is a zeroing. The one error is that memory ran out.
+/// It costs as much as the history is long.
 pub(crate) fn last_writers(
     alloc: Global,
     history: &[Entry],
@@ -38,7 +38,8 @@ fn follow(last: &mut [Option<u64>], lba: u64, index: u64, entry: &Entry)
     }
 }
 
-// From which to which of `count` sectors from `lba` on the entry covers them. The two are the same where it covers none.
+// From which to which of `count` sectors from `lba` on the entry covers them. The two are the same where it
+// covers none.
 fn covered(count: usize, lba: u64, entry: &Entry) -> (usize, usize)
     requires { EndsBy (2 ^ 64 - 1) entry.now }
     ensures start { result.0 ≡ min count (first_sector entry.now - lba) }
@@ -52,8 +53,8 @@ fn covered(count: usize, lba: u64, entry: &Entry) -> (usize, usize)
     (start as usize, end as usize)
 }
 
-/// How many maximal runs of sectors these last writers make: each is of one same write, and a sector without one is in
-/// none.
+/// How many maximal runs of sectors these last writers make: each is of one same write, and a sector without
+/// one is in none.
 pub(crate) fn run_count(last: &[Option<u64>]) -> u64
     ensures { result ≡ runs last.now }
 {

@@ -1,5 +1,6 @@
 -- A fetch gives the bytes of its plan, and no others, where each piece's receipt tells its object's.
-use Rattle.std.proofs.Common.{◌≡◌, ℕ, zero, suc, ◌+◌, ◌<◌, ◌≤◌, Option, Some, None, List, [], ◌∷◌, length, take, drop, get_or, refl, sym, ◌∙◌, ap, subst, arith}
+use Rattle.std.proofs.Common.{◌≡◌, ℕ, zero, suc, ◌+◌, ◌<◌, ◌≤◌, Option, Some, None, List, [], ◌∷◌, length, take, drop, get_or}
+use Rattle.std.proofs.Common.{refl, sym, ◌∙◌, ap, subst, arith}
 use Rattle.std.specs.Prelude.{IfSome, IsSome}
 use Rattle.std.specs.List.{AllByRecursion}
 use Rattle.std.proofs.lemmas.List.{take_all, drop_all}
@@ -10,7 +11,8 @@ abbrev pub IsToldPiece : PieceState → Type 0
 IsToldPiece piece = IsSome piece.receipt.told
 
 -- one piece more is told
-pub told_next : (pieces : List PieceState) (index : ℕ) (piece : PieceState) → index < length pieces → piece ≡ get_or pieces index piece → IsToldPiece piece
+pub told_next : (pieces : List PieceState) (index : ℕ) (piece : PieceState) → index < length pieces
+    → piece ≡ get_or pieces index piece → IsToldPiece piece
     → AllByRecursion IsToldPiece (take index pieces) → AllByRecursion IsToldPiece (take (suc index) pieces)
 told_next [] index piece inside is told all = absurd (omega (arith, inside))
 told_next (first ∷ pieces) zero piece inside is told all = (subst IsToldPiece is told, tt)
@@ -20,11 +22,13 @@ told_next (first ∷ pieces) (suc index) piece inside is told all =
 -- pieces whose receipts tell give one list of bytes alone
 alone_by : (piece : PieceState) (pieces : List PieceState) (under a b : List ℕ) (told : Option (List ℕ)) → IsSome told
     → ((over : List ℕ) → GivesOver pieces over a → GivesOver pieces over b → a ≡ b)
-    → IfSome told (λ all. GivesOver pieces (pasted piece all under) a) → IfSome told (λ all. GivesOver pieces (pasted piece all under) b) → a ≡ b
+    → IfSome told (λ all. GivesOver pieces (pasted piece all under) a)
+    → IfSome told (λ all. GivesOver pieces (pasted piece all under) b) → a ≡ b
 alone_by piece pieces under a b None is alone first second = absurd (let e = is in cc)
 alone_by piece pieces under a b (Some all) is alone first second = alone (pasted piece all under) first second
 
-alone : (pieces : List PieceState) (under a b : List ℕ) → AllByRecursion IsToldPiece pieces → GivesOver pieces under a → GivesOver pieces under b → a ≡ b
+alone : (pieces : List PieceState) (under a b : List ℕ) → AllByRecursion IsToldPiece pieces → GivesOver pieces under a
+    → GivesOver pieces under b → a ≡ b
 alone [] under a b all first second = first ∙ sym second
 alone (piece ∷ pieces) under a b all first second =
     alone_by piece pieces under a b piece.receipt.told all.0 (λ over x y. alone pieces over a b all.1 x y) first second
@@ -36,13 +40,15 @@ pub no_other : (pieces : List PieceState) (index : ℕ) (under now bytes : List 
     → GivesOver pieces under bytes → bytes ≡ now
 no_other pieces index under now bytes past all gives given =
     let whole : AllByRecursion IsToldPiece pieces = subst (AllByRecursion IsToldPiece) (take_all index pieces past) all in
-    let made : GivesOver pieces under now = gives now (subst (λ l. GivesOver l now now) (sym (drop_all index pieces past)) refl) in
+    let made : GivesOver pieces under now =
+    gives now (subst (λ l. GivesOver l now now) (sym (drop_all index pieces past)) refl) in
     alone pieces under bytes now whole given made
 
 -- ---- one piece more
 
 over_told : (piece : PieceState) (pieces : List PieceState) (under now bytes : List ℕ) (told : Option (List ℕ))
-    → IfSome told (λ all. now ≡ pasted piece all under) → GivesOver pieces now bytes → IfSome told (λ all. GivesOver pieces (pasted piece all under) bytes)
+    → IfSome told (λ all. now ≡ pasted piece all under) → GivesOver pieces now bytes
+    → IfSome told (λ all. GivesOver pieces (pasted piece all under) bytes)
 over_told piece pieces under now bytes None is given = tt
 over_told piece pieces under now bytes (Some all) is given = subst (λ over. GivesOver pieces over bytes) is given
 

@@ -1,5 +1,6 @@
 -- What a plan gives for a sector: what the one piece that has it fetches, or what stood there before.
-use Rattle.std.proofs.Common.{◌≡◌, ℕ, ◌+◌, ◌-◌, ◌*◌, ◌≤◌, inl, inr, Option, Some, None, List, [], ◌∷◌, length, take, drop, refl, sym, ◌∙◌, ap, subst}
+use Rattle.std.proofs.Common.{◌≡◌, ℕ, ◌+◌, ◌-◌, ◌*◌, ◌≤◌, inl, inr, Option, Some, None, List, [], ◌∷◌, length, take, drop, refl}
+use Rattle.std.proofs.Common.{sym, ◌∙◌, ap, subst}
 use Rattle.std.proofs.Common.{arith}
 use Rattle.std.specs.Prelude.{IfSome}
 use Rattle.std.specs.List.{AllByRecursion}
@@ -26,9 +27,11 @@ is_piece : (size : ℕ) (piece : PieceState) (told : TellsAll piece.receipt) →
 is_piece size piece told inside =
     record { read = inside.read; object = (let all = told.size in let object = inside.object in omega (arith, all, object)) }
 
-part_size : (size : ℕ) (told : List ℕ) (piece : PieceState) → IsPiece size told piece → length (bytes_at piece.from piece.count told) ≡ piece.count
+part_size : (size : ℕ) (told : List ℕ) (piece : PieceState) → IsPiece size told piece
+    → length (bytes_at piece.from piece.count told) ≡ piece.count
 part_size size told piece is =
-    (let object = is.object in length-take-le piece.count (drop piece.from told) (omega (arith, object, length-drop piece.from told)))
+    (let object = is.object in length-take-le piece.count (drop piece.from told)
+    (omega (arith, object, length-drop piece.from told)))
 
 pasted_size : (size : ℕ) (told bytes : List ℕ) (piece : PieceState) → IsPiece size told piece → length bytes ≡ size
     → length (pasted piece told bytes) ≡ size
@@ -47,7 +50,8 @@ missed size i told bytes piece is whole misses =
     (elim misses [ inl before ↦ inr (omega (arith, part, before)) | inr past ↦ inl (omega (arith, past)) ])
 
 -- one that fetches it has it there
-fetched : (size i : ℕ) (queue : QueueState) (place : ObjectPlace) (told bytes : List ℕ) (piece : PieceState) → IsPiece size told piece
+fetched : (size i : ℕ) (queue : QueueState) (place : ObjectPlace) (told bytes : List ℕ) (piece : PieceState)
+    → IsPiece size told piece
     → length bytes ≡ size → Fetches queue place i piece → sector_of i (pasted piece told bytes) ≡ sector_of place.sector told
 fetched size i queue place told bytes piece is whole fetches =
     let part = part_size size told piece is in
@@ -65,27 +69,33 @@ fetched size i queue place told bytes piece is whole fetches =
 -- ---- all pieces
 
 -- the bytes that a piece is pasted with are known
-next : (pieces : List PieceState) (piece : PieceState) (under bytes : List ℕ) (told : TellsAll piece.receipt) → GivesOver (piece ∷ pieces) under bytes
+next : (pieces : List PieceState) (piece : PieceState) (under bytes : List ℕ) (told : TellsAll piece.receipt)
+    → GivesOver (piece ∷ pieces) under bytes
     → GivesOver pieces (pasted piece told.bytes under) bytes
-next pieces piece under bytes told gives = subst (λ given. IfSome given (λ all. GivesOver pieces (pasted piece all under) bytes)) told.told gives
+next pieces piece under bytes told gives = subst (λ given. IfSome given (λ all. GivesOver pieces (pasted piece all under) bytes))
+    told.told gives
 
 all_missed : (size i : ℕ) (pieces : List PieceState) (under bytes : List ℕ) → AllByRecursion (PieceFits size) pieces
-    → AllByRecursion (λ piece. TellsAll piece.receipt) pieces → length under ≡ size → AllByRecursion (Misses i) pieces → GivesOver pieces under bytes
+    → AllByRecursion (λ piece. TellsAll piece.receipt) pieces → length under ≡ size → AllByRecursion (Misses i) pieces
+    → GivesOver pieces under bytes
     → sector_of i bytes ≡ sector_of i under
 all_missed size i [] under bytes inside told whole misses gives = ap (sector_of i) gives
 all_missed size i (piece ∷ pieces) under bytes inside told whole misses gives =
     let is = is_piece size piece told.0 inside.0 in
-    all_missed size i pieces (pasted piece told.0.bytes under) bytes inside.1 told.1 (pasted_size size told.0.bytes under piece is whole) misses.1
+    all_missed size i pieces (pasted piece told.0.bytes under) bytes inside.1 told.1
+    (pasted_size size told.0.bytes under piece is whole) misses.1
     (next pieces piece under bytes told.0 gives)
     ∙ missed size i told.0.bytes under piece is whole misses.0
 
 -- what a plan gives is as long as its read
 pub gives_size : (size : ℕ) (pieces : List PieceState) (under bytes : List ℕ) → AllByRecursion (PieceFits size) pieces
-    → AllByRecursion (λ piece. TellsAll piece.receipt) pieces → length under ≡ size → GivesOver pieces under bytes → length bytes ≡ size
+    → AllByRecursion (λ piece. TellsAll piece.receipt) pieces → length under ≡ size → GivesOver pieces under bytes
+    → length bytes ≡ size
 gives_size size [] under bytes inside told whole gives = ap length gives ∙ whole
 gives_size size (piece ∷ pieces) under bytes inside told whole gives =
     let after = pasted_size size told.0.bytes under piece (is_piece size piece told.0 inside.0) whole in
-    gives_size size pieces (pasted piece told.0.bytes under) bytes inside.1 told.1 after (next pieces piece under bytes told.0 gives)
+    gives_size size pieces (pasted piece told.0.bytes under) bytes inside.1 told.1 after
+    (next pieces piece under bytes told.0 gives)
 
 same_receipt : (a b : ReceiptState) → ◌≡◌ {A = Option ReceiptState} (Some a) (Some b) → a ≡ b
 same_receipt a b is = cc
@@ -97,7 +107,8 @@ tells_sector receipt sector at told is = subst (λ given. IfSome given (λ bytes
 
 one_fetched : (size i : ℕ) (queue : QueueState) (place : ObjectPlace) (pieces : List PieceState) (under bytes : List ℕ)
     → AllByRecursion (PieceFits size) pieces → AllByRecursion (λ piece. TellsAll piece.receipt) pieces → length under ≡ size
-    → OneFetches queue place i pieces → GivesOver pieces under bytes → (receipt : ReceiptState) → receipt_of queue place.number ≡ Some receipt
+    → OneFetches queue place i pieces → GivesOver pieces under bytes → (receipt : ReceiptState)
+    → receipt_of queue place.number ≡ Some receipt
     → IfSome receipt.told (λ told. sector_of i bytes ≡ sector_of place.sector told)
 one_fetched size i queue place [] under bytes inside told whole one gives receipt given = absurd one
 one_fetched size i queue place (piece ∷ pieces) under bytes inside told whole one gives receipt given =
@@ -111,7 +122,8 @@ one_fetched size i queue place (piece ∷ pieces) under bytes inside told whole 
           (tells_sector piece.receipt (sector_of i bytes) place.sector told.0
           (all_missed size i pieces (pasted piece told.0.bytes under) bytes inside.1 told.1 after this.1 more
           ∙ fetched size i queue place told.0.bytes under piece is whole this.0))
-      | inr later ↦ one_fetched size i queue place pieces (pasted piece told.0.bytes under) bytes inside.1 told.1 after later.1 more receipt given
+      | inr later ↦ one_fetched size i queue place pieces (pasted piece told.0.bytes under) bytes inside.1 told.1 after later.1
+          more receipt given
     ]
 
 pub gives_sectors : GivesSectors

@@ -1,5 +1,6 @@
 -- What rows that were read leave of each sector.
-use Rattle.std.proofs.Common.{◌≡◌, ℕ, zero, suc, ◌+◌, ◌-◌, ◌*◌, ◌<◌, ◌≤◌, ◌⊎◌, inl, inr, Option, Some, None, List, [], ◌∷◌, length, take, drop, sym}
+use Rattle.std.proofs.Common.{◌≡◌, ℕ, zero, suc, ◌+◌, ◌-◌, ◌*◌, ◌<◌, ◌≤◌, ◌⊎◌, inl, inr, Option, Some, None, List, [], ◌∷◌}
+use Rattle.std.proofs.Common.{length, take, drop, sym}
 use Rattle.std.proofs.Common.{◌∙◌, ap, subst, arith}
 use Rattle.std.specs.Prelude.{IfSome, replicate}
 use Rattle.std.specs.List.{AllByRecursion, slice_get}
@@ -69,14 +70,16 @@ if_some P Q (Some a) then is = then a is
 same_entry : (a b : Entry) → ◌≡◌ {A = Option Entry} (Some a) (Some b) → a ≡ b
 same_entry a b is = cc
 
-agrees_at : (rows : List Row) (list : List Entry) (index sector : ℕ) (row : Row) (entry : Entry) (bytes : List ℕ) → slice_get rows index ≡ Some row
+agrees_at : (rows : List Row) (list : List Entry) (index sector : ℕ) (row : Row) (entry : Entry) (bytes : List ℕ)
+    → slice_get rows index ≡ Some row
     → slice_get list index ≡ Some entry → AreDataOfRow row sector (length bytes) → AgreesWith rows list sector bytes
     → bytes ≡ take (length bytes) (drop (512 * (sector - (position_of row + 1))) (data_of entry))
 agrees_at [] list index sector row entry bytes is at there agrees = absurd cc
 agrees_at (first ∷ rows) [] index sector row entry bytes is at there agrees = absurd cc
 agrees_at (first ∷ rows) (one ∷ list) zero sector row entry bytes is at there agrees =
     let P : Row → Type 0 =
-    λ r. AreDataOfRow r sector (length bytes) → bytes ≡ take (length bytes) (drop (512 * (sector - (position_of r + 1))) (data_of one)) in
+    λ r. AreDataOfRow r sector (length bytes)
+    → bytes ≡ take (length bytes) (drop (512 * (sector - (position_of r + 1))) (data_of one)) in
     subst P (same_row first row is) agrees.0 there
     ∙ ap (λ e. take (length bytes) (drop (512 * (sector - (position_of row + 1))) (data_of e))) (same_entry one entry at)
 agrees_at (first ∷ rows) (one ∷ list) (suc index) sector row entry bytes is at there agrees =
@@ -87,11 +90,13 @@ begins_after (row_kinds.Write seq at lba sectors) sector count there = there.0
 begins_after (row_kinds.Zero seq at lba sectors) sector count there = absurd there
 
 -- the j-th sector of what was read of a record
-sector_agrees : (log : LogState) (seq sector count j : ℕ) (part : List ℕ) → HasRecord log seq sector count → length part ≡ 512 * count → j < count
+sector_agrees : (log : LogState) (seq sector count j : ℕ) (part : List ℕ) → HasRecord log seq sector count
+    → length part ≡ 512 * count → j < count
     → IsReadFrom log sector part → IsLogSector log seq (sector + j) (sector_of j part)
 sector_agrees log seq sector count j part has size less read =
     if_some (λ list. AgreesWith log.rows list sector part)
-    (λ list. (row : Row) (entry : Entry) → slice_get log.rows (seq - log.first) ≡ Some row → slice_get list (seq - log.first) ≡ Some entry
+    (λ list. (row : Row) (entry : Entry) → slice_get log.rows (seq - log.first) ≡ Some row
+    → slice_get list (seq - log.first) ≡ Some entry
     → sector_of j part ≡ sector_of (sector + j - (position_of row + 1)) (data_of entry))
     log.entries
     (λ list agrees row entry stands at.
@@ -113,9 +118,12 @@ reads_sector_at : (log : LogState) (queue : QueueState) (start count j : ℕ) (p
     → IsLogged log (Some (volume_on j place)) (sector_of (start + j) new)
 reads_sector_at log queue start count j (Log (Data seq sector)) old new room less places zeros (part, size, read, is) =
     subst (IsLogSector log seq (sector + j))
-    (sym (ap (sector_of (start + j)) is ∙ sector_written start j part old (omega (arith, size, less)) (omega (arith, room, size))))
-    (sector_agrees log seq sector count j part (has_record log queue seq sector count (omega (arith, less)) places) size less read)
-reads_sector_at log queue start count j (Log (Zeros seq)) old new room less places zeros is = ap (sector_of (start + j)) is ∙ zeros
+    (sym (ap (sector_of (start + j)) is ∙ sector_written start j part old (omega (arith, size, less))
+    (omega (arith, room, size))))
+    (sector_agrees log seq sector count j part (has_record log queue seq sector count (omega (arith, less)) places)
+    size less read)
+reads_sector_at log queue start count j (Log (Zeros seq)) old new room less places zeros is =
+    ap (sector_of (start + j)) is ∙ zeros
 reads_sector_at log queue start count j (Object place) old new room less places zeros is = ap (sector_of (start + j)) is ∙ zeros
 
 module _ (lba sectors : ℕ) (log : LogState) (queue : QueueState) where
@@ -129,14 +137,17 @@ module _ (lba sectors : ℕ) (log : LogState) (queue : QueueState) where
       keeps_size_at log (512 * (row.lba - lba)) (512 * row.sectors) row.place old new (room_of_row row old good size) read ∙ size
 
   -- a sector of another row is as before
-  keeps_sector : (row : Extent VolumePlace) (i : ℕ) (old new : List ℕ) → IsGood lba sectors log queue row → length old ≡ 512 * sectors
-      → (lba + i < row.lba) ⊎ (row.lba + row.sectors ≤ lba + i) → IsRowRead log lba row old new → sector_of i new ≡ sector_of i old
+  keeps_sector : (row : Extent VolumePlace) (i : ℕ) (old new : List ℕ) → IsGood lba sectors log queue row
+      → length old ≡ 512 * sectors
+      → (lba + i < row.lba) ⊎ (row.lba + row.sectors ≤ lba + i) → IsRowRead log lba row old new
+      → sector_of i new ≡ sector_of i old
   keeps_sector row i old new good size apart read =
       let from = good.inside.from in
       keeps_sector_at log (512 * (row.lba - lba)) (512 * row.sectors) i row.place old new (room_of_row row old good size)
       (elim apart [ inl below ↦ inl (omega (arith, from, below)) | inr past ↦ inr (omega (arith, from, past)) ]) read
 
-  reads_sector : (row : Extent VolumePlace) (i : ℕ) (old new : List ℕ) → IsGood lba sectors log queue row → length old ≡ 512 * sectors
+  reads_sector : (row : Extent VolumePlace) (i : ℕ) (old new : List ℕ) → IsGood lba sectors log queue row
+      → length old ≡ 512 * sectors
       → HasSector lba i row → sector_of i old ≡ zero_sector → IsRowRead log lba row old new
       → IsLogged log (Some (volume_on (lba + i - row.lba) row.place)) (sector_of i new)
   reads_sector row i old new good size has zeros read =
@@ -147,7 +158,8 @@ module _ (lba sectors : ℕ) (log : LogState) (queue : QueueState) where
       let j = lba + i - row.lba in
       let there : start + j ≡ i = omega (arith, from, low) in
       subst (λ n. IsLogged log (Some (volume_on j row.place)) (sector_of n new)) there
-      (reads_sector_at log queue start row.sectors j row.place old new (room_of_row row old good size) (omega (arith, low, high)) good.places
+      (reads_sector_at log queue start row.sectors j row.place old new (room_of_row row old good size) (omega (arith, low, high))
+      good.places
       (ap (λ n. sector_of n old) there ∙ zeros) read)
 
   -- ---- all rows
@@ -159,7 +171,8 @@ module _ (lba sectors : ℕ) (log : LogState) (queue : QueueState) where
       all_keep_size rows middle new good.1 (keeps_size row old middle good.0 size read) more
 
   -- rows past a sector leave it as it was
-  all_keep_sector : (rows : List (Extent VolumePlace)) (at i : ℕ) (old new : List ℕ) → IsShortest volume_on rows → StartsFrom at rows → lba + i < at
+  all_keep_sector : (rows : List (Extent VolumePlace)) (at i : ℕ) (old new : List ℕ) → IsShortest volume_on rows
+      → StartsFrom at rows → lba + i < at
       → AllByRecursion (IsGood lba sectors log queue) rows → length old ≡ 512 * sectors → AreRowsRead log lba rows old new
       → sector_of i new ≡ sector_of i old
   all_keep_sector [] at i old new shortest starts below good size is = ap (sector_of i) is
@@ -178,7 +191,8 @@ module _ (lba sectors : ℕ) (log : LogState) (queue : QueueState) where
       elim (cases_lt (lba + i) row.lba) [
         | inl below ↦
             subst P (sym (at_below volume_on row rows (lba + i) below))
-            (all_read_sector rows i middle new shortest.2 good.1 kept (keeps_sector row i old middle good.0 size (inl below) read ∙ zeros) more)
+            (all_read_sector rows i middle new shortest.2 good.1 kept (keeps_sector row i old middle good.0 size (inl below) read
+            ∙ zeros) more)
         | inr from ↦ elim (cases_lt (lba + i) (row.lba + row.sectors)) [
           | inl to ↦
               subst P (sym (at_inside volume_on row rows (lba + i) from to))
@@ -188,7 +202,8 @@ module _ (lba sectors : ℕ) (log : LogState) (queue : QueueState) where
               (reads_sector row i old middle good.0 size (record { from = from; to = to }) zeros read))
           | inr past ↦
               subst P (sym (at_past volume_on row rows (lba + i) past))
-              (all_read_sector rows i middle new shortest.2 good.1 kept (keeps_sector row i old middle good.0 size (inr past) read ∙ zeros) more)
+              (all_read_sector rows i middle new shortest.2 good.1 kept (keeps_sector row i old middle good.0 size (inr past) read
+              ∙ zeros) more)
         ]
       ]
 
@@ -197,17 +212,21 @@ module _ (lba sectors : ℕ) (log : LogState) (queue : QueueState) where
 zeros_there : (i sectors : ℕ) → i < sectors → sector_of i (replicate (512 * sectors) 0) ≡ zero_sector
 unfolding zero_sector
 zeros_there i sectors less =
-    ap (take 512) (drop-replicate (512 * i) (512 * sectors) 0) ∙ take-replicate 512 (512 * sectors - 512 * i) 0 (omega (arith, less))
+    ap (take 512) (drop-replicate (512 * i) (512 * sectors) 0)
+    ∙ take-replicate 512 (512 * sectors - 512 * i) 0 (omega (arith, less))
 
 -- of zeros each sector of a range is read by its place
 pub range_is_read : (lba sectors : ℕ) (log : LogState) (queue : QueueState) (rows : List (Extent VolumePlace)) (bytes : List ℕ)
-    → IsShortest volume_on rows → AllByRecursion (IsGood lba sectors log queue) rows → AreRowsRead log lba rows (replicate (512 * sectors) 0) bytes
+    → IsShortest volume_on rows → AllByRecursion (IsGood lba sectors log queue) rows
+    → AreRowsRead log lba rows (replicate (512 * sectors) 0) bytes
     → (i : ℕ) → i < sectors → IsLogged log (place_at volume_on rows (lba + i)) (sector_of i bytes)
 range_is_read lba sectors log queue rows bytes shortest good read i less =
-    all_read_sector lba sectors log queue rows i (replicate (512 * sectors) 0) bytes shortest good (length-replicate (512 * sectors) 0)
+    all_read_sector lba sectors log queue rows i (replicate (512 * sectors) 0) bytes shortest good
+    (length-replicate (512 * sectors) 0)
     (zeros_there i sectors less) read
 
 pub range_has_size : (lba sectors : ℕ) (log : LogState) (queue : QueueState) (rows : List (Extent VolumePlace)) (bytes : List ℕ)
-    → AllByRecursion (IsGood lba sectors log queue) rows → AreRowsRead log lba rows (replicate (512 * sectors) 0) bytes → length bytes ≡ 512 * sectors
+    → AllByRecursion (IsGood lba sectors log queue) rows → AreRowsRead log lba rows (replicate (512 * sectors) 0) bytes
+    → length bytes ≡ 512 * sectors
 range_has_size lba sectors log queue rows bytes good read =
     all_keep_size lba sectors log queue rows (replicate (512 * sectors) 0) bytes good (length-replicate (512 * sectors) 0) read

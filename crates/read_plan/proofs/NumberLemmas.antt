@@ -37,8 +37,10 @@ record IsPlaced (places : ℕ → Option VolumePlace) (number : ℕ) : Type 0 wh
   pub is : places k ≡ Some (Object place)
   pub has_number : place.number ≡ number
 
-from_row : (places : ℕ → Option VolumePlace) (lba number : ℕ) (place : VolumePlace) (rest : List ℕ) → places lba ≡ Some (volume_on 0 place)
-    → (Contains rest number → IsPlaced places number) → Contains (cons_option (named_object place) rest) number → IsPlaced places number
+from_row : (places : ℕ → Option VolumePlace) (lba number : ℕ) (place : VolumePlace) (rest : List ℕ)
+    → places lba ≡ Some (volume_on 0 place)
+    → (Contains rest number → IsPlaced places number) → Contains (cons_option (named_object place) rest) number
+    → IsPlaced places number
 from_row places lba number (Log place) rest is later has = later has
 from_row places lba number (Object place) rest is later has =
     elim (after_first place.number number rest has) [
@@ -46,7 +48,8 @@ from_row places lba number (Object place) rest is later has =
       | inr there ↦ later there
     ]
 
-from_rows : (places : ℕ → Option VolumePlace) (number : ℕ) (rows : List (Extent VolumePlace)) → AllByRecursion (HasSectors places) rows
+from_rows : (places : ℕ → Option VolumePlace) (number : ℕ) (rows : List (Extent VolumePlace))
+    → AllByRecursion (HasSectors places) rows
     → Contains (named_objects rows) number → IsPlaced places number
 from_rows places number [] has (k, less, is) = absurd (omega arith)
 from_rows places number (row ∷ rows) has there =
@@ -58,14 +61,16 @@ from_rows places number (row ∷ rows) has there =
 
 -- ---- a number that a sector has
 
-to_row : (j : ℕ) (place : VolumePlace) (of : ObjectPlace) (rest : List ℕ) → ◌≡◌ {A = Option VolumePlace} (Some (volume_on j place)) (Some (Object of))
+to_row : (j : ℕ) (place : VolumePlace) (of : ObjectPlace) (rest : List ℕ)
+    → ◌≡◌ {A = Option VolumePlace} (Some (volume_on j place)) (Some (Object of))
     → Contains (cons_option (named_object place) rest) of.number
 to_row j (Log place) of rest is = absurd cc
 to_row j (Object place) of rest is =
     let one : object_on j place ≡ of = cc in
     is_first place.number of.number rest (ap (λ (p : ObjectPlace). p.number) one)
 
-to_later : (place : VolumePlace) (number : ℕ) (rest : List ℕ) → Contains rest number → Contains (cons_option (named_object place) rest) number
+to_later : (place : VolumePlace) (number : ℕ) (rest : List ℕ) → Contains rest number
+    → Contains (cons_option (named_object place) rest) number
 to_later (Log place) number rest has = has
 to_later (Object place) number rest has = is_later place.number number rest has
 
@@ -74,10 +79,12 @@ to_rows : (k : ℕ) (of : ObjectPlace) (rows : List (Extent VolumePlace)) → pl
 to_rows k of [] is = absurd cc
 to_rows k of (row ∷ rows) is =
     elim (cases_lt k row.lba) [
-      | inl below ↦ to_later row.place of.number (named_objects rows) (to_rows k of rows (sym (at_below volume_on row rows k below) ∙ is))
+      | inl below ↦ to_later row.place of.number (named_objects rows)
+          (to_rows k of rows (sym (at_below volume_on row rows k below) ∙ is))
       | inr from ↦ elim (cases_lt k (row.lba + row.sectors)) [
         | inl to ↦ to_row (k - row.lba) row.place of (named_objects rows) (sym (at_inside volume_on row rows k from to) ∙ is)
-        | inr past ↦ to_later row.place of.number (named_objects rows) (to_rows k of rows (sym (at_past volume_on row rows k past) ∙ is))
+        | inr past ↦ to_later row.place of.number (named_objects rows)
+            (to_rows k of rows (sym (at_past volume_on row rows k past) ∙ is))
       ]
     ]
 
@@ -86,17 +93,20 @@ to_rows k of (row ∷ rows) is =
 has_place : (lba sectors : ℕ) (maps : MapsState) (rows : List (Extent VolumePlace)) (number : ℕ) → AreRowsIn lba sectors maps rows
     → Contains (named_objects rows) number → HasPlaceIn lba sectors maps number
 has_place lba sectors maps rows number are has =
-    let found = from_rows (place_in_range lba sectors (volume_place_at maps)) number rows (rows_have_sectors lba sectors maps rows are) has in
+    let found = from_rows (place_in_range lba sectors (volume_place_at maps)) number rows
+    (rows_have_sectors lba sectors maps rows are) has in
     let placed = placed_in lba sectors found.k (volume_place_at maps) (Object found.place) found.is in
     record { k = found.k; place = found.place; from = placed.from; to = placed.to; is = placed.is; has_number = found.has_number }
 
-has_number : (lba sectors : ℕ) (maps : MapsState) (rows : List (Extent VolumePlace)) (number : ℕ) → AreRowsIn lba sectors maps rows
+has_number : (lba sectors : ℕ) (maps : MapsState) (rows : List (Extent VolumePlace)) (number : ℕ)
+    → AreRowsIn lba sectors maps rows
     → HasPlaceIn lba sectors maps number → Contains (named_objects rows) number
 has_number lba sectors maps rows number are has =
     subst (Contains (named_objects rows)) has.has_number
     (to_rows has.k has.place rows (are.places has.k ∙ in_place lba sectors has.k (volume_place_at maps) has.from has.to ∙ has.is))
 
-pub objects_in : (lba sectors : ℕ) (maps : MapsState) (rows : List (Extent VolumePlace)) (numbers : List ℕ) → AreRowsIn lba sectors maps rows
+pub objects_in : (lba sectors : ℕ) (maps : MapsState) (rows : List (Extent VolumePlace)) (numbers : List ℕ)
+    → AreRowsIn lba sectors maps rows
     → IsStrictlyIncreasing numbers → ((number : ℕ) → Contains numbers number ↔ Contains (named_objects rows) number)
     → AreObjectsIn lba sectors maps numbers
 objects_in lba sectors maps rows numbers are ascending same = record {

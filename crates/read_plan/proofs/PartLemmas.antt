@@ -5,7 +5,8 @@ use Rattle.lsvd_bytes.specs.Places.{with_bytes}
 use Rattle.lsvd_bytes.proofs.PlaceLemmas.{reads_bytes_again}
 
 -- some bytes of a part, which begins at a byte, are bytes of the whole
-pub part_of_part : (at n m k : ℕ) (bytes : List ℕ) → k + m ≤ n → take m (drop k (take n (drop at bytes))) ≡ take m (drop (at + k) bytes)
+pub part_of_part : (at n m k : ℕ) (bytes : List ℕ) → k + m ≤ n → take m (drop k (take n (drop at bytes)))
+    ≡ take m (drop (at + k) bytes)
 part_of_part at n m k bytes inside =
     let rest = drop at bytes in
     let whole : k + (n - k) ≡ n = omega (arith, inside) in

@@ -1,5 +1,6 @@
 -- The pieces of rows: where each lies, and which of them fetches a sector.
-use Rattle.std.proofs.Common.{◌≡◌, ℕ, ◌+◌, ◌-◌, ◌*◌, ◌<◌, ◌≤◌, ◌⊎◌, inl, inr, Option, Some, None, List, [], ◌∷◌, ◌++◌, refl, sym, subst, arith}
+use Rattle.std.proofs.Common.{◌≡◌, ℕ, ◌+◌, ◌-◌, ◌*◌, ◌<◌, ◌≤◌, ◌⊎◌, inl, inr, Option, Some, None, List, [], ◌∷◌, ◌++◌, refl, sym}
+use Rattle.std.proofs.Common.{subst, arith}
 use Rattle.std.specs.List.{AllByRecursion}
 use Rattle.std.proofs.lemmas.Bool.{cases_lt}
 use Rattle.lsvd_objstore.specs.Store.{ReceiptState}
@@ -19,14 +20,16 @@ use Rattle.read_plan.specs.Places.{Misses, OneFetches, FetchPlace}
 use Rattle.read_plan.specs.Rows.{piece_by, piece_from, row_pieces}
 use Rattle.read_plan.proofs.RowLemmas.{IsReadablePlace, IsGood, HasObject, has_object}
 
-all_append : {A : Type 0} (P : A → Type 0) (front back : List A) → AllByRecursion P front → AllByRecursion P back → AllByRecursion P (front ++ back)
+all_append : {A : Type 0} (P : A → Type 0) (front back : List A) → AllByRecursion P front → AllByRecursion P back
+    → AllByRecursion P (front ++ back)
 all_append P [] back first second = second
 all_append P (one ∷ front) back first second = (first.0, all_append P front back first.1 second)
 
 -- ---- one row
 
 -- pieces that miss a sector, before others
-missed_first : (queue : QueueState) (place : Option VolumePlace) (i : ℕ) (front back : List PieceState) → AllByRecursion (Misses i) front
+missed_first : (queue : QueueState) (place : Option VolumePlace) (i : ℕ) (front back : List PieceState)
+    → AllByRecursion (Misses i) front
     → FetchPlace queue place i back → FetchPlace queue place i (front ++ back)
 missed_first queue None i front back missed fetched = all_append (Misses i) front back missed fetched
 missed_first queue (Some (Log place)) i front back missed fetched = all_append (Misses i) front back missed fetched
@@ -42,16 +45,19 @@ misses_by (Some receipt) at count from i apart = (apart, tt)
 misses_from : (queue : QueueState) (at count i : ℕ) (place : VolumePlace) → (at + count ≤ 512 * i) ⊎ (512 * (i + 1) ≤ at)
     → AllByRecursion (Misses i) (piece_from queue at count place)
 misses_from queue at count i (Log place) apart = tt
-misses_from queue at count i (Object place) apart = misses_by (receipt_of queue place.number) at count (512 * place.sector) i apart
+misses_from queue at count i (Object place) apart =
+    misses_by (receipt_of queue place.number) at count (512 * place.sector) i apart
 
 fetches_by : (queue : QueueState) (given : Option ReceiptState) (start count j : ℕ) (place : ObjectPlace) (rest : List PieceState)
-    → receipt_of queue place.number ≡ given → HasObject given place.sector count → j < count → AllByRecursion (Misses (start + j)) rest
+    → receipt_of queue place.number ≡ given → HasObject given place.sector count → j < count
+    → AllByRecursion (Misses (start + j)) rest
     → OneFetches queue (object_on j place) (start + j) (piece_by given (512 * start) (512 * count) (512 * place.sector) ++ rest)
 fetches_by queue None start count j place rest is has less missed = absurd (let none = has.is in cc)
 fetches_by queue (Some receipt) start count j place rest is has less missed =
     inl (record { from = omega arith; to = omega (arith, less); receipt = is; byte = omega arith }, missed)
 
-fetches_from : (log : LogState) (queue : QueueState) (start count j : ℕ) (place : VolumePlace) (rest : List PieceState) → j < count
+fetches_from : (log : LogState) (queue : QueueState) (start count j : ℕ) (place : VolumePlace) (rest : List PieceState)
+    → j < count
     → ((i : ℕ) → i < count → IsReadablePlace log queue (volume_on i place)) → AllByRecursion (Misses (start + j)) rest
     → FetchPlace queue (Some (volume_on j place)) (start + j) (piece_from queue (512 * start) (512 * count) place ++ rest)
 fetches_from log queue start count j (Log place) rest less places missed = missed
@@ -59,7 +65,8 @@ fetches_from log queue start count j (Object place) rest less places missed =
     fetches_by queue (receipt_of queue place.number) start count j place rest refl
     (has_object (receipt_of queue place.number) place.sector count (omega (arith, less)) places) less missed
 
-inside_by : (given : Option ReceiptState) (size at count sector sectors : ℕ) → HasObject given sector sectors → count ≡ 512 * sectors
+inside_by : (given : Option ReceiptState) (size at count sector sectors : ℕ) → HasObject given sector sectors
+    → count ≡ 512 * sectors
     → at + count ≤ size → AllByRecursion (PieceFits size) (piece_by given at count (512 * sector))
 inside_by None size at count sector sectors has is room = tt
 inside_by (Some receipt) size at count sector sectors has is room =
@@ -68,7 +75,8 @@ inside_by (Some receipt) size at count sector sectors has is room =
     let covers = subst (λ (r : ReceiptState). 512 * sector + 512 * sectors ≤ r.size) (sym same) has.covers in
     (record { read = room; object = omega (arith, covers, is) }, tt)
 
-inside_from : (log : LogState) (queue : QueueState) (size at sectors : ℕ) (place : VolumePlace) → 0 < sectors → at + 512 * sectors ≤ size
+inside_from : (log : LogState) (queue : QueueState) (size at sectors : ℕ) (place : VolumePlace) → 0 < sectors
+    → at + 512 * sectors ≤ size
     → ((i : ℕ) → i < sectors → IsReadablePlace log queue (volume_on i place))
     → AllByRecursion (PieceFits size) (piece_from queue at (512 * sectors) place)
 inside_from log queue size at sectors (Log place) some room places = tt
@@ -87,9 +95,11 @@ module _ (lba sectors : ℕ) (log : LogState) (queue : QueueState) where
       let from = good.0.inside.from in
       all_append (Misses i) (piece_from queue (512 * (row.lba - lba)) (512 * row.sectors) row.place) (row_pieces queue lba rows)
       (misses_from queue (512 * (row.lba - lba)) (512 * row.sectors) i row.place (inr (omega (arith, from, starts, below))))
-      (all_miss rows (row.lba + row.sectors) i shortest.2 (after_row volume_on row rows shortest.1) (omega (arith, starts, below)) good.1)
+      (all_miss rows (row.lba + row.sectors) i shortest.2 (after_row volume_on row rows shortest.1)
+      (omega (arith, starts, below)) good.1)
 
-  pub range_is_fetched : (rows : List (Extent VolumePlace)) (i : ℕ) → IsShortest volume_on rows → AllByRecursion (IsGood lba sectors log queue) rows
+  pub range_is_fetched : (rows : List (Extent VolumePlace)) (i : ℕ) → IsShortest volume_on rows
+      → AllByRecursion (IsGood lba sectors log queue) rows
       → FetchPlace queue (place_at volume_on rows (lba + i)) i (row_pieces queue lba rows)
   range_is_fetched [] i shortest good = tt
   range_is_fetched (row ∷ rows) i shortest good =
@@ -129,6 +139,8 @@ module _ (lba sectors : ℕ) (log : LogState) (queue : QueueState) where
   pieces_lie_inside (row ∷ rows) good =
       let from = good.0.inside.from in
       let to = good.0.inside.to in
-      all_append (PieceFits (512 * sectors)) (piece_from queue (512 * (row.lba - lba)) (512 * row.sectors) row.place) (row_pieces queue lba rows)
-      (inside_from log queue (512 * sectors) (512 * (row.lba - lba)) row.sectors row.place good.0.some (omega (arith, from, to)) good.0.places)
+      all_append (PieceFits (512 * sectors)) (piece_from queue (512 * (row.lba - lba)) (512 * row.sectors) row.place)
+      (row_pieces queue lba rows)
+      (inside_from log queue (512 * sectors) (512 * (row.lba - lba)) row.sectors row.place good.0.some (omega (arith, from, to))
+      good.0.places)
       (pieces_lie_inside rows good.1)

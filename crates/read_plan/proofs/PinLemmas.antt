@@ -1,5 +1,6 @@
 -- How often numbers are among ascending ones.
-use Rattle.std.proofs.Common.{◌≡◌, ◌≢◌, ℕ, suc, ◌+◌, ◌<◌, ◌≤◌, ◌==◌, true, cond, inl, inr, List, [], ◌∷◌, ◌++◌, length, get_or, take, refl, ap, subst}
+use Rattle.std.proofs.Common.{◌≡◌, ◌≢◌, ℕ, suc, ◌+◌, ◌<◌, ◌≤◌, ◌==◌, true, cond, inl, inr, List, [], ◌∷◌, ◌++◌, length, get_or}
+use Rattle.std.proofs.Common.{take, refl, ap, subst}
 use Rattle.std.proofs.Common.{◌∙◌, arith}
 use Rattle.std.specs.Prelude.{Result, Ok, Err, MatchResult, IsTrue, ◌↔◌, nat_lt, is_ok}
 use Rattle.std.specs.List.{All, remove, list_all}
@@ -10,7 +11,8 @@ use Rattle.std.proofs.lemmas.List.{take_all}
 use Rattle.std.proofs.lemmas.List.Edits.{get_or-remove_below, get_or-remove_above, length-remove}
 use Rattle.std.proofs.lemmas.List.Elements.{All-weaker}
 use Rattle.std.proofs.lemmas.List.Sorted.{sum_by-IsPermutation, IsNonDecreasingBy-from_default}
-use Rattle.std.proofs.lemmas.List.Sums.{AllPass-from_list_all, list_all-from_AllPass, sum_by-cons, sum_by-append, sum_by_more, sum_by-remove}
+use Rattle.std.proofs.lemmas.List.Sums.{AllPass-from_list_all, list_all-from_AllPass, sum_by-cons, sum_by-append, sum_by_more}
+use Rattle.std.proofs.lemmas.List.Sums.{sum_by-remove}
 use Rattle.std.proofs.lemmas.List.Sums.{get_or-le-sum_by}
 use Rattle.read_plan.specs.Pins.{times, ArePinned, AreUnpinned}
 
@@ -31,7 +33,8 @@ times_there number i numbers inside is =
     let one : is_it number (get_or numbers i 0) ≡ 1 = grind (arith, nat_tests) in
     omega (arith, least, one)
 
-pub times_nowhere : (number : ℕ) (numbers : List ℕ) → ((k : ℕ) → k < length numbers → get_or numbers k 0 ≢ number) → times number numbers ≡ 0
+pub times_nowhere : (number : ℕ) (numbers : List ℕ) → ((k : ℕ) → k < length numbers → get_or numbers k 0 ≢ number)
+    → times number numbers ≡ 0
 times_nowhere number [] absent = refl
 times_nowhere number (first ∷ rest) absent =
     let not_first : first ≢ number = absent 0 (omega arith) in
@@ -66,7 +69,8 @@ pub pass_where_pinned : (numbers pins : List ℕ)
     → IsTrue (list_all (λ number. nat_lt 0 (times number pins)) numbers) ↔ All (λ number. 0 < times number pins) numbers
 pass_where_pinned numbers pins = (
   λ pass. All-weaker (λ number. nat_lt 0 (times number pins) ≡ true) (λ number. 0 < times number pins)
-      (λ number yes. grind (arith, nat_tests)) numbers (AllPass-from_list_all (λ number. nat_lt 0 (times number pins)) numbers pass),
+      (λ number yes. grind (arith, nat_tests)) numbers (AllPass-from_list_all (λ number. nat_lt 0 (times number pins))
+      numbers pass),
   λ some. list_all-from_AllPass (λ number. nat_lt 0 (times number pins)) numbers
       (All-weaker (λ number. 0 < times number pins) (λ number. nat_lt 0 (times number pins) ≡ true)
       (λ number yes. grind (arith, nat_tests)) numbers some),
@@ -84,7 +88,8 @@ out_once number i numbers inside is = λ other.
 pub none_out : (number : ℕ) (numbers : List ℕ) → times number numbers ≡ 0 → AreUnpinned (number ∷ []) numbers numbers
 none_out number numbers none = λ other. grind (arith, nat_tests)
 
-pub still_ascending : (numbers : List ℕ) (i : ℕ) → i < length numbers → IsNonDecreasing numbers → IsNonDecreasing (remove numbers i)
+pub still_ascending : (numbers : List ℕ) (i : ℕ) → i < length numbers → IsNonDecreasing numbers
+    → IsNonDecreasing (remove numbers i)
 still_ascending numbers i inside order = IsNonDecreasingBy-from_default (λ x. x) (remove numbers i) 0
     (λ a b less within.
     let count = length-remove numbers i inside in
@@ -118,5 +123,6 @@ out_more numbers first middle new i inside before one = λ other.
     omega (arith, counted, a, b)
 
 -- all of them were
-pub all_out : (numbers first new : List ℕ) (i : ℕ) → length numbers ≤ i → AreUnpinned (take i numbers) first new → AreUnpinned numbers first new
+pub all_out : (numbers first new : List ℕ) (i : ℕ) → length numbers ≤ i → AreUnpinned (take i numbers) first new
+    → AreUnpinned numbers first new
 all_out numbers first new i past out = subst (λ some. AreUnpinned some first new) (take_all i numbers past) out

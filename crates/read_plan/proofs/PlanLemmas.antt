@@ -29,7 +29,8 @@ pub record CanRead (lba sectors : ℕ) (log : LogState) (queue : QueueState) (ro
 
 module _ (lba sectors : ℕ) (log : LogState) (queue : QueueState) (rows : List (Extent VolumePlace)) where
   pub can_read : LogHasPlaces lba sectors queue.maps log → ObjectsHavePlaces lba sectors queue → IsShortest volume_on rows
-      → ((k : ℕ) → place_at volume_on rows k ≡ place_in_range lba sectors (volume_place_at queue.maps) k) → CanRead lba sectors log queue rows
+      → ((k : ℕ) → place_at volume_on rows k ≡ place_in_range lba sectors (volume_place_at queue.maps) k)
+      → CanRead lba sectors log queue rows
   can_read logged fetched shortest places =
       let are : AreRowsIn lba sectors queue.maps rows = record { shortest = shortest; places = places } in
       record { are = are; good = good_rows lba sectors log queue rows logged fetched are }
@@ -38,7 +39,8 @@ module _ (lba sectors : ℕ) (log : LogState) (queue : QueueState) (rows : List 
   are_readable can = All-from_recursion (IsReadable lba sectors log) rows (all_readable lba sectors log queue rows can.good)
 
   pub are_fetchable : lba + sectors ≤ 2 ^ 31 → CanRead lba sectors log queue rows → All (IsFetchable lba queue) rows
-  are_fetchable below can = All-from_recursion (IsFetchable lba queue) rows (all_fetchable lba sectors log queue rows below can.good)
+  are_fetchable below can = All-from_recursion (IsFetchable lba queue) rows
+      (all_fetchable lba sectors log queue rows below can.good)
 
   pub lie_inside : (bytes : List ℕ) (pieces : List PieceState) → CanRead lba sectors log queue rows
       → AreRowsRead log lba rows (replicate (512 * sectors) 0) bytes → pieces ≡ row_pieces queue lba rows
@@ -52,7 +54,8 @@ module _ (lba sectors : ℕ) (log : LogState) (queue : QueueState) (rows : List 
       → AreRowsRead log lba rows (replicate (512 * sectors) 0) plan.bytes → plan.pieces ≡ row_pieces queue lba rows
       → HoldsPlace log queue (volume_place_at queue.maps (lba + i)) i plan
   holds plan i less can read are =
-      let placed = can.are.places (lba + i) ∙ in_place lba sectors (lba + i) (volume_place_at queue.maps) (omega arith) (omega (arith, less)) in
+      let placed = can.are.places (lba + i) ∙ in_place lba sectors (lba + i) (volume_place_at queue.maps) (omega arith)
+      (omega (arith, less)) in
       record {
         logged =
             subst (λ p. IsLogged log p (sector_of i plan.bytes)) placed

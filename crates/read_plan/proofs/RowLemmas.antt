@@ -1,5 +1,6 @@
 -- The rows of a range, and what each of their sectors says of them.
-use Rattle.std.proofs.Common.{◌≡◌, ℕ, zero, suc, ◌+◌, ◌-◌, ◌*◌, ◌<◌, ◌≤◌, ◌^◌, inl, inr, cond, Option, Some, None, List, [], ◌∷◌, refl, sym, ◌∙◌, ap}
+use Rattle.std.proofs.Common.{◌≡◌, ℕ, zero, suc, ◌+◌, ◌-◌, ◌*◌, ◌<◌, ◌≤◌, ◌^◌, inl, inr, cond, Option, Some, None, List, [], ◌∷◌}
+use Rattle.std.proofs.Common.{refl, sym, ◌∙◌, ap}
 use Rattle.std.proofs.Common.{subst, arith}
 use Rattle.std.specs.Prelude.{IsSome}
 use Rattle.std.specs.List.{AllByRecursion, slice_get}
@@ -34,7 +35,8 @@ pub record HasSectors (places : ℕ → Option VolumePlace) (row : Extent Volume
   pub each : (k : ℕ) → row.lba ≤ k → k < row.lba + row.sectors → places k ≡ Some (volume_on (k - row.lba) row.place)
 
 -- rows in order that give each sector from one on its place
-rows_have : (places : ℕ → Option VolumePlace) (at : ℕ) (rows : List (Extent VolumePlace)) → IsShortest volume_on rows → StartsFrom at rows
+rows_have : (places : ℕ → Option VolumePlace) (at : ℕ) (rows : List (Extent VolumePlace)) → IsShortest volume_on rows
+    → StartsFrom at rows
     → ((k : ℕ) → at ≤ k → places k ≡ place_at volume_on rows k) → AllByRecursion (HasSectors places) rows
 rows_have places at [] shortest starts gives = tt
 rows_have places at (row ∷ rows) shortest starts gives = (
@@ -58,18 +60,25 @@ pub record IsPlacedIn (lba sectors k : ℕ) (places : ℕ → Option VolumePlace
   pub to : k < lba + sectors
   pub is : places k ≡ Some place
 
-pub placed_in : (lba sectors k : ℕ) (places : ℕ → Option VolumePlace) (place : VolumePlace) → place_in_range lba sectors places k ≡ Some place
+pub placed_in : (lba sectors k : ℕ) (places : ℕ → Option VolumePlace) (place : VolumePlace)
+    → place_in_range lba sectors places k ≡ Some place
     → IsPlacedIn lba sectors k places place
 placed_in lba sectors k places place is =
     elim (cases_lt k lba) [
       | inl low ↦ absurd (let none = ap (λ b. cond b (places k) None) (not_below lba sectors k low) in cc)
       | inr from ↦ elim (cases_lt k (lba + sectors)) [
         | inr past ↦ absurd (let none = ap (λ b. cond b (places k) None) (not_past lba sectors k past) in cc)
-        | inl to ↦ record { from = from; to = to; is = sym (ap (λ b. cond b (places k) None) (within lba sectors k from to)) ∙ is }
+        | inl to ↦ record {
+          from = from;
+          to = to;
+          is = sym (ap (λ b. cond b (places k) None) (within lba sectors k from to))
+              ∙ is;
+        }
       ]
     ]
 
-pub in_place : (lba sectors k : ℕ) (places : ℕ → Option VolumePlace) → lba ≤ k → k < lba + sectors → place_in_range lba sectors places k ≡ places k
+pub in_place : (lba sectors k : ℕ) (places : ℕ → Option VolumePlace) → lba ≤ k → k < lba + sectors
+    → place_in_range lba sectors places k ≡ places k
 in_place lba sectors k places from to = ap (λ b. cond b (places k) None) (within lba sectors k from to)
 
 -- ---- the rows of a range can be read
@@ -92,14 +101,18 @@ in_log None None place is = absurd cc
 in_log None (Some other) place is = absurd cc
 in_log (Some other) settled place is = cc
 
-readable_place : (lba sectors k : ℕ) (log : LogState) (queue : QueueState) (place : VolumePlace) → LogHasPlaces lba sectors queue.maps log
-    → ObjectsHavePlaces lba sectors queue → IsPlacedIn lba sectors k (volume_place_at queue.maps) place → IsReadablePlace log queue place
+readable_place : (lba sectors k : ℕ) (log : LogState) (queue : QueueState) (place : VolumePlace)
+    → LogHasPlaces lba sectors queue.maps log
+    → ObjectsHavePlaces lba sectors queue → IsPlacedIn lba sectors k (volume_place_at queue.maps) place
+    → IsReadablePlace log queue place
 readable_place lba sectors k log queue (Log (Data seq sector)) logged fetched placed =
-    logged k seq sector placed.from placed.to (in_log (logged_at queue.maps k) (settled_at queue.maps k) (Data seq sector) placed.is)
+    logged k seq sector placed.from placed.to (in_log (logged_at queue.maps k) (settled_at queue.maps k)
+    (Data seq sector) placed.is)
 readable_place lba sectors k log queue (Log (Zeros seq)) logged fetched placed = tt
 readable_place lba sectors k log queue (Object place) logged fetched placed = (fetched k place placed.from placed.to placed.is).1
 
-good_row : (lba sectors : ℕ) (log : LogState) (queue : QueueState) (row : Extent VolumePlace) → LogHasPlaces lba sectors queue.maps log
+good_row : (lba sectors : ℕ) (log : LogState) (queue : QueueState) (row : Extent VolumePlace)
+    → LogHasPlaces lba sectors queue.maps log
     → ObjectsHavePlaces lba sectors queue → HasSectors (place_in_range lba sectors (volume_place_at queue.maps)) row
     → IsGood lba sectors log queue row
 good_row lba sectors log queue row logged fetched has =
@@ -111,7 +124,8 @@ good_row lba sectors log queue row logged fetched has =
       some = some;
       inside = record {
         from = (placed row.lba (omega arith) (omega (arith, some))).from;
-        to = (let last = (placed (row.lba + row.sectors - 1) (omega (arith, some)) (omega (arith, some))).to in omega (arith, last, some));
+        to = (let last = (placed (row.lba + row.sectors - 1) (omega (arith, some)) (omega (arith, some))).to in
+            omega (arith, last, some));
       };
       places = λ i less.
           let here : row.lba + i - row.lba ≡ i = omega arith in
@@ -120,8 +134,10 @@ good_row lba sectors log queue row logged fetched has =
           (placed (row.lba + i) (omega arith) (omega (arith, less))));
     }
 
-all_good : (lba sectors : ℕ) (log : LogState) (queue : QueueState) (rows : List (Extent VolumePlace)) → LogHasPlaces lba sectors queue.maps log
-    → ObjectsHavePlaces lba sectors queue → AllByRecursion (HasSectors (place_in_range lba sectors (volume_place_at queue.maps))) rows
+all_good : (lba sectors : ℕ) (log : LogState) (queue : QueueState) (rows : List (Extent VolumePlace))
+    → LogHasPlaces lba sectors queue.maps log
+    → ObjectsHavePlaces lba sectors queue → AllByRecursion (HasSectors (place_in_range lba sectors (volume_place_at queue.maps)))
+    rows
     → AllByRecursion (IsGood lba sectors log queue) rows
 all_good lba sectors log queue [] logged fetched has = tt
 all_good lba sectors log queue (row ∷ rows) logged fetched has =
@@ -130,10 +146,13 @@ all_good lba sectors log queue (row ∷ rows) logged fetched has =
 pub rows_have_sectors : (lba sectors : ℕ) (maps : MapsState) (rows : List (Extent VolumePlace)) → AreRowsIn lba sectors maps rows
     → AllByRecursion (HasSectors (place_in_range lba sectors (volume_place_at maps))) rows
 rows_have_sectors lba sectors maps rows are =
-    rows_have (place_in_range lba sectors (volume_place_at maps)) 0 rows are.shortest (starts_somewhere rows) (λ k past. sym (are.places k))
+    rows_have (place_in_range lba sectors (volume_place_at maps)) 0 rows are.shortest (starts_somewhere rows)
+    (λ k past. sym (are.places k))
 
-pub good_rows : (lba sectors : ℕ) (log : LogState) (queue : QueueState) (rows : List (Extent VolumePlace)) → LogHasPlaces lba sectors queue.maps log
-    → ObjectsHavePlaces lba sectors queue → AreRowsIn lba sectors queue.maps rows → AllByRecursion (IsGood lba sectors log queue) rows
+pub good_rows : (lba sectors : ℕ) (log : LogState) (queue : QueueState) (rows : List (Extent VolumePlace))
+    → LogHasPlaces lba sectors queue.maps log
+    → ObjectsHavePlaces lba sectors queue → AreRowsIn lba sectors queue.maps rows
+    → AllByRecursion (IsGood lba sectors log queue) rows
 good_rows lba sectors log queue rows logged fetched are =
     all_good lba sectors log queue rows logged fetched (rows_have_sectors lba sectors queue.maps rows are)
 
@@ -142,14 +161,17 @@ good_rows lba sectors log queue rows logged fetched are =
 pub same_row : (a b : Row) → ◌≡◌ {A = Option Row} (Some a) (Some b) → a ≡ b
 same_row a b is = cc
 
-data_of_row : (row : Row) (sector count : ℕ) → 0 < count → position_of row + 1 ≤ sector → sector + count ≤ position_of row + record_size row
+data_of_row : (row : Row) (sector count : ℕ) → 0 < count → position_of row + 1 ≤ sector
+    → sector + count ≤ position_of row + record_size row
     → AreDataOfRow row sector (512 * count)
 data_of_row (row_kinds.Write seq at lba sectors) sector count some from to = (from, omega arith)
 data_of_row (row_kinds.Zero seq at lba sectors) sector count some from to = absurd (omega arith)
 
-data_at : (rows : List Row) (i sector count : ℕ) (row : Row) → slice_get rows i ≡ Some row → AreDataOfRow row sector count → AreData rows sector count
+data_at : (rows : List Row) (i sector count : ℕ) (row : Row) → slice_get rows i ≡ Some row → AreDataOfRow row sector count
+    → AreData rows sector count
 data_at [] i sector count row is there = absurd cc
-data_at (first ∷ rows) zero sector count row is there = inl (subst (λ r. AreDataOfRow r sector count) (sym (same_row first row is)) there)
+data_at (first ∷ rows) zero sector count row is there =
+    inl (subst (λ r. AreDataOfRow r sector count) (sym (same_row first row is)) there)
 data_at (first ∷ rows) (suc i) sector count row is there = inr (data_at rows i sector count row is there)
 
 -- the record that has the sectors of a place
@@ -196,11 +218,17 @@ pub record HasObject (given : Option ReceiptState) (sector count : ℕ) : Type 0
   pub is : given ≡ Some receipt
   pub covers : 512 * sector + 512 * count ≤ receipt.size
 
-pub has_object : (given : Option ReceiptState) (sector count : ℕ) → 0 < count → ((i : ℕ) → i < count → HasObjectSector given (sector + i))
+pub has_object : (given : Option ReceiptState) (sector count : ℕ) → 0 < count
+    → ((i : ℕ) → i < count → HasObjectSector given (sector + i))
     → HasObject given sector count
 has_object None sector count some places = absurd (places 0 some)
 has_object (Some receipt) sector count some places =
-    record { receipt = receipt; is = refl; covers = (let last = places (count - 1) (omega (arith, some)) in omega (arith, last, some)) }
+    record {
+      receipt = receipt;
+      is = refl;
+      covers = (let last = places (count - 1) (omega (arith, some)) in
+          omega (arith, last, some));
+    }
 
 is_some_of : (given : Option ReceiptState) (receipt : ReceiptState) → given ≡ Some receipt → IsSome given
 is_some_of None receipt is = absurd cc
@@ -213,7 +241,8 @@ receipt_at log queue (Object place) count some places =
     let has = has_object (receipt_of queue place.number) place.sector count some places in
     is_some_of (receipt_of queue place.number) has.receipt has.is
 
-pub all_fetchable : (lba sectors : ℕ) (log : LogState) (queue : QueueState) (rows : List (Extent VolumePlace)) → lba + sectors ≤ 2 ^ 31
+pub all_fetchable : (lba sectors : ℕ) (log : LogState) (queue : QueueState) (rows : List (Extent VolumePlace))
+    → lba + sectors ≤ 2 ^ 31
     → AllByRecursion (IsGood lba sectors log queue) rows → AllByRecursion (IsFetchable lba queue) rows
 all_fetchable lba sectors log queue [] below good = tt
 all_fetchable lba sectors log queue (row ∷ rows) below good = (

@@ -22,7 +22,8 @@ abbrev pub IsSectorAt : LogState → QueueState → Option VolumePlace → (sect
 IsSectorAt log queue None sector = IsLogged log None sector
 IsSectorAt log queue (Some (Log place)) sector = IsLogged log (Some (Log place)) sector
 IsSectorAt log queue (Some (Object place)) sector =
-    (receipt : ReceiptState) → receipt_of queue place.number ≡ Some receipt → IfSome receipt.told (λ told. sector ≡ sector_of place.sector told)
+    (receipt : ReceiptState) → receipt_of queue place.number ≡ Some receipt
+    → IfSome receipt.told (λ told. sector ≡ sector_of place.sector told)
 
 -- where the receipts of a plan tell all bytes, it gives each sector that it holds
 abbrev pub GivesSectors : Type 0

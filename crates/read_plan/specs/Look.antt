@@ -45,7 +45,8 @@ pub record IsReadPlan (lba sectors : ℕ) (state : ObjLogState) (log : LogState)
   pub front : plan.front ≡ state.batch.first + length state.batch.entries
   pub size : length plan.bytes ≡ 512 * sectors
   pub inside : PiecesFit plan
-  pub holds : (i : ℕ) → i < sectors → HoldsPlace log state.uploads.queue (volume_place_at state.uploads.queue.maps (lba + i)) i plan
+  pub holds : (i : ℕ) → i < sectors → HoldsPlace log state.uploads.queue (volume_place_at state.uploads.queue.maps (lba + i)) i
+      plan
   pub objects : AreObjectsIn lba sectors state.uploads.queue.maps plan.objects
 
 -- ---- the reads of the log

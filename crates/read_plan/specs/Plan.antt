@@ -42,8 +42,8 @@ TellsWhole receipt = IfSome receipt.told (λ told. receipt.size ≡ length told)
 abbrev pub pasted : PieceState → (told bytes : List ℕ) → List ℕ
 pasted piece told bytes = with_bytes piece.at (bytes_at piece.from piece.count told) bytes
 
--- These bytes are others with pieces pasted over them, one after the other. Of the first piece whose receipt tells no bytes, and of those
--- after it, nothing is said.
+-- These bytes are others with pieces pasted over them, one after the other. Of the first piece whose receipt tells no bytes, and
+-- of those after it, nothing is said.
 abbrev pub GivesOver : List PieceState → (under bytes : List ℕ) → Type 0
 GivesOver [] under bytes = bytes ≡ under
 GivesOver (piece ∷ pieces) under bytes = IfSome piece.receipt.told (λ told. GivesOver pieces (pasted piece told under) bytes)

@@ -45,7 +45,8 @@ IsRowRead log lba row old new = IsReadInto log (512 * (row.lba - lba)) (512 * ro
 -- those of rows were, one after the other
 abbrev pub AreRowsRead : LogState → (lba : ℕ) → List (Extent VolumePlace) → (old new : List ℕ) → Type 0
 AreRowsRead log lba [] old new = new ≡ old
-AreRowsRead log lba (row ∷ rows) old new = (middle : List ℕ) × IsRowRead log lba row old middle × AreRowsRead log lba rows middle new
+AreRowsRead log lba (row ∷ rows) old new = (middle : List ℕ) × IsRowRead log lba row old middle
+    × AreRowsRead log lba rows middle new
 
 -- ---- by objects
 
@@ -54,7 +55,8 @@ abbrev pub HasReceiptAt : QueueState → VolumePlace → Type 0
 HasReceiptAt queue (Log place) = Unit {0}
 HasReceiptAt queue (Object place) = IsSome (receipt_of queue place.number)
 
--- a row of a read from `lba` on can be fetched: it ends below 2^31, and where an object has it, what the store gave for that is there
+-- a row of a read from `lba` on can be fetched: it ends below 2^31, and where an object has it, what the store gave for that is
+-- there
 pub record IsFetchable (lba : ℕ) (queue : QueueState) (row : Extent VolumePlace) : Type 0 where
   pub from : lba ≤ row.lba
   pub to : row.lba + row.sectors ≤ 2 ^ 31

@@ -20,13 +20,13 @@ use lsvd_objstore::Receipt;
 use obj_log::ObjLog;
 use std::alloc::Global;
 
-/// Plans a read of `sectors` sectors from `lba` on: 1 to 65,536 of them, below 2^31 (a condition). What the log has of them is read
-/// at once, by one read of the device for each row of data in it; where objects have the others is noted with the receipts, and these
-/// objects are pinned once more. The log has the data of the places that its map gives, and the volume's own objects those of the
-/// places that theirs does (conditions).
+/// Plans a read of `sectors` sectors from `lba` on: 1 to 65,536 of them, below 2^31 (a condition). What the
+/// log has of them is read at once, by one read of the device for each row of data in it; where objects have
+/// the others is noted with the receipts, and these objects are pinned once more. The log has the data of the
+/// places that its map gives, and the volume's own objects those of the places that theirs does (conditions).
 ///
-/// `Fault` comes where a read failed, which was the last that was made, and `OutOfMemory` where memory ran out: all memory is taken
-/// before the first read. After an error the same objects are pinned as before.
+/// `Fault` comes where a read failed, which was the last that was made, and `OutOfMemory` where memory ran
+/// out: all memory is taken before the first read. After an error the same objects are pinned as before.
 pub fn look<D: Disk, R: Receipt>(
     alloc: Global,
     objects: &ObjLog<R>,
@@ -42,7 +42,8 @@ pub fn look<D: Disk, R: Receipt>(
     ensures whole { IfOk result (λ plan. All (λ piece. TellsWhole piece.receipt) plan.pieces) }
     ensures pinned { IfOk result (λ plan. ArePinned plan.objects pins.old pins.new) }
     ensures same_pins { OnErr result (HasSamePins pins.old pins.new) }
-    ensures reads { (IsErrOf result errors.OutOfMemory → ⊥) → ReadsRange lba sectors objects.now.uploads.queue.maps (is_ok result) log.old log.new }
+    ensures reads { (IsErrOf result errors.OutOfMemory → ⊥)
+        → ReadsRange lba sectors objects.now.uploads.queue.maps (is_ok result) log.old log.new }
     ensures memory { IsErrOf result errors.OutOfMemory → log.new ≡ log.old }
 {
     let rows = objects.look(alloc, lba, sectors)?;

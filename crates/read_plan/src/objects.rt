@@ -1,4 +1,5 @@
-ghost use Rattle.std.specs.Prelude.{◌≡◌, ◌+◌, ◌-◌, ◌*◌, ◌<◌, ◌≤◌, ◌^◌, ◌↔◌, ℕ, IfOk, IfSome, option_to_list, option_map};
+ghost use Rattle.std.specs.Prelude.{◌≡◌, ◌+◌, ◌-◌, ◌*◌, ◌<◌, ◌≤◌, ◌^◌, ◌↔◌, ℕ, IfOk, IfSome, option_to_list};
+ghost use Rattle.std.specs.Prelude.{option_map};
 ghost use Rattle.std.specs.List.{All, Contains};
 ghost use Rattle.std.specs.List.Sorted.{IsStrictlyIncreasing};
 ghost use Rattle.read_plan.specs.Plan.{TellsWhole};
@@ -20,7 +21,8 @@ pub(crate) fn pieces_of<R: Receipt>(
     lba: u64,
 ) -> Result<Vec<Piece<R>>, AllocError>
     requires { All (IsFetchable lba objects.now.uploads.queue) rows.now }
-    ensures pieces { IfOk result (λ pieces. pieces.items ≡ row_pieces objects.now.uploads.queue lba rows.now) }
+    ensures pieces { IfOk result (λ pieces. pieces.items ≡ row_pieces objects.now.uploads.queue lba
+        rows.now) }
     ensures whole { IfOk result (λ pieces. All (λ piece. TellsWhole piece.receipt) pieces.items) }
 {
     let mut pieces = Vec::new(alloc);
@@ -40,7 +42,8 @@ fn piece_of<R: Receipt>(
     lba: u64,
 ) -> Result<Option<Piece<R>>, AllocError>
     requires { IsFetchable lba objects.now.uploads.queue row.now }
-    ensures piece { IfOk result (λ piece. option_to_list piece ≡ row_piece objects.now.uploads.queue lba row.now) }
+    ensures piece { IfOk result (λ piece. option_to_list piece ≡ row_piece objects.now.uploads.queue
+        lba row.now) }
     ensures whole { IfOk result (λ piece. IfSome piece (λ piece. TellsWhole piece.receipt)) }
 {
     let VolumePlace::Object(place) = row.place else {
@@ -61,7 +64,8 @@ pub(crate) fn numbers_of(
     rows: &[Extent<VolumePlace>],
 ) -> Result<Vec<u64>, AllocError>
     ensures ascending { IfOk result (λ numbers. IsStrictlyIncreasing numbers.items) }
-    ensures same { IfOk result (λ numbers. (number : ℕ) → Contains numbers.items number ↔ Contains (named_objects rows.now) number) }
+    ensures same { IfOk result (λ numbers. (number : ℕ)
+        → Contains numbers.items number ↔ Contains (named_objects rows.now) number) }
 {
     let mut numbers = collected(alloc, rows)?;
     numbers.sort_unstable();

@@ -27,14 +27,16 @@ impl<R: Receipt> Model for Piece<R> {
 }
 
 impl<R: Receipt> Piece<R> {
-    // Fetches the part by one get, over the bytes of the read, which it fits (a condition). Where that fails, any bytes stand in it.
+    // Fetches the part by one get, over the bytes of the read, which it fits (a condition). Where that fails,
+    // any bytes stand in it.
     pub(crate) fn fetch<S: Store<Receipt = R>>(
         &self,
         store: &mut S,
         buf: &mut [u8],
     ) -> Result<(), Failed>
         requires { PieceFits (length buf.old) self.now }
-        ensures bytes { OnOk result (IfSome self.now.receipt.told (λ told. buf.new ≡ pasted self.now told buf.old)) }
+        ensures bytes { OnOk result (IfSome self.now.receipt.told
+            (λ told. buf.new ≡ pasted self.now told buf.old)) }
         ensures told { ((receipt : R) → IsSome (R.state receipt).told) → IsSome self.now.receipt.told }
         ensures size { length buf.new ≡ length buf.old }
         ensures unchanged { OnlyCounts (S.state store.old) (S.state store.new) }

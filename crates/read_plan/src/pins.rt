@@ -33,8 +33,8 @@ impl Pins {
         }
     }
 
-    /// Pins each of these objects once more; a number that is there twice is pinned twice. The one error is out of memory; then
-    /// nothing changes.
+    /// Pins each of these objects once more; a number that is there twice is pinned twice. The one error is
+    /// out of memory; then nothing changes.
     pub fn pin(&mut self, numbers: &[u64]) -> Result<(), AllocError>
         ensures pinned { OnOk result (ArePinned numbers.now self.old self.new) }
         ensures same { OnErr result (self.new ≡ self.old) }
@@ -58,8 +58,8 @@ impl Pins {
         self.numbers.binary_search(&number).is_ok()
     }
 
-    /// Gives one pin of each of these objects back; a number that is there twice gives back two. One that is not pinned is passed
-    /// over.
+    /// Gives one pin of each of these objects back; a number that is there twice gives back two. One that is
+    /// not pinned is passed over.
     pub fn unpin(&mut self, numbers: &[u64])
         ensures { AreUnpinned numbers.now self.old self.new }
     {

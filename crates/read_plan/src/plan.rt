@@ -26,9 +26,15 @@ impl<R: Receipt> Model for Plan<R> {
 
     ghost Value = { PlanState };
 
-    ghost view = { λ p. record { front = p.front; bytes = p.bytes.items; pieces = p.pieces.items; objects = p.objects.items } };
+    ghost view = { λ p. record {
+      front = p.front;
+      bytes = p.bytes.items;
+      pieces = p.pieces.items;
+      objects = p.objects.items;
+    } };
 
-    ghost invariant = { λ p. AllByRecursion (PieceFits (length p.bytes.items)) p.pieces.items × IsStrictlyIncreasing p.objects.items };
+    ghost invariant = { λ p. AllByRecursion (PieceFits (length p.bytes.items)) p.pieces.items
+        × IsStrictlyIncreasing p.objects.items };
 }
 
 impl<R: Receipt> Plan<R> {
@@ -54,13 +60,15 @@ impl<R: Receipt> Plan<R> {
         self.objects.as_slice()
     }
 
-    /// Fetches the bytes of the read into the whole of a buffer of just as many (a condition), by one get for each part that an object
-    /// has. Where the receipts tell their objects' bytes, these are the bytes that the plan gives. The first get that fails ends it with
-    /// `Failed`; the store counted that, and any bytes stand in the buffer.
+    /// Fetches the bytes of the read into the whole of a buffer of just as many (a condition), by one get for
+    /// each part that an object has. Where the receipts tell their objects' bytes, these are the bytes that
+    /// the plan gives. The first get that fails ends it with `Failed`; the store counted that, and any bytes
+    /// stand in the buffer.
     pub fn fetch<S: Store<Receipt = R>>(&self, store: &mut S, buf: &mut [u8]) -> Result<(), Failed>
         requires { length buf.old ≡ length self.now.bytes }
         ensures bytes { OnOk result (Gives self.now buf.new) }
-        ensures one { ((receipt : R) → IsSome (R.state receipt).told) → OnOk result (GivesNoOther self.now buf.new) }
+        ensures one { ((receipt : R) → IsSome (R.state receipt).told)
+            → OnOk result (GivesNoOther self.now buf.new) }
         ensures unchanged { OnlyCounts (S.state store.old) (S.state store.new) }
         ensures count { Counts (is_err result) (S.state store.old).faults (S.state store.new).faults }
     {

@@ -10,7 +10,8 @@ use lsvd_device::Disk;
 use lsvd_fault::Failed;
 use volume_maps::{LogPlace, VolumePlace};
 
-/// The bytes of a range from `lba` on with what the log has of it, by one read of the device for each of these rows of data in it.
+/// The bytes of a range from `lba` on with what the log has of it, by one read of the device for each of
+/// these rows of data in it.
 pub(crate) fn read_rows<D: Disk>(
     log: &mut CacheLog<D>,
     rows: &[Extent<VolumePlace>],

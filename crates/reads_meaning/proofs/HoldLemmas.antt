@@ -1,5 +1,6 @@
 -- Each sector of the plain volume is where the maps have it.
-use Rattle.std.proofs.Common.{◌≡◌, ℕ, zero, suc, ◌+◌, ◌-◌, ◌/◌, ◌<◌, Option, Some, None, List, [], ◌∷◌, ◌++◌, length, drop, refl, sym, ◌∙◌, ap, subst}
+use Rattle.std.proofs.Common.{◌≡◌, ℕ, zero, suc, ◌+◌, ◌-◌, ◌/◌, ◌<◌, Option, Some, None, List, [], ◌∷◌, ◌++◌, length, drop, refl}
+use Rattle.std.proofs.Common.{sym, ◌∙◌, ap, subst}
 use Rattle.std.proofs.Common.{arith}
 use Rattle.std.specs.Prelude.{IfSome}
 use Rattle.std.specs.List.{slice_get, AllByRecursion}
@@ -34,7 +35,8 @@ item_of_rest (suc n) i (item ∷ items) =
     let past : suc n + i ≡ suc (n + i) = omega arith in
     item_of_rest n i items ∙ sym (ap (slice_get (item ∷ items)) past)
 
-item_has : {A : Type 0} (P : A → Type 0) (items : List A) (i : ℕ) (item : A) → AllByRecursion P items → slice_get items i ≡ Some item → P item
+item_has : {A : Type 0} (P : A → Type 0) (items : List A) (i : ℕ) (item : A) → AllByRecursion P items
+    → slice_get items i ≡ Some item → P item
 item_has P [] i item all there = absurd cc
 item_has P (first ∷ items) zero item all there = subst P (same_Some first item there) all.0
 item_has P (first ∷ items) (suc i) item all there = item_has P items i item all.1 there
@@ -65,13 +67,15 @@ seq_is (first ∷ rows) seq zero row are there =
 seq_is (first ∷ rows) seq (suc i) row are there = omega (arith, seq_is rows (seq + 1) i row are.1 there)
 
 told_there : (told : Option (List Entry)) (n i : ℕ) (list : List Entry) (entry : Entry)
-    → IfSome told (λ all. drop n all ≡ list) → slice_get list i ≡ Some entry → IfSome told (λ all. slice_get all (n + i) ≡ Some entry)
+    → IfSome told (λ all. drop n all ≡ list) → slice_get list i ≡ Some entry
+    → IfSome told (λ all. slice_get all (n + i) ≡ Some entry)
 told_there None n i list entry is there = tt
 told_there (Some all) n i list entry is there = sym (item_of_rest n i all) ∙ (ap (λ items. slice_get items i) is ∙ there)
 
 -- ---- the sectors
 
-module _ (data_at : ℕ → ℕ) (objects : ObjLogState) (log : LogState) (plain : PlainState) (shows : ShowsReads data_at objects log plain) where
+module _ (data_at : ℕ → ℕ) (objects : ObjLogState) (log : LogState) (plain : PlainState)
+    (shows : ShowsReads data_at objects log plain) where
   -- data that an entry left are in its record
   in_record : (k seq at : ℕ) (sector : List ℕ) (left : LeavesData data_at (frontier_end plain) (logged_entries plain) k seq at)
       → sector ≡ sector_of (k - left.lba) left.body → IsInRecord log seq at sector
@@ -80,14 +84,16 @@ module _ (data_at : ℕ → ℕ) (objects : ObjLogState) (log : LogState) (plain
       let end = frontier_end plain in
       let begun = shows.logged.first in
       let index : end - log.first + (seq - end) ≡ seq - log.first = omega (arith, left.from) in
-      let found = row_there (drop (end - log.first) log.rows) (logged_entries plain) (seq - end) entry shows.logged.rows left.there in
+      let found = row_there (drop (end - log.first) log.rows) (logged_entries plain) (seq - end) entry shows.logged.rows
+      left.there in
       let row = found.0 in
       let there : slice_get log.rows (seq - log.first) ≡ Some row =
       sym (ap (slice_get log.rows) index) ∙ (sym (item_of_rest (end - log.first) (seq - end) log.rows) ∙ found.1) in
       let numbered : AreNumbered log.first log.rows =
       subst (λ first. AreNumbered first log.rows) shows.log_is.counted
       (numbered_behind log.held log.rows log.commits.body.tail.seq shows.log_is.numbered) in
-      let seq_same : seq_of row ≡ seq = seq_is log.rows log.first (seq - log.first) row numbered there ∙ omega (arith, left.from) in
+      let seq_same : seq_of row ≡ seq = seq_is log.rows log.first (seq - log.first) row numbered there
+      ∙ omega (arith, left.from) in
       let begins : data_at seq ≡ position_of row + 1 =
       ap data_at (sym seq_same)
       ∙ item_has (λ row. data_at (seq_of row) ≡ position_of row + 1) log.rows (seq - log.first) row shows.logged.placed there in
@@ -116,7 +122,8 @@ module _ (data_at : ℕ → ℕ) (objects : ObjLogState) (log : LogState) (plain
   settled_held None sector held = held
   settled_held (Some place) sector held = held
 
-  held_where : (k : ℕ) (logged : Option LogPlace) (sector : List ℕ) → LeavesAt data_at (frontier_end plain) (logged_entries plain) k logged
+  held_where : (k : ℕ) (logged : Option LogPlace) (sector : List ℕ)
+      → LeavesAt data_at (frontier_end plain) (logged_entries plain) k logged
       → changed_by (change_at (logged_entries plain) k) (slice_get (settled_image plain) k) ≡ Some sector
       → IsHeldAt log objects.uploads.queue (place_in logged (settled_at objects.uploads.queue.maps k)) sector
   held_where k None sector left is =
@@ -131,6 +138,8 @@ module _ (data_at : ℕ → ℕ) (objects : ObjLogState) (log : LogState) (plain
 
 pub places_hold_sectors : PlacesHoldSectors
 places_hold_sectors data_at objects log plain k sector shows is =
-    let inside : k < plain.geometry.sectors = omega (arith, slice_get_within (image_now plain) k sector is, image_has_sectors plain shows.valid) in
-    held_where data_at objects log plain shows k (logged_at objects.uploads.queue.maps k) sector (logged_leave data_at objects log plain shows k)
+    let inside : k < plain.geometry.sectors =
+    omega (arith, slice_get_within (image_now plain) k sector is, image_has_sectors plain shows.valid) in
+    held_where data_at objects log plain shows k (logged_at objects.uploads.queue.maps k) sector
+    (logged_leave data_at objects log plain shows k)
     (sym (sector_now plain shows.valid k inside) ∙ is)

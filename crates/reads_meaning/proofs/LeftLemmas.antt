@@ -1,5 +1,6 @@
 -- What entries that leave a sector somewhere do to it, and which of them wrote it last.
-use Rattle.std.proofs.Common.{◌≡◌, ℕ, suc, ◌+◌, ◌-◌, ◌/◌, ◌<◌, ◌≤◌, cond, Bool, true, false, Option, Some, None, List, [], ◌∷◌, length, refl, ◌∙◌, ap}
+use Rattle.std.proofs.Common.{◌≡◌, ℕ, suc, ◌+◌, ◌-◌, ◌/◌, ◌<◌, ◌≤◌, cond, Bool, true, false, Option, Some, None, List, [], ◌∷◌}
+use Rattle.std.proofs.Common.{length, refl, ◌∙◌, ap}
 use Rattle.std.proofs.Common.{arith}
 use Rattle.std.specs.List.{slice_get, list_any}
 use Rattle.std.specs.Option.{option_or}
@@ -19,8 +20,8 @@ use Rattle.plain_disk.specs.Writers.{covers_sector, writer_after, writer_after_a
 abbrev pub is_covered : List Entry → ℕ → Bool
 is_covered entries k = list_any (λ entry. covers_sector entry k) entries
 
--- The last of the entries that covers the sector is a write, and it is the one of this seq, where the first has the seq `first`. It
--- leaves the sector among its data.
+-- The last of the entries that covers the sector is a write, and it is the one of this seq, where the first has the seq `first`.
+-- It leaves the sector among its data.
 pub record LeavesData (data_at : ℕ → ℕ) (first : ℕ) (entries : List Entry) (k seq at : ℕ) : Type 0 where
   pub lba : ℕ
   pub body : List ℕ
@@ -53,7 +54,8 @@ LeavesAt data_at first entries k (Some (Zeros seq)) = LeavesZeros entries k
 
 module _ (data_at : ℕ → ℕ) (first k : ℕ) where
   -- an entry before entries that do not cover the sector
-  by_write : (test : Bool) (lba : ℕ) (body : List ℕ) (entries : List Entry) → is_within lba (length body / 512) k ≡ test → LeavesAlone entries k
+  by_write : (test : Bool) (lba : ℕ) (body : List ℕ) (entries : List Entry) → is_within lba (length body / 512) k ≡ test
+      → LeavesAlone entries k
       → LeavesAt data_at first (Write lba body ∷ entries) k (cond test (Some (Data first (data_at first + (k - lba)))) None)
   by_write true lba body entries test rest =
       let own : first - first ≡ 0 = omega arith in
@@ -77,20 +79,25 @@ module _ (data_at : ℕ → ℕ) (first k : ℕ) where
     change =
         ap (λ change. option_or change (entry_change (Write lba body) k)) rest.change
         ∙ ap (λ b. cond b (Some (Put (sector_of (k - lba) body))) None) test;
-    writer = λ index before. rest.writer (index + 1) (writer_after index (Write lba body) k before) ∙ ap (λ b. cond b (Some index) before) test;
+    writer = λ index before. rest.writer (index + 1) (writer_after index (Write lba body) k before)
+        ∙ ap (λ b. cond b (Some index) before) test;
     covered = or_from (covers_sector (Write lba body) k) (is_covered entries k) test rest.covered;
   }
 
   by_zeroing : (test : Bool) (lba sectors : ℕ) (entries : List Entry) → is_within lba sectors k ≡ test → LeavesAlone entries k
       → LeavesAt data_at first (Zero lba sectors ∷ entries) k (cond test (Some (Zeros first)) None)
   by_zeroing true lba sectors entries test rest = record {
-    change = ap (λ change. option_or change (entry_change (Zero lba sectors) k)) rest.change ∙ ap (λ b. cond b (Some Clear) None) test;
-    writer = λ index before. rest.writer (index + 1) (writer_after index (Zero lba sectors) k before) ∙ ap (λ b. cond b None before) test;
+    change = ap (λ change. option_or change (entry_change (Zero lba sectors) k)) rest.change
+        ∙ ap (λ b. cond b (Some Clear) None) test;
+    writer = λ index before. rest.writer (index + 1) (writer_after index (Zero lba sectors) k before)
+        ∙ ap (λ b. cond b None before) test;
     covered = or_left (covers_sector (Zero lba sectors) k) (is_covered entries k) test;
   }
   by_zeroing false lba sectors entries test rest = record {
-    change = ap (λ change. option_or change (entry_change (Zero lba sectors) k)) rest.change ∙ ap (λ b. cond b (Some Clear) None) test;
-    writer = λ index before. rest.writer (index + 1) (writer_after index (Zero lba sectors) k before) ∙ ap (λ b. cond b None before) test;
+    change = ap (λ change. option_or change (entry_change (Zero lba sectors) k)) rest.change
+        ∙ ap (λ b. cond b (Some Clear) None) test;
+    writer = λ index before. rest.writer (index + 1) (writer_after index (Zero lba sectors) k before)
+        ∙ ap (λ b. cond b None before) test;
     covered = or_from (covers_sector (Zero lba sectors) k) (is_covered entries k) test rest.covered;
   }
 
@@ -110,7 +117,8 @@ module _ (data_at : ℕ → ℕ) (first k : ℕ) where
   }
   by_later entry entries (Some (Data seq at)) rest =
       let past : seq - first ≡ suc (seq - (first + 1)) = omega (arith, rest.from) in
-      let counts = λ (index : ℕ). let count : index + 1 + (seq - (first + 1)) ≡ index + (seq - first) = omega (arith, past) in count in
+      let counts = λ (index : ℕ). let count : index + 1 + (seq - (first + 1)) ≡ index + (seq - first) =
+      omega (arith, past) in count in
       record {
         lba = rest.lba;
         body = rest.body;
@@ -124,7 +132,8 @@ module _ (data_at : ℕ → ℕ) (first k : ℕ) where
         covered = or_right (covers_sector entry k) (is_covered entries k) rest.covered;
       }
 
-pub entries_leave : (data_at : ℕ → ℕ) (first : ℕ) (entries : List Entry) (k : ℕ) → LeavesAt data_at first entries k (left_at data_at first entries k)
+pub entries_leave : (data_at : ℕ → ℕ) (first : ℕ) (entries : List Entry) (k : ℕ)
+    → LeavesAt data_at first entries k (left_at data_at first entries k)
 entries_leave data_at first [] k = record { change = refl; writer = λ index before. refl; covered = refl }
 entries_leave data_at first (entry ∷ entries) k =
     by_later data_at first k entry entries (left_at data_at (first + 1) entries k) (entries_leave data_at (first + 1) entries k)

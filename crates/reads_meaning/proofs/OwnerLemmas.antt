@@ -1,5 +1,6 @@
 -- A sector's place is in the object that the plain volume reads the sector from.
-use Rattle.std.proofs.Common.{◌≡◌, ℕ, ◌==◌, ◌&&◌, not, true, false, Option, Some, None, is_some, List, [], get_or, refl, sym, ◌∙◌, ap, arith}
+use Rattle.std.proofs.Common.{◌≡◌, ℕ, ◌==◌, ◌&&◌, not, true, false, Option, Some, None, is_some, List, [], get_or, refl, sym, ◌∙◌}
+use Rattle.std.proofs.Common.{ap, arith}
 use Rattle.std.specs.Prelude.{◌↔◌, IfSome}
 use Rattle.std.specs.List.{slice_get}
 use Rattle.std.proofs.lemmas.Bool.{and_parts, and_from, eqb-true, eq-eqb, false≢true}
@@ -23,7 +24,8 @@ use Rattle.reads_meaning.proofs.LeftLemmas.{is_covered, LeavesAt}
 use Rattle.reads_meaning.proofs.ShownLemmas.{settled_has_sectors, counts, logged_leave}
 
 -- the log's map has a sector exactly where an entry covers it
-covered_is : (data_at : ℕ → ℕ) (first : ℕ) (entries : List Entry) (k : ℕ) (logged : Option LogPlace) → LeavesAt data_at first entries k logged
+covered_is : (data_at : ℕ → ℕ) (first : ℕ) (entries : List Entry) (k : ℕ) (logged : Option LogPlace)
+    → LeavesAt data_at first entries k logged
     → is_covered entries k ≡ is_some logged
 covered_is data_at first entries k None left = left.covered
 covered_is data_at first entries k (Some (Data seq at)) left = left.covered
@@ -46,7 +48,8 @@ read_where number None (Some place) own = (
       let e = is.1 in
       let same : place ≡ is.0 = cc in
       let named : place.number ≡ number = ap (λ (p : ObjectPlace). p.number) same ∙ is.2 in
-      let is_own_one = and_from (place.level == 0) (place.number == number) (eq-eqb place.level 0 own) (eq-eqb place.number number named) in
+      let is_own_one = and_from (place.level == 0) (place.number == number) (eq-eqb place.level 0 own)
+      (eq-eqb place.number number named) in
       and_from (is_own number (owner_of (Some place))) true is_own_one refl,
   λ is.
       let is_own_one = (and_parts (is_own number (owner_of (Some place))) true is).0 in
@@ -54,7 +57,8 @@ read_where number None (Some place) own = (
 )
 
 -- an object that has a sector is the volume's own
-level_is : (objects : ObjLogState) (settled : Option ObjectPlace) (sector : List ℕ) → HoldsSector objects.uploads.queue settled sector
+level_is : (objects : ObjLogState) (settled : Option ObjectPlace) (sector : List ℕ)
+    → HoldsSector objects.uploads.queue settled sector
     → IfSome settled (λ place. place.level ≡ 0)
 level_is objects None sector held = tt
 level_is objects (Some place) sector held = held.0

@@ -28,7 +28,8 @@ module _ (data_at : ℕ → ℕ) (first : ℕ) (entries : List Entry) where
   writer_where k (Some (Data seq at)) settled left = left.writer 0 None ∙ ap Some (omega arith)
 
   -- data of one same write stand in the log as its sectors do in the volume
-  data_go_on : (k n seq at other_seq other : ℕ) → LeavesData data_at first entries k seq at → LeavesData data_at first entries (k + n) other_seq other
+  data_go_on : (k n seq at other_seq other : ℕ) → LeavesData data_at first entries k seq at
+      → LeavesData data_at first entries (k + n) other_seq other
       → seq - first ≡ other_seq - first → (seq ≡ other_seq) × (other ≡ at + n)
   data_go_on k n seq at other_seq other here there same =
       let same_seq : seq ≡ other_seq = omega (arith, here.from, there.from) in
@@ -38,7 +39,8 @@ module _ (data_at : ℕ → ℕ) (first : ℕ) (entries : List Entry) where
       let same_data = ap data_at same_seq in
       (same_seq, omega (arith, here.place, there.place, here.begins))
 
-place_logged : (logged : Option LogPlace) (settled : Option ObjectPlace) (place : LogPlace) → place_in logged settled ≡ Some (Log place)
+place_logged : (logged : Option LogPlace) (settled : Option ObjectPlace) (place : LogPlace)
+    → place_in logged settled ≡ Some (Log place)
     → logged ≡ Some place
 place_logged None None place is = absurd cc
 place_logged None (Some other) place is = absurd cc
@@ -53,6 +55,8 @@ rows_are_runs data_at objects log plain lba sectors rows shows shortest give =
     let data_left = λ (k seq at : ℕ) (is : volume_place_at maps k ≡ Some (Log (Data seq at))).
     subst (LeavesAt data_at first entries k) (place_logged (logged_at maps k) (settled_at maps k) (Data seq at) is) (left k) in
     let go_on : GoOn first (volume_place_at maps) = λ k n seq at other_seq other here there same.
-    data_go_on data_at first entries k n seq at other_seq other (data_left k seq at here) (data_left (k + n) other_seq other there) same in
+    data_go_on data_at first entries k n seq at other_seq other (data_left k seq at here)
+    (data_left (k + n) other_seq other there) same in
     let writers_are = λ (k : ℕ). writer_where data_at first entries k (logged_at maps k) (settled_at maps k) (left k) in
-    runs_counted first (volume_place_at maps) (last_writer entries) writers_are go_on rows None lba sectors shortest give (λ some. refl)
+    runs_counted first (volume_place_at maps) (last_writer entries) writers_are go_on rows None lba sectors shortest give
+    (λ some. refl)

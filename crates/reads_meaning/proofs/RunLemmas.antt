@@ -1,5 +1,6 @@
 -- The runs of sectors that one same write wrote last are the rows of data in the log.
-use Rattle.std.proofs.Common.{◌≡◌, ℕ, zero, suc, ◌+◌, ◌-◌, ◌<◌, ◌≤◌, ◌==◌, inl, inr, cond, false, Option, Some, None, List, [], ◌∷◌, map, refl}
+use Rattle.std.proofs.Common.{◌≡◌, ℕ, zero, suc, ◌+◌, ◌-◌, ◌<◌, ◌≤◌, ◌==◌, inl, inr, cond, false, Option, Some, None, List, []}
+use Rattle.std.proofs.Common.{◌∷◌, map, refl}
 use Rattle.std.proofs.Common.{sym, ◌∙◌, ap, arith}
 use Rattle.std.specs.List.{range_with_len}
 use Rattle.std.proofs.lemmas.Bool.{cases_lt, eqb-true, eq-eqb, false_from_ne_true}
@@ -44,7 +45,8 @@ module _ (writer : ℕ → Option ℕ) where
       omega arith
 
   -- sectors with one same last writer begin one run, or none
-  pub one_starts : (before v : Option ℕ) (from m n : ℕ) → 0 < m → run_starts v v ≡ 0 → ((k : ℕ) → from ≤ k → k < from + m → writer k ≡ v)
+  pub one_starts : (before v : Option ℕ) (from m n : ℕ) → 0 < m → run_starts v v ≡ 0
+      → ((k : ℕ) → from ≤ k → k < from + m → writer k ≡ v)
       → runs_from before from (m + n) ≡ run_starts before v + runs_from v (from + m) n
   one_starts before v from zero n some stays same = absurd (omega arith)
   one_starts before v from (suc m) n some stays same =
@@ -96,7 +98,8 @@ row_starts first before (Object place) apart = refl
 
 -- ---- rows
 
-module _ (first : ℕ) (places : ℕ → Option VolumePlace) (writer : ℕ → Option ℕ) (are : (k : ℕ) → writer k ≡ writer_at first (places k))
+module _ (first : ℕ) (places : ℕ → Option VolumePlace) (writer : ℕ → Option ℕ) (are : (k : ℕ)
+    → writer k ≡ writer_at first (places k))
     (go_on : GoOn first places) where
   -- the rows give the N sectors from one on their places, and no others
   abbrev Give : (from n : ℕ) → List (Extent VolumePlace) → Type 0
@@ -112,7 +115,8 @@ module _ (first : ℕ) (places : ℕ → Option VolumePlace) (writer : ℕ → O
   below_range from n k low = ap (λ b. cond b (places k) None) (not_below from n k low)
 
   -- the first row lies in the range
-  row_ends : (from n : ℕ) (row : Extent VolumePlace) (rows : List (Extent VolumePlace)) → 0 < row.sectors → Give from n (row ∷ rows)
+  row_ends : (from n : ℕ) (row : Extent VolumePlace) (rows : List (Extent VolumePlace)) → 0 < row.sectors
+      → Give from n (row ∷ rows)
       → row.lba + row.sectors ≤ from + n
   row_ends from n row rows some give =
       elim (cases_lt (from + n) (row.lba + row.sectors)) [
@@ -125,7 +129,8 @@ module _ (first : ℕ) (places : ℕ → Option VolumePlace) (writer : ℕ → O
         | inr ends ↦ ends
       ]
 
-  row_begins : (from n : ℕ) (row : Extent VolumePlace) (rows : List (Extent VolumePlace)) → 0 < row.sectors → Give from n (row ∷ rows)
+  row_begins : (from n : ℕ) (row : Extent VolumePlace) (rows : List (Extent VolumePlace)) → 0 < row.sectors
+      → Give from n (row ∷ rows)
       → from ≤ row.lba
   row_begins from n row rows some give =
       elim (cases_lt row.lba from) [
@@ -145,7 +150,8 @@ module _ (first : ℕ) (places : ℕ → Option VolumePlace) (writer : ℕ → O
       let end = row.lba + row.sectors in
       let left = from + n - end in
       elim (cases_lt k end) [
-        | inl low ↦ none_before volume_on rows end k shortest.2 (after_row volume_on row rows shortest.1) low ∙ sym (below_range end left k low)
+        | inl low ↦ none_before volume_on rows end k shortest.2 (after_row volume_on row rows shortest.1) low
+            ∙ sym (below_range end left k low)
         | inr high ↦
             sym (at_past volume_on row rows k high)
             ∙ (give k
@@ -156,7 +162,8 @@ module _ (first : ℕ) (places : ℕ → Option VolumePlace) (writer : ℕ → O
       ]
 
   -- the sectors of a row have one last writer
-  row_writer : (from n : ℕ) (row : Extent VolumePlace) (rows : List (Extent VolumePlace)) → from ≤ row.lba → row.lba + row.sectors ≤ from + n
+  row_writer : (from n : ℕ) (row : Extent VolumePlace) (rows : List (Extent VolumePlace)) → from ≤ row.lba
+      → row.lba + row.sectors ≤ from + n
       → Give from n (row ∷ rows) → (k : ℕ) → row.lba ≤ k → k < row.lba + row.sectors → writer k ≡ writer_at first (Some row.place)
   row_writer from n row rows begins ends give k low high =
       let place : places k ≡ Some (volume_on (k - row.lba) row.place) =
@@ -200,7 +207,8 @@ module _ (first : ℕ) (places : ℕ → Option VolumePlace) (writer : ℕ → O
       ∙ ap Some (ap (λ i. volume_on i row.place) none_on ∙ on_none row.place))) in
       let rest = rest_give from n row rows shortest begins ends give end ∙ in_range end left end (omega arith) (omega arith) in
       ap (goes_on (writer_at first (Some row.place))) (are end)
-      ∙ apart_by row.lba row.sectors row.place (places end) here refl (λ on. not_on volume_on on_none row rows shortest (rest ∙ on))
+      ∙ apart_by row.lba row.sectors row.place (places end) here refl
+      (λ on. not_on volume_on on_none row rows shortest (rest ∙ on))
 
   -- ---- how many there are
 
@@ -211,21 +219,25 @@ module _ (first : ℕ) (places : ℕ → Option VolumePlace) (writer : ℕ → O
       let none = gap_writer from (suc n) (from + suc n) [] tt tt (omega arith) give in
       sym (one_starts writer before None from (suc n) 0 (omega arith) refl none) ∙ ap (runs_from writer before from) all
 
-  row_counted : (before : Option ℕ) (from n : ℕ) (row : Extent VolumePlace) (rows : List (Extent VolumePlace)) → IsShortest volume_on (row ∷ rows)
+  row_counted : (before : Option ℕ) (from n : ℕ) (row : Extent VolumePlace) (rows : List (Extent VolumePlace))
+      → IsShortest volume_on (row ∷ rows)
       → from ≤ row.lba → row.lba + row.sectors ≤ from + n → Give from n (row ∷ rows)
       → goes_on before (writer_at first (Some row.place)) ≡ false
-      → data_rows_in_log rows ≡ runs_from writer (writer_at first (Some row.place)) (row.lba + row.sectors) (from + n - (row.lba + row.sectors))
+      → data_rows_in_log rows ≡ runs_from writer (writer_at first (Some row.place)) (row.lba + row.sectors)
+      (from + n - (row.lba + row.sectors))
       → data_rows_in_log (row ∷ rows) ≡ runs_from writer before row.lba (from + n - row.lba)
   row_counted before from n row rows shortest begins ends give apart rest =
       let left = from + n - (row.lba + row.sectors) in
       let all : row.sectors + left ≡ from + n - row.lba = omega arith in
       let start = row_starts first before row.place apart in
-      let counted_row = one_starts writer before (writer_at first (Some row.place)) row.lba row.sectors left shortest.0 (row_stays first row.place)
+      let counted_row = one_starts writer before (writer_at first (Some row.place)) row.lba row.sectors left shortest.0
+      (row_stays first row.place)
       (row_writer from n row rows begins ends give) in
       let whole = ap (runs_from writer before row.lba) all in
       omega arith
 
-  pub runs_counted : (rows : List (Extent VolumePlace)) (before : Option ℕ) (from n : ℕ) → IsShortest volume_on rows → Give from n rows
+  pub runs_counted : (rows : List (Extent VolumePlace)) (before : Option ℕ) (from n : ℕ) → IsShortest volume_on rows
+      → Give from n rows
       → (0 < n → goes_on before (writer from) ≡ false) → data_rows_in_log rows ≡ runs_from writer before from n
   runs_counted [] before from n shortest give apart = none_counted before from n give
   runs_counted (row ∷ rows) before from n shortest give apart =
@@ -233,7 +245,8 @@ module _ (first : ℕ) (places : ℕ → Option VolumePlace) (writer : ℕ → O
       let ends = row_ends from n row rows shortest.0 give in
       let end = row.lba + row.sectors in
       let left = from + n - end in
-      let rest = runs_counted rows (writer_at first (Some row.place)) end left shortest.2 (rest_give from n row rows shortest begins ends give)
+      let rest = runs_counted rows (writer_at first (Some row.place)) end left shortest.2
+      (rest_give from n row rows shortest begins ends give)
       (row_apart from n row rows shortest begins ends give) in
       elim (cases_lt from row.lba) [
         | inl gap ↦

@@ -1,5 +1,5 @@
--- What a volume and the plain volume that it shows have of a sector: its place in the log's map, the entry that left it there, and
--- the sector itself.
+-- What a volume and the plain volume that it shows have of a sector: its place in the log's map, the entry that left it there,
+-- and the sector itself.
 use Rattle.std.proofs.Common.{◌≡◌, ℕ, ◌-◌, ◌<◌, length, take, drop, get_or, sym, ◌∙◌, ap, subst, arith}
 use Rattle.std.specs.List.{slice_get, All}
 use Rattle.std.proofs.lemmas.List.{take-append-drop}
@@ -32,7 +32,8 @@ module _ (plain : PlainState) (valid : IsPlainVolume plain) where
   all_end : All (EndsBy (length plain.opening)) plain.entries
   all_end = λ i d inside.
       let entry : Entry = get_or plain.entries i d in
-      EndsBy-more plain.geometry.sectors (length plain.opening) entry (EndsBy-in_range plain.geometry entry (valid.in_range i d inside))
+      EndsBy-more plain.geometry.sectors (length plain.opening) entry
+      (EndsBy-in_range plain.geometry entry (valid.in_range i d inside))
       (omega (arith, valid.sectors))
 
   settled_count : length (settled_image plain) ≡ length plain.opening
@@ -58,13 +59,15 @@ module _ (plain : PlainState) (valid : IsPlainVolume plain) where
   sector_now k inside =
       let count = frontier_end plain - plain.end in
       let later : All (EndsBy (length (settled_image plain))) (logged_entries plain) =
-      subst (λ n. All (EndsBy n) (logged_entries plain)) (sym settled_count) (All-drop (EndsBy (length plain.opening)) count plain.entries all_end) in
+      subst (λ n. All (EndsBy n) (logged_entries plain)) (sym settled_count)
+      (All-drop (EndsBy (length plain.opening)) count plain.entries all_end) in
       ap (λ image. slice_get image k) image_in_parts
       ∙ changes_make_image (settled_image plain) (logged_entries plain) k later (omega (arith, settled_has_sectors))
 
 -- ---- the maps
 
-module _ (data_at : ℕ → ℕ) (objects : ObjLogState) (log : LogState) (plain : PlainState) (shows : ShowsReads data_at objects log plain) where
+module _ (data_at : ℕ → ℕ) (objects : ObjLogState) (log : LogState) (plain : PlainState)
+    (shows : ShowsReads data_at objects log plain) where
   pub counts : HasCounts objects plain
   counts = shown_have_counts data_at objects plain shows.ordered shows.valid shows.objects_are
 
@@ -76,7 +79,8 @@ module _ (data_at : ℕ → ℕ) (objects : ObjLogState) (log : LogState) (plain
       ∙ ap (λ number. left_at data_at (frontier_end plain) (drop (end_of number - plain.end) plain.entries) k) counts.frontier)
 
   -- the log's map has a sector where the logged entries leave it
-  pub logged_leave : (k : ℕ) → LeavesAt data_at (frontier_end plain) (logged_entries plain) k (logged_at objects.uploads.queue.maps k)
+  pub logged_leave : (k : ℕ) → LeavesAt data_at (frontier_end plain) (logged_entries plain) k
+      (logged_at objects.uploads.queue.maps k)
   logged_leave k =
       subst (LeavesAt data_at (frontier_end plain) (logged_entries plain) k) (sym (logged_is k))
       (entries_leave data_at (frontier_end plain) (logged_entries plain) k)

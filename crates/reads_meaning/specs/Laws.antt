@@ -43,11 +43,12 @@ PlacesAreOfObjectsRead =
     → ((place : ObjectPlace) × (volume_place_at objects.uploads.queue.maps k ≡ Some (Object place)) × (place.number ≡ number))
     ↔ (is_read_from plain number k ≡ true)
 
--- The shortest list of rows of a range has as many rows of data in the log as the range has maximal runs of sectors that one same write
--- past the frontier's end wrote last.
+-- The shortest list of rows of a range has as many rows of data in the log as the range has maximal runs of sectors that one same
+-- write past the frontier's end wrote last.
 abbrev pub RowsAreRuns : Type 0
 RowsAreRuns =
-    (data_at : ℕ → ℕ) (objects : ObjLogState) (log : LogState) (plain : PlainState) (lba sectors : ℕ) (rows : List (Extent VolumePlace))
+    (data_at : ℕ → ℕ) (objects : ObjLogState) (log : LogState) (plain : PlainState) (lba sectors : ℕ)
+    (rows : List (Extent VolumePlace))
     → ShowsReads data_at objects log plain → IsShortest volume_on rows
     → ((k : ℕ) → place_at volume_on rows k ≡ place_in_range lba sectors (volume_place_at objects.uploads.queue.maps) k)
     → data_rows_in_log rows ≡ read_calls (logged_entries plain) lba sectors

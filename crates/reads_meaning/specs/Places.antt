@@ -15,7 +15,8 @@ use Rattle.volume_maps.specs.declared.place.VolumePlace.TheVariants.{Log, Object
 use Rattle.object_uploads.specs.State.{QueueState}
 use Rattle.object_uploads.specs.Image.{HoldsSector}
 
--- A sector is part of the data of an entry of the log's list, which has this seq: the log has it at a sector of the entry's record.
+-- A sector is part of the data of an entry of the log's list, which has this seq: the log has it at a sector of the entry's
+-- record.
 pub record IsInRecord (log : LogState) (seq at : ℕ) (sector : List ℕ) : Type 0 where
   pub row : Row
   pub there : slice_get log.rows (seq - log.first) ≡ Some row

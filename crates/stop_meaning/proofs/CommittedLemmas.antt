@@ -17,15 +17,18 @@ use Rattle.cache_log.specs.Committed.{body_of, first_body, IsReleased}
 use Rattle.stopped_volume.specs.Device.{CacheOwner, owner_of}
 use Rattle.plain_disk.specs.Sectors.{AllInRange}
 use Rattle.stop_meaning.specs.Stops.{HasCommitted}
-use Rattle.stop_meaning.specs.Laws.{FormattedHasCommitted, SameHasCommitted, TrimmedHasCommitted, AppendedHasCommitted, CommitHasCommitted}
+use Rattle.stop_meaning.specs.Laws.{FormattedHasCommitted, SameHasCommitted, TrimmedHasCommitted, AppendedHasCommitted}
+use Rattle.stop_meaning.specs.Laws.{CommitHasCommitted}
 
 -- the commit is of this volume and this epoch
 abbrev IsOf : (owner : CacheOwner) → CommitBody → Type 0
 IsOf owner body = owner_of body ≡ owner
 
 -- a log with these commits, and these entries
-has_committed : (owner : CacheOwner) (geometry : Geometry) (body : CommitBody) (unfinished : Option CommitBody) (all : Option (List Entry))
-    (log : LogState) → log.commits.body ≡ body → log.commits.unfinished ≡ unfinished → log.all ≡ all → IsOf owner body → IfSome unfinished (IsOf owner)
+has_committed : (owner : CacheOwner) (geometry : Geometry) (body : CommitBody) (unfinished : Option CommitBody)
+    (all : Option (List Entry))
+    (log : LogState) → log.commits.body ≡ body → log.commits.unfinished ≡ unfinished → log.all ≡ all → IsOf owner body
+    → IfSome unfinished (IsOf owner)
     → IfSome all (AllInRange geometry) → HasCommitted owner geometry log
 has_committed owner geometry body unfinished all log last left told is_of are_of in_range = record {
   last = ap owner_of last ∙ is_of;
@@ -41,13 +44,15 @@ no_entries geometry (now ∷ past) = All-nil (λ entry. is_in_range geometry ent
 
 pub formatted_has_committed : FormattedHasCommitted
 formatted_has_committed uuid epoch first geometry old log is =
-    has_committed (record { uuid = uuid; epoch = epoch }) geometry (first_body uuid epoch first) None (entries_in [] log.commits.disk.moments) log is.commits.same_body
+    has_committed (record { uuid = uuid; epoch = epoch }) geometry (first_body uuid epoch first) None
+    (entries_in [] log.commits.disk.moments) log is.commits.same_body
     is.commits.same_unfinished
     (is.all ∙ is.entries) refl tt (no_entries geometry log.commits.disk.moments)
 
 pub same_has_committed : SameHasCommitted
 same_has_committed owner geometry old new is same commits =
-    has_committed owner geometry old.commits.body old.commits.unfinished old.all new commits.same_body commits.same_unfinished same.all is.last
+    has_committed owner geometry old.commits.body old.commits.unfinished old.all new commits.same_body commits.same_unfinished
+    same.all is.last
     is.unfinished is.in_range
 
 pub trimmed_has_committed : TrimmedHasCommitted
@@ -86,24 +91,29 @@ since_in_range geometry seq (row ∷ rows) (entry ∷ list) are =
     ]
 
 -- and so are those that a commit does not release
-released_in_range : (geometry : Geometry) (seq : ℕ) (rows : List Row) (all : Option (List Entry)) → IfSome all (AllInRange geometry)
+released_in_range : (geometry : Geometry) (seq : ℕ) (rows : List Row) (all : Option (List Entry))
+    → IfSome all (AllInRange geometry)
     → IfSome (option_map (entries_since seq rows) all) (AllInRange geometry)
 released_in_range geometry seq rows None are = tt
 released_in_range geometry seq rows (Some list) are = since_in_range geometry seq rows list are
 
 -- of the volume is also the unfinished commit once it is made
-finished_is_of : (owner : CacheOwner) (body : CommitBody) (unfinished : Option CommitBody) → IsOf owner body → IfSome unfinished (IsOf owner)
+finished_is_of : (owner : CacheOwner) (body : CommitBody) (unfinished : Option CommitBody) → IsOf owner body
+    → IfSome unfinished (IsOf owner)
     → IsOf owner (finished_body body unfinished)
 finished_is_of owner body None is_of are_of = is_of
 finished_is_of owner body (Some more) is_of are_of = are_of
 
-module _ (owner : CacheOwner) (geometry : Geometry) (old new : LogState) (is : HasCommitted owner geometry old) (released : IsReleased old new) where
+module _ (owner : CacheOwner) (geometry : Geometry) (old new : LogState) (is : HasCommitted owner geometry old)
+    (released : IsReleased old new) where
   -- what a commit leaves, by the commits that it left
-  committed_with : (body : CommitBody) (unfinished : Option CommitBody) → new.commits.body ≡ body → new.commits.unfinished ≡ unfinished
+  committed_with : (body : CommitBody) (unfinished : Option CommitBody) → new.commits.body ≡ body
+      → new.commits.unfinished ≡ unfinished
       → IsOf owner body → IfSome unfinished (IsOf owner) → HasCommitted owner geometry new
   committed_with body unfinished last left is_of are_of =
       let seq : ℕ = new.commits.body.tail.seq in
-      has_committed owner geometry body unfinished (option_map (entries_since seq (all_rows old)) old.all) new last left released.all is_of are_of
+      has_committed owner geometry body unfinished (option_map (entries_since seq (all_rows old)) old.all) new last left
+      released.all is_of are_of
       (released_in_range geometry seq (all_rows old) old.all is.in_range)
 
   finished : IsOf owner (finished_body old.commits.body old.commits.unfinished)
@@ -113,11 +123,14 @@ pub commit_has_committed : CommitHasCommitted
 commit_has_committed owner geometry old new is released (inl made) =
     committed_with owner geometry old new is released (body_of old) None made.same_body made.same_unfinished is.last tt
 commit_has_committed owner geometry old new is released (inr (inl at)) =
-    committed_with owner geometry old new is released old.commits.body old.commits.unfinished at.same_body at.same_unfinished is.last is.unfinished
+    committed_with owner geometry old new is released old.commits.body old.commits.unfinished at.same_body at.same_unfinished
+    is.last is.unfinished
 commit_has_committed owner geometry old new is released (inr (inr (inl at))) =
-    committed_with owner geometry old new is released (finished_body old.commits.body old.commits.unfinished) None at.same_body at.same_unfinished
+    committed_with owner geometry old new is released (finished_body old.commits.body old.commits.unfinished) None at.same_body
+    at.same_unfinished
     (finished owner geometry old new is released) tt
 commit_has_committed owner geometry old new is released (inr (inr (inr at))) =
-    committed_with owner geometry old new is released (finished_body old.commits.body old.commits.unfinished) (Some (body_of old)) at.same_body
+    committed_with owner geometry old new is released (finished_body old.commits.body old.commits.unfinished) (Some (body_of old))
+    at.same_body
     at.same_unfinished
     (finished owner geometry old new is released) is.last

@@ -1,5 +1,6 @@
 -- Which entries of the plain volume a commit has, among all of a log.
-use Rattle.std.proofs.Common.{◌≡◌, ℕ, zero, suc, ◌+◌, ◌-◌, ◌<◌, ◌≤◌, false, max, List, [], ◌∷◌, length, take, drop, map, refl, sym, ◌∙◌, ap, subst, inl, inr, arith, if◌then◌else◌}
+use Rattle.std.proofs.Common.{◌≡◌, ℕ, zero, suc, ◌+◌, ◌-◌, ◌<◌, ◌≤◌, false, max, List, [], ◌∷◌, length, take, drop, map, refl}
+use Rattle.std.proofs.Common.{sym, ◌∙◌, ap, subst, inl, inr, arith, if◌then◌else◌}
 use Rattle.std.proofs.Math.Seq.{drop-nil}
 use Rattle.std.specs.List.{All}
 use Rattle.std.proofs.lemmas.Bool.{cases_eq, cases_lt, lt-leb, and_left}
@@ -47,7 +48,8 @@ module _ (log : LogState) (body : CommitBody) where
   is_before row less = and_left _ _ (lt-leb body.tail.seq (seq_of row) less)
 
   -- of rows from an earlier seq on those before its tail are left out
-  pub entries_are : (rows : List Row) (list : List Entry) (seq : ℕ) → AreNumbered seq rows → length list ≡ length rows → seq ≤ body.tail.seq
+  pub entries_are : (rows : List Row) (list : List Entry) (seq : ℕ) → AreNumbered seq rows → length list ≡ length rows
+      → seq ≤ body.tail.seq
       → entries_between body rows list ≡ up_to body (drop (body.tail.seq - seq) list)
   entries_are [] [] seq are count from =
       sym (ap (up_to body) (drop-nil (body.tail.seq - seq)) ∙ take_none (body.head.seq - body.tail.seq))
@@ -82,7 +84,8 @@ module _ (log : LogState) (body : CommitBody) where
       ∙ λ i. take (left i) (drop (dropped i) list)
 
   -- what holds of all entries holds of those of a commit
-  pub all_of_commit : (P : Entry → Type 0) (rows : List Row) (list : List Entry) (seq : ℕ) → AreNumbered seq rows → length list ≡ length rows
+  pub all_of_commit : (P : Entry → Type 0) (rows : List Row) (list : List Entry) (seq : ℕ) → AreNumbered seq rows
+      → length list ≡ length rows
       → seq ≤ body.tail.seq → All P list → All P (entries_between body rows list)
   all_of_commit P rows list seq are count from all =
       subst (All P) (sym (entries_are rows list seq are count from))

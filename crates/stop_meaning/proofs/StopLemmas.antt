@@ -1,5 +1,6 @@
 -- Whatever a stop leaves of the cache stands for entries of the plain volume, up to the head of the commit that is found.
-use Rattle.std.proofs.Common.{◌≡◌, ℕ, suc, ◌-◌, ◌≤◌, true, List, [], ◌∷◌, length, take, drop, map, refl, sym, ◌∙◌, ap, subst, inl, inr, arith, length-append}
+use Rattle.std.proofs.Common.{◌≡◌, ℕ, suc, ◌-◌, ◌≤◌, true, List, [], ◌∷◌, length, take, drop, map, refl, sym, ◌∙◌, ap, subst, inl}
+use Rattle.std.proofs.Common.{inr, arith, length-append}
 use Rattle.std.specs.Prelude.{Option, Some, None, IfSome, OnSome}
 use Rattle.std.proofs.lemmas.List.{length-map}
 use Rattle.lsvd_base.specs.declared.entry.Entry.{Entry}
@@ -26,7 +27,8 @@ use Rattle.stop_meaning.proofs.EntryLemmas.{past_count, all_of_commit, entries_p
 -- the entries of all records of a log, as the plain volume has them past its frontier's end
 record AreOfVolume (log : LogState) (plain : PlainState) (all : List Entry) : Type 0 where
   count : length all ≡ length (all_rows log)
-  logged : (count : ℕ) → frontier_end plain ≤ count → drop (count - log.commits.body.tail.seq) all ≡ drop (count - plain.end) plain.entries
+  logged : (count : ℕ) → frontier_end plain ≤ count → drop (count - log.commits.body.tail.seq) all ≡ drop (count - plain.end)
+      plain.entries
   in_range : AllInRange plain.geometry all
 
 -- a commit of a volume whose tail is among the records of a log, and not past the frontier's end
@@ -38,25 +40,30 @@ pub record MayBeFound (owner : CacheOwner) (log : LogState) (plain : PlainState)
 -- ---- what is told, or not
 
 -- what follows from two facts on a value, where it is told
-pub with_told : {A : Type 0} (P Q : A → Type 0) (R : Type 0) (told : Option A) → ((x : A) → P x → Q x → R) → IfSome told P → IfSome told Q
+pub with_told : {A : Type 0} (P Q : A → Type 0) (R : Type 0) (told : Option A) → ((x : A) → P x → Q x → R) → IfSome told P
+    → IfSome told Q
     → OnSome told R
 with_told P Q R None follows first second = tt
 with_told P Q R (Some x) follows first second = follows x first second
 
 -- the same of the entries of rows and of what the disk holds now, which tells them or holds nothing
-with_told_now : (P : List Entry → Type 0) (Q : List Entry → Medium → Type 0) (R : Medium → Type 0) (rows : List Row) (moments : List Medium)
-    (told : Option (List Entry)) → told ≡ entries_in rows moments → ((list : List Entry) (now : Medium) → P list → Q list now → R now)
+with_told_now : (P : List Entry → Type 0) (Q : List Entry → Medium → Type 0) (R : Medium → Type 0) (rows : List Row)
+    (moments : List Medium)
+    (told : Option (List Entry)) → told ≡ entries_in rows moments
+    → ((list : List Entry) (now : Medium) → P list → Q list now → R now)
     → IfSome told P → IfSome told (λ list. HoldsNow (Q list) moments) → HoldsNow R moments
 with_told_now P Q R rows [] told is follows first second = tt
 with_told_now P Q R rows (now ∷ past) told is follows first second =
-    follows (map (entry_of now.bytes) rows) now (subst (λ t. IfSome t P) is first) (subst (λ t. IfSome t (λ list. Q list now)) is second)
+    follows (map (entry_of now.bytes) rows) now (subst (λ t. IfSome t P) is first)
+    (subst (λ t. IfSome t (λ list. Q list now)) is second)
 
 -- there is a record for each row
 records_count : (rows : List Row) (log from : ℕ) → length (records_of_rows log from rows) ≡ length rows
 records_count [] log from = refl
 records_count (row ∷ rows) log from = ap suc (records_count rows log (next log row))
 
-module _ (owner : CacheOwner) (data_at : ℕ → ℕ) (log : LogState) (plain : PlainState) (shows : ShowsStops owner data_at log plain) where
+module _ (owner : CacheOwner) (data_at : ℕ → ℕ) (log : LogState) (plain : PlainState)
+    (shows : ShowsStops owner data_at log plain) where
   -- ---- the log's entries
 
   -- where the disk tells what it holds, they are those of the volume
@@ -68,7 +75,8 @@ module _ (owner : CacheOwner) (data_at : ℕ → ℕ) (log : LogState) (plain : 
   of_volume_in (now ∷ past) logged in_range = record {
     count = length-map (all_rows log) (entry_of now.bytes);
     logged = λ count from.
-        logged_past log plain (entry_of now.bytes) count shows.log_is.counted shows.logged.first (ends_from plain (frontier_of plain) shows.valid)
+        logged_past log plain (entry_of now.bytes) count shows.log_is.counted shows.logged.first
+        (ends_from plain (frontier_of plain) shows.valid)
         from logged;
     in_range = in_range;
   }
@@ -78,7 +86,8 @@ module _ (owner : CacheOwner) (data_at : ℕ → ℕ) (log : LogState) (plain : 
       let on_disk = shows.on_disk in
       subst (λ all. IfSome all (AreOfVolume log plain)) (sym on_disk.all)
       (of_volume_in log.commits.disk.moments
-      (subst (λ list. IfSome list (λ l. listed_from (frontier_end plain) log l ≡ logged_entries plain)) on_disk.entries shows.logged.entries)
+      (subst (λ list. IfSome list (λ l. listed_from (frontier_end plain) log l ≡ logged_entries plain)) on_disk.entries
+      shows.logged.entries)
       (subst (λ all. IfSome all (AllInRange plain.geometry)) on_disk.all shows.committed.in_range))
 
   -- ---- its commits
@@ -118,8 +127,16 @@ module _ (owner : CacheOwner) (data_at : ℕ → ℕ) (log : LogState) (plain : 
 
   pub last_found : (number : ℕ) (body : CommitBody) → IsLast log.commits number body
       → MayBeFound owner log plain body × IsCommittedHead log body.head.seq
-  last_found number body (inl is) = (subst (MayBeFound owner log plain) (sym is.same_body) last_may, inl (ap (λ b. b.head.seq) is.same_body))
-  last_found number body (inr is) = (subst (MayBeFound owner log plain) (sym is.same_body) finished_may, inr (ap (λ b. b.head.seq) is.same_body))
+  last_found number body (inl is) = (
+    subst (MayBeFound owner log plain) (sym is.same_body) last_may,
+    inl
+        (ap (λ b. b.head.seq) is.same_body),
+  )
+  last_found number body (inr is) = (
+    subst (MayBeFound owner log plain) (sym is.same_body) finished_may,
+    inr
+        (ap (λ b. b.head.seq) is.same_body),
+  )
 
   committing_found : (number : ℕ) (body : CommitBody) → IsLastOr log.commits (body_of log) number body
       → MayBeFound owner log plain body × IsCommittingHead log plain body.head.seq
@@ -134,7 +151,8 @@ module _ (owner : CacheOwner) (data_at : ℕ → ℕ) (log : LogState) (plain : 
   size_is = sym (ap (λ room. room.log) shows.log_is.room) ∙ shows.valid.size
 
   -- bytes that have the entries of a commit that may be found
-  keeps_on_device : (all : List Entry) (left : List ℕ) (number : ℕ) (body : CommitBody) → AreOfVolume log plain all → MayBeFound owner log plain body
+  keeps_on_device : (all : List Entry) (left : List ℕ) (number : ℕ) (body : CommitBody) → AreOfVolume log plain all
+      → MayBeFound owner log plain body
       → ReadsSettled log.room.log left body number → HasRecords log.room.log body (entries_between body (all_rows log) all) left
       → KeepsOnDevice owner plain body.head.seq left
   keeps_on_device all left number body are found settled records = λ end from to.
@@ -152,7 +170,8 @@ module _ (owner : CacheOwner) (data_at : ℕ → ℕ) (log : LogState) (plain : 
         list = list;
         records = subst (λ n. HasRecords n body list left) size_is records;
         in_range =
-            all_of_commit log body (λ entry. is_in_range plain.geometry entry ≡ true) (all_rows log) all first numbered are.count found.from
+            all_of_commit log body (λ entry. is_in_range plain.geometry entry ≡ true) (all_rows log) all first numbered
+            are.count found.from
             are.in_range;
         rest =
             entries_past_are plain end body.head.seq opened
@@ -163,7 +182,8 @@ module _ (owner : CacheOwner) (data_at : ℕ → ℕ) (log : LogState) (plain : 
   -- where each commit with P may be found, and has such a head
   module _ (P : ℕ → CommitBody → Type 0) (IsHead : ℕ → Type 0)
       (found : (number : ℕ) (body : CommitBody) → P number body → MayBeFound owner log plain body × IsHead body.head.seq) where
-    stop_keeps : (all : List Entry) (medium : Medium) → AreOfVolume log plain all → LeavesEntries log.room.log (all_rows log) all P medium
+    stop_keeps : (all : List Entry) (medium : Medium) → AreOfVolume log plain all
+        → LeavesEntries log.room.log (all_rows log) all P medium
         → StopKeeps owner plain IsHead medium
     stop_keeps all medium are leaves = λ left may.
         let is = leaves left may in
@@ -177,7 +197,8 @@ module _ (owner : CacheOwner) (data_at : ℕ → ℕ) (log : LogState) (plain : 
         with_told (AreOfVolume log plain) (λ list. HoldsSince (Leaves list) old new.moments)
         (HoldsSince (StopKeeps owner plain IsHead) old new.moments) log.all
         (λ list are since.
-        passes_as (Leaves list) (StopKeeps owner plain IsHead) old new.moments (λ medium left. stop_keeps list medium are left) since)
+        passes_as (Leaves list) (StopKeeps owner plain IsHead) old new.moments
+        (λ medium left. stop_keeps list medium are left) since)
         are_of_volume leaves
 
 pub now_keeps : NowKeeps
@@ -186,12 +207,14 @@ now_keeps owner data_at log plain shows =
     with_told_now (AreOfVolume log plain) (λ list. LeavesEntries log.room.log (all_rows log) list P)
     (StopKeeps owner plain (IsCommittedHead log)) (all_rows log) log.commits.disk.moments log.all shows.on_disk.all
     (λ list now are leaves.
-    stop_keeps owner data_at log plain shows P (IsCommittedHead log) (last_found owner data_at log plain shows) list now are leaves)
+    stop_keeps owner data_at log plain shows P (IsCommittedHead log) (last_found owner data_at log plain shows) list now
+    are leaves)
     (are_of_volume owner data_at log plain shows) shows.on_disk.stands
 
 pub since_keeps : SinceKeeps
 since_keeps owner data_at log plain new shows leaves =
-    keeps_since owner data_at log plain shows (IsLast log.commits) (IsCommittedHead log) (last_found owner data_at log plain shows) new leaves
+    keeps_since owner data_at log plain shows (IsLast log.commits) (IsCommittedHead log)
+    (last_found owner data_at log plain shows) new leaves
 
 pub committing_keeps : CommittingKeeps
 committing_keeps owner data_at log plain new shows leaves =

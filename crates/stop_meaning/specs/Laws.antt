@@ -33,14 +33,17 @@ NowKeeps =
 -- and so does one at each moment since, while a stop leaves these commits
 abbrev pub SinceKeeps : Type 0
 SinceKeeps =
-    (owner : CacheOwner) (data_at : ℕ → ℕ) (log : LogState) (plain : PlainState) (new : DiskState) → ShowsStops owner data_at log plain
+    (owner : CacheOwner) (data_at : ℕ → ℕ) (log : LogState) (plain : PlainState) (new : DiskState)
+    → ShowsStops owner data_at log plain
     → LeavesEntriesSince log (IsLast log.commits) new → StopKeepsSince owner log plain (IsCommittedHead log) new
 
 -- While all entries are committed, a stop keeps those up to one of these heads, or all entries.
 abbrev pub CommittingKeeps : Type 0
 CommittingKeeps =
-    (owner : CacheOwner) (data_at : ℕ → ℕ) (log : LogState) (plain : PlainState) (new : DiskState) → ShowsStops owner data_at log plain
-    → LeavesEntriesSince log (IsLastOr log.commits (body_of log)) new → StopKeepsSince owner log plain (IsCommittingHead log plain) new
+    (owner : CacheOwner) (data_at : ℕ → ℕ) (log : LogState) (plain : PlainState) (new : DiskState)
+    → ShowsStops owner data_at log plain
+    → LeavesEntriesSince log (IsLastOr log.commits (body_of log)) new
+    → StopKeepsSince owner log plain (IsCommittingHead log plain) new
 
 -- ---- calls of the log
 
@@ -54,7 +57,8 @@ FormattedHasCommitted =
 abbrev pub SameHasCommitted : Type 0
 SameHasCommitted =
     (owner : CacheOwner) (geometry : Geometry) (old new : LogState)
-    → HasCommitted owner geometry old → HasSameEntries old new → IsAsBefore old.commits new.commits → HasCommitted owner geometry new
+    → HasCommitted owner geometry old → HasSameEntries old new → IsAsBefore old.commits new.commits
+    → HasCommitted owner geometry new
 
 abbrev pub TrimmedHasCommitted : Type 0
 TrimmedHasCommitted =
@@ -65,7 +69,8 @@ TrimmedHasCommitted =
 abbrev pub AppendedHasCommitted : Type 0
 AppendedHasCommitted =
     (owner : CacheOwner) (geometry : Geometry) (old new : LogState) (entry : Entry) (at : ℕ)
-    → HasCommitted owner geometry old → is_in_range geometry entry ≡ true → IsAppended entry at old new → IsAsBefore old.commits new.commits
+    → HasCommitted owner geometry old → is_in_range geometry entry ≡ true → IsAppended entry at old new
+    → IsAsBefore old.commits new.commits
     → HasCommitted owner geometry new
 
 -- and when all entries are committed, or that fails

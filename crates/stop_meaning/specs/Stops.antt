@@ -12,8 +12,8 @@ use Rattle.stopped_volume.specs.Device.{CacheOwner, owner_of, DeviceStandsFor}
 
 -- ---- the commits of a log
 
--- The last commit of a log, and one that is unfinished, are of this volume and this epoch, and each entry whose record the log has is in
--- range, where the disk tells it.
+-- The last commit of a log, and one that is unfinished, are of this volume and this epoch, and each entry whose record the log
+-- has is in range, where the disk tells it.
 pub record HasCommitted (owner : CacheOwner) (geometry : Geometry) (log : LogState) : Type 0 where
   pub last : owner_of log.commits.body ≡ owner
   pub unfinished : IfSome log.commits.unfinished (λ body. owner_of body ≡ owner)
@@ -34,8 +34,8 @@ IsCommittingHead log plain head = IsCommittedHead log head ⊎ (head ≡ history
 abbrev pub entries_past : PlainState → (count head : ℕ) → List Entry
 entries_past plain count head = drop (count - plain.end) (take (max count head - plain.end) plain.entries)
 
--- The bytes of a device have the entries of a volume's history up to a head past the end of its objects, wherever a mount finds that
--- the objects end, from the frontier's end on.
+-- The bytes of a device have the entries of a volume's history up to a head past the end of its objects, wherever a mount finds
+-- that the objects end, from the frontier's end on.
 abbrev pub KeepsOnDevice : CacheOwner → PlainState → (head : ℕ) → (left : List ℕ) → Type 0
 KeepsOnDevice owner plain head left =
     (end : ℕ) → frontier_end plain ≤ end → end ≤ history_length plain

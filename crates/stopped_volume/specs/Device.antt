@@ -27,10 +27,11 @@ owner_of body = record { uuid = body.uuid; epoch = body.epoch }
 
 -- ---- what it stands for
 
--- The bytes of a device have the entries of a volume's log from a seq on: some slot is open, and the newest that is has a commit of
--- this volume and this epoch whose tail is not past that seq; the other slots are as between two commits; and the log has records from
--- that tail up to the head, each of an entry in range. Those of entries before the seq are in objects.
-pub record DeviceStandsFor (owner : CacheOwner) (geometry : Geometry) (left : List ℕ) (seq : ℕ) (entries : List Entry) : Type 0 where
+-- The bytes of a device have the entries of a volume's log from a seq on: some slot is open, and the newest that is has a commit
+-- of this volume and this epoch whose tail is not past that seq; the other slots are as between two commits; and the log has
+-- records from that tail up to the head, each of an entry in range. Those of entries before the seq are in objects.
+pub record DeviceStandsFor (owner : CacheOwner) (geometry : Geometry) (left : List ℕ) (seq : ℕ) (entries : List Entry) :
+    Type 0 where
   pub number : ℕ
   pub body : CommitBody
   pub is_of : owner_of body ≡ owner
@@ -41,9 +42,10 @@ pub record DeviceStandsFor (owner : CacheOwner) (geometry : Geometry) (left : Li
   pub in_range : All (λ entry. is_in_range geometry entry ≡ true) list
   pub rest : entries ≡ drop (seq - body.tail.seq) list
 
--- Device and store stand for an image up to the end of the object before the first missing one, and for the entries from there on. The
--- store has the volume, and the device is its cache in the newest epoch.
-pub record StandFor (volume : Expected) (geometry : Geometry) (epoch : ℕ) (uuid_at : ℕ → Option (List ℕ)) (left : List ℕ) (objects : Objects)
+-- Device and store stand for an image up to the end of the object before the first missing one, and for the entries from there
+-- on. The store has the volume, and the device is its cache in the newest epoch.
+pub record StandFor (volume : Expected) (geometry : Geometry) (epoch : ℕ) (uuid_at : ℕ → Option (List ℕ)) (left : List ℕ)
+    (objects : Objects)
     (image : Image) (number end : ℕ) (entries : List Entry) : Type 0 where
   pub limits : IsTrue (is_within_limits geometry)
   pub sectors : volume.sectors ≡ geometry.sectors
@@ -53,8 +55,10 @@ pub record StandFor (volume : Expected) (geometry : Geometry) (epoch : ℕ) (uui
 
 -- They stand for the first K entries of a history over an opening image: the objects have those up to their end, and the log has
 -- the others.
-pub record StandForFirst (volume : Expected) (geometry : Geometry) (epoch : ℕ) (uuid_at : ℕ → Option (List ℕ)) (left : List ℕ) (objects : Objects)
+pub record StandForFirst (volume : Expected) (geometry : Geometry) (epoch : ℕ) (uuid_at : ℕ → Option (List ℕ)) (left : List ℕ)
+    (objects : Objects)
     (opening : Image) (history : List Entry) (number end kept : ℕ) : Type 0 where
   pub ends : end ≤ kept
   pub taken : kept ≤ length history
-  pub stands : StandFor volume geometry epoch uuid_at left objects (after opening (take end history)) number end (drop end (take kept history))
+  pub stands : StandFor volume geometry epoch uuid_at left objects (after opening (take end history)) number end
+      (drop end (take kept history))

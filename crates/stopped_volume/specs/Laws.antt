@@ -14,14 +14,17 @@ use Rattle.stopped_volume.specs.Objects.{landed_in, IsCheckpointOf, AreCheckpoin
 -- objects stand for one image of a length, with one number and one end
 abbrev pub StandForOneVolume : Type 0
 StandForOneVolume =
-    (volume : Expected) (uuid_at : ℕ → Option (List ℕ)) (objects : Objects) (image other : Image) (number other_number end other_end : ℕ)
+    (volume : Expected) (uuid_at : ℕ → Option (List ℕ)) (objects : Objects) (image other : Image)
+    (number other_number end other_end : ℕ)
     → volume.sectors < 2 ^ 64 → length image ≡ length other
-    → ObjectsStandFor volume uuid_at objects image number end → ObjectsStandFor volume uuid_at objects other other_number other_end
+    → ObjectsStandFor volume uuid_at objects image number end
+    → ObjectsStandFor volume uuid_at objects other other_number other_end
     → (number ≡ other_number) × (end ≡ other_end) × (image ≡ other)
 
--- A store has a stream that begins at its newest checkpoint, up to the object of a number: that before the first missing one. The objects
--- past it are whole.
-pub record HasStreamUpTo (volume : Expected) (uuid_at : ℕ → Option (List ℕ)) (objects : Objects) (stream : Stream) (opening : Image)
+-- A store has a stream that begins at its newest checkpoint, up to the object of a number: that before the first missing one. The
+-- objects past it are whole.
+pub record HasStreamUpTo (volume : Expected) (uuid_at : ℕ → Option (List ℕ)) (objects : Objects) (stream : Stream)
+    (opening : Image)
     (number : ℕ) : Type 0 where
   pub checkpoint : Numbers
   pub checkpoints : AreCheckpoints volume objects checkpoint
@@ -39,4 +42,5 @@ StandForHistory =
     (volume : Expected) (uuid_at : ℕ → Option (List ℕ)) (objects : Objects) (stream : Stream) (opening : Image) (number : ℕ)
     → uuid_at 0 ≡ Some volume.uuid → volume.sectors < 2 ^ 64 → All (EndsBy (length opening)) stream.entries → IsStream stream
     → HasStreamUpTo volume uuid_at objects stream opening number
-    → ObjectsStandFor volume uuid_at objects (after opening (take (end_at stream number - stream.end) stream.entries)) number (end_at stream number)
+    → ObjectsStandFor volume uuid_at objects (after opening (take (end_at stream number - stream.end) stream.entries)) number
+    (end_at stream number)

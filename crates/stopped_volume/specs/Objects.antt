@@ -49,9 +49,10 @@ AreWholePast volume objects number =
 
 -- The objects of a store stand for an image, the number of the object before the first missing one, and that object's end: from
 -- the newest checkpoint on each object up to it is whole and goes on where the one before it ends, the objects past it are whole
--- too, and the image is the value that the replay of the objects up to it has. A level's uuid is that of the volume, and then those
--- of its ancestors.
-pub record ObjectsStandFor (volume : Expected) (uuid_at : ℕ → Option (List ℕ)) (objects : Objects) (image : Image) (number end : ℕ) : Type 0 where
+-- too, and the image is the value that the replay of the objects up to it has. A level's uuid is that of the volume, and then
+-- those of its ancestors.
+pub record ObjectsStandFor (volume : Expected) (uuid_at : ℕ → Option (List ℕ)) (objects : Objects) (image : Image)
+    (number end : ℕ) : Type 0 where
   pub checkpoint : Numbers
   pub checkpoints : AreCheckpoints volume objects checkpoint
   pub missing : IsFirstMissing checkpoint (landed_in objects volume.uuid) (number + 1)
@@ -64,6 +65,7 @@ pub record ObjectsStandFor (volume : Expected) (uuid_at : ℕ → Option (List �
   pub past : AreWholePast volume objects number
 
 -- they stand for the first entries of a history over an opening image: those of the objects before the first missing one
-abbrev pub ObjectsStandForFirst : Expected → (ℕ → Option (List ℕ)) → Objects → (opening : Image) → List Entry → (number end : ℕ) → Type 0
+abbrev pub ObjectsStandForFirst : Expected → (ℕ → Option (List ℕ)) → Objects → (opening : Image) → List Entry
+    → (number end : ℕ) → Type 0
 ObjectsStandForFirst volume uuid_at objects opening history number end =
     ObjectsStandFor volume uuid_at objects (after opening (take end history)) number end

@@ -1,5 +1,5 @@
--- Contract: what a store may hold after a stop, by the puts that were acknowledged and those that were ever begun; and when receipts tell
--- what they stand for.
+-- Contract: what a store may hold after a stop, by the puts that were acknowledged and those that were ever begun; and when
+-- receipts tell what they stand for.
 use Rattle.std.specs.Prelude.{◌≡◌, ℕ, ◌<◌, ◌⊎◌, Option, Some, None, IsSome, List}
 use Rattle.lsvd_objstore.specs.Objects.{Objects, found}
 use Rattle.lsvd_objstore.specs.Store.{ReceiptState}
@@ -22,7 +22,8 @@ MayHoldPut NotBegun bytes held = held ≡ None
 
 -- What a store may hold of a volume's objects after one of a number, of which these are the puts: nothing past the last of them.
 pub record MayHoldPuts (uuid : List ℕ) (puts : ℕ → Option (PutState × List ℕ)) (after : ℕ) (objects : Objects) : Type 0 where
-  pub puts_are : (number : ℕ) (state : PutState) (bytes : List ℕ) → after < number → puts number ≡ Some (state, bytes) → MayHoldPut state bytes (found objects (name_of uuid number))
+  pub puts_are : (number : ℕ) (state : PutState) (bytes : List ℕ) → after < number → puts number ≡ Some (state, bytes)
+      → MayHoldPut state bytes (found objects (name_of uuid number))
   pub none_else : (number : ℕ) → after < number → puts number ≡ None → found objects (name_of uuid number) ≡ None
 
 -- receipts tell the bytes that they stand for

@@ -34,12 +34,13 @@ pub record HasNewestEpoch (uuid : List ℕ) (number : ℕ) (objects : Objects) :
   pub is_epoch : IsEpoch bytes uuid number epoch
   pub newest : (other : ℕ) → number < other → other < 2 ^ 64 → found objects (epoch_name uuid other) ≡ None
 
--- The store has a volume: its super object, which says these sizes and no ancestors, and its epochs, of which this is the newest. The sectors
--- of its log are those of its device.
+-- The store has a volume: its super object, which says these sizes and no ancestors, and its epochs, of which this is the newest.
+-- The sectors of its log are those of its device.
 pub record HasVolume (uuid : List ℕ) (geometry : Geometry) (epoch : ℕ) (objects : Objects) : Type 0 where
   pub volume : Super
   pub says : HasSuper uuid volume objects
   pub sizes : geometry ≡ geometry_with volume geometry.log
   pub alone : volume.chain ≡ []
   pub epochs : HasNewestEpoch uuid epoch objects
-  pub whole : (number : ℕ) (bytes : List ℕ) → found objects (epoch_name uuid number) ≡ Some bytes → (older : Epoch) × IsEpoch bytes uuid number older
+  pub whole : (number : ℕ) (bytes : List ℕ) → found objects (epoch_name uuid number) ≡ Some bytes → (older : Epoch)
+      × IsEpoch bytes uuid number older

@@ -5,7 +5,8 @@ pub fn objects_stand_for_one_volume()
     ensures { StandForOneVolume }
 {}
 
-/// A law: where a store has the objects of a stream up to the first missing one, they stand for just the entries that are in these.
+/// A law: where a store has the objects of a stream up to the first missing one, they stand for just the
+/// entries that are in these.
 pub fn landed_objects_stand_for_the_history()
     ensures { StandForHistory }
 {}

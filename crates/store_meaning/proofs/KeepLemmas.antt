@@ -1,5 +1,6 @@
 -- An object of a plain volume stays one while events go on, and over a mount that recovers it.
-use Rattle.std.proofs.Common.{◌≡◌, ℕ, ◌+◌, ◌-◌, ◌<◌, ◌≤◌, Bool, true, false, cond, not, ◌&&◌, List, [], ◌∷◌, ◌++◌, length, take, drop, max}
+use Rattle.std.proofs.Common.{◌≡◌, ℕ, ◌+◌, ◌-◌, ◌<◌, ◌≤◌, Bool, true, false, cond, not, ◌&&◌, List, [], ◌∷◌, ◌++◌, length, take}
+use Rattle.std.proofs.Common.{drop, max}
 use Rattle.std.proofs.Common.{refl, sym, ◌∙◌, ap, subst, arith, append-nil}
 use Rattle.std.specs.List.{slice_get}
 use Rattle.std.proofs.lemmas.List.{take-take, take-append-le}
@@ -13,7 +14,8 @@ use Rattle.object_stream.specs.Replay.{HasParts, expected_at}
 use Rattle.object_stream.specs.Stream.{end_after, end_at}
 use Rattle.upload_window.specs.Window.{entered}
 use Rattle.plain_disk.specs.declared.event.PlainEvent.{PlainEvent}
-use Rattle.plain_disk.specs.declared.event.PlainEvent.TheVariants.{Write, Zero, Flush, Look, Release, Seal, TakeJob, JobDone, JobFailed, Status}
+use Rattle.plain_disk.specs.declared.event.PlainEvent.TheVariants.{Write, Zero, Flush, Look, Release, Seal, TakeJob, JobDone}
+use Rattle.plain_disk.specs.declared.event.PlainEvent.TheVariants.{JobFailed, Status}
 use Rattle.lsvd_base.specs.Limits.{may_transfer}
 use Rattle.plain_disk.specs.Cache.{after_reads}
 use Rattle.plain_disk.specs.Objects.{has_unsealed, is_busy, end_of_next}
@@ -47,53 +49,54 @@ module _ (volume : Expected) (plain : PlainState) (number : ℕ) (bytes : List �
 
   -- another volume that opens at the same object, and has the same objects and entries up to there, has it
   module _ (now : PlainState) (opens : now.number ≡ plain.number) (ends : now.end ≡ plain.end)
-      (objects : take count now.objects ≡ take count plain.objects) (entries : take size now.entries ≡ take size plain.entries) where
-    same_objects : (n : ℕ) → n ≤ count → take n now.objects ≡ take n plain.objects
-    same_objects n low = sym (take-take n count now.objects low) ∙ ap (take n) objects ∙ take-take n count plain.objects low
+      (objects : take count now.objects ≡ take count plain.objects) (entries : take size now.entries ≡ take size plain.entries)
+    where
+      same_objects : (n : ℕ) → n ≤ count → take n now.objects ≡ take n plain.objects
+      same_objects n low = sym (take-take n count now.objects low) ∙ ap (take n) objects ∙ take-take n count plain.objects low
 
-    same_end : (other : ℕ) → other ≤ number → end_at (stream_in now) other ≡ end_at (stream_in plain) other
-    same_end other low =
-        let few : other - plain.number ≤ count = omega arith in
-        ap (λ n. end_after now.end (take (other - n) now.objects)) opens
-        ∙ ap (λ end. end_after end (take (other - plain.number) now.objects)) ends
-        ∙ ap (end_after plain.end) (same_objects (other - plain.number) few)
+      same_end : (other : ℕ) → other ≤ number → end_at (stream_in now) other ≡ end_at (stream_in plain) other
+      same_end other low =
+          let few : other - plain.number ≤ count = omega arith in
+          ap (λ n. end_after now.end (take (other - n) now.objects)) opens
+          ∙ ap (λ end. end_after end (take (other - plain.number) now.objects)) ends
+          ∙ ap (end_after plain.end) (same_objects (other - plain.number) few)
 
-    same_entries : entries_in_object (stream_in now) number ≡ entries_in_object (stream_in plain) number
-    same_entries =
-        let from = end_at (stream_in plain) (number - 1) in
-        let to = end_at (stream_in plain) number in
-        let low = ends_from plain (number - 1) valid in
-        let grown = ends_grow (stream_in plain) (number - 1) number valid.stream.ends (omega arith) in
-        let sum : from - plain.end + (to - from) ≡ size = omega (arith, low, grown) in
-        let first : take (from - plain.end + (to - from)) now.entries ≡ take (from - plain.end + (to - from)) plain.entries =
-        ap (λ n. take n now.entries) sum ∙ entries ∙ ap (λ n. take n plain.entries) (sym sum) in
-        let first_now = end_at (stream_in now) (number - 1) in
-        ap (λ end. take (end - first_now) (drop (first_now - now.end) now.entries)) (same_end number (omega arith))
-        ∙ ap (λ end. take (to - end) (drop (end - now.end) now.entries)) (same_end (number - 1) (omega arith))
-        ∙ ap (λ end. take (to - from) (drop (from - end) now.entries)) ends
-        ∙ same_part (from - plain.end) (to - from) now.entries plain.entries first
+      same_entries : entries_in_object (stream_in now) number ≡ entries_in_object (stream_in plain) number
+      same_entries =
+          let from = end_at (stream_in plain) (number - 1) in
+          let to = end_at (stream_in plain) number in
+          let low = ends_from plain (number - 1) valid in
+          let grown = ends_grow (stream_in plain) (number - 1) number valid.stream.ends (omega arith) in
+          let sum : from - plain.end + (to - from) ≡ size = omega (arith, low, grown) in
+          let first : take (from - plain.end + (to - from)) now.entries ≡ take (from - plain.end + (to - from)) plain.entries =
+          ap (λ n. take n now.entries) sum ∙ entries ∙ ap (λ n. take n plain.entries) (sym sum) in
+          let first_now = end_at (stream_in now) (number - 1) in
+          ap (λ end. take (end - first_now) (drop (first_now - now.end) now.entries)) (same_end number (omega arith))
+          ∙ ap (λ end. take (to - end) (drop (end - now.end) now.entries)) (same_end (number - 1) (omega arith))
+          ∙ ap (λ end. take (to - from) (drop (from - end) now.entries)) ends
+          ∙ same_part (from - plain.end) (to - from) now.entries plain.entries first
 
-    pub object_kept : IsObjectOf volume now number bytes
-    object_kept =
-        let i = number - (plain.number + 1) in
-        let past = is.past in
-        let inside : i < count = omega arith in
-        record {
-          past = omega (arith, opens, past);
-          header = is.header;
-          object =
-              ap (λ n. slice_get now.objects (number - (n + 1))) opens
-              ∙ sym (get_of_first count i now.objects inside)
-              ∙ ap (λ list. slice_get list i) objects
-              ∙ get_of_first count i plain.objects inside
-              ∙ is.object;
-          rows = is.rows;
-          payload = is.payload;
-          parts =
-              subst (λ end. HasParts (expected_at volume number end) bytes is.header (rows_of.Data is.rows) is.payload)
-              (sym (same_end (number - 1) (omega arith))) is.parts;
-          changes = λ k. is.changes k ∙ ap (λ list. change_at list k) (sym same_entries);
-        }
+      pub object_kept : IsObjectOf volume now number bytes
+      object_kept =
+          let i = number - (plain.number + 1) in
+          let past = is.past in
+          let inside : i < count = omega arith in
+          record {
+            past = omega (arith, opens, past);
+            header = is.header;
+            object =
+                ap (λ n. slice_get now.objects (number - (n + 1))) opens
+                ∙ sym (get_of_first count i now.objects inside)
+                ∙ ap (λ list. slice_get list i) objects
+                ∙ get_of_first count i plain.objects inside
+                ∙ is.object;
+            rows = is.rows;
+            payload = is.payload;
+            parts =
+                subst (λ end. HasParts (expected_at volume number end) bytes is.header (rows_of.Data is.rows) is.payload)
+                (sym (same_end (number - 1) (omega arith))) is.parts;
+            changes = λ k. is.changes k ∙ ap (λ list. change_at list k) (sym same_entries);
+          }
 
 -- ---- events
 
@@ -105,7 +108,8 @@ KeepsObjects old new =
 has_same : (plain : PlainState) → KeepsObjects plain plain
 has_same plain = (refl, refl, ([], sym (append-nil plain.objects)))
 
-either_keeps : (plain : PlainState) (b : Bool) (x y : PlainState) → KeepsObjects plain x → KeepsObjects plain y → KeepsObjects plain (cond b x y)
+either_keeps : (plain : PlainState) (b : Bool) (x y : PlainState) → KeepsObjects plain x → KeepsObjects plain y
+    → KeepsObjects plain (cond b x y)
 either_keeps plain true x y keeps other = keeps
 either_keeps plain false x y other keeps = keeps
 
@@ -147,7 +151,8 @@ events_keep_object volume plain number bytes event valid is =
 -- ---- mounts
 
 -- a volume that keeps its objects up to a number, and the entries in them at least, keeps the objects up to there
-cut_keeps : (volume : Expected) (plain now : PlainState) (last number to : ℕ) (bytes : List ℕ) → IsPlainVolume plain → number ≤ last
+cut_keeps : (volume : Expected) (plain now : PlainState) (last number to : ℕ) (bytes : List ℕ) → IsPlainVolume plain
+    → number ≤ last
     → end_of_object last plain ≤ to → now.number ≡ plain.number → now.end ≡ plain.end
     → now.objects ≡ take (last - plain.number) plain.objects → now.entries ≡ take (to - plain.end) plain.entries
     → IsObjectOf volume plain number bytes → IsObjectOf volume now number bytes

@@ -1,5 +1,6 @@
 -- Whatever a stop leaves of the store has the plain volume's objects up to the one before the first missing number.
-use Rattle.std.proofs.Common.{◌≡◌, ℕ, zero, suc, ◌+◌, ◌-◌, ◌^◌, ◌<◌, ◌==◌, inl, inr, Bool, true, false, cond, ◌&&◌, ◌||◌, Option, Some}
+use Rattle.std.proofs.Common.{◌≡◌, ℕ, zero, suc, ◌+◌, ◌-◌, ◌^◌, ◌<◌, ◌==◌, inl, inr, Bool, true, false, cond, ◌&&◌, ◌||◌, Option}
+use Rattle.std.proofs.Common.{Some}
 use Rattle.std.proofs.Common.{None, is_some, List, [], ◌∷◌, take, drop, get_or, refl, sym, ◌∙◌, ap, subst, arith}
 use Rattle.std.specs.Prelude.{IsTrue}
 use Rattle.std.specs.List.{slice_get, list_any, All}
@@ -61,10 +62,12 @@ none_started_test : (open_here was any started : Bool) → (any ≡ false → st
 none_started_test true was any started rest closed = absurd (cc)
 none_started_test false was any started rest closed = rest closed
 
-none_started : (number : ℕ) (objects : List OpenObject) → list_any (has_number number) objects ≡ false → was_started number objects ≡ false
+none_started : (number : ℕ) (objects : List OpenObject) → list_any (has_number number) objects ≡ false
+    → was_started number objects ≡ false
 none_started number [] closed = refl
 none_started number (object ∷ objects) closed =
-    none_started_test (has_number number object) object.was_started (list_any (has_number number) objects) (was_started number objects)
+    none_started_test (has_number number object) object.was_started (list_any (has_number number) objects)
+    (was_started number objects)
     (none_started number objects) closed
 
 acknowledged_put : (window : WindowState) (number : ℕ) → IsAcknowledged window number → state_of_put window number ≡ Acknowledged
@@ -76,7 +79,8 @@ acknowledged_put window number is =
 -- ---- objects of a store
 
 -- a checkpoint is no data object
-no_data : (volume : Expected) (plain : PlainState) (objects : Objects) (number end : ℕ) (owned : Owners) (bytes : List ℕ) → volume.sectors < 2 ^ 64
+no_data : (volume : Expected) (plain : PlainState) (objects : Objects) (number end : ℕ) (owned : Owners) (bytes : List ℕ)
+    → volume.sectors < 2 ^ 64
     → IsCheckpointOf volume objects number end owned → found objects (name_of volume.uuid number) ≡ Some bytes
     → IsObjectOf volume plain number bytes → ⊥
 no_data volume plain objects number end owned bytes wide is there data_is =
@@ -92,7 +96,8 @@ module _ (objects : Objects) (uuid_at : ℕ → Option (List ℕ)) (volume : Exp
   -- the object at an index is stored
   abbrev IsStoredAt : (number end : ℕ) → List Entry → List StreamObject → ℕ → StreamObject → Type 0
   IsStoredAt number end entries list i object =
-      IsStored objects uuid_at (expected_at volume (number + 1 + i) (end_after end (take i list))) object (entries_at end entries list i object)
+      IsStored objects uuid_at (expected_at volume (number + 1 + i) (end_after end (take i list))) object
+      (entries_at end entries list i object)
 
   stored_past_first : (number end : ℕ) (entries : List Entry) (first object : StreamObject) (i : ℕ) (more : List StreamObject)
       → EndsFollow end (first ∷ more) → IsStoredAt number end entries (first ∷ more) (suc i) object
@@ -115,7 +120,8 @@ module _ (objects : Objects) (uuid_at : ℕ → Option (List ℕ)) (volume : Exp
       (sym (entries_of_first end entries object more)) is)
 
   stored_by_each : (count number end : ℕ) (entries : List Entry) (list : List StreamObject) → EndsFollow end list
-      → ((i : ℕ) (object : StreamObject) → i < count → slice_get list i ≡ Some object → IsStoredAt number end entries list i object)
+      → ((i : ℕ) (object : StreamObject) → i < count → slice_get list i ≡ Some object
+      → IsStoredAt number end entries list i object)
       → AreStored objects uuid_at volume number end entries (take count list)
   stored_by_each zero number end entries list follow each = tt
   stored_by_each (suc count) number end entries [] follow each = tt
@@ -133,7 +139,8 @@ blank_at (suc sectors) (suc k) sector at = blank_at sectors k sector at
 
 -- ---- what is left
 
-module _ (uuid : List ℕ) (epoch : ℕ) (plain : PlainState) (puts : ℕ → Option (PutState × List ℕ)) (objects : Objects) (valid : IsPlainVolume plain)
+module _ (uuid : List ℕ) (epoch : ℕ) (plain : PlainState) (puts : ℕ → Option (PutState × List ℕ)) (objects : Objects)
+    (valid : IsPlainVolume plain)
     (are : ArePuts (expected_of uuid plain.geometry) plain puts) (left : MayBeLeft uuid epoch plain puts objects) where
   abbrev volume : Expected
   volume = expected_of uuid plain.geometry
@@ -201,7 +208,8 @@ module _ (uuid : List ℕ) (epoch : ℕ) (plain : PlainState) (puts : ℕ → Op
   base_is : missing.base ≡ plain.number
   base_is = let is : (missing.base == plain.number) ≡ true = missing.newest.is_checkpoint in grind (arith, nat_tests)
 
-  first_checkpoint : (other : ℕ) → other ≡ plain.number → (end : ℕ) × (owned : Owners) × IsCheckpointOf volume objects other end owned
+  first_checkpoint : (other : ℕ) → other ≡ plain.number → (end : ℕ) × (owned : Owners)
+      × IsCheckpointOf volume objects other end owned
   first_checkpoint other same =
       (plain.end, stream.opening, subst (λ n. IsCheckpointOf volume objects n plain.end stream.opening) (sym same) left.first)
 
@@ -276,8 +284,10 @@ module _ (uuid : List ℕ) (epoch : ℕ) (plain : PlainState) (puts : ℕ → Op
     content =
         let part = entries_at plain.end plain.entries plain.objects i object in
         let data_has : HasContent objects uuid_at Data part (rows_of.Data is_object.rows) is_object.payload =
-        subst (λ list. HasContent objects uuid_at Data list (rows_of.Data is_object.rows) is_object.payload) entries is_object.changes in
-        subst (λ (c : Content). HasContent objects uuid_at c part (rows_of.Data is_object.rows) is_object.payload) (sym is_data) data_has
+        subst (λ list. HasContent objects uuid_at Data list (rows_of.Data is_object.rows) is_object.payload) entries
+        is_object.changes in
+        subst (λ (c : Content). HasContent objects uuid_at c part (rows_of.Data is_object.rows) is_object.payload)
+        (sym is_data) data_has
 
     is_stored : IsStoredAt objects uuid_at volume plain.number plain.end plain.entries plain.objects i object
     is_stored = record {
@@ -287,7 +297,8 @@ module _ (uuid : List ℕ) (epoch : ℕ) (plain : PlainState) (puts : ℕ → Op
       payload = is_object.payload;
       present = there.1;
       parts =
-          subst (λ end. HasParts (expected_at volume n end) there.0 is_object.header (rows_of.Data is_object.rows) is_object.payload)
+          subst (λ end. HasParts (expected_at volume n end) there.0 is_object.header (rows_of.Data is_object.rows)
+          is_object.payload)
           before is_object.parts;
       ends = sym (ap (λ (o : StreamObject). o.end) same);
       content = content;
@@ -307,7 +318,8 @@ module _ (uuid : List ℕ) (epoch : ℕ) (plain : PlainState) (puts : ℕ → Op
 
   value : IsValue objects uuid_at stream.opening (blank plain.geometry.sectors)
   value k sector at =
-      subst (λ owner. StandsForSector objects uuid_at owner k sector) (sym (left.first.none k)) (blank_at plain.geometry.sectors k sector at)
+      subst (λ owner. StandsForSector objects uuid_at owner k sector) (sym (left.first.none k))
+      (blank_at plain.geometry.sectors k sector at)
 
   -- each object past it is the plain volume's too, so it is whole
   past : AreWholePast volume objects number
@@ -327,7 +339,8 @@ module _ (uuid : List ℕ) (epoch : ℕ) (plain : PlainState) (puts : ℕ → Op
     based = left.first;
     value = value;
     last = recovers_sealed plain landed valid;
-    stored = stored_by_each objects uuid_at volume count plain.number plain.end plain.entries plain.objects valid.stream.ends is_stored;
+    stored = stored_by_each objects uuid_at volume count plain.number plain.end plain.entries plain.objects
+        valid.stream.ends is_stored;
     past = past;
   }
 

@@ -23,7 +23,8 @@ get_of_rest (suc n) i zero (x ∷ xs) sum = absurd (omega arith)
 get_of_rest (suc n) i (suc k) (x ∷ xs) sum = get_of_rest n i k xs (omega arith)
 
 -- a part of two lists is the same where their first elements up to its end are
-pub same_part : {X : Type 0} (n m : ℕ) (xs ys : List X) → take (n + m) xs ≡ take (n + m) ys → take m (drop n xs) ≡ take m (drop n ys)
+pub same_part : {X : Type 0} (n m : ℕ) (xs ys : List X) → take (n + m) xs ≡ take (n + m) ys
+    → take m (drop n xs) ≡ take m (drop n ys)
 same_part n m xs ys same = sym (drop-take n m xs) ∙ ap (drop n) same ∙ drop-take n m ys
 
 -- what comes past two parts of a list
@@ -43,7 +44,8 @@ end_up_to end zero (first ∷ more) object at = let same : first ≡ object = cc
 end_up_to end (suc i) (first ∷ more) object at = end_up_to first.end i more object at
 
 -- an object is known by its content and its end
-pub data_object : (object : StreamObject) (end : ℕ) → object.content ≡ Data → end ≡ object.end → object ≡ record { content = Data; end = end }
+pub data_object : (object : StreamObject) (end : ℕ) → object.content ≡ Data → end ≡ object.end
+    → object ≡ record { content = Data; end = end }
 data_object object end is_data ends =
     ap (λ c. let o : StreamObject = record { content = c; end = object.end } in o) is_data
     ∙ ap (λ e. let o : StreamObject = record { content = Data; end = e } in o) (sym ends)
@@ -51,8 +53,11 @@ data_object object end is_data ends =
 -- the first of objects after one more end no earlier than that, nor than the one before it
 pub ends_past : (end : ℕ) (first : StreamObject) (i : ℕ) (more : List StreamObject) → EndsFollow end (first ∷ more)
     → (end ≤ first.end) × (first.end ≤ end_after first.end (take i more))
-ends_past end first i more follow =
-    (goes_on first.content end first.end follow.0, end_no_earlier first.end (take i more) (follow_first first.end i more follow.1))
+ends_past end first i more follow = (
+  goes_on first.content end first.end follow.0,
+  end_no_earlier first.end (take i more)
+      (follow_first first.end i more follow.1),
+)
 
 -- the entries of the object at an index, of those from an end on
 abbrev pub entries_at : (end : ℕ) → List Entry → List StreamObject → (i : ℕ) → StreamObject → List Entry

@@ -49,6 +49,7 @@ MountsKeepObject =
 -- whatever a stop leaves of the store has the objects of the plain volume up to the one before the first missing number
 abbrev pub LeftHasObjects : Type 0
 LeftHasObjects =
-    (uuid : List ℕ) (epoch : ℕ) (plain : PlainState) (puts : ℕ → Option (PutState × List ℕ)) (objects : Objects) → IsPlainVolume plain
+    (uuid : List ℕ) (epoch : ℕ) (plain : PlainState) (puts : ℕ → Option (PutState × List ℕ)) (objects : Objects)
+    → IsPlainVolume plain
     → ArePuts (expected_of uuid plain.geometry) plain puts → MayBeLeft uuid epoch plain puts objects
     → HasObjects uuid plain (recovered_number (landed_in objects uuid) plain) objects × MayLand plain (landed_in objects uuid)

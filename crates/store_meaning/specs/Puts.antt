@@ -29,15 +29,16 @@ entries_in_object stream number =
     let from : ℕ = end_at stream (number - 1) in
     take (end_at stream number - from) (drop (from - stream.end) stream.entries)
 
--- Bytes are those of a plain volume's data object of a number: of the grammar, going on where the object before it ends, and they do to
--- each sector what the object's entries do.
+-- Bytes are those of a plain volume's data object of a number: of the grammar, going on where the object before it ends, and they
+-- do to each sector what the object's entries do.
 pub record IsObjectOf (volume : Expected) (plain : PlainState) (number : ℕ) (bytes : List ℕ) : Type 0 where
   pub past : plain.number < number
   pub header : Header
   pub object : slice_get plain.objects (number - (plain.number + 1)) ≡ Some (record { content = Data; end = header.end_seq })
   pub rows : Vec DataRow
   pub payload : List ℕ
-  pub parts : HasParts (expected_at volume number (end_at (stream_in plain) (number - 1))) bytes header (rows_of.Data rows) payload
+  pub parts : HasParts (expected_at volume number (end_at (stream_in plain) (number - 1))) bytes header
+      (rows_of.Data rows) payload
   pub changes : (k : ℕ) → change_in rows.items payload k ≡ change_at (entries_in_object (stream_in plain) number) k
 
 -- ---- the puts
@@ -45,7 +46,8 @@ pub record IsObjectOf (volume : Expected) (plain : PlainState) (number : ℕ) (b
 -- how far the put of an object has come
 abbrev pub state_of_put : WindowState → ℕ → PutState
 state_of_put window number =
-    if was_started number window.objects then Begun else (if list_any (has_number number) window.objects then NotBegun else Acknowledged)
+    if was_started number window.objects then Begun else (if list_any (has_number number) window.objects then NotBegun else
+    Acknowledged)
 
 -- the object's bytes are known once its put was begun
 abbrev pub AreBytesOfPut : PutState → Expected → PlainState → (number : ℕ) → (bytes : List ℕ) → Type 0
@@ -62,10 +64,11 @@ pub record ArePuts (volume : Expected) (plain : PlainState) (puts : ℕ → Opti
 
 -- ---- a stop
 
--- What a stop may leave of the store of a plain volume, which opens blank at its newest checkpoint: its super object and its epochs,
--- of which this is the newest, that checkpoint, and of each later object what its put allows. Each volume opens at object 1, and none
--- of its objects has a lower number.
-pub record MayBeLeft (uuid : List ℕ) (epoch : ℕ) (plain : PlainState) (puts : ℕ → Option (PutState × List ℕ)) (objects : Objects) : Type 0 where
+-- What a stop may leave of the store of a plain volume, which opens blank at its newest checkpoint: its super object and its
+-- epochs, of which this is the newest, that checkpoint, and of each later object what its put allows. Each volume opens at object
+-- 1, and none of its objects has a lower number.
+pub record MayBeLeft (uuid : List ℕ) (epoch : ℕ) (plain : PlainState) (puts : ℕ → Option (PutState × List ℕ))
+    (objects : Objects) : Type 0 where
   pub described : HasVolume uuid plain.geometry epoch objects
   pub opened : plain.checkpoint ≡ plain.number
   pub opened_first : plain.number ≡ 1

@@ -31,7 +31,8 @@ magic_again epoch = ap (take 8) (splits epoch)
 uuid_again : (epoch : Epoch) → length epoch.uuid ≡ 16 → bytes_at 8 16 (epoch_bytes epoch) ≡ epoch.uuid
 uuid_again epoch uuid = ap (bytes_at 8 16) (splits epoch) ∙ take_at epoch.uuid (to_be_bytes w64 epoch.number) 16 uuid
 
-number_again : (epoch : Epoch) → length epoch.uuid ≡ 16 → epoch.number < 2 ^ 64 → number_at w64 24 (epoch_bytes epoch) ≡ epoch.number
+number_again : (epoch : Epoch) → length epoch.uuid ≡ 16 → epoch.number < 2 ^ 64
+    → number_at w64 24 (epoch_bytes epoch) ≡ epoch.number
 unfolding epoch_bytes
 number_again epoch uuid fits =
     number_behind w64 24 0 (codes "LSVDEPO1" ++ epoch.uuid) (to_be_bytes w64 epoch.number)
@@ -62,7 +63,8 @@ epoch_if_reads bytes uuid number fits number_fits has =
     }
 
 -- an epoch has its fields
-pub fields_of_epoch : (bytes uuid : List ℕ) (number : ℕ) (epoch : Epoch) → IsEpoch bytes uuid number epoch → HasEpochFields bytes uuid number
+pub fields_of_epoch : (bytes uuid : List ℕ) (number : ℕ) (epoch : Epoch) → IsEpoch bytes uuid number epoch
+    → HasEpochFields bytes uuid number
 fields_of_epoch bytes uuid number epoch is = record {
   size = ap length is.spelled ∙ length-epoch_bytes epoch is.uuid_width;
   magic = ap (take 8) is.spelled ∙ magic_again epoch;

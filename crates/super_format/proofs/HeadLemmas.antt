@@ -1,5 +1,6 @@
 -- The bytes of a super object, and what is read in them.
-use Rattle.std.proofs.Common.{◌≡◌, ℕ, ◌+◌, ◌*◌, ◌^◌, ◌<◌, ◌≤◌, Bool, true, ◌&&◌, nat_lt, nat_le, IsTrue, List, ◌++◌, length, take, drop, codes, refl, sym, ◌∙◌, ap, append_assoc, subst, arith}
+use Rattle.std.proofs.Common.{◌≡◌, ℕ, ◌+◌, ◌*◌, ◌^◌, ◌<◌, ◌≤◌, Bool, true, ◌&&◌, nat_lt, nat_le, IsTrue, List, ◌++◌, length, take}
+use Rattle.std.proofs.Common.{drop, codes, refl, sym, ◌∙◌, ap, append_assoc, subst, arith}
 use Rattle.std.proofs.lemmas.Bool.Decides.{nat_tests}
 use Rattle.std.proofs.lemmas.List.{length-append, length-drop, take_at, drop_at, drop-drop, take_all, take-append-drop}
 use Rattle.std.proofs.lemmas.Nat.{from_be_bytes-to_be_bytes_4, from_be_bytes-to_be_bytes_8}
@@ -39,7 +40,8 @@ pub limits_in : (bytes : List ℕ) (count : ℕ) → is_within_limits (geometry_
     → count ≡ number_at w32 44 bytes → nat_lt count 16 ≡ keeps_limits (super_in bytes)
 limits_in bytes count within is_count =
     let size = length-chain_in (number_at w32 44 bytes) (drop 48 bytes) ∙ sym is_count in
-    let P : Bool → Type 0 = λ b. nat_lt count 16 ≡ (b && nat_le (length (chain_in (number_at w32 44 bytes) (drop 48 bytes))) 15) in
+    let P : Bool → Type 0 = λ b. nat_lt count 16
+    ≡ (b && nat_le (length (chain_in (number_at w32 44 bytes) (drop 48 bytes))) 15) in
     subst P (sym within) (at_most count ∙ ap (λ n. nat_le n 15) (sym size))
   where
     at_most : (n : ℕ) → nat_lt n 16 ≡ nat_le n 15
@@ -115,11 +117,13 @@ number_32_again at volume uuid =
     ap (number_at w32 (28 + at)) (super_splits volume)
     ∙ number_behind w32 28 at (front_of volume) (numbers_of volume ++ chain_bytes volume.chain) (length-front_of volume uuid)
 
-sectors_again : (volume : Super) → length volume.uuid ≡ 16 → HasSizes volume → number_at w64 28 (super_bytes volume) ≡ volume.sectors
+sectors_again : (volume : Super) → length volume.uuid ≡ 16 → HasSizes volume
+    → number_at w64 28 (super_bytes volume) ≡ volume.sectors
 unfolding numbers_of
 sectors_again volume uuid sizes = number_again 0 volume uuid ∙ from_be_bytes-to_be_bytes_8 volume.sectors sizes.sectors
 
-max_write_again : (volume : Super) → length volume.uuid ≡ 16 → HasSizes volume → number_at w32 36 (super_bytes volume) ≡ volume.max_write
+max_write_again : (volume : Super) → length volume.uuid ≡ 16 → HasSizes volume
+    → number_at w32 36 (super_bytes volume) ≡ volume.max_write
 unfolding numbers_of
 max_write_again volume uuid sizes = number_32_again 8 volume uuid ∙ from_be_bytes-to_be_bytes_4 volume.max_write sizes.max_write
 
@@ -172,14 +176,16 @@ head_of_bytes : (bytes : List ℕ) → 48 ≤ length bytes → IsBytes bytes →
     → take 48 bytes ≡ head_bytes (super_in bytes)
 unfolding head_bytes
 head_of_bytes bytes room fits magic version =
-    let to_version = front_more 8 4 bytes _ _ magic (part_of w32 width_32 8 bytes (omega (arith, room)) fits ∙ ap (to_be_bytes w32) version) in
+    let to_version = front_more 8 4 bytes _ _ magic (part_of w32 width_32 8 bytes (omega (arith, room)) fits
+    ∙ ap (to_be_bytes w32) version) in
     let to_uuid = front_more 12 16 bytes _ _ to_version refl in
     let to_sectors = front_more 28 8 bytes _ _ to_uuid (part_of w64 width_64 28 bytes (omega (arith, room)) fits) in
     let to_max_write = front_more 36 4 bytes _ _ to_sectors (part_of w32 width_32 36 bytes (omega (arith, room)) fits) in
     let to_batch = front_more 40 4 bytes _ _ to_max_write (part_of w32 width_32 40 bytes (omega (arith, room)) fits) in
     let count = number_at w32 44 bytes in
     front_more 44 4 bytes _ _ to_batch
-    (part_of w32 width_32 44 bytes (omega (arith, room)) fits ∙ ap (to_be_bytes w32) (sym (length-chain_in count (drop 48 bytes))))
+    (part_of w32 width_32 44 bytes (omega (arith, room)) fits
+    ∙ ap (to_be_bytes w32) (sym (length-chain_in count (drop 48 bytes))))
 
 pub bytes_again : (bytes : List ℕ) → length bytes ≡ 48 + 24 * number_at w32 44 bytes → IsBytes bytes
     → take 8 bytes ≡ codes "LSVDSUP1" → number_at w32 8 bytes ≡ 1 → bytes ≡ super_bytes (super_in bytes)
@@ -190,10 +196,12 @@ bytes_again bytes size fits magic version =
     sym (take-append-drop 48 bytes)
     ∙ ap (λ xs. xs ++ rest) (head_of_bytes bytes (omega (arith, size)) fits magic version)
     ∙ ap (λ xs. head_bytes (super_in bytes) ++ xs)
-    (sym (take_all (24 * count) rest (omega (arith, whole))) ∙ sym (chain_of_bytes count rest (omega (arith, whole)) (bytes_of_rest 48 bytes fits)))
+    (sym (take_all (24 * count) rest (omega (arith, whole)))
+    ∙ sym (chain_of_bytes count rest (omega (arith, whole)) (bytes_of_rest 48 bytes fits)))
 
 pub widths_again : (bytes : List ℕ) → length bytes ≡ 48 + 24 * number_at w32 44 bytes → IsBytes bytes → HasWidths (super_in bytes)
 widths_again bytes size fits = record {
   uuid = length_of_part 12 16 bytes (omega (arith, size));
-  chain = widths_of_chain_in (number_at w32 44 bytes) (drop 48 bytes) (omega (arith, length-drop 48 bytes, size)) (bytes_of_rest 48 bytes fits);
+  chain = widths_of_chain_in (number_at w32 44 bytes) (drop 48 bytes) (omega (arith, length-drop 48 bytes, size))
+      (bytes_of_rest 48 bytes fits);
 }

@@ -36,4 +36,5 @@ epochs_have_one_spelling bytes others uuid another m n a b is_a is_b = (
 pub no_epoch_begins_another : NoEpochBeginsAnother
 no_epoch_begins_another bytes more uuid another m n a b is_a is_b =
     no_more bytes more
-    (ap length is_b.spelled ∙ length-epoch_bytes b is_b.uuid_width ∙ sym (length-epoch_bytes a is_a.uuid_width) ∙ sym (ap length is_a.spelled))
+    (ap length is_b.spelled ∙ length-epoch_bytes b is_b.uuid_width ∙ sym (length-epoch_bytes a is_a.uuid_width)
+    ∙ sym (ap length is_a.spelled))

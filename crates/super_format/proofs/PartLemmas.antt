@@ -1,7 +1,9 @@
 -- Numbers and bytes at places of a list, and what writes one after the other leave.
-use Rattle.std.proofs.Common.{◌≡◌, ℕ, ◌+◌, ◌-◌, ◌^◌, ◌<◌, ◌≤◌, List, [], ◌∷◌, ◌++◌, length, take, drop, refl, sym, ◌∙◌, ap, append_assoc, inl, inr, arith}
+use Rattle.std.proofs.Common.{◌≡◌, ℕ, ◌+◌, ◌-◌, ◌^◌, ◌<◌, ◌≤◌, List, [], ◌∷◌, ◌++◌, length, take, drop, refl, sym, ◌∙◌, ap}
+use Rattle.std.proofs.Common.{append_assoc, inl, inr, arith}
 use Rattle.std.proofs.lemmas.Bool.{cases_lt}
-use Rattle.std.proofs.lemmas.List.{length-append, length-take, length-take-le, length-drop, take_at, drop_at, drop_all, drop-drop, append-nil, get_or-take, get_or-drop, get_or_past}
+use Rattle.std.proofs.lemmas.List.{length-append, length-take, length-take-le, length-drop, take_at, drop_at, drop_all, drop-drop}
+use Rattle.std.proofs.lemmas.List.{append-nil, get_or-take, get_or-drop, get_or_past}
 use Rattle.std.proofs.Math.Seq.{take-add}
 use borrow.Rule.Slice.PartMut.{put_mid}
 use Rattle.std.specs.Int.{Width, w64, byte_len, to_be_bytes}
@@ -14,7 +16,8 @@ bytes_of_part : (at count : ℕ) (bytes : List ℕ) → IsBytes bytes → IsByte
 bytes_of_part at count bytes fits i =
     elim (cases_lt i count) [
       | inl inside ↦ rw (get_or-take count (drop at bytes) i 0 inside, get_or-drop at bytes i 0) (fits (at + i))
-      | inr past ↦ rw (get_or_past (bytes_at at count bytes) i 0 (omega (arith, length-take count (drop at bytes), past))) (omega arith)
+      | inr past ↦ rw (get_or_past (bytes_at at count bytes) i 0 (omega (arith, length-take count (drop at bytes), past)))
+          (omega arith)
     ]
 
 pub bytes_of_rest : (at : ℕ) (bytes : List ℕ) → IsBytes bytes → IsBytes (drop at bytes)
@@ -27,7 +30,8 @@ length_of_part at count bytes room = length-take-le count (drop at bytes) (omega
 pub part_of : (w : Width) → IsNumberWidth w → (at : ℕ) (bytes : List ℕ) → at + byte_len w ≤ length bytes → IsBytes bytes
     → bytes_at at (byte_len w) bytes ≡ to_be_bytes w (number_at w at bytes)
 part_of w wide at bytes room fits =
-    sym (wide.bytes_again (bytes_at at (byte_len w) bytes) (length_of_part at (byte_len w) bytes room) (bytes_of_part at (byte_len w) bytes fits))
+    sym (wide.bytes_again (bytes_at at (byte_len w) bytes) (length_of_part at (byte_len w) bytes room)
+    (bytes_of_part at (byte_len w) bytes fits))
 
 -- a number that was read has its width
 pub number_64_fits : (at : ℕ) (bytes : List ℕ) → IsBytes bytes → number_at w64 at bytes < 2 ^ 64
@@ -61,7 +65,13 @@ pub written_after : (at m n : ℕ) (a b old mid new : List ℕ) → length a ≡
     → new ≡ take at old ++ (a ++ b) ++ drop (at + (m + n)) old
 written_after at m n a b old mid new a_size b_size room is_mid is_new =
     let front = take at old ++ a in
-    let size : length front ≡ at + m = omega (arith, length-append (take at old) a, length-take-le at old (omega (arith, room)), a_size) in
+    let size : length front ≡ at + m = omega (
+      arith,
+      length-append (take at old) a,
+      length-take-le at old
+          (omega (arith, room)),
+      a_size,
+    ) in
     let end : at + m + n ≡ at + (m + n) = omega arith in
     let before : take (at + m) mid ≡ front = ap (take (at + m)) is_mid ∙ take_at front (drop (at + m) old) (at + m) size in
     let behind : drop (at + m + n) mid ≡ drop (at + (m + n)) old =
@@ -80,7 +90,8 @@ pub written_front : (at count : ℕ) (front value old new : List ℕ) → take a
     → take (at + count) new ≡ front ++ value
 written_front at count front value old new is_front front_size value_size is_new =
     let size : length (take at old ++ value) ≡ at + count =
-    length-append (take at old) value ∙ ap (λ n. n + length value) (ap length is_front ∙ front_size) ∙ ap (λ n. at + n) value_size in
+    length-append (take at old) value ∙ ap (λ n. n + length value) (ap length is_front ∙ front_size)
+    ∙ ap (λ n. at + n) value_size in
     ap (take (at + count)) is_new
     ∙ take_at (take at old ++ value) (drop (at + count) old) (at + count) size
     ∙ ap (λ xs. xs ++ value) is_front

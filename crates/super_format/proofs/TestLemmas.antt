@@ -1,5 +1,6 @@
 -- The tests of a super object, one by one and together.
-use Rattle.std.proofs.Common.{◌≡◌, ℕ, zero, suc, ◌+◌, ◌-◌, ◌*◌, ◌^◌, ◌<◌, true, false, IsTrue, Option, Some, None, List, length, take, drop, refl, sym, ◌∙◌, ap, subst, inl, inr, arith}
+use Rattle.std.proofs.Common.{◌≡◌, ℕ, zero, suc, ◌+◌, ◌-◌, ◌*◌, ◌^◌, ◌<◌, true, false, IsTrue, Option, Some, None, List, length}
+use Rattle.std.proofs.Common.{take, drop, refl, sym, ◌∙◌, ap, subst, inl, inr, arith}
 use Rattle.std.proofs.lemmas.Bool.{cases_lt, false≢true}
 use Rattle.std.proofs.lemmas.List.{take_rest}
 use Rattle.std.specs.Option.{IfSome, IfNone, is_some}
@@ -15,15 +16,18 @@ use Rattle.super_format.specs.declared.reason.Reason.TheVariants as reasons
 use Rattle.super_format.specs.Ancestors.{chain_in}
 use Rattle.super_format.specs.Super.{super_in, geometry_with, keeps_limits, HasNoVolumeTwice, IsSuper}
 use Rattle.super_format.specs.Tests.{code_of, PassesSuperTest, PassesTestsBefore, IsRefusedAs}
-use Rattle.super_format.proofs.HeadLemmas.{super_of, few_ancestors, sizes_fit, length-super_bytes, magic_again, version_again, uuid_again, count_again, super_again, bytes_again, widths_again}
+use Rattle.super_format.proofs.HeadLemmas.{super_of, few_ancestors, sizes_fit, length-super_bytes, magic_again, version_again}
+use Rattle.super_format.proofs.HeadLemmas.{uuid_again, count_again, super_again, bytes_again, widths_again}
 
 -- ---- a super object passes each test
 
 -- it is what is read in its bytes
 pub super_in-IsSuper : (bytes uuid : List ℕ) (volume : Super) → IsSuper bytes uuid volume → super_in bytes ≡ volume
-super_in-IsSuper bytes uuid volume is = ap super_in is.spelled ∙ super_again volume is.widths (sizes_fit volume is.may_stand.limits)
+super_in-IsSuper bytes uuid volume is = ap super_in is.spelled
+    ∙ super_again volume is.widths (sizes_fit volume is.may_stand.limits)
 
-pub super_passes : (bytes uuid : List ℕ) (volume : Super) → IsSuper bytes uuid volume → (reason : Reason) → PassesSuperTest bytes uuid reason
+pub super_passes : (bytes uuid : List ℕ) (volume : Super) → IsSuper bytes uuid volume → (reason : Reason)
+    → PassesSuperTest bytes uuid reason
 super_passes bytes uuid volume is reasons.Length =
     let counted = ap (number_at w32 44) is.spelled ∙ count_again volume is.widths.uuid (sizes_fit volume is.may_stand.limits) in
     ap length is.spelled ∙ length-super_bytes volume is.widths ∙ ap (λ n. 48 + 24 * n) (sym counted)
@@ -94,7 +98,8 @@ pub none_before : (bytes uuid : List ℕ) → PassesTestsBefore bytes uuid reaso
 none_before bytes uuid other below = absurd (omega (arith, code_is_positive other, below))
 
 -- a test that is passed is one of those before the next
-pub one_more_before : (bytes uuid : List ℕ) (this next : Reason) → code_of next ≡ code_of this + 1 → PassesTestsBefore bytes uuid this
+pub one_more_before : (bytes uuid : List ℕ) (this next : Reason) → code_of next ≡ code_of this + 1
+    → PassesTestsBefore bytes uuid this
     → PassesSuperTest bytes uuid this → PassesTestsBefore bytes uuid next
 one_more_before bytes uuid this next is earlier passes other below =
     elim (cases_lt (code_of other) (code_of this)) [
@@ -117,15 +122,19 @@ before_uuid bytes uuid has_length magic version =
     one_more_before bytes uuid reasons.Version reasons.Uuid refl (before_version bytes uuid has_length magic) version
 
 pub before_limits : (bytes uuid : List ℕ) → PassesSuperTest bytes uuid reasons.Length → PassesSuperTest bytes uuid reasons.Magic
-    → PassesSuperTest bytes uuid reasons.Version → PassesSuperTest bytes uuid reasons.Uuid → PassesTestsBefore bytes uuid reasons.Limits
+    → PassesSuperTest bytes uuid reasons.Version → PassesSuperTest bytes uuid reasons.Uuid
+    → PassesTestsBefore bytes uuid reasons.Limits
 before_limits bytes uuid has_length magic version own =
     one_more_before bytes uuid reasons.Uuid reasons.Limits refl (before_uuid bytes uuid has_length magic version) own
 
-pub before_ancestors : (bytes uuid : List ℕ) → PassesSuperTest bytes uuid reasons.Length → PassesSuperTest bytes uuid reasons.Magic
-    → PassesSuperTest bytes uuid reasons.Version → PassesSuperTest bytes uuid reasons.Uuid → PassesSuperTest bytes uuid reasons.Limits
+pub before_ancestors : (bytes uuid : List ℕ) → PassesSuperTest bytes uuid reasons.Length
+    → PassesSuperTest bytes uuid reasons.Magic
+    → PassesSuperTest bytes uuid reasons.Version → PassesSuperTest bytes uuid reasons.Uuid
+    → PassesSuperTest bytes uuid reasons.Limits
     → PassesTestsBefore bytes uuid reasons.Ancestors
 before_ancestors bytes uuid has_length magic version own limits =
-    one_more_before bytes uuid reasons.Limits reasons.Ancestors refl (before_limits bytes uuid has_length magic version own) limits
+    one_more_before bytes uuid reasons.Limits reasons.Ancestors refl (before_limits bytes uuid has_length magic version own)
+    limits
 
 -- ---- the ancestors that were read
 
@@ -141,7 +150,8 @@ pub record HasRead (bytes uuid : List ℕ) (count : ℕ) (chain : List Ancestor)
   pub chain_is_in : chain ≡ chain_in count (take (length bytes - 48) (drop 48 bytes))
 
 -- two of them are one volume
-pub refused_as_no_chain : (bytes uuid : List ℕ) (count : ℕ) (chain : List Ancestor) → HasRead bytes uuid count chain → (IsChain chain → ⊥)
+pub refused_as_no_chain : (bytes uuid : List ℕ) (count : ℕ) (chain : List Ancestor) → HasRead bytes uuid count chain
+    → (IsChain chain → ⊥)
     → IsRefusedAs bytes uuid reasons.Ancestors
 refused_as_no_chain bytes uuid count chain has none =
     let is = chain_is bytes count chain has.count_is has.chain_is_in in
@@ -151,7 +161,8 @@ refused_as_no_chain bytes uuid count chain has none =
     })))
 
 -- one of them is the volume itself
-pub refused_as_own : (bytes uuid : List ℕ) (count : ℕ) (chain : List Ancestor) (result : Option ℕ) → HasRead bytes uuid count chain
+pub refused_as_own : (bytes uuid : List ℕ) (count : ℕ) (chain : List Ancestor) (result : Option ℕ)
+    → HasRead bytes uuid count chain
     → IfSome result (IsLevelOf chain uuid) → is_some result ≡ true → IsRefusedAs bytes uuid reasons.Ancestors
 refused_as_own bytes uuid count chain (Some level) has found is_level =
     let is = chain_is bytes count chain has.count_is has.chain_is_in in
@@ -161,11 +172,13 @@ refused_as_own bytes uuid count chain (Some level) has found is_level =
 refused_as_own bytes uuid count chain None has found is_level = absurd (false≢true is_level)
 
 -- else the bytes are the super object
-pub super_is_read : (bytes uuid : List ℕ) (count : ℕ) (chain : List Ancestor) (result : Option ℕ) (sizes : Geometry) → IsBytes bytes
+pub super_is_read : (bytes uuid : List ℕ) (count : ℕ) (chain : List Ancestor) (result : Option ℕ) (sizes : Geometry)
+    → IsBytes bytes
     → HasRead bytes uuid count chain → IsChain chain → IfNone result (IsNoAncestor chain uuid) → is_some result ≡ false
     → sizes ≡ geometry_with (super_in bytes) (2 ^ 31)
     → IsSuper bytes uuid (super_of uuid sizes.sectors sizes.max_write sizes.batch chain)
-super_is_read bytes uuid count chain (Some level) sizes fits has is_chain none no_level is_sizes = absurd (false≢true (sym no_level))
+super_is_read bytes uuid count chain (Some level) sizes fits has is_chain none no_level is_sizes =
+    absurd (false≢true (sym no_level))
 super_is_read bytes uuid count chain None sizes fits has is_chain none no_level is_sizes =
     let is = chain_is bytes count chain has.count_is has.chain_is_in in
     let own = has.passes reasons.Uuid (omega arith) in
@@ -177,4 +190,5 @@ super_is_read bytes uuid count chain None sizes fits has is_chain none no_level 
     subst (IsSuper bytes uuid) (sym
     (ap (λ x. super_of uuid x.sectors x.max_write x.batch chain) is_sizes
     ∙ ap (λ x. super_of uuid (super_in bytes).sectors (super_in bytes).max_write (super_in bytes).batch x) is
-    ∙ ap (λ x. super_of x (super_in bytes).sectors (super_in bytes).max_write (super_in bytes).batch (super_in bytes).chain) (sym own))) read
+    ∙ ap (λ x. super_of x (super_in bytes).sectors (super_in bytes).max_write (super_in bytes).batch (super_in bytes).chain)
+    (sym own))) read

@@ -1,5 +1,6 @@
 ghost use Rattle.std.specs.Prelude.{◌≡◌, ◌+◌, ◌*◌, ◌≤◌, ◌++◌, All, IfOk, length, take, drop};
-ghost use Rattle.super_format.specs.Ancestors.{ancestor_bytes, chain_bytes, HasAncestorWidths, ancestor_in, chain_in};
+ghost use Rattle.super_format.specs.Ancestors.{ancestor_bytes, chain_bytes, HasAncestorWidths, ancestor_in};
+ghost use Rattle.super_format.specs.Ancestors.{chain_in};
 
 use clone_chain::Ancestor;
 use lsvd_bytes::{read_16_bytes, read_u64, write_16_bytes, write_u64};

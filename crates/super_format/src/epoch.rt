@@ -55,8 +55,8 @@ impl Epoch {
         write_u64(bytes, Self::NUMBER_AT, self.number);
     }
 
-    /// Reads all bytes of an object as the epoch of the volume with this uuid that has this number. The error comes exactly
-    /// where they are none.
+    /// Reads all bytes of an object as the epoch of the volume with this uuid that has this number. The error
+    /// comes exactly where they are none.
     pub fn read(bytes: &[u8], uuid: Uuid, number: u64) -> Result<Epoch, BadEpoch>
         ensures ok { IfOk result (IsEpoch bytes.now uuid number) }
         ensures none { OnErr result ((epoch : Epoch) → IsEpoch bytes.now uuid number epoch → ⊥) }

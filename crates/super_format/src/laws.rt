@@ -1,4 +1,5 @@
-ghost use Rattle.super_format.specs.Laws.{SupersHaveOneSpelling, NoSuperBeginsAnother, EpochsHaveOneSpelling, NoEpochBeginsAnother};
+ghost use Rattle.super_format.specs.Laws.{SupersHaveOneSpelling, NoSuperBeginsAnother, EpochsHaveOneSpelling};
+ghost use Rattle.super_format.specs.Laws.{NoEpochBeginsAnother};
 
 /// A law: what a super object or an epoch says has one spelling, and a spelling says one thing.
 pub fn a_value_has_one_spelling()

@@ -1,9 +1,10 @@
-//! The super object of a virtual disk, which says what its volume is, and the epochs of the volume, in the disk's store.
+//! The super object of a virtual disk, which says what its volume is, and the epochs of the volume, in the
+//! disk's store.
 //!
-//! Its contract: equal to the grammar, both ways. A super object or an epoch is read exactly where the bytes are one of the
-//! expected volume, a super object is else refused for the first test that it fails, and what is written is one.
-//! It stands on `clone_chain` for ancestors, on `lsvd_base` for limits and the bytes of objects, on `lsvd_bytes` for numbers,
-//! and on the kit's `uuid` and `thiserror`.
+//! Its contract: equal to the grammar, both ways. A super object or an epoch is read exactly where the bytes
+//! are one of the expected volume, a super object is else refused for the first test that it fails, and what
+//! is written is one. It stands on `clone_chain` for ancestors, on `lsvd_base` for limits and the bytes of
+//! objects, on `lsvd_bytes` for numbers, and on the kit's `uuid` and `thiserror`.
 #![tactic(auto)]
 
 mod ancestors;

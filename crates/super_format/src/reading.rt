@@ -1,4 +1,5 @@
-ghost use Rattle.std.specs.Prelude.{◌≡◌, ◌+◌, ◌*◌, ◌^◌, ◌≤◌, ◌↔◌, IsTrue, OnOk, IfOk, IfErr, length, take, drop, codes};
+ghost use Rattle.std.specs.Prelude.{◌≡◌, ◌+◌, ◌*◌, ◌^◌, ◌≤◌, ◌↔◌, IsTrue, OnOk, IfOk, IfErr, length, take};
+ghost use Rattle.std.specs.Prelude.{drop, codes};
 ghost use Rattle.std.specs.Int.{w32};
 ghost use Rattle.lsvd_bytes.specs.Places.{bytes_at, number_at};
 ghost use Rattle.super_format.specs.declared.reading.ReadError.TheVariants.{BadSuper, OutOfMemory};
@@ -47,8 +48,8 @@ impl From<AllocError> for ReadError {
 }
 
 impl Super {
-    /// Reads all bytes of an object as the super object of the volume with this uuid. The error is that memory ran out, or it
-    /// comes exactly where they are none, and names the first test that they fail.
+    /// Reads all bytes of an object as the super object of the volume with this uuid. The error is that
+    /// memory ran out, or it comes exactly where they are none, and names the first test that they fail.
     pub fn read(alloc: Global, bytes: &[u8], uuid: Uuid) -> Result<Super, ReadError>
         ensures ok { IfOk result (IsSuper bytes.now uuid) }
         ensures refused { IfErr result (IsReasonOf bytes.now uuid) }

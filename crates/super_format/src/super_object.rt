@@ -33,7 +33,8 @@ impl Super {
         }
     }
 
-    /// Whether it may be written: its sizes keep their limits, and none of its ancestors is the volume itself.
+    /// Whether it may be written: its sizes keep their limits, and none of its ancestors is the volume
+    /// itself.
     pub fn may_stand(&self) -> bool
         ensures { IsTrue result ↔ MayStand self.now }
     {

@@ -11,8 +11,8 @@ use lsvd_bytes::{write_16_bytes, write_u32, write_u64};
 use std::alloc::{AllocError, Global};
 
 impl Super {
-    /// The bytes of the super object that says this, which may stand in one (a condition, that `may_stand` tests). The one
-    /// error is that memory ran out.
+    /// The bytes of the super object that says this, which may stand in one (a condition, that `may_stand`
+    /// tests). The one error is that memory ran out.
     pub fn write(&self, alloc: Global) -> Result<ObjectBytes, AllocError>
         requires { MayStand self.now }
         ensures { IfOk result (λ object. IsSuper object self.now.uuid self.now) }

@@ -1,5 +1,6 @@
 -- The lowest ready object, by the lowest open number.
-use Rattle.std.proofs.Common.{ℕ, ◌≤◌, ◌≡◌, Bool, true, false, cond, not, ◌&&◌, ◌||◌, nat_lt, nat_le, Option, option_map, Some, None, List, [], ◌∷◌, get_or, slice_get, refl, subst, ◌∙◌, ap, arith, sym, inl, inr}
+use Rattle.std.proofs.Common.{ℕ, ◌≤◌, ◌≡◌, Bool, true, false, cond, not, ◌&&◌, ◌||◌, nat_lt, nat_le, Option, option_map, Some}
+use Rattle.std.proofs.Common.{None, List, [], ◌∷◌, get_or, slice_get, refl, subst, ◌∙◌, ap, arith, sym, inl, inr}
 use Rattle.std.specs.List.{list_any, find, position}
 use Rattle.std.proofs.lemmas.Bool.Decides.{nat_tests, leb_tells}
 use Rattle.upload_window.specs.declared.object.OpenObject.{OpenObject}

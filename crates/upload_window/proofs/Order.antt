@@ -1,16 +1,19 @@
 -- Objects in ascending order, and the frontier below them.
-use Rattle.std.proofs.Common.{ℕ, zero, suc, ◌-◌, ◌<◌, ◌≤◌, ◌≡◌, Bool, true, false, ◌||◌, cond, nat_eq, Some, List, [], ◌∷◌, ◌++◌, slice_get, refl, sym, subst, arith}
+use Rattle.std.proofs.Common.{ℕ, zero, suc, ◌-◌, ◌<◌, ◌≤◌, ◌≡◌, Bool, true, false, ◌||◌, cond, nat_eq, Some, List, [], ◌∷◌, ◌++◌}
+use Rattle.std.proofs.Common.{slice_get, refl, sym, subst, arith}
 use Rattle.std.specs.List.{list_any}
 use Rattle.std.proofs.lemmas.Bool.Decides.{nat_tests}
 use Rattle.upload_window.specs.declared.object.OpenObject.{OpenObject}
-use Rattle.upload_window.specs.Window.{WindowState, Ascends, has_number, IsAcknowledgedTo, IsFrontier, below_lowest, below_open, HasFrontierBelowOpen, with_started, without}
+use Rattle.upload_window.specs.Window.{WindowState, Ascends, has_number, IsAcknowledgedTo, IsFrontier, below_lowest, below_open}
+use Rattle.upload_window.specs.Window.{HasFrontierBelowOpen, with_started, without}
 
 pub at_most : (low : ℕ) (objects : List OpenObject) (last : ℕ) → Ascends low objects last → low ≤ last
 at_most low [] last order = order
 at_most low (object ∷ objects) last order =
     let rest = at_most object.number objects last order.1 in omega (arith, order.0, rest)
 
-pub from_lower : (lower low : ℕ) (objects : List OpenObject) (last : ℕ) → lower ≤ low → Ascends low objects last → Ascends lower objects last
+pub from_lower : (lower low : ℕ) (objects : List OpenObject) (last : ℕ) → lower ≤ low → Ascends low objects last
+    → Ascends lower objects last
 from_lower lower low [] last is order = omega arith
 from_lower lower low (object ∷ objects) last is order = (omega (arith, order.0), order.1)
 
@@ -18,7 +21,9 @@ pub order_with : (low number : ℕ) (started : Bool) (objects : List OpenObject)
     → Ascends low (with_started number started objects) last
 order_with low number started [] last order = order
 order_with low number started (object ∷ objects) last order =
-    elim (has_number number object) as (λ b. Ascends low (cond b (record object { is_started = started; was_started = object.was_started || started } ∷ objects) (object ∷ with_started number started objects)) last) [
+    elim (has_number number object) as (λ b.
+    Ascends low (cond b (record object { is_started = started; was_started = object.was_started || started } ∷ objects)
+    (object ∷ with_started number started objects)) last) [
       | true ↦ (order.0, order.1)
       | false ↦ (order.0, order_with object.number number started objects last order.1)
     ]
@@ -32,10 +37,12 @@ order_without low number (object ∷ objects) last order =
       | false ↦ (order.0, order_without object.number number objects last order.1)
     ]
 
-pub order_entered : (low : ℕ) (objects : List OpenObject) (last : ℕ) (object : OpenObject) → last < object.number → Ascends low objects last
+pub order_entered : (low : ℕ) (objects : List OpenObject) (last : ℕ) (object : OpenObject) → last < object.number
+    → Ascends low objects last
     → Ascends low (objects ++ object ∷ []) object.number
 order_entered low [] last object above order = (omega arith, omega arith)
-order_entered low (first ∷ objects) last object above order = (order.0, order_entered first.number objects last object above order.1)
+order_entered low (first ∷ objects) last object above order =
+    (order.0, order_entered first.number objects last object above order.1)
 
 -- no number up to `low` is open
 pub none_open : (low : ℕ) (objects : List OpenObject) (last number : ℕ) → Ascends low objects last → number ≤ low
@@ -69,7 +76,8 @@ is_frontier (object ∷ objects) last order =
         not_open = none_open (object.number - 1) (object ∷ objects) last number (omega arith, order.1) below;
       };
       greatest = λ to all.
-          let open_there : object.number ≤ to → ⊥ = λ reached. (let h = (all object.number some reached).not_open in let h2 = its_open object objects in cc) in
+          let open_there : object.number ≤ to → ⊥ = λ reached. (let h = (all object.number some reached).not_open in let h2 =
+          its_open object objects in cc) in
           omega (arith, open_there);
     }
 
@@ -83,9 +91,11 @@ one_frontier window order frontier =
       λ same. subst (IsFrontier window) (sym same) is,
     )
 
-pub frontier_at : (objects : List OpenObject) (last : ℕ) (first : OpenObject) → Ascends 0 objects last → slice_get objects 0 ≡ Some first
+pub frontier_at : (objects : List OpenObject) (last : ℕ) (first : OpenObject) → Ascends 0 objects last
+    → slice_get objects 0 ≡ Some first
     → IsFrontier (record { last = last; objects = objects }) (first.number - 1)
 frontier_at [] last first order is = cc
 frontier_at (object ∷ objects) last first order is =
     let e : object ≡ first = cc in
-    subst (λ (o : OpenObject). IsFrontier (record { last = last; objects = object ∷ objects }) (o.number - 1)) e (is_frontier (object ∷ objects) last order)
+    subst (λ (o : OpenObject). IsFrontier (record { last = last; objects = object ∷ objects }) (o.number - 1)) e
+    (is_frontier (object ∷ objects) last order)

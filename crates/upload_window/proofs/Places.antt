@@ -1,5 +1,6 @@
 -- What a search for the object of a number tells of the objects with it changed, or without it.
-use Rattle.std.proofs.Common.{ℕ, zero, suc, ◌<◌, ◌≤◌, ◌≡◌, Bool, true, false, ◌||◌, Some, None, List, [], ◌∷◌, length, get_or, set, refl, ap, arith}
+use Rattle.std.proofs.Common.{ℕ, zero, suc, ◌<◌, ◌≤◌, ◌≡◌, Bool, true, false, ◌||◌, Some, None, List, [], ◌∷◌, length, get_or}
+use Rattle.std.proofs.Common.{set, refl, ap, arith}
 use Rattle.std.specs.List.{remove, find, position, position_or_len}
 use Rattle.std.proofs.lemmas.Bool.Decides.{nat_tests}
 use Rattle.std.proofs.lemmas.List.Sums.{fails_before_first}
@@ -21,7 +22,8 @@ module _ {X : Type 0} where
   pub record Nowhere (test : X → Bool) (xs : List X) (d : X) : Type 0 where
     pub none : (k : ℕ) → k < length xs → test (get_or xs k d) ≡ false
 
-  pub first_after : (test : X → Bool) (x : X) (xs : List X) (i : ℕ) (d : X) → IsFirst test (x ∷ xs) (suc i) d → IsFirst test xs i d
+  pub first_after : (test : X → Bool) (x : X) (xs : List X) (i : ℕ) (d : X) → IsFirst test (x ∷ xs) (suc i) d
+      → IsFirst test xs i d
   first_after test x xs i d at = record {
     inside = (let h = at.inside in omega arith);
     passes = at.passes;
@@ -52,8 +54,13 @@ module _ {X : Type 0} where
       let not_here = absent.none 0 (omega arith) in rw not_here (found_none test xs d (nowhere_after test x xs d absent))
 
 -- the objects with the one at its place changed
-pub set_at : (number : ℕ) (started : Bool) (objects : List OpenObject) (i : ℕ) (d : OpenObject) → IsFirst (has_number number) objects i d
-    → set objects i (record (get_or objects i d) { is_started = started; was_started = (get_or objects i d).was_started || started })
+pub set_at : (number : ℕ) (started : Bool) (objects : List OpenObject) (i : ℕ) (d : OpenObject)
+    → IsFirst (has_number number) objects i d
+    → set objects i (record (get_or objects i d) {
+      is_started = started;
+      was_started = (get_or objects i d).was_started
+          || started;
+    })
     ≡ with_started number started objects
 set_at number started [] i d at = let h = at.inside in absurd (omega arith)
 set_at number started (x ∷ xs) zero d at = let here = at.passes in rw here refl

@@ -1,11 +1,13 @@
 -- A window in order, of whose objects each that is started was started, stays so.
-use Rattle.std.proofs.Common.{ℕ, ◌<◌, ◌≡◌, Bool, true, false, ◌||◌, cond, IsTrue, List, [], ◌∷◌, ◌++◌, length, sym, ◌∙◌, ap, subst, arith}
+use Rattle.std.proofs.Common.{ℕ, ◌<◌, ◌≡◌, Bool, true, false, ◌||◌, cond, IsTrue, List, [], ◌∷◌, ◌++◌, length, sym, ◌∙◌, ap}
+use Rattle.std.proofs.Common.{subst, arith}
 use Rattle.std.specs.List.{All, refill}
 use Rattle.std.proofs.Math.Bool.{or-true}
 use Rattle.std.proofs.lemmas.Grind.{common_steps}
 use Rattle.std.proofs.lemmas.List.Elements.{All-nil, All-cons, All-head, All-tail, All-append}
 use Rattle.upload_window.specs.declared.object.OpenObject.{OpenObject}
-use Rattle.upload_window.specs.Window.{IsWindow, has_number, is_started, was_started, StartedNumbersWereStarted, with_started, without}
+use Rattle.upload_window.specs.Window.{IsWindow, has_number, is_started, was_started, StartedNumbersWereStarted, with_started}
+use Rattle.upload_window.specs.Window.{without}
 use Rattle.upload_window.proofs.Order.{order_with, order_without, order_entered}
 
 abbrev Keeps : OpenObject → Type 0
@@ -18,9 +20,11 @@ keeps_with number started (object ∷ objects) all =
     let changed : OpenObject = record object { is_started = started; was_started = object.was_started || started } in
     let here : Keeps changed = λ is. ap (λ b. object.was_started || b) is ∙ or-true object.was_started in
     let rest = All-tail Keeps object objects all in
-    elim (has_number number object) as (λ b. All Keeps (cond b (changed ∷ objects) (object ∷ with_started number started objects))) [
+    elim (has_number number object) as (λ b.
+    All Keeps (cond b (changed ∷ objects) (object ∷ with_started number started objects))) [
       | true ↦ All-cons Keeps changed objects here rest
-      | false ↦ All-cons Keeps object (with_started number started objects) (All-head Keeps object objects all) (keeps_with number started objects rest)
+      | false ↦ All-cons Keeps object (with_started number started objects) (All-head Keeps object objects all)
+          (keeps_with number started objects rest)
     ]
 
 keeps_without : (number : ℕ) (objects : List OpenObject) → All Keeps objects → All Keeps (without number objects)
@@ -29,7 +33,8 @@ keeps_without number (object ∷ objects) all =
     let rest = All-tail Keeps object objects all in
     elim (has_number number object) as (λ b. All Keeps (cond b objects (object ∷ without number objects))) [
       | true ↦ rest
-      | false ↦ All-cons Keeps object (without number objects) (All-head Keeps object objects all) (keeps_without number objects rest)
+      | false ↦ All-cons Keeps object (without number objects) (All-head Keeps object objects all)
+          (keeps_without number objects rest)
     ]
 
 pub window_without : (number : ℕ) (objects : List OpenObject) (last : ℕ) → IsWindow (record { last = last; objects = objects })
@@ -39,7 +44,8 @@ window_without number objects last is = record {
   starts = keeps_without number objects is.starts;
 }
 
-pub window_entered : (objects : List OpenObject) (last : ℕ) (object : OpenObject) → last < object.number → object.is_started ≡ false
+pub window_entered : (objects : List OpenObject) (last : ℕ) (object : OpenObject) → last < object.number
+    → object.is_started ≡ false
     → IsWindow (record { last = last; objects = objects })
     → IsWindow (record { last = object.number; objects = objects ++ object ∷ [] })
 window_entered objects last object above fresh is = record {

@@ -1,5 +1,6 @@
 -- Contract: the objects on their way to the store, the frontier below them, and which of them is ready.
-use Rattle.std.specs.Prelude.{ℕ, ◌-◌, ◌<◌, ◌≤◌, ◌≡◌, ◌↔◌, Bool, false, IsTrue, not, ◌&&◌, ◌||◌, nat_eq, nat_lt, if◌then◌else◌, Option, option_map, List, [], ◌∷◌, ◌++◌, find}
+use Rattle.std.specs.Prelude.{ℕ, ◌-◌, ◌<◌, ◌≤◌, ◌≡◌, ◌↔◌, Bool, false, IsTrue, not, ◌&&◌, ◌||◌, nat_eq, nat_lt, if◌then◌else◌}
+use Rattle.std.specs.Prelude.{Option, option_map, List, [], ◌∷◌, ◌++◌, find}
 use Rattle.std.specs.List.{All, list_any}
 use Rattle.upload_window.specs.declared.object.OpenObject.{OpenObject}
 

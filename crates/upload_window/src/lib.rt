@@ -1,8 +1,8 @@
 //! The upload window: which objects of a log-structured disk are on their way to the store.
 //!
-//! Its contract: each object is put at its turn, a checkpoint not before all lower numbers are acknowledged, and the
-//! frontier is the greatest number up to which all are.
-//! It stands on the kit's `arrayvec` and `thiserror`, and takes no memory.
+//! Its contract: each object is put at its turn, a checkpoint not before all lower numbers are acknowledged,
+//! and the frontier is the greatest number up to which all are. It stands on the kit's `arrayvec` and
+//! `thiserror`, and takes no memory.
 #![tactic(auto)]
 
 mod laws;

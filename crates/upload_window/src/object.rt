@@ -1,5 +1,6 @@
 ghost use Rattle.std.specs.Prelude.{◌≡◌, position};
-ghost use Rattle.upload_window.specs.Window.{has_number, is_started_with, is_started, was_started_with, was_started, with_started};
+ghost use Rattle.upload_window.specs.Window.{has_number, is_started_with, is_started, was_started_with};
+ghost use Rattle.upload_window.specs.Window.{was_started, with_started};
 ghost use Rattle.upload_window.specs.Ready.{may_start, number_may_start};
 
 /// An object that is not acknowledged.

@@ -1,5 +1,8 @@
-ghost use Rattle.std.specs.Prelude.{◌≡◌, ◌+◌, ◌-◌, ◌^◌, ◌<◌, ◌≤◌, ◌↔◌, [], length, true, false, IsTrue, IsErr, IfSome, IfNone, OnOk, OnErr};
-ghost use Rattle.upload_window.specs.Window.{IsInOrder, KeepsStarts, IsFrontier, below_open, lowest_ready, is_ready_number, is_started, was_started, entered, marked, acknowledged};
+ghost use Rattle.std.specs.Prelude.{◌≡◌, ◌+◌, ◌-◌, ◌^◌, ◌<◌, ◌≤◌, ◌↔◌, [], length, true, false, IsTrue};
+ghost use Rattle.std.specs.Prelude.{IsErr, IfSome, IfNone, OnOk, OnErr};
+ghost use Rattle.upload_window.specs.Window.{IsInOrder, KeepsStarts, IsFrontier, below_open, lowest_ready};
+ghost use Rattle.upload_window.specs.Window.{is_ready_number, is_started, was_started, entered, marked};
+ghost use Rattle.upload_window.specs.Window.{acknowledged};
 
 use crate::object::{
     OpenObject, is_started, number_may_start, place_of, place_of_ready, set_started, was_started,
@@ -15,9 +18,10 @@ pub struct Busy;
 
 /// The objects on their way to the store.
 ///
-/// Objects are numbered in the order in which they are sealed. One that was entered is ready, started (its put is under
-/// way) or acknowledged; one whose put failed is ready again, and known to have been started. Contracts see the last
-/// number that was entered and the open objects, those that are not acknowledged, in ascending order.
+/// Objects are numbered in the order in which they are sealed. One that was entered is ready, started (its
+/// put is under way) or acknowledged; one whose put failed is ready again, and known to have been started.
+/// Contracts see the last number that was entered and the open objects, those that are not acknowledged, in
+/// ascending order.
 #[derive(Drop)]
 pub struct Window {
     last: u64,
@@ -45,8 +49,8 @@ impl Window {
         }
     }
 
-    /// Enters an object, which is ready unless it is a checkpoint that waits. Its number is the one after the last, and
-    /// below 2^64 - 1 (conditions). `Busy` comes where 16 objects are open; then nothing changes.
+    /// Enters an object, which is ready unless it is a checkpoint that waits. Its number is the one after the
+    /// last, and below 2^64 - 1 (conditions). `Busy` comes where 16 objects are open; then nothing changes.
     pub fn enter(&mut self, number: u64, is_checkpoint: bool) -> Result<(), Busy>
         requires next { number ≡ self.old.last + 1 }
         requires limit { number < 2 ^ 64 - 1 }
@@ -67,8 +71,8 @@ impl Window {
         Ok(())
     }
 
-    /// Starts the lowest ready object, that of `next`, and answers its number. None is where no object is ready; then
-    /// nothing changes.
+    /// Starts the lowest ready object, that of `next`, and answers its number. None is where no object is
+    /// ready; then nothing changes.
     pub fn take(&mut self) -> Option<u64>
         ensures lowest { result ≡ lowest_ready self.old.objects }
         ensures started { IfSome result (λ number. self.new ≡ marked number true self.old) }
@@ -79,8 +83,8 @@ impl Window {
         Some(number)
     }
 
-    /// The put of this number is done: it is acknowledged. False is for a number that is not started; then nothing
-    /// changes.
+    /// The put of this number is done: it is acknowledged. False is for a number that is not started; then
+    /// nothing changes.
     pub fn ack(&mut self, number: u64) -> bool
         ensures started { result ≡ is_started number self.old.objects }
         ensures acknowledged { IsTrue result → self.new ≡ acknowledged number self.old }
@@ -95,8 +99,8 @@ impl Window {
         true
     }
 
-    /// The put of this number failed: it is ready again, and `was_started` still answers true. False is for a number
-    /// that is not started; then nothing changes.
+    /// The put of this number failed: it is ready again, and `was_started` still answers true. False is for a
+    /// number that is not started; then nothing changes.
     pub fn fail(&mut self, number: u64) -> bool
         ensures started { result ≡ is_started number self.old.objects }
         ensures ready { IsTrue result → self.new ≡ marked number false self.old }
@@ -109,8 +113,8 @@ impl Window {
         true
     }
 
-    /// Whether this number is open and ready: its put is not under way and, if it is a checkpoint, no lower number is
-    /// open.
+    /// Whether this number is open and ready: its put is not under way and, if it is a checkpoint, no lower
+    /// number is open.
     pub fn ready(&self, number: u64) -> bool
         ensures { result ≡ is_ready_number number self.now.objects }
     {

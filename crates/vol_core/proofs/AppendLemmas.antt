@@ -1,5 +1,6 @@
 -- An append to the log does what an entry of the plain volume does at its log, where the device has some fuse.
-use Rattle.std.proofs.Common.{◌≡◌, ℕ, ◌+◌, ◌*◌, ◌≤◌, ◌==◌, Bool, true, false, cond, List, [], ◌∷◌, ◌++◌, length, refl, sym, ◌∙◌, ap, subst, arith}
+use Rattle.std.proofs.Common.{◌≡◌, ℕ, ◌+◌, ◌*◌, ◌≤◌, ◌==◌, Bool, true, false, cond, List, [], ◌∷◌, ◌++◌, length, refl, sym, ◌∙◌}
+use Rattle.std.proofs.Common.{ap, subst, arith}
 use Rattle.std.specs.Prelude.{Option, Some, None, Result, Ok, Err, nat_le}
 use Rattle.std.proofs.Math.Path.{subst₂}
 use Rattle.std.proofs.lemmas.Bool.{le-leb, lt-leb}
@@ -26,7 +27,8 @@ use Rattle.log_meaning.proofs.PlainCommits.{IsCacheOf}
 use Rattle.log_meaning.proofs.FuseLemmas.{entry_has_fuse}
 use Rattle.vol_core.specs.Calls.{Appends}
 use Rattle.vol_core.proofs.LoggedLemmas.{with_place, ReachesEnd, logged_alike, logged_appended}
-use Rattle.vol_core.proofs.PlainEntering.{EntersPlain, ComesToCache, has_no_room, write_failed, entry_taken, full_cache, entered_cache}
+use Rattle.vol_core.proofs.PlainEntering.{EntersPlain, ComesToCache, has_no_room, write_failed, entry_taken, full_cache}
+use Rattle.vol_core.proofs.PlainEntering.{entered_cache}
 
 -- ---- what an append answers and leaves
 
@@ -71,7 +73,8 @@ most_of_append sectors = together (write_cost 512) (write_cost (512 * sectors))
 pub record HasFuseForAppend (entry : Entry) (result : Result ℕ AppendError) (old new : LogState) (log : PlainLog) : Type 0 where
   pub fuse : Fuse
   pub lets : PassesBy result fuse log entry
-  pub told : HasRoom (most_of_append (record_sectors entry)).changes (most_of_append (record_sectors entry)).bytes old.commits.disk.budget
+  pub told : HasRoom (most_of_append (record_sectors entry)).changes (most_of_append (record_sectors entry)).bytes
+      old.commits.disk.budget
       → (fuse ≡ fuse_in old.commits.disk.budget) × (fuse_in new.commits.disk.budget ≡ fuse_after fuse (calls_by result log entry))
 
 fewer : (has_none : Bool) (sectors : ℕ)
@@ -80,7 +83,8 @@ fewer : (has_none : Bool) (sectors : ℕ)
 fewer true sectors = (omega arith, omega arith)
 fewer false sectors = (omega arith, omega arith)
 
-pub room_for_fewer : (changes bytes more_changes more_bytes : ℕ) (budget : Option Budget) → changes ≤ more_changes → bytes ≤ more_bytes
+pub room_for_fewer : (changes bytes more_changes more_bytes : ℕ) (budget : Option Budget) → changes ≤ more_changes
+    → bytes ≤ more_bytes
     → HasRoom more_changes more_bytes budget
     → HasRoom changes bytes budget
 room_for_fewer changes bytes more_changes more_bytes None fewer less room = room
@@ -95,9 +99,12 @@ room_for_append room sectors budget most =
     room_for_fewer (append_cost room sectors).changes (append_cost room sectors).bytes (most_of_append sectors).changes
     (most_of_append sectors).bytes budget less.0 less.1 most
 
-told_of : (old new : LogState) (log : PlainLog) (entry : Entry) (are_made : Bool) → (some : HasFuseForEntry old new log entry are_made)
-    → HasRoom (most_of_append (record_sectors entry)).changes (most_of_append (record_sectors entry)).bytes old.commits.disk.budget
-    → (some.fuse ≡ fuse_in old.commits.disk.budget) × (fuse_in new.commits.disk.budget ≡ fuse_after some.fuse (length (writes_of log entry)))
+told_of : (old new : LogState) (log : PlainLog) (entry : Entry) (are_made : Bool)
+    → (some : HasFuseForEntry old new log entry are_made)
+    → HasRoom (most_of_append (record_sectors entry)).changes (most_of_append (record_sectors entry)).bytes
+    old.commits.disk.budget
+    → (some.fuse ≡ fuse_in old.commits.disk.budget)
+    × (fuse_in new.commits.disk.budget ≡ fuse_after some.fuse (length (writes_of log entry)))
 told_of old new log entry are_made some most =
     let own = some.told (room_for_append old.room (record_sectors entry) old.commits.disk.budget most) in
     (own.0, own.1 ∙ ap (fuse_after some.fuse) (sym some.count))
@@ -114,7 +121,11 @@ append_has_fuse entry (Ok at) old new log is appends =
     record { fuse = some.fuse; lets = some.lets; told = told_of old new log entry true some }
 append_has_fuse entry (Err (errors.NoRoom needed left)) old new log is appends =
     let same = ap (λ (l : LogState). fuse_in l.commits.disk.budget) appends.err.untouched in
-    record { fuse = fuse_in old.commits.disk.budget; lets = tt; told = λ room. (refl, same ∙ none_spent (fuse_in old.commits.disk.budget)) }
+    record {
+      fuse = fuse_in old.commits.disk.budget;
+      lets = tt;
+      told = λ room. (refl, same ∙ none_spent (fuse_in old.commits.disk.budget));
+    }
 append_has_fuse entry (Err errors.DeviceFault) old new log is appends =
     let some = entry_has_fuse old new log entry (next_seq old) false is appends.err.calls in
     record { fuse = some.fuse; lets = some.lets; told = told_of old new log entry false some }
@@ -124,14 +135,19 @@ append_has_fuse entry (Err errors.DeviceFault) old new log is appends =
 pub append_shows : (entry : Entry) (result : Result ℕ AppendError) (old new : LogState) (log : PlainLog) → ShowsLog old log
     → Appends entry result old new
     → ShowsLog new (log_by result log entry)
-append_shows entry (Ok at) old new log is appends = (appended_shows_record old new log entry at is appends.ok appends.keeps.commits).0
-append_shows entry (Err (errors.NoRoom needed left)) old new log is appends = subst (λ l. ShowsLog l log) (sym appends.err.untouched) is
-append_shows entry (Err errors.DeviceFault) old new log is appends = same_shows_same old new log is appends.err.same appends.keeps.commits
+append_shows entry (Ok at) old new log is appends =
+    (appended_shows_record old new log entry at is appends.ok appends.keeps.commits).0
+append_shows entry (Err (errors.NoRoom needed left)) old new log is appends =
+    subst (λ l. ShowsLog l log) (sym appends.err.untouched) is
+append_shows entry (Err errors.DeviceFault) old new log is appends =
+    same_shows_same old new log is appends.err.same appends.keeps.commits
 
-pub append_logged : (entry : Entry) (result : Result ℕ AppendError) (data_at : ℕ → ℕ) (old new : LogState) (plain : PlainState) (log : PlainLog)
+pub append_logged : (entry : Entry) (result : Result ℕ AppendError) (data_at : ℕ → ℕ) (old new : LogState) (plain : PlainState)
+    (log : PlainLog)
     → ShowsLog old log → frontier_end plain ≤ history_length plain → next_seq old ≡ history_length plain → ReachesEnd old plain
     → HasLoggedEntries data_at old plain → Appends entry result old new
-    → HasLoggedEntries (places_by result data_at (history_length plain)) new (record plain { entries = entries_by result plain.entries entry })
+    → HasLoggedEntries (places_by result data_at (history_length plain)) new
+    (record plain { entries = entries_by result plain.entries entry })
 append_logged entry (Ok at) data_at old new plain log is ends counted reaches logged appends =
     logged_appended data_at old new plain entry at log is ends counted reaches appends.ok logged
 append_logged entry (Err (errors.NoRoom needed left)) data_at old new plain log is ends counted reaches logged appends =
@@ -142,33 +158,39 @@ append_logged entry (Err errors.DeviceFault) data_at old new plain log is ends c
 
 -- ---- what the plain volume does
 
-has_room_in : (old : LogState) (log : PlainLog) (entry : Entry) → ShowsLog old log → need old.room (record_sectors entry) ≤ free old.room
+has_room_in : (old : LogState) (log : PlainLog) (entry : Entry) → ShowsLog old log
+    → need old.room (record_sectors entry) ≤ free old.room
     → nat_le (need (room_in log) (record_sectors entry)) (free (room_in log)) ≡ true
 has_room_in old log entry is enough =
-    ap (λ r. nat_le (need r (record_sectors entry)) (free r)) is.room ∙ le-leb (need old.room (record_sectors entry)) (free old.room) enough
+    ap (λ r. nat_le (need r (record_sectors entry)) (free r)) is.room
+    ∙ le-leb (need old.room (record_sectors entry)) (free old.room) enough
 
 lacks_room_in : (old new : LogState) (log : PlainLog) (entry : Entry) (needed left : ℕ) → ShowsLog old log
     → HasNoRoomFor entry needed left old new
     → nat_le (need (room_in log) (record_sectors entry)) (free (room_in log)) ≡ false
 lacks_room_in old new log entry needed left is few =
     let less = few.too_few in
-    let needs : needed ≡ need (room_in log) (record_sectors entry) = few.needed_is ∙ ap (λ r. need r (record_sectors entry)) (sym is.room) in
+    let needs : needed ≡ need (room_in log) (record_sectors entry) = few.needed_is
+    ∙ ap (λ r. need r (record_sectors entry)) (sym is.room) in
     let has : left ≡ free (room_in log) = few.left_is ∙ ap free (sym is.room) in
     lt-leb (need (room_in log) (record_sectors entry)) (free (room_in log)) (omega (arith, less, needs, has))
 
 -- an entry that comes to a cache which has this log and these calls
-pub append_does : (state : PlainState) (entry : Entry) (ready : PlainCache) (result : Result ℕ AppendError) (old new : LogState) (log : PlainLog)
+pub append_does : (state : PlainState) (entry : Entry) (ready : PlainCache) (result : Result ℕ AppendError) (old new : LogState)
+    (log : PlainLog)
     (left : Fuse)
     → ComesToCache state entry ready true → IsCacheOf log left ready → ShowsLog old log → Appends entry result old new
     → PassesBy result left log entry
-    → EntersPlain state entry (reply_to_append result (history_length state)) (log_by result log entry) (fuse_after left (calls_by result log entry))
+    → EntersPlain state entry (reply_to_append result (history_length state)) (log_by result log entry)
+    (fuse_after left (calls_by result log entry))
     (entries_by result state.entries entry)
 append_does state entry ready (Ok at) old new log left comes is shows appends passed =
     let has = ap (λ l. nat_le (need (room_in l) (record_sectors entry)) (free (room_in l))) is.same_log
     ∙ has_room_in old log entry shows appends.ok.had_room in
     let passes = ap (λ f. passes f (length (writes_of ready.log entry))) is.same_left
     ∙ ap (λ l. passes left (length (writes_of l entry))) is.same_log ∙ passed in
-    subst₂ (λ l f. EntersPlain state entry (Entered (history_length state + 1)) (with_record l entry) (fuse_after f (length (writes_of l entry)))
+    subst₂ (λ l f. EntersPlain state entry (Entered (history_length state + 1)) (with_record l entry)
+    (fuse_after f (length (writes_of l entry)))
     (state.entries ++ entry ∷ []))
     is.same_log is.same_left (entry_taken state entry ready comes has passes)
 append_does state entry ready (Err errors.DeviceFault) old new log left comes is shows appends stopped =
@@ -185,7 +207,8 @@ append_does state entry ready (Err (errors.NoRoom needed left_over)) old new log
     let has : left_over ≡ free (room_in log) = few.left_is ∙ ap free (sym shows.room) in
     let none = lacks_room_in old new log entry needed left_over shows few in
     let lacks = ap (λ l. nat_le (need (room_in l) sectors) (free (room_in l))) is.same_log ∙ none in
-    let told : NoRoom (need (room_in log) sectors) (free (room_in log)) ≡ NoRoom needed left_over = λ i. NoRoom (sym needs i) (sym has i) in
+    let told : NoRoom (need (room_in log) sectors) (free (room_in log)) ≡ NoRoom needed left_over =
+    λ i. NoRoom (sym needs i) (sym has i) in
     subst (λ r. EntersPlain state entry r log (fuse_after left 0) state.entries) told
     (subst₂ (λ l f. EntersPlain state entry (NoRoom (need (room_in l) sectors) (free (room_in l))) l f state.entries)
     is.same_log (is.same_left ∙ none_spent left) (has_no_room state entry ready comes lacks))

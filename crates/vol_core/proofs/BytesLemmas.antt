@@ -1,5 +1,6 @@
 -- An object that is on its way to the store keeps its bytes in each step.
-use Rattle.std.proofs.Common.{◌≡◌, ℕ, zero, suc, ◌+◌, ◌-◌, ◌≤◌, ◌||◌, Bool, true, false, Option, Some, None, List, [], ◌∷◌, ◌++◌, drop, refl, sym, ◌∙◌, ap, subst, arith}
+use Rattle.std.proofs.Common.{◌≡◌, ℕ, zero, suc, ◌+◌, ◌-◌, ◌≤◌, ◌||◌, Bool, true, false, Option, Some, None, List, [], ◌∷◌, ◌++◌}
+use Rattle.std.proofs.Common.{drop, refl, sym, ◌∙◌, ap, subst, arith}
 use Rattle.std.specs.List.{list_any}
 use Rattle.std.proofs.lemmas.Bool.Decides.{nat_tests}
 use Rattle.lsvd_base.specs.declared.entry.Entry.{Entry}
@@ -24,28 +25,33 @@ use Rattle.vol_core.proofs.StepLemmas.{with_objects}
 use Rattle.vol_core.proofs.EnterSteps.{with_both}
 
 -- the step is that of the volume as it is seen before
-pub bytes_seen : (new : VolumeState) (inside seen : SteppedVolume) → inside ≡ seen → KeepsBytes inside.volume new → KeepsBytes seen.volume new
+pub bytes_seen : (new : VolumeState) (inside seen : SteppedVolume) → inside ≡ seen → KeepsBytes inside.volume new
+    → KeepsBytes seen.volume new
 bytes_seen new inside seen same keeps = subst (λ (s : SteppedVolume). KeepsBytes s.volume new) same keeps
 
 -- ---- the bytes at an index
 
 -- one more object comes last
-bytes_of_more : (index : ℕ) (sealed more : List SealedState) (bytes : List ℕ) → HasBytesAt index sealed bytes → HasBytesAt index (sealed ++ more) bytes
+bytes_of_more : (index : ℕ) (sealed more : List SealedState) (bytes : List ℕ) → HasBytesAt index sealed bytes
+    → HasBytesAt index (sealed ++ more) bytes
 bytes_of_more index [] more bytes has = absurd has
 bytes_of_more zero (first ∷ sealed) more bytes has = has
 bytes_of_more (suc index) (first ∷ sealed) more bytes has = bytes_of_more index sealed more bytes has
 
 -- one object changes, but for its bytes
 bytes_of_changed : (index at : ℕ) (change : SealedState → SealedState) (sealed : List SealedState) (bytes : List ℕ)
-    → ((object : SealedState) → (change object).bytes ≡ object.bytes) → HasBytesAt index sealed bytes → HasBytesAt index (with_at at change sealed) bytes
+    → ((object : SealedState) → (change object).bytes ≡ object.bytes) → HasBytesAt index sealed bytes
+    → HasBytesAt index (with_at at change sealed) bytes
 bytes_of_changed index at change [] bytes same has = absurd has
 bytes_of_changed zero zero change (first ∷ sealed) bytes same has = has ∙ sym (same first)
 bytes_of_changed zero (suc at) change (first ∷ sealed) bytes same has = has
 bytes_of_changed (suc index) zero change (first ∷ sealed) bytes same has = has
-bytes_of_changed (suc index) (suc at) change (first ∷ sealed) bytes same has = bytes_of_changed index at change sealed bytes same has
+bytes_of_changed (suc index) (suc at) change (first ∷ sealed) bytes same has =
+    bytes_of_changed index at change sealed bytes same has
 
 -- the first objects go
-bytes_of_rest : (count index at : ℕ) (sealed : List SealedState) (bytes : List ℕ) → at ≡ count + index → HasBytesAt at sealed bytes
+bytes_of_rest : (count index at : ℕ) (sealed : List SealedState) (bytes : List ℕ) → at ≡ count + index
+    → HasBytesAt at sealed bytes
     → HasBytesAt index (drop count sealed) bytes
 bytes_of_rest zero index at sealed bytes is has =
     let same : at ≡ index = omega (arith, is) in
@@ -60,8 +66,10 @@ bytes_of_rest (suc count) index (suc at) (first ∷ sealed) bytes is has =
 
 -- an open object has the number from which they count, or a later one
 module _ (wanted : ℕ) where
-  past_test : (test : Bool) (number : ℕ) (object : OpenObject) (objects : List OpenObject) → has_number wanted object ≡ test → object.number ≡ number
-      → (list_any (has_number wanted) objects ≡ true → number + 1 ≤ wanted) → (test || list_any (has_number wanted) objects) ≡ true → number ≤ wanted
+  past_test : (test : Bool) (number : ℕ) (object : OpenObject) (objects : List OpenObject) → has_number wanted object ≡ test
+      → object.number ≡ number
+      → (list_any (has_number wanted) objects ≡ true → number + 1 ≤ wanted) → (test || list_any (has_number wanted) objects)
+      ≡ true → number ≤ wanted
   past_test true number object objects test is later open_ =
       let named : object.number ≡ wanted = grind (arith, nat_tests) in
       omega (arith, named, is)
@@ -69,9 +77,12 @@ module _ (wanted : ℕ) where
       let past = later open_ in
       omega (arith, past)
 
-  past_first : (number : ℕ) (receipt : Option ReceiptState) (has_spare : Bool) (objects : List OpenObject) (more : List SealedState)
-      → ((list : List OpenObject) → AreOpen (number + 1) more list → list_any (has_number wanted) list ≡ true → number + 1 ≤ wanted)
-      → IsOpenFirst number receipt has_spare objects (AreOpen (number + 1) more) → list_any (has_number wanted) objects ≡ true → number ≤ wanted
+  past_first : (number : ℕ) (receipt : Option ReceiptState) (has_spare : Bool) (objects : List OpenObject)
+      (more : List SealedState)
+      → ((list : List OpenObject) → AreOpen (number + 1) more list → list_any (has_number wanted) list ≡ true
+      → number + 1 ≤ wanted)
+      → IsOpenFirst number receipt has_spare objects (AreOpen (number + 1) more) → list_any (has_number wanted) objects ≡ true
+      → number ≤ wanted
   past_first number (Some receipt) has_spare objects more later are open_ =
       let past = later objects are open_ in
       omega (arith, past)
@@ -104,7 +115,8 @@ module _ (old : VolumeState) (objects : ObjLogState) where
 
   unchanged_bytes : objects ≡ old.objects → KeepsBytes old now
   unchanged_bytes same =
-      same_bytes old now (ap (λ (o : ObjLogState). o.uploads.queue.sealed) same) (ap (λ (o : ObjLogState). o.uploads.queue.frontier) same)
+      same_bytes old now (ap (λ (o : ObjLogState). o.uploads.queue.sealed) same)
+      (ap (λ (o : ObjLogState). o.uploads.queue.frontier) same)
 
   roomier_bytes : IsSame old.objects objects → KeepsBytes old now
   roomier_bytes same = same_bytes old now same.uploads.sealed same.uploads.settled.frontier
@@ -116,8 +128,10 @@ module _ (old : VolumeState) (objects : ObjLogState) where
   changed_bytes at change same sealed frontier number bytes before has after =
       let index = number - (old.objects.uploads.queue.frontier + 1) in
       let changed = bytes_of_changed index at change old.objects.uploads.queue.sealed bytes same has in
-      let moved : HasBytesAt (number - (objects.uploads.queue.frontier + 1)) (with_at at change old.objects.uploads.queue.sealed) bytes =
-      subst (λ n. HasBytesAt (number - (n + 1)) (with_at at change old.objects.uploads.queue.sealed) bytes) (sym frontier) changed in
+      let moved : HasBytesAt (number - (objects.uploads.queue.frontier + 1))
+      (with_at at change old.objects.uploads.queue.sealed) bytes =
+      subst (λ n. HasBytesAt (number - (n + 1)) (with_at at change old.objects.uploads.queue.sealed) bytes)
+      (sym frontier) changed in
       subst (λ list. HasBytesAt (number - (objects.uploads.queue.frontier + 1)) list bytes) (sym sealed) moved
 
   pub seal_keeps_bytes : {R : Type 0} (reply : Reply R) → Seals reply old.objects objects → KeepsBytes old now
@@ -140,7 +154,8 @@ module _ (old : VolumeState) (objects : ObjLogState) where
   taking_keeps_bytes told.Nothing taken = unchanged_bytes taken.1
   taking_keeps_bytes reply taken = absurd taken
 
-  pub returning_keeps_bytes : {R : Type 0} (job : JobState) (reply : Reply R) → Returns job reply old.objects objects → KeepsBytes old now
+  pub returning_keeps_bytes : {R : Type 0} (job : JobState) (reply : Reply R) → Returns job reply old.objects objects
+      → KeepsBytes old now
   returning_keeps_bytes job told.Returned returned =
       changed_bytes _ (with_spare true) (λ object. refl) (ap (λ (o : ObjLogState). o.uploads.queue.sealed) returned.1)
       (ap (λ (o : ObjLogState). o.uploads.queue.frontier) returned.1)
@@ -157,17 +172,22 @@ module _ (old : VolumeState) (objects : ObjLogState) where
       let frontier = settled.frontier in
       let at = number - (queue.frontier + 1) in
       let past : objects.uploads.queue.frontier + 1 ≤ wanted =
-      open_past wanted (objects.uploads.queue.frontier + 1) objects.uploads.queue.sealed objects.uploads.window.objects uploads.opened after in
-      let changed = bytes_of_changed (wanted - (queue.frontier + 1)) at (with_receipt receipt) queue.sealed bytes (λ object. refl) has in
-      let index : wanted - (queue.frontier + 1) ≡ count + (wanted - (objects.uploads.queue.frontier + 1)) = omega (arith, past, frontier) in
+      open_past wanted (objects.uploads.queue.frontier + 1) objects.uploads.queue.sealed objects.uploads.window.objects
+      uploads.opened after in
+      let changed = bytes_of_changed (wanted - (queue.frontier + 1)) at (with_receipt receipt) queue.sealed bytes
+      (λ object. refl) has in
+      let index : wanted - (queue.frontier + 1) ≡ count + (wanted - (objects.uploads.queue.frontier + 1)) =
+      omega (arith, past, frontier) in
       let rest =
       bytes_of_rest count (wanted - (objects.uploads.queue.frontier + 1)) (wanted - (queue.frontier + 1))
       (with_at at (with_receipt receipt) queue.sealed) bytes index changed in
       subst (λ list. HasBytesAt (wanted - (objects.uploads.queue.frontier + 1)) list bytes) (sym settled.sealed) rest
 
   pub finishing_keeps_bytes : {R : Type 0} (state : R → ReceiptState) (job : JobState) (receipt : R) (reply : Reply R)
-      → Finishes state job receipt reply old.objects objects → IsUploads objects.uploads.queue objects.uploads.window → KeepsBytes old now
-  finishing_keeps_bytes state job receipt (told.Done frontier) done uploads = settled_keeps_bytes job.name.number (state receipt) done.1 uploads
+      → Finishes state job receipt reply old.objects objects → IsUploads objects.uploads.queue objects.uploads.window
+      → KeepsBytes old now
+  finishing_keeps_bytes state job receipt (told.Done frontier) done uploads =
+      settled_keeps_bytes job.name.number (state receipt) done.1 uploads
   finishing_keeps_bytes state job receipt (told.NotDone back given) done uploads = unchanged_bytes done.3
   finishing_keeps_bytes state job receipt reply done uploads = absurd done
 
@@ -182,9 +202,11 @@ module _ (entry : Entry) (old : VolumeState) (objects : ObjLogState) (log : LogS
   entry_same_bytes same = entry_bytes same.uploads.sealed same.uploads.settled.frontier
 
   entry_no_bytes : objects ≡ old.objects → KeepsBytes old (with_both objects log old)
-  entry_no_bytes same = entry_bytes (ap (λ (o : ObjLogState). o.uploads.queue.sealed) same) (ap (λ (o : ObjLogState). o.uploads.queue.frontier) same)
+  entry_no_bytes same = entry_bytes (ap (λ (o : ObjLogState). o.uploads.queue.sealed) same)
+      (ap (λ (o : ObjLogState). o.uploads.queue.frontier) same)
 
-  refused_keeps_bytes : (why : Refusal) → IsRefusedEntry entry why old.objects objects old.log log → KeepsBytes old (with_both objects log old)
+  refused_keeps_bytes : (why : Refusal) → IsRefusedEntry entry why old.objects objects old.log log
+      → KeepsBytes old (with_both objects log old)
   refused_keeps_bytes refusals.Range refused = entry_no_bytes refused.1
   refused_keeps_bytes (refusals.Full full) refused = entry_no_bytes refused.2
   refused_keeps_bytes (refusals.NoRoom need free) refused = entry_same_bytes refused.same

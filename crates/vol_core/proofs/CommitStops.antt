@@ -1,5 +1,6 @@
 -- What a stop keeps while the log commits all entries, and while an entry is appended to it.
-use Rattle.std.proofs.Common.{◌≡◌, ℕ, ◌-◌, ◌⊎◌, Bool, true, false, List, ◌++◌, take, drop, refl, sym, ◌∙◌, ap, subst, inl, inr, arith, append_assoc}
+use Rattle.std.proofs.Common.{◌≡◌, ℕ, ◌-◌, ◌⊎◌, Bool, true, false, List, ◌++◌, take, drop, refl, sym, ◌∙◌, ap, subst, inl, inr}
+use Rattle.std.proofs.Common.{arith, append_assoc}
 use Rattle.std.specs.Prelude.{Option, Some, None, IfSome, OnSome, option_map, Result, Ok, Err}
 use Rattle.std.proofs.Math.Path.{subst₂}
 use Rattle.std.proofs.lemmas.List.{take-append-drop}
@@ -26,7 +27,8 @@ use Rattle.stopped_volume.specs.Device.{CacheOwner, owner_of}
 use Rattle.stop_meaning.specs.Stops.{HasCommitted, IsCommittedHead, IsCommittingHead, StopKeeps, StopKeepsSince}
 use Rattle.stop_meaning.specs.Laws.{ShowsStops}
 use Rattle.stop_meaning.proofs.StopLemmas.{MayBeFound, last_found, keeps_since, since_keeps}
-use Rattle.stop_meaning.proofs.CommittedLemmas.{same_has_committed, trimmed_has_committed, appended_has_committed, commit_has_committed}
+use Rattle.stop_meaning.proofs.CommittedLemmas.{same_has_committed, trimmed_has_committed, appended_has_committed}
+use Rattle.stop_meaning.proofs.CommittedLemmas.{commit_has_committed}
 use Rattle.vol_core.specs.Step.{passing}
 use Rattle.vol_core.specs.Calls.{CommitsFrom, Appends, EntersLog}
 use Rattle.vol_core.proofs.CommitLemmas.{CommitsAs, commit_with, shown_next, trimmed_next}
@@ -36,13 +38,16 @@ use Rattle.vol_core.proofs.StepLemmas.{passing_keeps}
 
 module _ (owner : CacheOwner) (geometry : Geometry) where
   -- also after a commit, or one that failed
-  pub commit_owns : (seq : ℕ) (is_made : Bool) (old new : LogState) → HasCommitted owner geometry old → CommitsFrom seq is_made old new
+  pub commit_owns : (seq : ℕ) (is_made : Bool) (old new : LogState) → HasCommitted owner geometry old
+      → CommitsFrom seq is_made old new
       → HasCommitted owner geometry new
   commit_owns seq true old new own commit =
-      commit_has_committed owner geometry commit.middle new (trimmed_has_committed owner geometry old commit.middle seq own commit.trimmed)
+      commit_has_committed owner geometry commit.middle new (trimmed_has_committed owner geometry old commit.middle seq own
+      commit.trimmed)
       commit.released (inl (commit.made refl).commits.made)
   commit_owns seq false old new own commit =
-      commit_has_committed owner geometry commit.middle new (trimmed_has_committed owner geometry old commit.middle seq own commit.trimmed)
+      commit_has_committed owner geometry commit.middle new (trimmed_has_committed owner geometry old commit.middle seq own
+      commit.trimmed)
       commit.released (inr (commit.failed refl).made)
 
   append_owns : (entry : Entry) (result : Result ℕ AppendError) (old new : LogState) → is_in_range geometry entry ≡ true
@@ -55,13 +60,15 @@ module _ (owner : CacheOwner) (geometry : Geometry) where
       same_has_committed owner geometry old new own appends.err.same appends.keeps.commits
 
   -- and after an entry came to the log
-  pub enter_owns : (entry : Entry) (end : ℕ) (result : Result ℕ AppendError) (old new : LogState) → is_in_range geometry entry ≡ true
+  pub enter_owns : (entry : Entry) (end : ℕ) (result : Result ℕ AppendError) (old new : LogState)
+      → is_in_range geometry entry ≡ true
       → HasCommitted owner geometry old → EntersLog entry end result old new → HasCommitted owner geometry new
   enter_owns entry end result old new may own (inl at_once) = append_owns entry result old new may own at_once.appends
   enter_owns entry end result old new may own (inr after) = owns_after after.then
     where
       owns_after : (CommitsFrom end false old new × (result ≡ Err errors.DeviceFault))
-          ⊎ ((middle : LogState) × CommitsFrom end true old middle × Appends entry result middle new) → HasCommitted owner geometry new
+          ⊎ ((middle : LogState) × CommitsFrom end true old middle × Appends entry result middle new)
+          → HasCommitted owner geometry new
       owns_after (inl failed) = commit_owns end false old new own failed.0
       owns_after (inr (middle, commit, appends)) =
           append_owns entry result middle new may (commit_owns end true old middle own commit) appends
@@ -69,7 +76,8 @@ module _ (owner : CacheOwner) (geometry : Geometry) where
 -- ---- what is told of one moment and of later ones
 
 -- what follows from two facts, the second on what is told after the first
-joined : {A B : Type 0} (f : A → B) (P Q R : Type 0) (told : Option A) (then : Option B) → then ≡ option_map f told → (P → Q → R) → OnSome told P
+joined : {A B : Type 0} (f : A → B) (P Q R : Type 0) (told : Option A) (then : Option B) → then ≡ option_map f told → (P → Q → R)
+    → OnSome told P
     → OnSome then Q → OnSome told R
 joined f P Q R None then is follows first second = tt
 joined f P Q R (Some x) then is follows first second = follows first (subst (λ o. OnSome o Q) is second)
@@ -87,17 +95,20 @@ trimmed_rows seq old middle is =
     ∙ ap (λ l. old.held ++ l) (take-append-drop k old.rows)
 
 -- what a stop leaves of the log's records, where these are all its entries and rows, and these the commits
-abbrev Leaving : (body : CommitBody) (new : List Medium) (log : ℕ) (rows : List Row) (all : Option (List Entry)) (commits : CommitsState) → Type 0
+abbrev Leaving : (body : CommitBody) (new : List Medium) (log : ℕ) (rows : List Row) (all : Option (List Entry))
+    (commits : CommitsState) → Type 0
 Leaving body new log rows all commits =
     IfSome all (λ list. HoldsSince (LeavesEntries log rows list (IsLastOr commits body)) commits.disk.moments new)
 
-module _ (owner : CacheOwner) (data_at : ℕ → ℕ) (old : LogState) (plain : PlainState) (shows : ShowsStops owner data_at old plain) where
+module _ (owner : CacheOwner) (data_at : ℕ → ℕ) (old : LogState) (plain : PlainState)
+    (shows : ShowsStops owner data_at old plain) where
   count : next_seq old ≡ history_length plain
   count = shown_next old plain shows.log_is shows.valid
 
   -- ---- a commit of all entries, whose tail is at the frontier's end
 
-  module _ (seq : ℕ) (is_made : Bool) (new : LogState) (end : seq ≡ frontier_end plain) (commit : CommitsFrom seq is_made old new) where
+  module _ (seq : ℕ) (is_made : Bool) (new : LogState) (end : seq ≡ frontier_end plain)
+      (commit : CommitsFrom seq is_made old new) where
     whole_found : MayBeFound owner old plain (body_of commit.middle)
     whole_found =
         let first = commit.trimmed.first in
@@ -128,17 +139,20 @@ module _ (owner : CacheOwner) (data_at : ℕ → ℕ) (old : LogState) (plain : 
         let trimmed = commit.trimmed in
         subst (Leaving body moments old.room.log (all_rows old) old.all) trimmed.commits
         (subst₂ (λ (room : Room) all. Leaving body moments room.log (all_rows old) all middle.commits) trimmed.room trimmed.all
-        (subst (λ rows. Leaving body moments middle.room.log rows middle.all middle.commits) (trimmed_rows seq old middle trimmed) commit.stands))
+        (subst (λ rows. Leaving body moments middle.room.log rows middle.all middle.commits) (trimmed_rows seq old middle trimmed)
+        commit.stands))
 
     pub commit_keeps_stops : StopKeepsSince owner old plain (IsCommittingHead old plain) new.commits.disk
     commit_keeps_stops =
-        keeps_since owner data_at old plain shows (IsLastOr old.commits (body_of commit.middle)) (IsCommittingHead old plain) found new.commits.disk
+        keeps_since owner data_at old plain shows (IsLastOr old.commits (body_of commit.middle)) (IsCommittingHead old plain)
+        found new.commits.disk
         leaves
 
   -- ---- an entry
 
   -- while the commits are as before
-  same_keep_stops : (new : DiskState) → LeavesEntriesSince old (IsLast old.commits) new → StopKeepsSince owner old plain (IsCommittingHead old plain) new
+  same_keep_stops : (new : DiskState) → LeavesEntriesSince old (IsLast old.commits) new
+      → StopKeepsSince owner old plain (IsCommittingHead old plain) new
   same_keep_stops new leaves =
       let P : Medium → Type 0 = StopKeeps owner plain (IsCommittedHead old) in
       let Q : Medium → Type 0 = StopKeeps owner plain (IsCommittingHead old plain) in
@@ -186,7 +200,8 @@ module _ (owner : CacheOwner) (data_at : ℕ → ℕ) (old : LogState) (plain : 
         let first : List Medium = old.commits.disk.moments in
         let second : List Medium = middle.commits.disk.moments in
         let kept : List Entry → List Entry = entries_since middle.commits.body.tail.seq (all_rows commit.middle) in
-        joined kept (HoldsSince Q first second) (HoldsSince P second new.moments) (HoldsSince Q first new.moments) old.all middle.all
+        joined kept (HoldsSince Q first second) (HoldsSince P second new.moments) (HoldsSince Q first new.moments)
+        old.all middle.all
         (commit.released.all ∙ ap (option_map kept) commit.trimmed.all)
         (λ before after.
         passes_on Q first second new.moments before

@@ -75,7 +75,8 @@ created_logged data_at geometry left log first rows entries = record {
 pub created_shows : (objects : ObjLogState) (log : LogState) (uuid : List ℕ) (epoch : ℕ) (geometry : Geometry) (old : DiskState)
     → IsTrue (is_within_limits geometry) → geometry.log ≡ log_of old.size → IsFormattedLog uuid epoch 0 old log
     → objects.batch ≡ record { geometry = geometry; first = 0; entries = []; reserved = 0 }
-    → objects.uploads.window ≡ record { last = 1; objects = [] } → objects.uploads.queue.frontier ≡ 1 → objects.uploads.queue.end ≡ 0
+    → objects.uploads.window ≡ record { last = 1; objects = [] } → objects.uploads.queue.frontier ≡ 1
+    → objects.uploads.queue.end ≡ 0
     → objects.uploads.queue.sealed ≡ [] → objects.uploads.queue.maps.settled.rows ≡ [] → objects.uploads.queue.maps.log.rows ≡ []
     → Shows (volume_of objects log [] 1) (passing (fuse_in log.commits.disk.budget) (created_volume geometry))
 created_shows objects log uuid epoch geometry old limits sectors formatted batch window frontier end sealed settled logged =
@@ -83,12 +84,15 @@ created_shows objects log uuid epoch geometry old limits sectors formatted batch
     let size : log.room.log ≡ geometry.log = ap (λ (r : Room). r.log) formatted.room ∙ sym sectors in
     let data_at : ℕ → ℕ = λ seq. 0 in
     let is : objects.batch ≡ record { geometry = geometry; first = 0; entries = []; reserved = objects.batch.reserved } =
-    batch ∙ ap (λ n. record { geometry = geometry; first = 0; entries = []; reserved = n }) (sym (ap (λ (b : BatchState). b.reserved) batch)) in
+    batch ∙ ap (λ n. record { geometry = geometry; first = 0; entries = []; reserved = n })
+    (sym (ap (λ (b : BatchState). b.reserved) batch)) in
     record {
       valid = passing_is_plain left (created_volume geometry) (created_is geometry limits);
       data_at = data_at;
-      objects = shown_with_other_cache data_at objects (created_volume geometry) _ [] (new_shows_created data_at objects geometry limits is window frontier end sealed settled logged);
-      log = subst (λ n. ShowsLog log (empty_from n 0)) size (formatted_shows_empty uuid epoch 0 old log (search rules) (search rules) formatted);
+      objects = shown_with_other_cache data_at objects (created_volume geometry) _ []
+          (new_shows_created data_at objects geometry limits is window frontier end sealed settled logged);
+      log = subst (λ n. ShowsLog log (empty_from n 0)) size (formatted_shows_empty uuid epoch 0 old log (search rules)
+          (search rules) formatted);
       logged = created_logged data_at geometry left log formatted.first formatted.rows formatted.entries;
       checkpoint = refl;
       pins = λ number. refl;
@@ -97,7 +101,8 @@ created_shows objects log uuid epoch geometry old limits sectors formatted batch
 
 -- its commits are its own
 pub created_own : (objects : ObjLogState) (log : LogState) (bytes : List ℕ) (old : DiskState) → bytes ≡ objects.uploads.uuid
-    → IsFormattedLog bytes 0 0 old log → HasCommitted (record { uuid = objects.uploads.uuid; epoch = 0 }) objects.batch.geometry log
+    → IsFormattedLog bytes 0 0 old log → HasCommitted (record { uuid = objects.uploads.uuid; epoch = 0 })
+    objects.batch.geometry log
 created_own objects log bytes old same is =
     subst (λ uuid. HasCommitted (record { uuid = uuid; epoch = 0 }) objects.batch.geometry log) same
     (formatted_has_committed bytes 0 0 objects.batch.geometry old log is)
@@ -119,7 +124,8 @@ synced_now (now ∷ past) synced has = synced
 
 -- nothing is, since formatting ends with a sync
 pub created_pends : (log : LogState) (geometry : Geometry) (uuid : List ℕ) (old : DiskState) → length uuid ≡ 16 → CanFormat old
-    → IsFormattedLog uuid 0 0 old log → CostsFormat uuid true old log.commits.disk → ShowsPending log (created_volume geometry).cache
+    → IsFormattedLog uuid 0 0 old log → CostsFormat uuid true old log.commits.disk
+    → ShowsPending log (created_volume geometry).cache
 created_pends log geometry uuid old size can formatted costs =
     let calls : List Call = format_calls (first_body uuid 0 0) in
     let is = asked format_cost calls true old log.commits.disk (format_covered (first_body uuid 0 0) size) can.room costs in

@@ -1,5 +1,6 @@
 -- A write or a zeroing of a volume is a step of the plain volume that it shows.
-use Rattle.std.proofs.Common.{◌≡◌, ℕ, ◌+◌, ◌≤◌, ◌⊎◌, Bool, true, false, if◌then◌else◌, List, [], ◌∷◌, ◌++◌, length, refl, sym, ◌∙◌, ap, subst, inl, inr, arith, length-append}
+use Rattle.std.proofs.Common.{◌≡◌, ℕ, ◌+◌, ◌≤◌, ◌⊎◌, Bool, true, false, if◌then◌else◌, List, [], ◌∷◌, ◌++◌, length, refl, sym}
+use Rattle.std.proofs.Common.{◌∙◌, ap, subst, inl, inr, arith, length-append}
 use Rattle.std.specs.Prelude.{IsTrue, Option, Some, None, option_map, Result, Ok, Err}
 use Rattle.std.proofs.Math.Path.{subst₂}
 use Rattle.lsvd_base.specs.declared.geometry.Geometry.{Geometry}
@@ -40,7 +41,8 @@ use Rattle.log_meaning.specs.Fuses.{fuse_in}
 use Rattle.objects_meaning.specs.Shows.{ShowsObjects}
 use Rattle.pending_meaning.specs.Pending.{ShowsPending}
 use Rattle.objects_meaning.specs.Laws.{HasCounts}
-use Rattle.objects_meaning.proofs.ShowLemmas.{shown_have_counts, shown_with_other_cache, shown_with_other_places, room_shows_same, added_shows_entry}
+use Rattle.objects_meaning.proofs.ShowLemmas.{shown_have_counts, shown_with_other_cache, shown_with_other_places, room_shows_same}
+use Rattle.objects_meaning.proofs.ShowLemmas.{added_shows_entry}
 use Rattle.vol_core.specs.declared.reply.Refusal.{Refusal}
 use Rattle.vol_core.specs.declared.reply.Refusal.TheVariants as refusals
 use Rattle.vol_core.specs.declared.reply.Reply.{Reply}
@@ -49,7 +51,8 @@ use Rattle.vol_core.specs.Volume.{VolumeState}
 use Rattle.vol_core.specs.Shows.{Shows, NumbersGrow, max_number}
 use Rattle.vol_core.specs.Events.{Tells}
 use Rattle.vol_core.specs.Step.{passing, most_of_step, may_lack_memory, IsStep, IsNoStep, StepsAsPlain}
-use Rattle.vol_core.specs.Calls.{HasRoomForStep, event_of, MayEnter, fullness_in, ComesToLog, IsRefusedEntry, EntersBoth, Enters, EntersLog}
+use Rattle.vol_core.specs.Calls.{HasRoomForStep, event_of, MayEnter, fullness_in, ComesToLog, IsRefusedEntry, EntersBoth, Enters}
+use Rattle.vol_core.specs.Calls.{EntersLog}
 use Rattle.vol_core.proofs.CommitLemmas.{shown_next}
 use Rattle.vol_core.proofs.LoggedLemmas.{with_place, own_place, other_place, logged_alike, reaches_on_disk}
 use Rattle.vol_core.proofs.PlainEntering.{EntersPlain, refused_cache, batch_refuses}
@@ -103,7 +106,8 @@ uploads_same old new same is =
     record {
       opened =
           subst₂ (λ n (w : WindowState). AreOpen (n + 1) new.uploads.queue.sealed w.objects) (sym front) (sym same.window)
-          (subst (λ (l : List SealedState). AreOpen (old.uploads.queue.frontier + 1) l old.uploads.window.objects) (sym same.sealed) is.opened);
+          (subst (λ (l : List SealedState). AreOpen (old.uploads.queue.frontier + 1) l old.uploads.window.objects)
+          (sym same.sealed) is.opened);
       last = omega (arith, front, many, last, counted);
       waits = subst FirstWaits (sym same.sealed) is.waits;
       receipts = omega (arith, front, given, most);
@@ -130,9 +134,10 @@ room_for_step unfinished entry R budget room =
 
 -- ---- a step
 
--- The parts of a step: what the entry answers and leaves in the plain volume whose device has some fuse, and that the volume shows
--- what it leaves.
-record HasStepParts {R : Type 0} (state : R → ReceiptState) (entry : Entry) (reply : Reply R) (old : VolumeState) (plain : PlainState)
+-- The parts of a step: what the entry answers and leaves in the plain volume whose device has some fuse, and that the volume
+-- shows what it leaves.
+record HasStepParts {R : Type 0} (state : R → ReceiptState) (entry : Entry) (reply : Reply R) (old : VolumeState)
+    (plain : PlainState)
     (objects : ObjLogState) (log : LogState) : Type 0 where
   left : Fuse
   answer : PlainReply
@@ -145,12 +150,15 @@ record HasStepParts {R : Type 0} (state : R → ReceiptState) (entry : Entry) (r
   has_objects : ShowsObjects data_at objects (record plain { entries = taken })
   has_log : ShowsLog log plain_log
   logged : HasLoggedEntries data_at log (record plain { entries = taken })
-  told : HasRoom (most_of_step (event_of {R = R} entry)).changes (most_of_step (event_of {R = R} entry)).bytes old.log.commits.disk.budget
+  told : HasRoom (most_of_step (event_of {R = R} entry)).changes (most_of_step (event_of {R = R} entry)).bytes
+      old.log.commits.disk.budget
       → (left ≡ fuse_in old.log.commits.disk.budget) × (spent ≡ fuse_in log.commits.disk.budget)
-  pending : HasRoom (most_of_step (event_of {R = R} entry)).changes (most_of_step (event_of {R = R} entry)).bytes old.log.commits.disk.budget
+  pending : HasRoom (most_of_step (event_of {R = R} entry)).changes (most_of_step (event_of {R = R} entry)).bytes
+      old.log.commits.disk.budget
       → ShowsPending old.log plain.cache → ShowsPending log (after_entering entry (passing left plain)).cache
 
-module _ {R : Type 0} (state : R → ReceiptState) (reply : Reply R) (old : VolumeState) (plain : PlainState) (shows : Shows old plain)
+module _ {R : Type 0} (state : R → ReceiptState) (reply : Reply R) (old : VolumeState) (plain : PlainState)
+    (shows : Shows old plain)
     (objects : ObjLogState) (log : LogState) where
   -- the plain volume after the entry
   abbrev plain_then : Entry → Fuse → PlainState
@@ -161,7 +169,12 @@ module _ {R : Type 0} (state : R → ReceiptState) (reply : Reply R) (old : Volu
   shown_then entry parts =
       let now : PlainState = plain_then entry parts.left in
       let logged : HasLoggedEntries parts.data_at log (record plain { entries = parts.taken; cache = now.cache }) =
-      record { first = parts.logged.first; rows = parts.logged.rows; entries = parts.logged.entries; placed = parts.logged.placed } in
+      record {
+        first = parts.logged.first;
+        rows = parts.logged.rows;
+        entries = parts.logged.entries;
+        placed = parts.logged.placed;
+      } in
       let entries = sym parts.does.entries_are in
       record {
         valid =
@@ -169,10 +182,13 @@ module _ {R : Type 0} (state : R → ReceiptState) (reply : Reply R) (old : Volu
             (entering_keeps (passing parts.left plain) entry (passing_keeps parts.left plain shows.valid));
         data_at = parts.data_at;
         objects =
-            subst (λ (l : List Entry). ShowsObjects parts.data_at objects (record plain { entries = l; cache = now.cache })) entries
-            (shown_with_other_cache parts.data_at objects (record plain { entries = parts.taken }) now.cache plain.pins parts.has_objects);
+            subst (λ (l : List Entry). ShowsObjects parts.data_at objects (record plain { entries = l; cache = now.cache }))
+            entries
+            (shown_with_other_cache parts.data_at objects (record plain { entries = parts.taken }) now.cache plain.pins
+            parts.has_objects);
         log = subst (ShowsLog log) (sym parts.does.log_is) parts.has_log;
-        logged = subst (λ (l : List Entry). HasLoggedEntries parts.data_at log (record plain { entries = l; cache = now.cache })) entries logged;
+        logged = subst (λ (l : List Entry). HasLoggedEntries parts.data_at log (record plain { entries = l; cache = now.cache }))
+            entries logged;
         checkpoint = shows.checkpoint;
         pins = shows.pins;
         fuse = refl;
@@ -210,7 +226,8 @@ may_lack : (R : Type 0) (entry : Entry) → may_lack_memory (event_of {R = R} en
 may_lack R (entries.Write lba body) = refl
 may_lack R (entries.Zero lba sectors) = refl
 
-module _ {R : Type 0} (state : R → ReceiptState) (entry : Entry) (old : VolumeState) (plain : PlainState) (shows : Shows old plain)
+module _ {R : Type 0} (state : R → ReceiptState) (entry : Entry) (old : VolumeState) (plain : PlainState)
+    (shows : Shows old plain)
     (uploads : IsUploads old.objects.uploads.queue old.objects.uploads.window) (disk : IsOnDisk old.log) where
   counts : HasCounts old.objects plain
   counts = shown_have_counts shows.data_at old.objects plain uploads shows.valid shows.objects
@@ -244,12 +261,14 @@ module _ {R : Type 0} (state : R → ReceiptState) (entry : Entry) (old : Volume
     pending = λ room pends. subst (ShowsPending old.log) (sym (refused_cache plain entry answer is)) pends;
   }
 
-  refused_step : (reply : Reply R) (answer : PlainReply) (objects : ObjLogState) (log : LogState) → batch_refusal plain entry ≡ Some answer
+  refused_step : (reply : Reply R) (answer : PlainReply) (objects : ObjLogState) (log : LogState)
+      → batch_refusal plain entry ≡ Some answer
       → Tells state old reply answer
       → objects ≡ old.objects → log ≡ old.log
       → IsStep state (event_of entry) reply plain old (with_both objects log old) × NumbersGrow old (with_both objects log old)
   refused_step reply answer objects log is tells same_objects same_log =
-      subst₂ (λ o l. IsStep state (event_of entry) reply plain old (with_both o l old) × NumbersGrow old (with_both o l old)) (sym same_objects) (sym same_log) (
+      subst₂ (λ o l. IsStep state (event_of entry) reply plain old (with_both o l old) × NumbersGrow old (with_both o l old))
+      (sym same_objects) (sym same_log) (
         step_by_parts state reply old plain shows old.objects old.log entry (refused_parts reply answer is tells),
         numbers_stay old old refl refl,
       )
@@ -269,13 +288,15 @@ module _ {R : Type 0} (state : R → ReceiptState) (entry : Entry) (old : Volume
         (subst (λ end. EntersLog entry end result before log) counts.end comes.log)
 
     -- as many writes are pending as on the plain volume's cache
-    came_pending : HasRoom (most_of_step (event_of {R = R} entry)).changes (most_of_step (event_of {R = R} entry)).bytes old.log.commits.disk.budget
+    came_pending : HasRoom (most_of_step (event_of {R = R} entry)).changes (most_of_step (event_of {R = R} entry)).bytes
+        old.log.commits.disk.budget
         → ShowsPending old.log plain.cache → ShowsPending log (after_entering entry (passing came.left plain)).cache
     came_pending room pends =
         let before : LogState = taken_for old.log comes.reserved in
         let enough = room_for_step old.log.commits.unfinished entry R old.log.commits.disk.budget room in
         subst (λ f. ShowsPending log (after_entering entry (passing f plain)).cache) (sym (came.told enough).0)
-        (enter_pends entry shows.data_at before plain (reserved_shows old.log comes.reserved plain.cache.log shows.log) shows.valid
+        (enter_pends entry shows.data_at before plain (reserved_shows old.log comes.reserved plain.cache.log shows.log)
+        shows.valid
         (logged_alike shows.data_at old.log before plain refl refl refl shows.logged)
         (in_range_then true comes.in_range ∙ ap (option_map reply_of_full) comes.not_full)
         disk.commits enough (reserved_pends old.log comes.reserved plain.cache pends) result log
@@ -323,7 +344,8 @@ module _ {R : Type 0} (state : R → ReceiptState) (entry : Entry) (old : Volume
   -- it is entered
   added_shows : (at : ℕ) (ready objects : ObjLogState) → IsSame old.objects ready → ShowsObjects shows.data_at ready plain
       → IsAdded entry (at + 1) ready objects
-      → ShowsObjects (with_place shows.data_at (history_length plain) (at + 1)) objects (record plain { entries = plain.entries ++ entry ∷ [] })
+      → ShowsObjects (with_place shows.data_at (history_length plain) (at + 1)) objects
+      (record plain { entries = plain.entries ++ entry ∷ [] })
   added_shows at ready objects same shown added =
       let next : ℕ = history_length plain in
       let place : ℕ → ℕ = with_place shows.data_at next (at + 1) in
@@ -345,14 +367,16 @@ module _ {R : Type 0} (state : R → ReceiptState) (entry : Entry) (old : Volume
       omega (arith, first, many, more, was_first, was_many, next, is)
 
   entered_step : (count : ℕ) (objects : ObjLogState) (log : LogState) → EntersBoth entry count old.objects objects old.log log
-      → IsStep state (event_of entry) (told.Entered count) plain old (with_both objects log old) × NumbersGrow old (with_both objects log old)
+      → IsStep state (event_of entry) (told.Entered count) plain old (with_both objects log old)
+      × NumbersGrow old (with_both objects log old)
   entered_step count objects log both =
       let comes = both.comes in
       let with = came (Ok both.at) both.ready log comes in
       let added_last = ap (λ (w : WindowState). w.last) both.added.window in
       let last = ready_last (Ok both.at) both.ready log comes in
       let tells = ap replies.Entered (count_after both.at count both.ready objects comes.same both.added both.count_is) in
-      let shown = added_shows both.at both.ready objects comes.same (ready_shows (Ok both.at) both.ready log comes) both.added in (
+      let ready = ready_shows (Ok both.at) both.ready log comes in
+      let shown = added_shows both.at both.ready objects comes.same ready both.added in (
         step_by_parts state (told.Entered count) old plain shows objects log entry
             (came_parts (Ok both.at) both.ready log comes (told.Entered count) objects tells shown),
         record { entries = with.next; objects = omega (arith, added_last, last); commits = with.number },
@@ -375,14 +399,16 @@ module _ {R : Type 0} (state : R → ReceiptState) (entry : Entry) (old : Volume
             valid = shows.valid;
             data_at = shows.data_at;
             objects = room_shows_same shows.data_at old.objects objects plain shows.objects same;
-            log = subst (λ l. ShowsLog l plain.cache.log) (sym is) (reserved_shows old.log log.reserved plain.cache.log shows.log);
+            log = subst (λ l. ShowsLog l plain.cache.log) (sym is) (reserved_shows old.log log.reserved plain.cache.log
+                shows.log);
             logged = subst (λ l. HasLoggedEntries shows.data_at l plain) (sym is)
                 (logged_alike shows.data_at old.log before plain refl refl refl shows.logged);
             checkpoint = shows.checkpoint;
             pins = shows.pins;
             fuse = shows.fuse ∙ sym (ap (λ (l : LogState). fuse_in l.commits.disk.budget) is);
           };
-          pending = λ pends. subst (λ l. ShowsPending l plain.cache) (sym is) (reserved_pends old.log log.reserved plain.cache pends);
+          pending = λ pends. subst (λ l. ShowsPending l plain.cache) (sym is)
+              (reserved_pends old.log log.reserved plain.cache pends);
         },
         record { entries = omega (arith, next); objects = omega (arith, last); commits = omega (arith, number) },
       )
@@ -395,10 +421,12 @@ module _ {R : Type 0} (state : R → ReceiptState) (entry : Entry) (old : Volume
       ⊎ IsNoStep (event_of entry) reply plain old (with_both objects log old))
       × NumbersGrow old (with_both objects log old)
 
-  refused_outcome : (back : Entry) (why : Refusal) (objects : ObjLogState) (log : LogState) → IsRefusedEntry entry why old.objects objects old.log log
+  refused_outcome : (back : Entry) (why : Refusal) (objects : ObjLogState) (log : LogState)
+      → IsRefusedEntry entry why old.objects objects old.log log
       → Outcome (told.NotEntered back why) objects log
   refused_outcome back refusals.Range objects log is =
-      let step = refused_step (told.NotEntered back refusals.Range) replies.Range objects log (in_range_then false is.0) refl is.1 is.2 in
+      let step = refused_step (told.NotEntered back refusals.Range) replies.Range objects log (in_range_then false is.0) refl
+      is.1 is.2 in
       (inl step.0, step.1)
   refused_outcome back (refusals.Full full) objects log is =
       let refusal = in_range_then true is.0 ∙ ap (option_map reply_of_full) is.1 in
@@ -417,22 +445,27 @@ module _ {R : Type 0} (state : R → ReceiptState) (entry : Entry) (old : Volume
 
   each_outcome : (reply : Reply R) (objects : ObjLogState) (log : LogState) → Enters entry reply old.objects objects old.log log
       → Outcome reply objects log
-  each_outcome (told.Entered count) objects log enters = (let step = entered_step count objects log enters in (inl step.0, step.1))
+  each_outcome (told.Entered count) objects log enters =
+      (let step = entered_step count objects log enters in (inl step.0, step.1))
   each_outcome (told.NotEntered back why) objects log enters = refused_outcome back why objects log enters.1
   each_outcome reply objects log enters = absurd enters
 
 -- an entry of a volume is a step of each plain volume that it shows
-pub enter_steps : {R : Type 0} (state : R → ReceiptState) (entry : Entry) (reply : Reply R) (old : VolumeState) (objects : ObjLogState)
+pub enter_steps : {R : Type 0} (state : R → ReceiptState) (entry : Entry) (reply : Reply R) (old : VolumeState)
+    (objects : ObjLogState)
     (log : LogState)
-    → IsUploads old.objects.uploads.queue old.objects.uploads.window → IsOnDisk old.log → Enters entry reply old.objects objects old.log log
+    → IsUploads old.objects.uploads.queue old.objects.uploads.window → IsOnDisk old.log
+    → Enters entry reply old.objects objects old.log log
     → StepsAsPlain state (event_of entry) reply old (with_both objects log old)
 enter_steps state entry reply old objects log uploads disk enters plain shows =
     (each_outcome state entry old plain shows uploads disk reply objects log enters).0
 
-pub enter_grow : {R : Type 0} (state : R → ReceiptState) (entry : Entry) (reply : Reply R) (old : VolumeState) (objects : ObjLogState)
+pub enter_grow : {R : Type 0} (state : R → ReceiptState) (entry : Entry) (reply : Reply R) (old : VolumeState)
+    (objects : ObjLogState)
     (log : LogState)
     (plain : PlainState)
-    → IsUploads old.objects.uploads.queue old.objects.uploads.window → IsOnDisk old.log → Enters entry reply old.objects objects old.log log
+    → IsUploads old.objects.uploads.queue old.objects.uploads.window → IsOnDisk old.log
+    → Enters entry reply old.objects objects old.log log
     → Shows old plain
     → NumbersGrow old (with_both objects log old)
 enter_grow state entry reply old objects log plain uploads disk enters shows =
@@ -441,7 +474,8 @@ enter_grow state entry reply old objects log plain uploads disk enters shows =
 -- ---- before it
 
 pub may_enter : (volume : VolumeState) (plain : PlainState) (steps : ℕ) → Shows volume plain → steps ≤ max_number
-    → HasRoomForStep (record { volume = volume; steps = steps }) → IsUploads volume.objects.uploads.queue volume.objects.uploads.window
+    → HasRoomForStep (record { volume = volume; steps = steps })
+    → IsUploads volume.objects.uploads.queue volume.objects.uploads.window
     → MayEnter volume.objects volume.log
 may_enter volume plain steps shows most ready uploads =
     let counts = shown_have_counts shows.data_at volume.objects plain uploads shows.valid shows.objects in

@@ -41,7 +41,8 @@ flush_told true count = told.Flushed count
 flush_told false count = told.Fault
 
 -- room for the most that a commit takes is room for each commit
-room_for_commit : (unfinished : Option CommitBody) (budget : Option Budget) → HasRoom most_of_commit.changes most_of_commit.bytes budget
+room_for_commit : (unfinished : Option CommitBody) (budget : Option Budget)
+    → HasRoom most_of_commit.changes most_of_commit.bytes budget
     → HasRoom (commit_cost unfinished).changes (commit_cost unfinished).bytes budget
 room_for_commit unfinished None room = room
 room_for_commit None (Some budget) room = (omega (arith, room.0), omega (arith, room.1))
@@ -87,7 +88,8 @@ module _ (old : VolumeState) (log : LogState) (is_made : Bool) (plain : PlainSta
   }
 
   -- the plain volume answers what the volume does
-  reply_is : {R : Type 0} (state : R → ReceiptState) (made : Bool) (count : ℕ) → passes_commit asked.cache ≡ made → count ≡ history_length plain
+  reply_is : {R : Type 0} (state : R → ReceiptState) (made : Bool) (count : ℕ) → passes_commit asked.cache ≡ made
+      → count ≡ history_length plain
       → Tells state old (flush_told made count) (flush_reply asked)
   reply_is state true count passes is =
       ap (λ b. cond b (replies.Flushed (history_length plain)) replies.Fault) passes ∙ ap replies.Flushed (sym is)
@@ -125,10 +127,12 @@ module _ (old : VolumeState) (log : LogState) (is_made : Bool) (plain : PlainSta
         pending = flush_pending on_disk;
       }
 
-pub flush_steps : {R : Type 0} (state : R → ReceiptState) (old : VolumeState) (log : LogState) (batch : BatchState) (is_made : Bool) (end count : ℕ)
+pub flush_steps : {R : Type 0} (state : R → ReceiptState) (old : VolumeState) (log : LogState) (batch : BatchState)
+    (is_made : Bool) (end count : ℕ)
     → (reply : Reply R)
     → IsUploads old.objects.uploads.queue old.objects.uploads.window → IsOnDisk old.log → end ≡ old.objects.uploads.queue.end
-    → CommitsFrom end is_made old.log log → batch ≡ old.objects.batch → count ≡ batch.first + length batch.entries → reply ≡ flush_told is_made count
+    → CommitsFrom end is_made old.log log → batch ≡ old.objects.batch → count ≡ batch.first + length batch.entries
+    → reply ≡ flush_told is_made count
     → StepsAsPlain state Flush reply old (with_log log old)
 flush_steps state old log batch is_made end count reply uploads on_disk end_is commits same count_is told plain shows =
     let from = subst (λ n. CommitsFrom n is_made old.log log) end_is commits in
@@ -137,13 +141,15 @@ flush_steps state old log batch is_made end count reply uploads on_disk end_is c
     inl (subst (λ r. IsStep state Flush r plain old (with_log log old)) (sym told) step)
 
 pub flush_grow : (old : VolumeState) (log : LogState) (is_made : Bool) (end : ℕ) (plain : PlainState) → Shows old plain
-    → IsUploads old.objects.uploads.queue old.objects.uploads.window → end ≡ old.objects.uploads.queue.end → CommitsFrom end is_made old.log log
+    → IsUploads old.objects.uploads.queue old.objects.uploads.window → end ≡ old.objects.uploads.queue.end
+    → CommitsFrom end is_made old.log log
     → NumbersGrow old (with_log log old)
 flush_grow old log is_made end plain shows uploads end_is commits =
     committed_grow old log is_made plain shows uploads (subst (λ n. CommitsFrom n is_made old.log log) end_is commits)
 
 pub flush_keeps_volume : (old : VolumeState) (log : LogState) (is_made : Bool) (end steps : ℕ)
-    → IsUploads old.objects.uploads.queue old.objects.uploads.window → end ≡ old.objects.uploads.queue.end → CommitsFrom end is_made old.log log
+    → IsUploads old.objects.uploads.queue old.objects.uploads.window → end ≡ old.objects.uploads.queue.end
+    → CommitsFrom end is_made old.log log
     → HasRoomForStep (record { volume = old; steps = steps }) → IsVolume (record { volume = old; steps = steps })
     → IsVolume (record { volume = with_log log old; steps = steps })
 flush_keeps_volume old log is_made end steps uploads end_is commits ready is =

@@ -33,7 +33,12 @@ shows_passing disk volume plain shows = record {
     order = shows.log.order;
     stands = shows.log.stands;
   };
-  logged = record { first = shows.logged.first; rows = shows.logged.rows; entries = shows.logged.entries; placed = shows.logged.placed };
+  logged = record {
+    first = shows.logged.first;
+    rows = shows.logged.rows;
+    entries = shows.logged.entries;
+    placed = shows.logged.placed;
+  };
   checkpoint = shows.checkpoint;
   pins = shows.pins;
   fuse = refl;
@@ -41,14 +46,16 @@ shows_passing disk volume plain shows = record {
 
 -- the same of a log that was lent
 pub shows_lent : (objects : ObjLogState) (log new : LogState) (pins : List ℕ) (checkpoint : ℕ) (plain : PlainState)
-    → new ≡ record log { commits = with_budget new.commits.disk.budget log.commits } → Shows (volume_of objects log pins checkpoint) plain
+    → new ≡ record log { commits = with_budget new.commits.disk.budget log.commits }
+    → Shows (volume_of objects log pins checkpoint) plain
     → Shows (volume_of objects new pins checkpoint) (passing (fuse_in new.commits.disk.budget) plain)
 shows_lent objects log new pins checkpoint plain is shows =
     subst (λ l. Shows (volume_of objects l pins checkpoint) (passing (fuse_in new.commits.disk.budget) plain)) (sym is)
     (shows_passing new.commits.disk (volume_of objects log pins checkpoint) plain shows)
 
 pub small_lent : (objects : ObjLogState) (log new : LogState) (pins : List ℕ) (checkpoint steps : ℕ)
-    → new ≡ record log { commits = with_budget new.commits.disk.budget log.commits } → IsSmall (volume_of objects log pins checkpoint) steps
+    → new ≡ record log { commits = with_budget new.commits.disk.budget log.commits }
+    → IsSmall (volume_of objects log pins checkpoint) steps
     → IsSmall (volume_of objects new pins checkpoint) steps
 small_lent objects log new pins checkpoint steps is small =
     subst (λ l. IsSmall (volume_of objects l pins checkpoint) steps) (sym is)

@@ -1,5 +1,6 @@
 -- An entry that comes to the log does what it does in the plain volume, where the device has some fuse.
-use Rattle.std.proofs.Common.{◌≡◌, ℕ, ◌+◌, ◌<◌, ◌≤◌, ◌⊎◌, Bool, true, false, not, ◌&&◌, [], ◌∷◌, length, refl, sym, ◌∙◌, ap, subst, inl, inr, arith, length-append}
+use Rattle.std.proofs.Common.{◌≡◌, ℕ, ◌+◌, ◌<◌, ◌≤◌, ◌⊎◌, Bool, true, false, not, ◌&&◌, [], ◌∷◌, length, refl, sym, ◌∙◌, ap}
+use Rattle.std.proofs.Common.{subst, inl, inr, arith, length-append}
 use Rattle.std.specs.Prelude.{Option, Some, None, Result, Ok, Err, nat_le, nat_lt}
 use Rattle.std.proofs.lemmas.Bool.{le-leb, lt-leb, lt-ltb, le-ltb, leb-true}
 use Rattle.lsvd_base.specs.declared.entry.Entry.{Entry}
@@ -26,37 +27,45 @@ use Rattle.vol_core.specs.Calls.{CommitsFrom, Appends, EntersAtOnce, EntersAfter
 use Rattle.vol_core.proofs.CommitLemmas.{with_left, shown_next, shown_calls, CommitsAs, commit_with, commit_has_fuse}
 use Rattle.vol_core.proofs.LoggedLemmas.{ReachesEnd, reaches_from_end}
 use Rattle.vol_core.proofs.PlainEntering.{EntersPlain, commit_failed, comes_at_once, comes_after_commit}
-use Rattle.vol_core.proofs.AppendLemmas.{reply_to_append, log_by, entries_by, places_by, calls_by, most_of_append, room_for_fewer, append_has_fuse, append_shows, append_logged, append_does}
+use Rattle.vol_core.proofs.AppendLemmas.{reply_to_append, log_by, entries_by, places_by, calls_by, most_of_append, room_for_fewer}
+use Rattle.vol_core.proofs.AppendLemmas.{append_has_fuse, append_shows, append_logged, append_does}
 
 -- what a commit before an entry, and the entry, take at most
 abbrev pub most_for : Option CommitBody → Entry → Cost
 most_for unfinished entry = together (commit_cost unfinished) (most_of_append (record_sectors entry))
 
 -- an entry that came to the log does this in the plain volume whose device has some fuse, the disk's own where it is told
-pub record EntersWith (entry : Entry) (result : Result ℕ AppendError) (data_at : ℕ → ℕ) (old new : LogState) (plain : PlainState) : Type 0 where
+pub record EntersWith (entry : Entry) (result : Result ℕ AppendError) (data_at : ℕ → ℕ) (old new : LogState)
+    (plain : PlainState) : Type 0 where
   pub left : Fuse
   pub log : PlainLog
   pub spent : Fuse
-  pub does : EntersPlain (passing left plain) entry (reply_to_append result (history_length plain)) log spent (entries_by result plain.entries entry)
+  pub does : EntersPlain (passing left plain) entry (reply_to_append result (history_length plain)) log spent
+      (entries_by result plain.entries entry)
   pub shows : ShowsLog new log
   pub logged : HasLoggedEntries (places_by result data_at (history_length plain)) new
       (record plain { entries = entries_by result plain.entries entry })
   pub next : next_seq new ≤ next_seq old + 1
   pub number : new.commits.number ≤ old.commits.number + 2
-  pub told : HasRoom (most_for old.commits.unfinished entry).changes (most_for old.commits.unfinished entry).bytes old.commits.disk.budget
+  pub told : HasRoom (most_for old.commits.unfinished entry).changes (most_for old.commits.unfinished entry).bytes
+      old.commits.disk.budget
       → (left ≡ fuse_in old.commits.disk.budget) × (spent ≡ fuse_in new.commits.disk.budget)
 
 -- ---- room for the calls
 
-pub room_for_first : (first second : Cost) (budget : Option Budget) → HasRoom (together first second).changes (together first second).bytes budget
+pub room_for_first : (first second : Cost) (budget : Option Budget)
+    → HasRoom (together first second).changes (together first second).bytes budget
     → HasRoom first.changes first.bytes budget
 room_for_first first second budget room =
-    room_for_fewer first.changes first.bytes (first.changes + second.changes) (first.bytes + second.bytes) budget (omega arith) (omega arith) room
+    room_for_fewer first.changes first.bytes (first.changes + second.changes) (first.bytes + second.bytes) budget (omega arith)
+    (omega arith) room
 
-pub room_for_second : (first second : Cost) (budget : Option Budget) → HasRoom (together first second).changes (together first second).bytes budget
+pub room_for_second : (first second : Cost) (budget : Option Budget)
+    → HasRoom (together first second).changes (together first second).bytes budget
     → HasRoom second.changes second.bytes budget
 room_for_second first second budget room =
-    room_for_fewer second.changes second.bytes (first.changes + second.changes) (first.bytes + second.bytes) budget (omega arith) (omega arith) room
+    room_for_fewer second.changes second.bytes (first.changes + second.changes) (first.bytes + second.bytes) budget (omega arith)
+    (omega arith) room
 
 -- where there is room for two, there is room for the second after the first
 pub room_then : (first second : Cost) (are_made : Bool) (old new : Option Budget) → Takes first are_made old new
@@ -96,7 +105,8 @@ calls_of (Some body) = refl
 
 -- ---- an append
 
-append_next : (entry : Entry) (result : Result ℕ AppendError) (old new : LogState) → Appends entry result old new → next_seq new ≤ next_seq old + 1
+append_next : (entry : Entry) (result : Result ℕ AppendError) (old new : LogState) → Appends entry result old new
+    → next_seq new ≤ next_seq old + 1
 append_next entry (Ok at) old new appends =
     let first = appends.ok.first in
     let rows = ap length appends.ok.rows in
@@ -109,7 +119,8 @@ append_next entry (Err errors.DeviceFault) old new appends =
     let rows = ap length appends.err.same.rows in
     omega (arith, first, rows)
 
-module _ (entry : Entry) (data_at : ℕ → ℕ) (old : LogState) (plain : PlainState) (is : ShowsLog old plain.cache.log) (valid : IsPlainVolume plain)
+module _ (entry : Entry) (data_at : ℕ → ℕ) (old : LogState) (plain : PlainState) (is : ShowsLog old plain.cache.log)
+    (valid : IsPlainVolume plain)
     (logged : HasLoggedEntries data_at old plain) (taken : batch_refusal plain entry ≡ None) where
   tail_seq : plain.cache.log.last.tail.seq ≡ old.commits.body.tail.seq
   tail_seq = ap (λ c. c.tail.seq) is.last
@@ -125,7 +136,8 @@ module _ (entry : Entry) (data_at : ℕ → ℕ) (old : LogState) (plain : Plain
   room_lacks few = ap (λ r. nat_le (need r (record_sectors entry)) (free r)) is.room
       ∙ lt-leb (need old.room (record_sectors entry)) (free old.room) few
 
-  first_by : (room releases : Bool) → has_room_for plain.cache entry ≡ room → nat_lt plain.cache.log.last.tail.seq (frontier_end plain) ≡ releases
+  first_by : (room releases : Bool) → has_room_for plain.cache entry ≡ room
+      → nat_lt plain.cache.log.last.tail.seq (frontier_end plain) ≡ releases
       → commits_for_room plain entry ≡ (not room && releases)
   first_by room releases has released =
       ap (λ b. not b && nat_lt plain.cache.log.last.tail.seq (frontier_end plain)) has ∙ ap (λ b. not room && b) released
@@ -158,7 +170,8 @@ module _ (entry : Entry) (data_at : ℕ → ℕ) (old : LogState) (plain : Plain
       first_by false true (room_lacks (omega (arith, less, a, b)))
       (lt-ltb plain.cache.log.last.tail.seq (frontier_end plain) (omega (arith, releases, seq)))
 
-  enters_at_once : (result : Result ℕ AppendError) (new : LogState) → ReachesEnd old plain → EntersAtOnce entry (frontier_end plain) result old new
+  enters_at_once : (result : Result ℕ AppendError) (new : LogState) → ReachesEnd old plain
+      → EntersAtOnce entry (frontier_end plain) result old new
       → EntersWith entry result data_at old new plain
   enters_at_once result new reaches at_once =
       let appends = at_once.appends in
@@ -173,7 +186,8 @@ module _ (entry : Entry) (data_at : ℕ → ℕ) (old : LogState) (plain : Plain
         does = append_does state entry state.cache result old new plain.cache.log some.fuse comes
             (record { same_log = refl; same_left = refl }) is appends some.lets;
         shows = append_shows entry result old new plain.cache.log is appends;
-        logged = append_logged entry result data_at old new plain plain.cache.log is (frontier_ends plain valid) counted reaches logged appends;
+        logged = append_logged entry result data_at old new plain plain.cache.log is (frontier_ends plain valid) counted reaches
+            logged appends;
         next = append_next entry result old new appends;
         number = omega (arith, same);
         told = λ room.
@@ -220,7 +234,8 @@ module _ (entry : Entry) (data_at : ℕ → ℕ) (old : LogState) (plain : Plain
         (subst (λ (c : CommitsState). passes fuse (calls_to_finish c.unfinished + 5) ≡ true) (sym commit.trimmed.commits)
         (ap (passes fuse) (sym (calls_of old.commits.unfinished)) ∙ passed))
 
-    same_made : (fuse : Fuse) → passes fuse calls ≡ true → (cache_after_commit (frontier_end plain) (with_left fuse plain.cache)).log ≡ made_log
+    same_made : (fuse : Fuse) → passes fuse calls ≡ true
+        → (cache_after_commit (frontier_end plain) (with_left fuse plain.cache)).log ≡ made_log
     same_made fuse passed =
         let count : calls_before plain.cache.log.unfinished + 5 ≡ calls =
         calls_of_commit plain.cache.log.unfinished ∙ shown_calls old plain.cache.log is in
@@ -229,25 +244,30 @@ module _ (entry : Entry) (data_at : ℕ → ℕ) (old : LogState) (plain : Plain
 
     -- the disk's own fuse, less the calls of the commit, is what the append is told
     told_after : (left spent : Fuse) (new : LogState)
-        → (HasRoom (most_of_append (record_sectors entry)).changes (most_of_append (record_sectors entry)).bytes middle.commits.disk.budget
+        → (HasRoom (most_of_append (record_sectors entry)).changes (most_of_append (record_sectors entry)).bytes
+        middle.commits.disk.budget
         → (left ≡ fuse_in middle.commits.disk.budget) × (fuse_in new.commits.disk.budget ≡ spent))
-        → HasRoom (most_for old.commits.unfinished entry).changes (most_for old.commits.unfinished entry).bytes old.commits.disk.budget
+        → HasRoom (most_for old.commits.unfinished entry).changes (most_for old.commits.unfinished entry).bytes
+        old.commits.disk.budget
         → (with_more left calls ≡ fuse_in old.commits.disk.budget) × (spent ≡ fuse_in new.commits.disk.budget)
     told_after left spent new told room =
         let cost : Cost = commit_cost old.commits.unfinished in
         let first = commit_has_fuse true data_at old middle plain is valid logged commit in
         let own = first.told (room_for_first cost (most_of_append (record_sectors entry)) old.commits.disk.budget room) in
-        let passed : passes first.fuse calls ≡ true = ap (passes first.fuse) (sym (shown_calls old plain.cache.log is)) ∙ first.commits.passed in
+        let passed : passes first.fuse calls ≡ true = ap (passes first.fuse) (sym (shown_calls old plain.cache.log is))
+        ∙ first.commits.passed in
         let takes : Takes cost true old.commits.disk.budget middle.commits.disk.budget =
         subst (λ (c : CommitsState). Takes
-        (commit_cost c.unfinished) true c.disk.budget middle.commits.disk.budget) commit.trimmed.commits commit.calls.calls.budget in
+        (commit_cost c.unfinished) true c.disk.budget middle.commits.disk.budget) commit.trimmed.commits
+        commit.calls.calls.budget in
         let then = told (room_then cost
         (most_of_append (record_sectors entry)) true old.commits.disk.budget middle.commits.disk.budget takes room) in (
           ap (λ f. with_more f calls) (then.0 ∙ own.1) ∙ more_again first.fuse calls passed ∙ own.0,
           sym then.1,
         )
 
-    enters_after_made : (result : Result ℕ AppendError) (new : LogState) → commits_for_room plain entry ≡ true → Appends entry result middle new
+    enters_after_made : (result : Result ℕ AppendError) (new : LogState) → commits_for_room plain entry ≡ true
+        → Appends entry result middle new
         → EntersWith entry result data_at old new plain
     enters_after_made result new first appends =
         let shown : ShowsLog middle made_log = (made_with None refl).log in
@@ -285,7 +305,8 @@ module _ (entry : Entry) (data_at : ℕ → ℕ) (old : LogState) (plain : Plain
       subst (λ r. EntersWith entry r data_at old new plain) (sym failed.1) (enters_after_failed new first failed.0)
   enters_after result new first (inr (middle, commit, appends)) = enters_after_made middle commit result new first appends
 
-  enters_in : (result : Result ℕ AppendError) (new : LogState) → ReachesEnd old plain → EntersLog entry (frontier_end plain) result old new
+  enters_in : (result : Result ℕ AppendError) (new : LogState) → ReachesEnd old plain
+      → EntersLog entry (frontier_end plain) result old new
       → EntersWith entry result data_at old new plain
   enters_in result new reaches (inl at_once) = enters_at_once result new reaches at_once
   enters_in result new reaches (inr after) = enters_after result new (one_first result new after) after.then

@@ -1,5 +1,6 @@
 -- The list of a log goes on having the entries past the frontier's end.
-use Rattle.std.proofs.Common.{◌≡◌, ℕ, ◌+◌, ◌-◌, ◌≤◌, ◌==◌, if◌then◌else◌, List, [], ◌∷◌, ◌++◌, zero, suc, length, drop, refl, sym, ◌∙◌, ap, subst, arith}
+use Rattle.std.proofs.Common.{◌≡◌, ℕ, ◌+◌, ◌-◌, ◌≤◌, ◌==◌, if◌then◌else◌, List, [], ◌∷◌, ◌++◌, zero, suc, length, drop, refl, sym}
+use Rattle.std.proofs.Common.{◌∙◌, ap, subst, arith}
 use Rattle.std.specs.Prelude.{Option, Some, None, IfSome, option_map}
 use Rattle.std.specs.List.{AllByRecursion}
 use Rattle.std.proofs.Math.Path.{subst₂}
@@ -31,7 +32,8 @@ pub logged_alike : (data_at : ℕ → ℕ) (old new : LogState) (plain : PlainSt
 logged_alike data_at old new plain first rows entries is = record {
   first = subst (λ n. n ≤ frontier_end plain) (sym first) is.first;
   rows = subst₂ (λ n l. AreRowsOf (drop (frontier_end plain - n) l) (logged_entries plain)) (sym first) (sym rows) is.rows;
-  entries = subst₂ (λ n o. IfSome o (λ list. drop (frontier_end plain - n) list ≡ logged_entries plain)) (sym first) (sym entries) is.entries;
+  entries = subst₂ (λ n o. IfSome o (λ list. drop (frontier_end plain - n) list ≡ logged_entries plain)) (sym first) (sym entries)
+      is.entries;
   placed = subst (AllByRecursion (HasDataBehind data_at)) (sym rows) is.placed;
 }
 
@@ -42,14 +44,19 @@ all_left P zero rows all = all
 all_left P (suc n) [] all = all
 all_left P (suc n) (row ∷ rows) all = all_left P n rows all.1
 
-some_left : (n rest : ℕ) (list : List Entry) (entries : Option (List Entry)) → IfSome entries (λ items. drop (n + rest) items ≡ list)
+some_left : (n rest : ℕ) (list : List Entry) (entries : Option (List Entry))
+    → IfSome entries (λ items. drop (n + rest) items ≡ list)
     → IfSome (option_map (drop n) entries) (λ items. drop rest items ≡ list)
 some_left n rest list None is = is
 some_left n rest list (Some items) is = drop-drop rest n items ∙ is
 
 -- the log without the first entries of its list
 abbrev without_first : (count : ℕ) → LogState → LogState
-without_first count log = record log { first = log.first + count; rows = drop count log.rows; entries = option_map (drop count) log.entries }
+without_first count log = record log {
+  first = log.first + count;
+  rows = drop count log.rows;
+  entries = option_map (drop count) log.entries;
+}
 
 first_dropped : (data_at : ℕ → ℕ) (count : ℕ) (log : LogState) (plain : PlainState) → log.first + count ≤ frontier_end plain
     → HasLoggedEntries data_at log plain
@@ -67,7 +74,8 @@ first_dropped data_at count log plain below is =
       placed = all_left (HasDataBehind data_at) count log.rows is.placed;
     }
 
-pub logged_trimmed : (data_at : ℕ → ℕ) (seq : ℕ) (old new : LogState) (plain : PlainState) → seq ≤ frontier_end plain → IsTrimmed seq old new
+pub logged_trimmed : (data_at : ℕ → ℕ) (seq : ℕ) (old new : LogState) (plain : PlainState) → seq ≤ frontier_end plain
+    → IsTrimmed seq old new
     → HasLoggedEntries data_at old plain → HasLoggedEntries data_at new plain
 logged_trimmed data_at seq old new plain below trimmed is =
     let begins = is.first in
@@ -98,17 +106,20 @@ placed_before data_at later place (row ∷ rows) seq are below all =
 
 numbered_behind : (held rows : List Row) (seq : ℕ) → AreNumbered seq (held ++ rows) → AreNumbered (seq + length held) rows
 numbered_behind [] rows seq are = subst (λ n. AreNumbered n rows) (omega arith) are
-numbered_behind (row ∷ held) rows seq are = subst (λ n. AreNumbered n rows) (omega arith) (numbered_behind held rows (seq + 1) are.1)
+numbered_behind (row ∷ held) rows seq are =
+    subst (λ n. AreNumbered n rows) (omega arith) (numbered_behind held rows (seq + 1) are.1)
 
 all_more : (P : Row → Type 0) (rows : List Row) (row : Row) → AllByRecursion P rows → P row → AllByRecursion P (rows ++ row ∷ [])
 all_more P [] row all own = (own, tt)
 all_more P (first ∷ rows) row all own = (all.0, all_more P rows row all.1 own)
 
-row_is : (entry : Entry) (seq at : ℕ) → row_of seq at entry ≡ row_of (seq_of (row_of seq at entry)) (position_of (row_of seq at entry)) entry
+row_is : (entry : Entry) (seq at : ℕ) → row_of seq at entry ≡ row_of (seq_of (row_of seq at entry))
+    (position_of (row_of seq at entry)) entry
 row_is (entries.Write lba body) seq at = refl
 row_is (entries.Zero lba sectors) seq at = refl
 
-own_placed : (data_at : ℕ → ℕ) (entry : Entry) (seq at : ℕ) → HasDataBehind (with_place data_at seq (at + 1)) (row_of seq at entry)
+own_placed : (data_at : ℕ → ℕ) (entry : Entry) (seq at : ℕ)
+    → HasDataBehind (with_place data_at seq (at + 1)) (row_of seq at entry)
 own_placed data_at (entries.Write lba body) seq at = own_place data_at seq (at + 1)
 own_placed data_at (entries.Zero lba sectors) seq at = own_place data_at seq (at + 1)
 
@@ -116,18 +127,21 @@ own_placed data_at (entries.Zero lba sectors) seq at = own_place data_at seq (at
 abbrev pub ReachesEnd : LogState → PlainState → Type 0
 ReachesEnd log plain = IfSome log.entries (λ list. frontier_end plain - log.first ≤ length list)
 
-some_more : (skipped : ℕ) (list : List Entry) (entry : Entry) (entries : Option (List Entry)) → IfSome entries (λ items. drop skipped items ≡ list)
+some_more : (skipped : ℕ) (list : List Entry) (entry : Entry) (entries : Option (List Entry))
+    → IfSome entries (λ items. drop skipped items ≡ list)
     → IfSome entries (λ items. skipped ≤ length items)
     → IfSome (with_appended entries entry) (λ items. drop skipped items ≡ list ++ entry ∷ [])
 some_more skipped list entry None is reaches = tt
-some_more skipped list entry (Some items) is reaches = drop-append-le skipped items (entry ∷ []) reaches ∙ ap (λ l. l ++ entry ∷ []) is
+some_more skipped list entry (Some items) is reaches = drop-append-le skipped items (entry ∷ []) reaches
+    ∙ ap (λ l. l ++ entry ∷ []) is
 
 -- the log with a row more
 abbrev with_row : Row → Entry → LogState → LogState
 with_row row entry log = record log { rows = log.rows ++ row ∷ []; entries = with_appended log.entries entry }
 
 row_added : (data_at : ℕ → ℕ) (log : LogState) (plain : PlainState) (entry : Entry) (at : ℕ) → AreNumbered log.first log.rows
-    → frontier_end plain ≤ next_seq log → next_seq log ≡ history_length plain → ReachesEnd log plain → HasLoggedEntries data_at log plain
+    → frontier_end plain ≤ next_seq log → next_seq log ≡ history_length plain → ReachesEnd log plain
+    → HasLoggedEntries data_at log plain
     → HasLoggedEntries (with_place data_at (next_seq log) (at + 1)) (with_row (row_of (next_seq log) at entry) entry log)
     (record plain { entries = plain.entries ++ entry ∷ [] })
 row_added data_at log plain entry at numbered below counted reaches is =
@@ -149,28 +163,35 @@ row_added data_at log plain entry at numbered below counted reaches is =
           (own_placed data_at entry (next_seq log) at);
     }
 
-pub logged_appended : (data_at : ℕ → ℕ) (old new : LogState) (plain : PlainState) (entry : Entry) (at : ℕ) (log : PlainLog) → ShowsLog old log
-    → frontier_end plain ≤ history_length plain → next_seq old ≡ history_length plain → ReachesEnd old plain → IsAppended entry at old new
+pub logged_appended : (data_at : ℕ → ℕ) (old new : LogState) (plain : PlainState) (entry : Entry) (at : ℕ) (log : PlainLog)
+    → ShowsLog old log
+    → frontier_end plain ≤ history_length plain → next_seq old ≡ history_length plain → ReachesEnd old plain
+    → IsAppended entry at old new
     → HasLoggedEntries data_at old plain
-    → HasLoggedEntries (with_place data_at (history_length plain) (at + 1)) new (record plain { entries = plain.entries ++ entry ∷ [] })
+    → HasLoggedEntries (with_place data_at (history_length plain) (at + 1)) new
+    (record plain { entries = plain.entries ++ entry ∷ [] })
 logged_appended data_at old new plain entry at log shows ends counted reaches appended is =
     let numbered : AreNumbered old.first old.rows =
-    subst (λ n. AreNumbered n old.rows) shows.counted (numbered_behind old.held old.rows old.commits.body.tail.seq shows.numbered) in
+    subst (λ n. AreNumbered n old.rows) shows.counted (numbered_behind old.held old.rows old.commits.body.tail.seq
+    shows.numbered) in
     let row : Row = row_of (next_seq old) (position old.room (record_sectors entry)) entry in
     let here : row ≡ row_of (next_seq old) at entry = ap (λ p. row_of (next_seq old) p entry) (sym appended.at_head) in
     let added = row_added data_at old plain entry at numbered (omega (arith, ends, counted)) counted reaches is in
-    subst (λ n. HasLoggedEntries (with_place data_at n (at + 1)) new (record plain { entries = plain.entries ++ entry ∷ [] })) counted
+    subst (λ n. HasLoggedEntries (with_place data_at n (at + 1)) new (record plain { entries = plain.entries ++ entry ∷ [] }))
+    counted
     (logged_alike (with_place data_at (next_seq old) (at + 1)) (with_row (row_of (next_seq old) at entry) entry old) new
     (record plain { entries = plain.entries ++ entry ∷ [] })
     appended.first (appended.rows ∙ ap (λ r. old.rows ++ r ∷ []) here) appended.entries added)
 
 -- ---- how far the entries go
 
-told_as_many : (rows : List Row) (moments : List Medium) (n : ℕ) → n ≤ length rows → IfSome (entries_in rows moments) (λ list. n ≤ length list)
+told_as_many : (rows : List Row) (moments : List Medium) (n : ℕ) → n ≤ length rows
+    → IfSome (entries_in rows moments) (λ list. n ≤ length list)
 told_as_many rows [] n most = tt
 told_as_many rows (now ∷ past) n most = omega (arith, length-map rows (entry_of now.bytes), most)
 
-pub reaches_on_disk : (log : LogState) (plain : PlainState) → frontier_end plain ≤ next_seq log → IsOnDisk log → ReachesEnd log plain
+pub reaches_on_disk : (log : LogState) (plain : PlainState) → frontier_end plain ≤ next_seq log → IsOnDisk log
+    → ReachesEnd log plain
 reaches_on_disk log plain below is =
     subst (λ o. IfSome o (λ list. frontier_end plain - log.first ≤ length list)) (sym is.entries)
     (told_as_many log.rows log.commits.disk.moments (frontier_end plain - log.first) (omega (arith, below)))

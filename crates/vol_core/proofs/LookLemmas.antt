@@ -1,5 +1,6 @@
 -- What a look needs of a volume, and what its reads of the log take.
-use Rattle.std.proofs.Common.{◌≡◌, ℕ, ◌+◌, ◌<◌, ◌≤◌, Bool, true, false, ◌&&◌, List, [], ◌∷◌, get_or, refl, sym, ◌∙◌, ap, subst, arith}
+use Rattle.std.proofs.Common.{◌≡◌, ℕ, ◌+◌, ◌<◌, ◌≤◌, Bool, true, false, ◌&&◌, List, [], ◌∷◌, get_or, refl, sym, ◌∙◌, ap, subst}
+use Rattle.std.proofs.Common.{arith}
 use Rattle.std.specs.Prelude.{Option, Some, None, nat_le, nat_lt}
 use Rattle.std.proofs.lemmas.Bool.{and_parts, leb-true, lt-leb}
 use Rattle.std.proofs.lemmas.List.Sums.{sum_by-cons}
@@ -37,14 +38,16 @@ use Rattle.vol_core.specs.Shows.{Shows}
 -- ---- the range
 
 -- sectors that may be read lie inside the volume
-transfer_ends : (geometry : Geometry) (lba sectors : ℕ) → may_transfer geometry lba sectors ≡ true → lba + sectors ≤ geometry.sectors
+transfer_ends : (geometry : Geometry) (lba sectors : ℕ) → may_transfer geometry lba sectors ≡ true
+    → lba + sectors ≤ geometry.sectors
 transfer_ends geometry lba sectors may =
     leb-true (lba + sectors) geometry.sectors
     (and_parts (nat_lt 0 sectors && nat_le sectors geometry.max_write) (nat_le (lba + sectors) geometry.sectors) may).1
 
 -- ---- what it needs
 
-module _ (data_at : ℕ → ℕ) (objects : ObjLogState) (log : LogState) (plain : PlainState) (shows : ShowsReads data_at objects log plain)
+module _ (data_at : ℕ → ℕ) (objects : ObjLogState) (log : LogState) (plain : PlainState)
+    (shows : ShowsReads data_at objects log plain)
     (lba sectors : ℕ) (inside : lba + sectors ≤ plain.geometry.sectors) where
   -- a sector of the range is where the maps have it
   held_in_range : (k : ℕ) → k < lba + sectors
@@ -57,11 +60,13 @@ module _ (data_at : ℕ → ℕ) (objects : ObjLogState) (log : LogState) (plain
   log_has_places k seq sector low high is =
       let maps = objects.uploads.queue.maps in
       let held =
-      subst (λ logged. IsHeldAt log objects.uploads.queue (place_in logged (settled_at maps k)) (get_or (image_now plain) k [])) is
+      subst (λ logged. IsHeldAt log objects.uploads.queue (place_in logged (settled_at maps k)) (get_or (image_now plain) k []))
+      is
       (held_in_range k high) in
       record { row = held.row; stands = held.there; has_seq = held.numbered; from = held.from; to = held.to }
 
-  object_has : (at : ℕ) (sector : List ℕ) (receipt : Option ReceiptState) → GivesSector receipt at sector → HasObjectSector receipt at
+  object_has : (at : ℕ) (sector : List ℕ) (receipt : Option ReceiptState) → GivesSector receipt at sector
+      → HasObjectSector receipt at
   object_has at sector None gives = gives
   object_has at sector (Some receipt) gives = gives.0
 
@@ -85,25 +90,36 @@ module _ (data_at : ℕ → ℕ) (objects : ObjLogState) (log : LogState) (plain
       ∙ (ap (λ n. n + reads_of rows) (same_row row.place) ∙ ap (λ n. data_row_in_log row.place + n) (same_rows rows))
 
   -- as many reads are made as the plain volume counts
-  pub reads_are_calls : (are_made : Bool) (new : LogState) → (reads : ReadsRange lba sectors objects.uploads.queue.maps are_made log new)
+  pub reads_are_calls : (are_made : Bool) (new : LogState)
+      → (reads : ReadsRange lba sectors objects.uploads.queue.maps are_made log new)
       → reads_of reads.rows ≡ look_calls plain lba sectors
   reads_are_calls are_made new reads =
-      same_rows reads.rows ∙ rows_are_runs data_at objects log plain lba sectors reads.rows shows reads.are.shortest reads.are.places
+      same_rows reads.rows ∙ rows_are_runs data_at objects log plain lba sectors reads.rows shows reads.are.shortest
+      reads.are.places
 
 -- ---- a volume that shows a plain one
 
 -- whether a read may be made is asked of the volume's own geometry
-pub may_of_own : (volume : VolumeState) (steps : ℕ) (now : SteppedVolume) (geometry : Geometry) (lba sectors : ℕ) (asked may : Bool)
-    → record { volume = volume; steps = steps } ≡ now → geometry ≡ now.volume.objects.batch.geometry → asked ≡ may_transfer geometry lba sectors
+pub may_of_own : (volume : VolumeState) (steps : ℕ) (now : SteppedVolume) (geometry : Geometry) (lba sectors : ℕ)
+    (asked may : Bool)
+    → record { volume = volume; steps = steps } ≡ now → geometry ≡ now.volume.objects.batch.geometry
+    → asked ≡ may_transfer geometry lba sectors
     → asked ≡ may → may_transfer volume.objects.batch.geometry lba sectors ≡ may
 may_of_own volume steps now geometry lba sectors asked may is own asks answer =
-    ap (λ g. may_transfer g lba sectors) (ap (λ (s : SteppedVolume). s.volume.objects.batch.geometry) is ∙ sym own) ∙ (sym asks ∙ answer)
+    ap (λ g. may_transfer g lba sectors) (ap (λ (s : SteppedVolume). s.volume.objects.batch.geometry) is ∙ sym own)
+    ∙ (sym asks ∙ answer)
 
 module _ (volume : VolumeState) (plain : PlainState) (shows : Shows volume plain)
     (ordered : IsUploads volume.objects.uploads.queue volume.objects.uploads.window) (lba sectors : ℕ)
     (may : may_transfer volume.objects.batch.geometry lba sectors ≡ true) where
   pub read_shown : ShowsReads shows.data_at volume.objects volume.log plain
-  read_shown = record { ordered = ordered; valid = shows.valid; objects_are = shows.objects; log_is = shows.log; logged = shows.logged }
+  read_shown = record {
+    ordered = ordered;
+    valid = shows.valid;
+    objects_are = shows.objects;
+    log_is = shows.log;
+    logged = shows.logged;
+  }
 
   pub may_read : may_transfer plain.geometry lba sectors ≡ true
   may_read = ap (λ g. may_transfer g lba sectors) (sym shows.objects.geometry) ∙ may
@@ -128,7 +144,8 @@ pub record HasFuseForReads (count : ℕ) (are_made : Bool) (old new : Option Bud
 pub reads_have_fuse : (count : ℕ) (are_made : Bool) (old new : Option Budget) → Takes (reads_cost count) are_made old new
     → (are_made ≡ false → 0 < count) → HasFuseForReads count are_made old new
 reads_have_fuse count true None new takes some = record { fuse = None; lets = refl; told = λ room. absurd room }
-reads_have_fuse count false None new takes some = record { fuse = Some 0; lets = lt-leb count 0 (some refl); told = λ room. absurd room }
+reads_have_fuse count false None new takes some =
+    record { fuse = Some 0; lets = lt-leb count 0 (some refl); told = λ room. absurd room }
 reads_have_fuse count are_made (Some budget) new takes some =
     let within = takes.2 (omega arith) (omega arith) in
     record { fuse = budget.fuse; lets = sym within.made; told = λ room. (refl, sym (ap fuse_in takes.1 ∙ within.fuse)) }

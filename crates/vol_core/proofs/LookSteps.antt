@@ -1,5 +1,6 @@
 -- A read is planned as the plain volume does whose device has some fuse.
-use Rattle.std.proofs.Common.{◌≡◌, ℕ, inl, inr, Bool, true, false, if◌then◌else◌, List, ◌++◌, length, refl, sym, ◌∙◌, ap, subst, arith}
+use Rattle.std.proofs.Common.{◌≡◌, ℕ, inl, inr, Bool, true, false, if◌then◌else◌, List, ◌++◌, length, refl, sym, ◌∙◌, ap, subst}
+use Rattle.std.proofs.Common.{arith}
 use Rattle.std.specs.List.{All}
 use Rattle.std.proofs.lemmas.List.Sums.{sum_by-append}
 use Rattle.lsvd_base.specs.Limits.{may_transfer}
@@ -52,7 +53,8 @@ with_reads log pins volume = record volume { log = log; pins = pins }
 abbrev plain_with : Fuse → (pins : List ℕ) → PlainState → PlainState
 plain_with left pins plain = record plain { cache = record plain.cache { left = left }; pins = pins }
 
-still_plain : (left : Fuse) (pins : List ℕ) (plain : PlainState) → IsPlainVolume plain → IsPlainVolume (plain_with left pins plain)
+still_plain : (left : Fuse) (pins : List ℕ) (plain : PlainState) → IsPlainVolume plain
+    → IsPlainVolume (plain_with left pins plain)
 still_plain left pins plain is = record {
   limits = is.limits;
   sectors = is.sectors;
@@ -68,7 +70,8 @@ still_plain left pins plain is = record {
   size = is.size;
 }
 
-looked_shown : (old : VolumeState) (log : LogState) (pins now_pins : List ℕ) (plain : PlainState) → Shows old plain → HasSameEntries old.log log
+looked_shown : (old : VolumeState) (log : LogState) (pins now_pins : List ℕ) (plain : PlainState) → Shows old plain
+    → HasSameEntries old.log log
     → IsAsBefore old.log.commits log.commits → ((number : ℕ) → times number pins ≡ times number now_pins)
     → Shows (with_reads log pins old) (plain_with (fuse_in log.commits.disk.budget) now_pins plain)
 looked_shown old log pins now_pins plain shows same commits pinned =
@@ -107,23 +110,27 @@ unlooked_shown old log pins plain shows same pinned =
 -- its answer and its pins after it, where the device passes its calls, or not
 abbrev read_reply : (are_made : Bool) (lba sectors : ℕ) → PlainState → PlainReply
 read_reply are_made lba sectors plain =
-    if are_made then replies.Planned (history_length plain) (sectors_at lba sectors (image_now plain)) (objects_read plain lba sectors)
+    if are_made then replies.Planned (history_length plain) (sectors_at lba sectors (image_now plain))
+    (objects_read plain lba sectors)
     else replies.Fault
 
 abbrev read_pins : (are_made : Bool) (lba sectors : ℕ) → PlainState → List ℕ
 read_pins are_made lba sectors plain = if are_made then plain.pins ++ objects_read plain lba sectors else plain.pins
 
-module _ (left : Fuse) (plain : PlainState) (lba sectors : ℕ) (may are_made : Bool) (may_is : may_transfer plain.geometry lba sectors ≡ may)
+module _ (left : Fuse) (plain : PlainState) (lba sectors : ℕ) (may are_made : Bool)
+    (may_is : may_transfer plain.geometry lba sectors ≡ may)
     (lets : passes left (look_calls plain lba sectors) ≡ are_made) where
   after_look_is : after_look lba sectors (passing left plain)
-      ≡ (if may then plain_with (fuse_after left (look_calls plain lba sectors)) (read_pins are_made lba sectors plain) plain else passing left plain)
+      ≡ (if may then plain_with (fuse_after left (look_calls plain lba sectors)) (read_pins are_made lba sectors plain) plain else
+      passing left plain)
   after_look_is =
       let calls = look_calls plain lba sectors in
       let now : Bool → PlainState = λ made. plain_with (fuse_after left calls) (read_pins made lba sectors plain) plain in
       ap (λ b. if b then now (passes left calls) else passing left plain) may_is
       ∙ ap (λ made. if may then now made else passing left plain) lets
 
-  look_reply_is : look_reply (passing left plain) lba sectors ≡ (if may then read_reply are_made lba sectors plain else replies.Range)
+  look_reply_is : look_reply (passing left plain) lba sectors
+      ≡ (if may then read_reply are_made lba sectors plain else replies.Range)
   look_reply_is =
       ap (λ b. if b then read_reply (passes left (look_calls plain lba sectors)) lba sectors plain else replies.Range) may_is
       ∙ ap (λ made. if may then read_reply made lba sectors plain else replies.Range) lets
@@ -131,11 +138,13 @@ module _ (left : Fuse) (plain : PlainState) (lba sectors : ℕ) (may are_made : 
 -- ---- a look
 
 module _ {R : Type 0} (state : R → ReceiptState) (old : VolumeState) (lba sectors : ℕ)
-    (ordered : IsUploads old.objects.uploads.queue old.objects.uploads.window) (may : may_transfer old.objects.batch.geometry lba sectors ≡ true)
+    (ordered : IsUploads old.objects.uploads.queue old.objects.uploads.window)
+    (may : may_transfer old.objects.batch.geometry lba sectors ≡ true)
     (plain : PlainState) (shows : Shows old plain) where
   -- reads that were made, or failed, are those of the plain volume with some fuse
   read_step : (reply : Reply R) (log : LogState) (pins : List ℕ) (are_made : Bool)
-      → ReadsRange lba sectors old.objects.uploads.queue.maps are_made old.log log → Tells state old reply (read_reply are_made lba sectors plain)
+      → ReadsRange lba sectors old.objects.uploads.queue.maps are_made old.log log
+      → Tells state old reply (read_reply are_made lba sectors plain)
       → ((number : ℕ) → times number pins ≡ times number (read_pins are_made lba sectors plain))
       → IsStep state (Look lba sectors) reply plain old (with_reads log pins old)
   read_step reply log pins are_made reads tells pinned =
@@ -145,7 +154,8 @@ module _ {R : Type 0} (state : R → ReceiptState) (old : VolumeState) (lba sect
       let rows = reads.reads in
       let left = fuse_in log.commits.disk.budget in
       let same = reads_are_calls shows.data_at old.objects old.log plain shown lba sectors inside are_made log reads in
-      let has = reads_have_fuse (reads_of reads.rows) are_made old.log.commits.disk.budget log.commits.disk.budget rows.calls.budget rows.some in
+      let has = reads_have_fuse (reads_of reads.rows) are_made old.log.commits.disk.budget log.commits.disk.budget
+      rows.calls.budget rows.some in
       let lets = ap (passes has.fuse) (sym same) ∙ has.lets in
       let after = after_look_is has.fuse plain lba sectors true are_made may_plain lets in
       record {
@@ -164,7 +174,8 @@ module _ {R : Type 0} (state : R → ReceiptState) (old : VolumeState) (lba sect
             let cache : PlainCache = record plain.cache { left = fuse_after has.fuse (look_calls plain lba sectors) } in
             subst (λ (p : PlainState). ShowsPending log p.cache) (sym after)
             (still_shows_pending old.log log plain.cache cache pends rows.commits rows.moments
-            (told_stays (reads_cost (reads_of reads.rows)) are_made old.log.commits.disk.budget log.commits.disk.budget rows.calls.budget pends.told)
+            (told_stays (reads_cost (reads_of reads.rows)) are_made old.log.commits.disk.budget log.commits.disk.budget
+            rows.calls.budget pends.told)
             (λ is. sym (has.told room).1 ∙ spent_after has.fuse (reads_of reads.rows) ((has.told room).0 ∙ is))
             refl);
       }
@@ -190,9 +201,11 @@ module _ {R : Type 0} (state : R → ReceiptState) (old : VolumeState) (lba sect
       let own = ap (times number) objects in
       omega (arith, both, before, added, own))
 
-pub planned_steps : {R : Type 0} (state : R → ReceiptState) (old : VolumeState) (lba sectors : ℕ) (plan : PlanState) (log : LogState) (pins : List ℕ)
+pub planned_steps : {R : Type 0} (state : R → ReceiptState) (old : VolumeState) (lba sectors : ℕ) (plan : PlanState)
+    (log : LogState) (pins : List ℕ)
     → IsUploads old.objects.uploads.queue old.objects.uploads.window → may_transfer old.objects.batch.geometry lba sectors ≡ true
-    → IsReadPlan lba sectors old.objects old.log plan → All (λ piece. TellsWhole piece.receipt) plan.pieces → ArePinned plan.objects old.pins pins
+    → IsReadPlan lba sectors old.objects old.log plan → All (λ piece. TellsWhole piece.receipt) plan.pieces
+    → ArePinned plan.objects old.pins pins
     → ReadsRange lba sectors old.objects.uploads.queue.maps true old.log log
     → StepsAsPlain state (Look lba sectors) (told.Planned plan) old (with_reads log pins old)
 planned_steps state old lba sectors plan log pins ordered may is whole pinned reads plain shows =
@@ -205,11 +218,13 @@ pub fault_steps : {R : Type 0} (state : R → ReceiptState) (old : VolumeState) 
     → StepsAsPlain state (Look lba sectors) told.Fault old (with_reads log pins old)
 fault_steps state old lba sectors log pins ordered may pinned reads plain shows =
     inl
-    (read_step state old lba sectors ordered may plain shows told.Fault log pins false reads refl (λ number. pinned number ∙ shows.pins number))
+    (read_step state old lba sectors ordered may plain shows told.Fault log pins false reads refl (λ number. pinned number
+    ∙ shows.pins number))
 
 -- memory ran out
 pub memory_steps : {R : Type 0} (state : R → ReceiptState) (old : VolumeState) (lba sectors : ℕ) (log : LogState) (pins : List ℕ)
-    → log ≡ old.log → HasSamePins old.pins pins → StepsAsPlain state (Look lba sectors) told.OutOfMemory old (with_reads log pins old)
+    → log ≡ old.log → HasSamePins old.pins pins → StepsAsPlain state (Look lba sectors) told.OutOfMemory old
+    (with_reads log pins old)
 memory_steps state old lba sectors log pins same pinned plain shows =
     inr
     (record {

@@ -56,7 +56,8 @@ module _ {R : Type 0} (old : VolumeState) (objects : ObjLogState) where
   taken_grow told.Nothing taken = by_list old objects old.objects taken.1 (omega arith)
   taken_grow reply taken = absurd taken
 
-  pub returned_grow : (job : JobState) (reply : Reply R) → Returns job reply old.objects objects → NumbersGrow old (with_objects objects old)
+  pub returned_grow : (job : JobState) (reply : Reply R) → Returns job reply old.objects objects
+      → NumbersGrow old (with_objects objects old)
   returned_grow job told.Returned returned = by_list old objects _ returned.1 (omega arith)
   returned_grow job (told.NotReturned back) returned = by_list old objects old.objects returned.2 (omega arith)
   returned_grow job reply returned = absurd returned
@@ -76,18 +77,22 @@ module _ {R : Type 0} (old : VolumeState) (objects : ObjLogState) where
 
 -- ---- the counts are told
 
-pub status_steps : {R : Type 0} (state : R → ReceiptState) (volume : VolumeState) (batch : BatchState) (writes sealed frontier : ℕ)
+pub status_steps : {R : Type 0} (state : R → ReceiptState) (volume : VolumeState) (batch : BatchState)
+    (writes sealed frontier : ℕ)
     → IsUploads volume.objects.uploads.queue volume.objects.uploads.window → batch ≡ volume.objects.batch
-    → writes ≡ batch.first + length batch.entries → sealed ≡ volume.objects.uploads.window.last → frontier ≡ volume.objects.uploads.queue.frontier
+    → writes ≡ batch.first + length batch.entries → sealed ≡ volume.objects.uploads.window.last
+    → frontier ≡ volume.objects.uploads.queue.frontier
     → StepsAsPlain state Status (told.Told writes sealed frontier volume.checkpoint) volume volume
 status_steps state volume batch writes sealed frontier uploads same writes_is sealed_is frontier_is plain shows =
     let counts = shown_have_counts shows.data_at volume.objects plain uploads shows.valid shows.objects in
-    let next : history_length plain ≡ writes = sym (writes_is ∙ (ap (λ (b : BatchState). b.first + length b.entries) same ∙ counts.next)) in
+    let next : history_length plain ≡ writes =
+    sym (writes_is ∙ (ap (λ (b : BatchState). b.first + length b.entries) same ∙ counts.next)) in
     let last : plain.window.last ≡ sealed = sym (sealed_is ∙ ap (λ (w : WindowState). w.last) shows.objects.window) in
     let reached : frontier_of plain ≡ frontier = sym (frontier_is ∙ counts.frontier) in
     let newest : plain.checkpoint ≡ volume.checkpoint = sym shows.checkpoint in
     let tells : status_reply plain ≡ replies.Told writes sealed frontier volume.checkpoint = cc in
-    inl (quiet_step state Status (told.Told writes sealed frontier volume.checkpoint) plain volume volume events.Status shows refl tells shows
+    inl (quiet_step state Status (told.Told writes sealed frontier volume.checkpoint) plain volume volume events.Status shows refl
+    tells shows
     refl refl)
 
 -- ---- the window changes
@@ -103,7 +108,8 @@ window_changes plain window valid grows = record {
   frontier = ends_grow (stream_in plain) (frontier_of plain) (below_open window) valid.stream.ends grows;
 }
 
-holds_of_either : (P : WindowState → Type 0) (b : Bool) (window other : WindowState) → P window → P other → P (cond b window other)
+holds_of_either : (P : WindowState → Type 0) (b : Bool) (window other : WindowState) → P window → P other
+    → P (cond b window other)
 holds_of_either P true window other is is_other = is
 holds_of_either P false window other is is_other = is_other
 
@@ -119,14 +125,17 @@ failed_leaves number window =
 done_leaves : (number : ℕ) (window : WindowState) → below_open window ≤ below_open (acknowledged number window)
     → below_open window ≤ below_open (window_after_done (Some number) window)
 done_leaves number window grows =
-    holds_of_either (λ w. below_open window ≤ below_open w) (is_started number window.objects) (acknowledged number window) window grows (omega arith)
+    holds_of_either (λ w. below_open window ≤ below_open w) (is_started number window.objects) (acknowledged number window) window
+    grows (omega arith)
 
 -- a plain volume of which no object is ready stays as it is
-none_taken : (lowest : Option ℕ) (plain : PlainState) → lowest ≡ None → record plain { window = window_after_take lowest plain.window } ≡ plain
+none_taken : (lowest : Option ℕ) (plain : PlainState) → lowest ≡ None
+    → record plain { window = window_after_take lowest plain.window } ≡ plain
 none_taken lowest plain none = ap (λ (l : Option ℕ). record plain { window = window_after_take l plain.window }) none
 
 -- where the plain volume seals, its objects change, and else nothing
-seal_changes : (plain : PlainState) (seals : Bool) → IsPlainVolume plain → IsOfOtherObjects plain (cond seals (with_sealed plain) plain)
+seal_changes : (plain : PlainState) (seals : Bool) → IsPlainVolume plain
+    → IsOfOtherObjects plain (cond seals (with_sealed plain) plain)
 seal_changes plain true valid = record {
   cache = refl;
   pins = refl;
@@ -145,7 +154,8 @@ module _ {R : Type 0} (state : R → ReceiptState) (old : VolumeState) (objects 
   abbrev changed : VolumeState
   changed = with_objects objects old
 
-  unchanged : (event : Event R) (reply : Reply R) (plain : PlainState) (asked : PlainEvent) → Shows old plain → objects ≡ old.objects
+  unchanged : (event : Event R) (reply : Reply R) (plain : PlainState) (asked : PlainEvent) → Shows old plain
+      → objects ≡ old.objects
       → plain_after asked plain ≡ plain → Asks state old event asked → Tells state old reply (plain_reply plain asked)
       → IsStep state event reply plain old changed
   unchanged event reply plain asked shows same stays asks tells =
@@ -165,20 +175,24 @@ module _ {R : Type 0} (state : R → ReceiptState) (old : VolumeState) (objects 
       (taken_shows_take shows.data_at old.objects plain number shows.objects taken.0) in
       let leaves = window_changes plain (window_after_take lowest plain.window) shows.valid (take_leaves lowest plain.window) in
       let now = objects_shown old objects plain (after_take plain) shows leaves (take_keeps plain lowest shows.valid) shown in
-      inl (quiet_step state TakeJob (told.Taken job) plain old changed events.TakeJob shows refl (ap reply_of_taken found, taken.1) now
+      inl (quiet_step state TakeJob (told.Taken job) plain old changed events.TakeJob shows refl
+      (ap reply_of_taken found, taken.1) now
       refl refl)
   taken_steps told.Nothing taken plain shows =
       let lowest = lowest_ready plain.window.objects in
       let none : lowest ≡ None = ap (λ (w : WindowState). lowest_ready w.objects) (sym shows.objects.window) ∙ taken.0 in
-      inl (unchanged TakeJob told.Nothing plain events.TakeJob shows taken.1 (none_taken lowest plain none) refl (ap reply_of_taken none))
+      inl (unchanged TakeJob told.Nothing plain events.TakeJob shows taken.1 (none_taken lowest plain none) refl
+      (ap reply_of_taken none))
   taken_steps reply taken plain shows = absurd taken
 
   -- ---- a put fails
 
   -- a put that is out is under way in the plain volume
-  out_is_under_way : (plain : PlainState) (number : ℕ) → Shows old plain → is_started number old.objects.uploads.window.objects ≡ true
+  out_is_under_way : (plain : PlainState) (number : ℕ) → Shows old plain
+      → is_started number old.objects.uploads.window.objects ≡ true
       → is_started number plain.window.objects ≡ true
-  out_is_under_way plain number shows started = ap (λ (w : WindowState). is_started number w.objects) (sym shows.objects.window) ∙ started
+  out_is_under_way plain number shows started = ap (λ (w : WindowState). is_started number w.objects) (sym shows.objects.window)
+      ∙ started
 
   pub returned_steps : (job : JobState) (reply : Reply R) → Returns job reply old.objects objects
       → StepsAsPlain state (JobFailed job) reply old changed
@@ -189,18 +203,23 @@ module _ {R : Type 0} (state : R → ReceiptState) (old : VolumeState) (objects 
       let shown =
       subst (λ o. ShowsObjects shows.data_at o (after_failed (Some number) plain)) (sym returned.1)
       (failed_shows_failed shows.data_at old.objects plain number shows.objects out.started) in
-      let leaves = window_changes plain (window_after_failed (Some number) plain.window) shows.valid (failed_leaves number plain.window) in
+      let leaves = window_changes plain (window_after_failed (Some number) plain.window) shows.valid
+      (failed_leaves number plain.window) in
       let now =
-      objects_shown old objects plain (after_failed (Some number) plain) shows leaves (failed_keeps plain (Some number) shows.valid) shown in
-      inl (quiet_step state (JobFailed job) told.Returned plain old changed (events.JobFailed (Some number)) shows (Some number, refl, (refl, out))
+      objects_shown old objects plain (after_failed (Some number) plain) shows leaves
+      (failed_keeps plain (Some number) shows.valid) shown in
+      inl (quiet_step state (JobFailed job) told.Returned plain old changed (events.JobFailed (Some number)) shows
+      (Some number, refl, (refl, out))
       (ap (λ b. cond b replies.Returned replies.Nothing) way) now refl refl)
   returned_steps job (told.NotReturned back) returned plain shows =
-      inl (unchanged (JobFailed job) (told.NotReturned back) plain (events.JobFailed None) shows returned.2 refl (None, refl, returned.0) refl)
+      inl (unchanged (JobFailed job) (told.NotReturned back) plain (events.JobFailed None) shows returned.2 refl
+      (None, refl, returned.0) refl)
   returned_steps job reply returned plain shows = absurd returned
 
   -- ---- a put is done
 
-  pub done_steps : (job : JobState) (receipt : R) (reply : Reply R) → IsUploads old.objects.uploads.queue old.objects.uploads.window
+  pub done_steps : (job : JobState) (receipt : R) (reply : Reply R)
+      → IsUploads old.objects.uploads.queue old.objects.uploads.window
       → IsReceiptFor job.bytes (state receipt) → Finishes state job receipt reply old.objects objects
       → StepsAsPlain state (JobDone job receipt) reply old changed
   done_steps job receipt (told.Done frontier) uploads own done plain shows =
@@ -211,19 +230,22 @@ module _ {R : Type 0} (state : R → ReceiptState) (old : VolumeState) (objects 
       let put = done.1 in
       let way = out_is_under_way plain number shows out.started in
       let counts = shown_have_counts data_at old.objects plain uploads shows.valid shown in
-      let later = done_frontier data_at old.objects objects plain number job.bytes (state receipt) uploads shows.valid shown out own put done.2 in
+      let later = done_frontier data_at old.objects objects plain number job.bytes (state receipt) uploads shows.valid shown out
+      own put done.2 in
       let grows = done_leaves number plain.window (omega (arith, counts.frontier, put.settled.frontier, later)) in
       let leaves = window_changes plain (window_after_done (Some number) plain.window) shows.valid grows in
       let now =
       objects_shown old objects plain (after_done (Some number) plain) shows leaves (done_keeps plain (Some number) shows.valid)
-      (done_shows_done data_at old.objects objects plain number job.bytes (state receipt) uploads shows.valid shown out own put done.2) in
+      (done_shows_done data_at old.objects objects plain number job.bytes (state receipt) uploads shows.valid shown out own
+      put done.2) in
       let tells : done_reply plain (Some number) ≡ replies.Done frontier =
       ap (λ b. cond b (replies.Done (below_open (cond b (acknowledged number plain.window) plain.window))) replies.Nothing) way
       ∙ ap replies.Done (sym (done.3 ∙ later)) in
       inl (quiet_step state (JobDone job receipt) (told.Done frontier) plain old changed (events.JobDone (Some number)) shows
       (Some number, refl, (refl, out, done.0.1)) tells now refl refl)
   done_steps job receipt (told.NotDone back given) uploads own done plain shows =
-      inl (unchanged (JobDone job receipt) (told.NotDone back given) plain (events.JobDone None) shows done.3 refl (None, refl, done.0) refl)
+      inl (unchanged (JobDone job receipt) (told.NotDone back given) plain (events.JobDone None) shows done.3 refl
+      (None, refl, done.0) refl)
   done_steps job receipt reply uploads own done plain shows = absurd done
 
   -- ---- a seal
@@ -237,16 +259,20 @@ module _ {R : Type 0} (state : R → ReceiptState) (old : VolumeState) (objects 
   refused : (reply : Reply R) (plain : PlainState) → Shows old plain → IsSame old.objects objects → after_seal plain ≡ plain
       → Tells state old reply (seal_reply plain) → IsStep state Seal reply plain old changed
   refused reply plain shows same stays tells =
-      quiet_step state Seal reply plain old changed events.Seal shows refl tells (subst (Shows changed) (sym stays) (room_shown plain shows same))
+      quiet_step state Seal reply plain old changed events.Seal shows refl tells
+      (subst (Shows changed) (sym stays) (room_shown plain shows same))
       refl (ap (λ (p : PlainState). p.cache) stays)
 
-  pub seal_steps : (reply : Reply R) → IsUploads old.objects.uploads.queue old.objects.uploads.window → Seals reply old.objects objects
+  pub seal_steps : (reply : Reply R) → IsUploads old.objects.uploads.queue old.objects.uploads.window
+      → Seals reply old.objects objects
       → StepsAsPlain state Seal reply old changed
   seal_steps (told.Sealed number) uploads seals plain shows =
-      let shown = sealed_shows_seal shows.data_at old.objects objects plain uploads shows.valid shows.objects seals.0 seals.2 seals.3 in
+      let shown = sealed_shows_seal shows.data_at old.objects objects plain uploads shows.valid shows.objects seals.0
+      seals.2 seals.3 in
       let leaves = seal_changes plain (has_unsealed plain && not (is_busy plain)) shows.valid in
       let now = objects_shown old objects plain (after_seal plain) shows leaves (seal_keeps plain shows.valid) shown.0 in
-      inl (quiet_step state Seal (told.Sealed number) plain old changed events.Seal shows refl (shown.1 ∙ ap replies.Sealed (sym seals.1)) now
+      inl (quiet_step state Seal (told.Sealed number) plain old changed events.Seal shows refl (shown.1
+      ∙ ap replies.Sealed (sym seals.1)) now
       refl leaves.cache)
   seal_steps told.Nothing uploads seals plain shows =
       let none = (refused_seal_shows_none shows.data_at old.objects plain shows.objects).0 seals.1 in

@@ -1,5 +1,6 @@
 -- The objects of a plan are those that the plain volume reads.
-use Rattle.std.proofs.Common.{◌≡◌, ℕ, suc, ◌+◌, ◌-◌, ◌<◌, ◌≤◌, inl, inr, Bool, true, cond, List, [], ◌∷◌, length, get_or, refl, sym, ◌∙◌, ap, subst, arith}
+use Rattle.std.proofs.Common.{◌≡◌, ℕ, suc, ◌+◌, ◌-◌, ◌<◌, ◌≤◌, inl, inr, Bool, true, cond, List, [], ◌∷◌, length, get_or, refl}
+use Rattle.std.proofs.Common.{sym, ◌∙◌, ap, subst, arith}
 use Rattle.std.specs.Prelude.{Option, Some, None, nat_le}
 use Rattle.std.specs.List.{Contains, filter, list_any, range_with_len, slice_get}
 use Rattle.std.proofs.lemmas.Bool.{cases_eq, cases_lt, cases_order, cases_Bool, leb-false}
@@ -36,14 +37,17 @@ none_below : (number first : ℕ) (rest : List ℕ) → Ascend (first ∷ rest) 
 none_below number first rest ascend below = times_nowhere number (first ∷ rest) (λ k inside is.
     elim (cases_lt 0 k) [
       | inl later ↦ (let h = ascend 0 k 0 later inside in omega (arith, h, is, below))
-      | inr now ↦ (let zeroth : k ≡ 0 = omega arith in let h = ap (λ i. get_or (first ∷ rest) i 0) zeroth in omega (arith, h, is, below))
+      | inr now ↦ (let zeroth : k ≡ 0 = omega arith in let h = ap (λ i. get_or (first ∷ rest) i 0) zeroth in
+          omega (arith, h, is, below))
     ])
 
 -- those that have each number as often are the same
 same_ascending : (xs ys : List ℕ) → Ascend xs → Ascend ys → ((number : ℕ) → times number xs ≡ times number ys) → xs ≡ ys
 same_ascending [] [] a b same = refl
-same_ascending [] (y ∷ ys) a b same = (let h = same y in let c = counted y y ys in let one = one_of y y refl in absurd (omega (arith, h, c, one)))
-same_ascending (x ∷ xs) [] a b same = (let h = same x in let c = counted x x xs in let one = one_of x x refl in absurd (omega (arith, h, c, one)))
+same_ascending [] (y ∷ ys) a b same = (let h = same y in let c = counted y y ys in let one = one_of y y refl in
+    absurd (omega (arith, h, c, one)))
+same_ascending (x ∷ xs) [] a b same = (let h = same x in let c = counted x x xs in let one = one_of x x refl in
+    absurd (omega (arith, h, c, one)))
 same_ascending (x ∷ xs) (y ∷ ys) a b same =
     let first : x ≡ y =
     elim (cases_order x y) [
@@ -75,7 +79,8 @@ same_ascending (x ∷ xs) (y ∷ ys) a b same =
 -- ---- members
 
 times_of_contained : (number : ℕ) (numbers : List ℕ) → Contains numbers number → 0 < times number numbers
-times_of_contained number numbers is = times_there number is.0 numbers is.1 (sym (get_or_default_zero numbers is.0 number is.1) ∙ is.2)
+times_of_contained number numbers is = times_there number is.0 numbers is.1 (sym (get_or_default_zero numbers is.0 number is.1)
+    ∙ is.2)
 
 contained_where_some : (number : ℕ) (numbers : List ℕ) → 0 < times number numbers → Contains numbers number
 contained_where_some number [] some = absurd (omega arith)
@@ -98,7 +103,8 @@ kept_passes test number (first ∷ rest) some =
           let both = counted number first (filter test rest) in
           elim (cases_eq first number) [
             | inl same ↦ sym (ap test same) ∙ passes
-            | inr apart ↦ (let none = none_of number first apart in kept_passes test number rest (omega (arith, some, kept, both, none)))
+            | inr apart ↦ (let none = none_of number first apart in
+                kept_passes test number rest (omega (arith, some, kept, both, none)))
           ]
       | inr fails ↦
           let left = ap (λ b. times number (cond b (first ∷ filter test rest) (filter test rest))) fails in
@@ -144,10 +150,12 @@ in_range from n number low high =
     times_there number (number - from) (range_with_len from n) (omega (arith, count, low, high))
     (get_or-range_with_len from n (number - from) 0 (omega arith) ∙ omega arith)
 
-any_where : (test : ℕ → Bool) (from n k : ℕ) → from ≤ k → k < from + n → test k ≡ true → list_any test (range_with_len from n) ≡ true
+any_where : (test : ℕ → Bool) (from n k : ℕ) → from ≤ k → k < from + n → test k ≡ true
+    → list_any test (range_with_len from n) ≡ true
 any_where test from n k low high passes =
     let count = length-range_with_len from n in
-    let is : get_or (range_with_len from n) (k - from) 0 ≡ k = get_or-range_with_len from n (k - from) 0 (omega arith) ∙ omega arith in
+    let is : get_or (range_with_len from n) (k - from) 0 ≡ k = get_or-range_with_len from n (k - from) 0 (omega arith)
+    ∙ omega arith in
     list_any_at test (range_with_len from n) (k - from) 0 (omega (arith, count, low, high)) (ap test is ∙ passes)
 
 -- one of a range that passes
@@ -182,57 +190,76 @@ receipt_number queue number receipt fit given =
           (omega (arith, above), omega (arith, inside, above, fit))
     ]
 
-given_number : (queue : QueueState) (number at : ℕ) (sector : List ℕ) (receipt : Option ReceiptState) → length queue.receipts ≤ queue.frontier
+given_number : (queue : QueueState) (number at : ℕ) (sector : List ℕ) (receipt : Option ReceiptState)
+    → length queue.receipts ≤ queue.frontier
     → receipt_of queue number ≡ receipt → GivesSector receipt at sector → (1 ≤ number) × (number ≤ queue.frontier)
 given_number queue number at sector None fit given gives = absurd gives
 given_number queue number at sector (Some receipt) fit given gives = receipt_number queue number receipt fit given
 
 -- ---- the objects that are read
 
-module _ (data_at : ℕ → ℕ) (objects : ObjLogState) (log : LogState) (plain : PlainState) (shows : ShowsReads data_at objects log plain)
+module _ (data_at : ℕ → ℕ) (objects : ObjLogState) (log : LogState) (plain : PlainState)
+    (shows : ShowsReads data_at objects log plain)
     (lba sectors : ℕ) (inside : lba + sectors ≤ plain.geometry.sectors) where
   -- an object that a sector is placed in is up to the frontier
-  placed_number : (k : ℕ) (place : ObjectPlace) → k < plain.geometry.sectors → volume_place_at objects.uploads.queue.maps k ≡ Some (Object place)
+  placed_number : (k : ℕ) (place : ObjectPlace) → k < plain.geometry.sectors → volume_place_at objects.uploads.queue.maps k
+      ≡ Some (Object place)
       → (1 ≤ place.number) × (place.number ≤ frontier_of plain)
   placed_number k place within is =
       let queue : QueueState = objects.uploads.queue in
       let sector : List ℕ = get_or (image_now plain) k [] in
       let there = slice_get-get_or (image_now plain) k [] (omega (arith, within, image_has_sectors plain shows.valid)) in
-      let held = subst (λ p. IsHeldAt log queue p sector) is (places_hold_sectors data_at objects log plain k sector shows there) in
-      let number = given_number queue place.number place.sector sector (receipt_of queue place.number) shows.ordered.receipts refl held.1 in
+      let held = subst (λ p. IsHeldAt log queue p sector) is (places_hold_sectors data_at objects log plain k sector
+      shows there) in
+      let number = given_number queue place.number place.sector sector (receipt_of queue place.number) shows.ordered.receipts
+      refl held.1 in
       let reached = (counts data_at objects log plain shows).frontier in
       (number.0, (let most = number.1 in omega (arith, most, reached)))
 
-  read_where_in : (numbers : List ℕ) (number : ℕ) → AreObjectsIn lba sectors objects.uploads.queue.maps numbers → 0 < times number numbers
+  read_where_in : (numbers : List ℕ) (number : ℕ) → AreObjectsIn lba sectors objects.uploads.queue.maps numbers
+      → 0 < times number numbers
       → 0 < times number (objects_read plain lba sectors)
   read_where_in numbers number are some =
       let has = (are.each number).0 (contained_where_some number numbers some) in
       let to = has.to in
       let within : has.k < plain.geometry.sectors = omega (arith, to, inside) in
-      let reads = (places_are_of_objects_read data_at objects log plain has.k number shows within).0 (has.place, has.is, has.has_number) in
+      let reads = (places_are_of_objects_read data_at objects log plain has.k number shows within).0
+      (has.place, has.is, has.has_number) in
       let bounds = placed_number has.k has.place within has.is in
       let named = has.has_number in
       let low = bounds.0 in
       let high = bounds.1 in
-      kept_where_passes (λ n. list_any (is_read_from plain n) (range_with_len lba sectors)) number (range_with_len 1 (frontier_of plain))
+      kept_where_passes (λ n. list_any (is_read_from plain n) (range_with_len lba sectors)) number
+      (range_with_len 1 (frontier_of plain))
       (in_range 1 (frontier_of plain) number (omega (arith, named, low)) (omega (arith, named, high)))
       (any_where (is_read_from plain number) lba sectors has.k has.from to reads)
 
   in_where_read : (numbers : List ℕ) (number : ℕ) → AreObjectsIn lba sectors objects.uploads.queue.maps numbers
       → 0 < times number (objects_read plain lba sectors) → 0 < times number numbers
   in_where_read numbers number are some =
-      let any = kept_passes (λ n. list_any (is_read_from plain n) (range_with_len lba sectors)) number (range_with_len 1 (frontier_of plain)) some in
+      let any = kept_passes (λ n. list_any (is_read_from plain n) (range_with_len lba sectors)) number
+      (range_with_len 1 (frontier_of plain)) some in
       let at = where_any (is_read_from plain number) lba sectors any in
       let high = at.high in
-      let placed = (places_are_of_objects_read data_at objects log plain at.k number shows (omega (arith, high, inside))).1 at.passes in
+      let placed = (places_are_of_objects_read data_at objects log plain at.k number shows (omega (arith, high, inside))).1
+      at.passes in
       times_of_contained number numbers
-      ((are.each number).1 (record { k = at.k; place = placed.0; from = at.low; to = high; is = placed.1; has_number = placed.2 }))
+      ((are.each number).1 (record {
+        k = at.k;
+        place = placed.0;
+        from = at.low;
+        to = high;
+        is = placed.1;
+        has_number = placed.2;
+      }))
 
-  pub objects_are_read : (numbers : List ℕ) → AreObjectsIn lba sectors objects.uploads.queue.maps numbers → numbers ≡ objects_read plain lba sectors
+  pub objects_are_read : (numbers : List ℕ) → AreObjectsIn lba sectors objects.uploads.queue.maps numbers
+      → numbers ≡ objects_read plain lba sectors
   objects_are_read numbers are =
       let test : ℕ → Bool = λ number. list_any (is_read_from plain number) (range_with_len lba sectors) in
       let ascend = AllPairs-from_increasing numbers are.ascending in
-      let read_ascend = AllPairs-filter (λ a b. a < b) test (range_with_len 1 (frontier_of plain)) (range_ascends 1 (frontier_of plain)) in
+      let read_ascend = AllPairs-filter (λ a b. a < b) test (range_with_len 1 (frontier_of plain))
+      (range_ascends 1 (frontier_of plain)) in
       same_ascending numbers (objects_read plain lba sectors) ascend read_ascend (λ number.
       let a = times_of_ascending number numbers ascend in
       let b = times_of_ascending number (objects_read plain lba sectors) read_ascend in

@@ -30,12 +30,14 @@ use Rattle.vol_core.proofs.AppendLemmas.{most_of_append, room_for_append, cache_
 use Rattle.vol_core.proofs.LogEntering.{most_for, room_for_first, room_for_second, room_then, none_first, one_first}
 
 -- a disk that told its budget tells it after calls
-pub told_stays : (cost : Cost) (are_made : Bool) (old new : Option Budget) → Takes cost are_made old new → IsTrue (is_some old) → IsTrue (is_some new)
+pub told_stays : (cost : Cost) (are_made : Bool) (old new : Option Budget) → Takes cost are_made old new → IsTrue (is_some old)
+    → IsTrue (is_some new)
 told_stays cost are_made None new takes told = absurd (cc)
 told_stays cost are_made (Some budget) new takes told = subst (λ o. IsTrue (is_some o)) (sym takes.1) refl
 
 -- the calls that the plain cache passes are no matter
-pub with_left_pends : (log : LogState) (cache : PlainCache) (left : Fuse) → ShowsPending log cache → ShowsPending log (with_left left cache)
+pub with_left_pends : (log : LogState) (cache : PlainCache) (left : Fuse) → ShowsPending log cache
+    → ShowsPending log (with_left left cache)
 with_left_pends log cache left pends = record { told = pends.told; pending = pends.pending; broken = pends.broken }
 
 -- ---- a commit
@@ -66,7 +68,8 @@ commit_then seq false old new cache commit pends is on_disk can =
 
 -- a commit, that was made or failed, of a log that shows the plain volume's
 pub commit_pends : (is_made : Bool) (old new : LogState) (plain : PlainState) → ShowsLog old plain.cache.log → IsPlainVolume plain
-    → AreOnDisk old.commits → HasRoom (commit_cost old.commits.unfinished).changes (commit_cost old.commits.unfinished).bytes old.commits.disk.budget
+    → AreOnDisk old.commits → HasRoom (commit_cost old.commits.unfinished).changes (commit_cost old.commits.unfinished).bytes
+    old.commits.disk.budget
     → ShowsPending old plain.cache → CommitsFrom (frontier_end plain) is_made old new
     → ShowsPending new (cache_after_commit (frontier_end plain) (with_left (fuse_in old.commits.disk.budget) plain.cache))
 commit_pends is_made old new plain is valid on_disk room pends commit =
@@ -86,7 +89,8 @@ commit_pends is_made old new plain is valid on_disk room pends commit =
 
 append_pends : (entry : Entry) (result : Result ℕ AppendError) (old new : LogState) (cache : PlainCache) → ShowsPending old cache
     → ShowsLog old cache.log → cache.left ≡ fuse_in old.commits.disk.budget
-    → HasRoom (most_of_append (record_sectors entry)).changes (most_of_append (record_sectors entry)).bytes old.commits.disk.budget
+    → HasRoom (most_of_append (record_sectors entry)).changes (most_of_append (record_sectors entry)).bytes
+    old.commits.disk.budget
     → Appends entry result old new → ShowsPending new (cache_by result entry cache)
 append_pends entry (Ok at) old new cache pends is left room appends =
     entry_shows_pending old new cache entry true pends is appends.keeps.commits
@@ -95,13 +99,16 @@ append_pends entry (Err (errors.NoRoom needed left_over)) old new cache pends is
     subst (λ l. ShowsPending l cache) (sym appends.err.untouched) pends
 append_pends entry (Err errors.DeviceFault) old new cache pends is left room appends =
     entry_shows_pending old new cache entry false pends is appends.keeps.commits
-    (record { left = left; room = room_for_append old.room (record_sectors entry) old.commits.disk.budget room }) appends.err.calls
+    (record { left = left; room = room_for_append old.room (record_sectors entry) old.commits.disk.budget room })
+    appends.err.calls
 
 -- ---- an entry that comes to the log
 
-module _ (entry : Entry) (data_at : ℕ → ℕ) (old : LogState) (plain : PlainState) (is : ShowsLog old plain.cache.log) (valid : IsPlainVolume plain)
+module _ (entry : Entry) (data_at : ℕ → ℕ) (old : LogState) (plain : PlainState) (is : ShowsLog old plain.cache.log)
+    (valid : IsPlainVolume plain)
     (logged : HasLoggedEntries data_at old plain) (taken : batch_refusal plain entry ≡ None) (on_disk : AreOnDisk old.commits)
-    (room : HasRoom (most_for old.commits.unfinished entry).changes (most_for old.commits.unfinished entry).bytes old.commits.disk.budget)
+    (room : HasRoom (most_for old.commits.unfinished entry).changes (most_for old.commits.unfinished entry).bytes
+    old.commits.disk.budget)
     (pends : ShowsPending old plain.cache) where
   -- the plain volume whose device passes what the log's does
   abbrev state : PlainState
@@ -110,16 +117,20 @@ module _ (entry : Entry) (data_at : ℕ → ℕ) (old : LogState) (plain : Plain
   abbrev ready : PlainCache
   ready = cache_after_commit (frontier_end state) state.cache
 
-  room_to_commit : HasRoom (commit_cost old.commits.unfinished).changes (commit_cost old.commits.unfinished).bytes old.commits.disk.budget
-  room_to_commit = room_for_first (commit_cost old.commits.unfinished) (most_of_append (record_sectors entry)) old.commits.disk.budget room
+  room_to_commit : HasRoom (commit_cost old.commits.unfinished).changes (commit_cost old.commits.unfinished).bytes
+      old.commits.disk.budget
+  room_to_commit = room_for_first (commit_cost old.commits.unfinished) (most_of_append (record_sectors entry))
+      old.commits.disk.budget room
 
   pends_at_once : (result : Result ℕ AppendError) (new : LogState) → EntersAtOnce entry (frontier_end plain) result old new
       → ShowsPending new (after_entering entry state).cache
   pends_at_once result new at_once =
       let comes = comes_at_once state entry taken (none_first entry data_at old plain is valid logged taken result new at_once) in
       subst (ShowsPending new) (sym (append_cache state entry state.cache result old new comes is at_once.appends))
-      (append_pends entry result old new state.cache (with_left_pends old plain.cache (fuse_in old.commits.disk.budget) pends) is refl
-      (room_for_second (commit_cost old.commits.unfinished) (most_of_append (record_sectors entry)) old.commits.disk.budget room) at_once.appends)
+      (append_pends entry result old new state.cache (with_left_pends old plain.cache (fuse_in old.commits.disk.budget) pends) is
+      refl
+      (room_for_second (commit_cost old.commits.unfinished) (most_of_append (record_sectors entry)) old.commits.disk.budget room)
+      at_once.appends)
 
   -- a commit first, by the fuse that the device tells
   record CommitsByOwn (is_made : Bool) (new : LogState) : Type 0 where
@@ -151,13 +162,16 @@ module _ (entry : Entry) (data_at : ℕ → ℕ) (old : LogState) (plain : Plain
       let own = commits_by_own true middle commit in
       let cost : Cost = commit_cost old.commits.unfinished in
       let takes : Takes cost true old.commits.disk.budget middle.commits.disk.budget =
-      subst (λ (c : CommitsState). Takes (commit_cost c.unfinished) true c.disk.budget middle.commits.disk.budget) commit.trimmed.commits
+      subst (λ (c : CommitsState). Takes (commit_cost c.unfinished) true c.disk.budget middle.commits.disk.budget)
+      commit.trimmed.commits
       commit.calls.calls.budget in
       let comes = comes_after_commit state entry true taken first own.commits.passed in
       subst (ShowsPending new) (sym (append_cache state entry ready result middle new comes own.commits.log appends))
-      (append_pends entry result middle new ready (commit_pends true old middle plain is valid on_disk room_to_commit pends commit)
+      (append_pends entry result middle new ready (commit_pends true old middle plain is valid on_disk room_to_commit
+      pends commit)
       own.commits.log own.left
-      (room_then cost (most_of_append (record_sectors entry)) true old.commits.disk.budget middle.commits.disk.budget takes room) appends)
+      (room_then cost (most_of_append (record_sectors entry)) true old.commits.disk.budget middle.commits.disk.budget takes room)
+      appends)
 
   -- at once, or after a commit
   pub enter_pends : (result : Result ℕ AppendError) (new : LogState) → EntersLog entry (frontier_end plain) result old new

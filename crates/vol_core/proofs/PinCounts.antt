@@ -1,5 +1,6 @@
 -- Pins by how often each number is among them.
-use Rattle.std.proofs.Common.{◌≡◌, ℕ, suc, ◌+◌, ◌-◌, ◌<◌, ◌≤◌, ◌==◌, inl, inr, true, false, ◌||◌, cond, List, [], ◌∷◌, get_or, refl, sym, ◌∙◌, ap, arith}
+use Rattle.std.proofs.Common.{◌≡◌, ℕ, suc, ◌+◌, ◌-◌, ◌<◌, ◌≤◌, ◌==◌, inl, inr, true, false, ◌||◌, cond, List, [], ◌∷◌, get_or}
+use Rattle.std.proofs.Common.{refl, sym, ◌∙◌, ap, arith}
 use Rattle.std.specs.Prelude.{nat_lt}
 use Rattle.std.specs.List.{All, AllPairs, list_any}
 use Rattle.std.specs.List.Sorted.{IsStrictlyIncreasing}
@@ -42,7 +43,8 @@ times_unpinned other number (pin ∷ pins) =
           let left = ap (times other) (unpinned_later number pin pins apart) ∙ counted other pin (unpinned number pins) in
           let more = times_unpinned other number pins in
           elim (cases_eq pin other) [
-            | inl here ↦ (let none = none_of other number (λ same. apart (here ∙ sym same)) in omega (arith, before, left, more, none))
+            | inl here ↦ (let none = none_of other number (λ same. apart (here ∙ sym same)) in
+                omega (arith, before, left, more, none))
             | inr not_here ↦ (let none = none_of other pin not_here in omega (arith, before, left, more, none))
           ]
     ]
@@ -65,7 +67,8 @@ any_is number (pin ∷ pins) =
 
 -- ---- several numbers
 
-pub times_without : (number : ℕ) (numbers pins : List ℕ) → times number (without_pins numbers pins) ≡ times number pins - times number numbers
+pub times_without : (number : ℕ) (numbers pins : List ℕ) → times number (without_pins numbers pins) ≡ times number pins - times
+    number numbers
 times_without number [] pins = omega arith
 times_without number (first ∷ rest) pins =
     let more = times_without number rest (unpinned first pins) in
@@ -135,7 +138,8 @@ times_of_ascending number (first ∷ rest) ascend =
     ]
 
 -- ascending numbers of which each is pinned
-some_are_within : (numbers pins : List ℕ) → Ascend numbers → All (λ number. 0 < times number pins) numbers → AreWithin numbers pins
+some_are_within : (numbers pins : List ℕ) → Ascend numbers → All (λ number. 0 < times number pins) numbers
+    → AreWithin numbers pins
 some_are_within [] pins ascend some = λ number. omega arith
 some_are_within (first ∷ rest) pins ascend some = λ number.
     let both = counted number first rest in
@@ -161,7 +165,8 @@ within_are_some numbers pins within = All-from_get_or (λ number. 0 < times numb
     omega (arith, there, least))
 
 -- where pins are as often among others
-pub ascending_are_pinned : (numbers pins others : List ℕ) → IsStrictlyIncreasing numbers → ((number : ℕ) → times number pins ≡ times number others)
+pub ascending_are_pinned : (numbers pins others : List ℕ) → IsStrictlyIncreasing numbers
+    → ((number : ℕ) → times number pins ≡ times number others)
     → All (λ number. 0 < times number pins) numbers → are_pinned numbers others ≡ true
 ascending_are_pinned numbers pins others ascend same some =
     let within = some_are_within numbers pins (AllPairs-from_increasing numbers ascend) some in

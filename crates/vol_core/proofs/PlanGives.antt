@@ -1,5 +1,6 @@
 -- A plan gives the sectors of the plain volume, where the log and the receipts tell them.
-use Rattle.std.proofs.Common.{◌≡◌, ℕ, zero, suc, ◌+◌, ◌-◌, ◌*◌, ◌<◌, ◌≤◌, ◌⊎◌, inl, inr, List, [], ◌∷◌, ◌++◌, length, take, drop, refl, sym, ◌∙◌, ap, subst, arith}
+use Rattle.std.proofs.Common.{◌≡◌, ℕ, zero, suc, ◌+◌, ◌-◌, ◌*◌, ◌<◌, ◌≤◌, ◌⊎◌, inl, inr, List, [], ◌∷◌, ◌++◌, length, take, drop}
+use Rattle.std.proofs.Common.{refl, sym, ◌∙◌, ap, subst, arith}
 use Rattle.std.specs.Prelude.{Option, Some, None, IfSome}
 use Rattle.std.specs.List.{All, AllByRecursion, concat, slice_get}
 use Rattle.std.proofs.lemmas.List.{take-append-drop, drop-drop, length-drop, length-take-le}
@@ -35,7 +36,11 @@ use Rattle.reads_meaning.proofs.ShownLemmas.{image_has_sectors}
 -- ---- the receipts
 
 tells_all : (receipt : ReceiptState) (told : List ℕ) → receipt.told ≡ Some told → TellsWhole receipt → TellsAll receipt
-tells_all receipt told is whole = record { bytes = told; told = is; size = subst (λ t. IfSome t (λ all. receipt.size ≡ length all)) is whole }
+tells_all receipt told is whole = record {
+  bytes = told;
+  told = is;
+  size = subst (λ t. IfSome t (λ all. receipt.size ≡ length all)) is whole;
+}
 
 -- all receipts tell, so that pieces over some bytes give some
 pub record GiveBytes (pieces : List PieceState) (under : List ℕ) : Type 0 where
@@ -48,7 +53,8 @@ abbrev GiveOrTellNone : List PieceState → (under : List ℕ) → Type 0
 GiveOrTellNone pieces under = GiveBytes pieces under ⊎ ((bytes : List ℕ) → GivesOver pieces under bytes)
 
 one_more : (piece : PieceState) (pieces : List PieceState) (under : List ℕ) (told : Option (List ℕ)) → TellsWhole piece.receipt
-    → piece.receipt.told ≡ told → ((bytes : List ℕ) → GiveOrTellNone pieces (pasted piece bytes under)) → GiveOrTellNone (piece ∷ pieces) under
+    → piece.receipt.told ≡ told → ((bytes : List ℕ) → GiveOrTellNone pieces (pasted piece bytes under))
+    → GiveOrTellNone (piece ∷ pieces) under
 one_more piece pieces under None whole is more =
     inr (λ bytes. subst (λ t. IfSome t (λ all. GivesOver pieces (pasted piece all under) bytes)) (sym is) tt)
 one_more piece pieces under (Some told) whole is more =
@@ -59,14 +65,16 @@ one_more piece pieces under (Some told) whole is more =
             bytes = give.bytes;
             gives = subst (λ t. IfSome t (λ all. GivesOver pieces (pasted piece all under) give.bytes)) (sym is) give.gives;
           })
-      | inr any ↦ inr (λ bytes. subst (λ t. IfSome t (λ all. GivesOver pieces (pasted piece all under) bytes)) (sym is) (any bytes))
+      | inr any ↦ inr (λ bytes. subst (λ t. IfSome t (λ all. GivesOver pieces (pasted piece all under) bytes)) (sym is)
+          (any bytes))
     ]
 
 pub give_or_tell_none : (pieces : List PieceState) (under : List ℕ) → AllByRecursion (λ piece. TellsWhole piece.receipt) pieces
     → GiveOrTellNone pieces under
 give_or_tell_none [] under whole = inl (record { told = tt; bytes = under; gives = refl })
 give_or_tell_none (piece ∷ pieces) under whole =
-    one_more piece pieces under piece.receipt.told whole.0 refl (λ bytes. give_or_tell_none pieces (pasted piece bytes under) whole.1)
+    one_more piece pieces under piece.receipt.told whole.0 refl
+    (λ bytes. give_or_tell_none pieces (pasted piece bytes under) whole.1)
 
 -- ---- one sector
 
@@ -79,11 +87,13 @@ record IsFetched (queue : QueueState) (place : ObjectPlace) : Type 0 where
 fetched_told : (queue : QueueState) (place : ObjectPlace) (i : ℕ) (pieces : List PieceState) → OneFetches queue place i pieces
     → AllByRecursion (λ piece. TellsAll piece.receipt) pieces → IsFetched queue place
 fetched_told queue place i [] one told = absurd one
-fetched_told queue place i (piece ∷ pieces) (inl this) told = record { receipt = piece.receipt; given = this.0.receipt; tells = told.0 }
+fetched_told queue place i (piece ∷ pieces) (inl this) told =
+    record { receipt = piece.receipt; given = this.0.receipt; tells = told.0 }
 fetched_told queue place i (piece ∷ pieces) (inr later) told = fetched_told queue place i pieces later.1 told.1
 
 -- a sector that a plan gives is the one that is held at its place
-pub same_sector : (log : LogState) (queue : QueueState) (place : Option VolumePlace) (i : ℕ) (plan : PlanState) (list : List Entry)
+pub same_sector : (log : LogState) (queue : QueueState) (place : Option VolumePlace) (i : ℕ) (plan : PlanState)
+    (list : List Entry)
     (given sector : List ℕ) → log.entries ≡ Some list → AllByRecursion (λ piece. TellsAll piece.receipt) plan.pieces
     → HoldsPlace log queue place i plan → IsSectorAt log queue place given → IsHeldAt log queue place sector → given ≡ sector
 same_sector log queue None i plan list given sector listed told holds at held = at ∙ sym held
@@ -94,12 +104,14 @@ same_sector log queue (Some (Log (Data seq place))) i plan list given sector lis
     let each =
     subst
     (λ l. IfSome l (λ all. (row : Row) (entry : Entry)
-    → slice_get log.rows index ≡ Some row → slice_get all index ≡ Some entry → given ≡ sector_of (place - (position_of row + 1)) (data_of entry)))
+    → slice_get log.rows index ≡ Some row → slice_get all index ≡ Some entry
+    → given ≡ sector_of (place - (position_of row + 1)) (data_of entry)))
     listed at in
     each held.row held.entry held.there entry ∙ sym held.part
 same_sector log queue (Some (Object place)) i plan list given sector listed told holds at held =
     let fetched = fetched_told queue place i plan.pieces holds.fetched told in
-    let is = subst (λ t. IfSome t (λ all. given ≡ sector_of place.sector all)) fetched.tells.told (at fetched.receipt fetched.given) in
+    let is = subst (λ t. IfSome t (λ all. given ≡ sector_of place.sector all)) fetched.tells.told
+    (at fetched.receipt fetched.given) in
     let gives = subst (λ r. GivesSector r place.sector sector) fetched.given held.1 in
     is ∙ subst (λ t. IfSome t (λ all. sector_of place.sector all ≡ sector)) fetched.tells.told gives.1
 
@@ -127,7 +139,8 @@ item_of_front : {A : Type 0} (n i : ℕ) (items : List A) (item : A) → slice_g
 item_of_front zero i items item is = absurd cc
 item_of_front (suc n) i [] item is = absurd cc
 item_of_front (suc n) zero (first ∷ items) item is = (omega arith, is)
-item_of_front (suc n) (suc i) (first ∷ items) item is = (let more = item_of_front n i items item is in ((let h = more.0 in omega (arith, h)), more.1))
+item_of_front (suc n) (suc i) (first ∷ items) item is =
+    (let more = item_of_front n i items item is in ((let h = more.0 in omega (arith, h)), more.1))
 
 item_behind : {A : Type 0} (n i : ℕ) (items : List A) → slice_get (drop n items) i ≡ slice_get items (n + i)
 item_behind zero i items = ap (slice_get items) (omega arith)
@@ -144,10 +157,13 @@ item_of_part from n i items item is =
 
 -- ---- the bytes of a read
 
-module _ (data_at : ℕ → ℕ) (objects : ObjLogState) (log : LogState) (plain : PlainState) (shows : ShowsReads data_at objects log plain)
-    (lba sectors : ℕ) (inside : lba + sectors ≤ plain.geometry.sectors) (plan : PlanState) (is : IsReadPlan lba sectors objects log plan) where
+module _ (data_at : ℕ → ℕ) (objects : ObjLogState) (log : LogState) (plain : PlainState)
+    (shows : ShowsReads data_at objects log plain)
+    (lba sectors : ℕ) (inside : lba + sectors ≤ plain.geometry.sectors) (plan : PlanState)
+    (is : IsReadPlan lba sectors objects log plan) where
   -- the bytes that the plan gives are the sectors of the plain volume
-  given_sectors : (list : List Entry) (given : List ℕ) → log.entries ≡ Some list → AllByRecursion (λ piece. TellsAll piece.receipt) plan.pieces
+  given_sectors : (list : List Entry) (given : List ℕ) → log.entries ≡ Some list
+      → AllByRecursion (λ piece. TellsAll piece.receipt) plan.pieces
       → Gives plan given → given ≡ sectors_at lba sectors (image_now plain)
   given_sectors list given listed told gives =
       let image = image_now plain in
@@ -174,11 +190,13 @@ module _ (data_at : ℕ → ℕ) (objects : ObjLogState) (log : LogState) (plain
         | inr any ↦ any (sectors_at lba sectors (image_now plain))
       ]
 
-  where_listed : (entries : Option (List Entry)) → log.entries ≡ entries → AllByRecursion (λ piece. TellsWhole piece.receipt) plan.pieces
+  where_listed : (entries : Option (List Entry)) → log.entries ≡ entries
+      → AllByRecursion (λ piece. TellsWhole piece.receipt) plan.pieces
       → IfSome entries (λ list. Gives plan (sectors_at lba sectors (image_now plain)))
   where_listed None listed whole = tt
   where_listed (Some list) listed whole = gives_read list listed whole
 
   pub plan_gives_read : All (λ piece. TellsWhole piece.receipt) plan.pieces
       → IfSome log.entries (λ list. Gives plan (sectors_at lba sectors (image_now plain)))
-  plan_gives_read whole = where_listed log.entries refl (recursion_from_All (λ (piece : PieceState). TellsWhole piece.receipt) plan.pieces whole)
+  plan_gives_read whole = where_listed log.entries refl (recursion_from_All (λ (piece : PieceState). TellsWhole piece.receipt)
+      plan.pieces whole)

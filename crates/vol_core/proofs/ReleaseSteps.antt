@@ -31,13 +31,16 @@ abbrev pub with_pins : List ℕ → VolumeState → VolumeState
 with_pins pins volume = record volume { pins = pins }
 
 -- the plain volume whose pins and cache are others has the same entries past the frontier's end
-pub logged_with : (data_at : ℕ → ℕ) (log : LogState) (plain : PlainState) (cache : PlainCache) (pins : List ℕ) → HasLoggedEntries data_at log plain
+pub logged_with : (data_at : ℕ → ℕ) (log : LogState) (plain : PlainState) (cache : PlainCache) (pins : List ℕ)
+    → HasLoggedEntries data_at log plain
     → HasLoggedEntries data_at log (record plain { cache = cache; pins = pins })
-logged_with data_at log plain cache pins is = record { first = is.first; rows = is.rows; entries = is.entries; placed = is.placed }
+logged_with data_at log plain cache pins is =
+    record { first = is.first; rows = is.rows; entries = is.entries; placed = is.placed }
 
 -- ---- a plan is given back
 
-released_shown : (old : VolumeState) (pins numbers : List ℕ) (plain : PlainState) → Shows old plain → are_pinned numbers plain.pins ≡ true
+released_shown : (old : VolumeState) (pins numbers : List ℕ) (plain : PlainState) → Shows old plain
+    → are_pinned numbers plain.pins ≡ true
     → AreUnpinned numbers old.pins pins → Shows (with_pins pins old) (after_plan_release numbers plain)
 released_shown old pins numbers plain shows are out =
     let left = without_pins numbers plain.pins in
@@ -57,7 +60,8 @@ released_shown old pins numbers plain shows are out =
     })
 
 -- each object of the plan was pinned, and the numbers that were asked for are theirs
-pub released_steps : {R : Type 0} (state : R → ReceiptState) (plan : PlanState) (old : VolumeState) (pins numbers more : List ℕ) (all : Bool)
+pub released_steps : {R : Type 0} (state : R → ReceiptState) (plan : PlanState) (old : VolumeState) (pins numbers more : List ℕ)
+    (all : Bool)
     → IsStrictlyIncreasing plan.objects → numbers ≡ plan.objects → more ≡ plan.objects
     → (IsTrue all ↔ All (λ number. 0 < times number old.pins) numbers) → all ≡ true → AreUnpinned more old.pins pins
     → StepsAsPlain state (Release plan) told.Released old (with_pins pins old)
@@ -71,7 +75,8 @@ released_steps state plan old pins numbers more all ascend asked taken means eac
     (ap (λ b. (cond b (record plain { pins = without_pins plan.objects plain.pins }) plain).cache) are))
 
 -- one was not
-pub not_released_steps : {R : Type 0} (state : R → ReceiptState) (plan : PlanState) (old : VolumeState) (numbers : List ℕ) (all : Bool)
+pub not_released_steps : {R : Type 0} (state : R → ReceiptState) (plan : PlanState) (old : VolumeState) (numbers : List ℕ)
+    (all : Bool)
     → numbers ≡ plan.objects → (IsTrue all ↔ All (λ number. 0 < times number old.pins) numbers) → all ≡ false
     → StepsAsPlain state (Release plan) (told.NotReleased plan) old old
 not_released_steps state plan old numbers all asked means not_all plain shows =

@@ -1,5 +1,6 @@
 -- A step that asks the device for nothing, and the invariant after a step.
-use Rattle.std.proofs.Common.{◌≡◌, ℕ, zero, suc, ◌+◌, ◌-◌, ◌≤◌, ◌⊎◌, inl, inr, Option, Some, None, List, [], ◌∷◌, drop, sym, ◌∙◌, ap, subst, arith}
+use Rattle.std.proofs.Common.{◌≡◌, ℕ, zero, suc, ◌+◌, ◌-◌, ◌≤◌, ◌⊎◌, inl, inr, Option, Some, None, List, [], ◌∷◌, drop, sym, ◌∙◌}
+use Rattle.std.proofs.Common.{ap, subst, arith}
 use Rattle.std.specs.Prelude.{IfSome}
 use Rattle.std.proofs.Math.Path.{subst₂}
 use Rattle.std.proofs.lemmas.List.{drop-drop}
@@ -49,8 +50,10 @@ passing_keeps left plain valid = record {
 
 -- ---- a step without calls of the device
 
--- It takes the fuse that the plain volume has, which is the one that the device tells; and the log and the cache are as they were.
-pub quiet_step : {R : Type 0} (state : R → ReceiptState) (event : Event R) (reply : Reply R) (plain : PlainState) (old new : VolumeState)
+-- It takes the fuse that the plain volume has, which is the one that the device tells; and the log and the cache are as they
+-- were.
+pub quiet_step : {R : Type 0} (state : R → ReceiptState) (event : Event R) (reply : Reply R) (plain : PlainState)
+    (old new : VolumeState)
     → (asked : PlainEvent) → Shows old plain → Asks state old event asked → Tells state old reply (plain_reply plain asked)
     → Shows new (plain_after asked plain) → new.log ≡ old.log → (plain_after asked plain).cache ≡ plain.cache
     → IsStep state event reply plain old new
@@ -75,7 +78,8 @@ numbers_stay old new same_log same_objects =
     record { entries = omega (arith, next); objects = omega (arith, last); commits = omega (arith, number) }
 
 -- they grow from those of the volume as it is seen before
-pub numbers_seen : (new : VolumeState) (inside seen : SteppedVolume) → inside ≡ seen → NumbersGrow inside.volume new → NumbersGrow seen.volume new
+pub numbers_seen : (new : VolumeState) (inside seen : SteppedVolume) → inside ≡ seen → NumbersGrow inside.volume new
+    → NumbersGrow seen.volume new
 numbers_seen new inside seen same grow = subst (λ (s : SteppedVolume). NumbersGrow s.volume new) same grow
 
 -- a step leaves them small
@@ -93,12 +97,14 @@ small_of old new steps grow ready =
 -- ---- the invariant after a step
 
 -- a step leaves a volume that shows some plain volume
-pub shown_after : {R : Type 0} (state : R → ReceiptState) (event : Event R) (reply : Reply R) (plain : PlainState) (old new : VolumeState)
+pub shown_after : {R : Type 0} (state : R → ReceiptState) (event : Event R) (reply : Reply R) (plain : PlainState)
+    (old new : VolumeState)
     → IsStep state event reply plain old new ⊎ IsNoStep event reply plain old new → (now : PlainState) × Shows new now
 shown_after state event reply plain old new (inl step) = (_, step.shows)
 shown_after state event reply plain old new (inr none) = (plain, none.shows)
 
-pub steps_keep_volume : {R : Type 0} (state : R → ReceiptState) (event : Event R) (reply : Reply R) (old new : VolumeState) (steps : ℕ)
+pub steps_keep_volume : {R : Type 0} (state : R → ReceiptState) (event : Event R) (reply : Reply R) (old new : VolumeState)
+    (steps : ℕ)
     → IsVolume (record { volume = old; steps = steps }) → HasRoomForStep (record { volume = old; steps = steps })
     → StepsAsPlain state event reply old new → NumbersGrow old new
     → IsVolume (record { volume = new; steps = steps })
@@ -107,9 +113,11 @@ steps_keep_volume state event reply old new steps is ready as_plain grow =
     record { plain = after.0; shows = after.1; steps = is.steps; small = small_of old new steps grow ready }
 
 -- the step is that of the volume as it is seen before
-pub step_seen : {R : Type 0} (state : R → ReceiptState) (event : Event R) (reply : Reply R) (new : VolumeState) (inside seen : SteppedVolume)
+pub step_seen : {R : Type 0} (state : R → ReceiptState) (event : Event R) (reply : Reply R) (new : VolumeState)
+    (inside seen : SteppedVolume)
     → inside ≡ seen → StepsAsPlain state event reply inside.volume new → StepsAsPlain state event reply seen.volume new
-step_seen state event reply new inside seen same steps = subst (λ (s : SteppedVolume). StepsAsPlain state event reply s.volume new) same steps
+step_seen state event reply new inside seen same steps =
+    subst (λ (s : SteppedVolume). StepsAsPlain state event reply s.volume new) same steps
 
 -- ---- only the objects change
 
@@ -130,24 +138,29 @@ rows_dropped (suc n) [] (entry ∷ list) are = absurd are
 rows_dropped (suc n) (row ∷ rows) [] are = absurd are
 rows_dropped (suc n) (row ∷ rows) (entry ∷ list) are = rows_dropped n rows list are.1
 
-module _ (data_at : ℕ → ℕ) (log : LogState) (plain now : PlainState) (valid : IsPlainVolume plain) (other : IsOfOtherObjects plain now)
+module _ (data_at : ℕ → ℕ) (log : LogState) (plain now : PlainState) (valid : IsPlainVolume plain)
+    (other : IsOfOtherObjects plain now)
     (logged : HasLoggedEntries data_at log plain) where
   abbrev more : ℕ
   more = frontier_end now - frontier_end plain
 
-  listed : {A : Type 0} (items : List A) → drop more (listed_from (frontier_end plain) log items) ≡ listed_from (frontier_end now) log items
+  listed : {A : Type 0} (items : List A) → drop more (listed_from (frontier_end plain) log items)
+      ≡ listed_from (frontier_end now) log items
   listed items =
-      let skipped : frontier_end plain - log.first + more ≡ frontier_end now - log.first = omega (arith, logged.first, other.frontier) in
+      let skipped : frontier_end plain - log.first + more ≡ frontier_end now - log.first =
+      omega (arith, logged.first, other.frontier) in
       drop-drop more (frontier_end plain - log.first) items ∙ ap (λ n. drop n items) skipped
 
   entries_left : drop more (logged_entries plain) ≡ logged_entries now
   entries_left =
       let from = ends_from plain (frontier_of plain) valid in
-      let skipped : frontier_end plain - plain.end + more ≡ frontier_end now - now.end = omega (arith, from, other.frontier, other.end) in
+      let skipped : frontier_end plain - plain.end + more ≡ frontier_end now - now.end =
+      omega (arith, from, other.frontier, other.end) in
       drop-drop more (frontier_end plain - plain.end) plain.entries
       ∙ (ap (λ n. drop n plain.entries) skipped ∙ ap (drop (frontier_end now - now.end)) (sym other.entries))
 
-  told_left : (told : Option (List Entry)) → IfSome told (λ list. listed_from (frontier_end plain) log list ≡ logged_entries plain)
+  told_left : (told : Option (List Entry))
+      → IfSome told (λ list. listed_from (frontier_end plain) log list ≡ logged_entries plain)
       → IfSome told (λ list. listed_from (frontier_end now) log list ≡ logged_entries now)
   told_left None are = tt
   told_left (Some list) are = sym (listed list) ∙ (ap (drop more) are ∙ entries_left)
@@ -168,7 +181,8 @@ module _ (data_at : ℕ → ℕ) (log : LogState) (plain now : PlainState) (vali
 abbrev pub with_objects : ObjLogState → VolumeState → VolumeState
 with_objects objects volume = record volume { objects = objects }
 
-pub objects_shown : (old : VolumeState) (objects : ObjLogState) (plain now : PlainState) (shows : Shows old plain) → IsOfOtherObjects plain now
+pub objects_shown : (old : VolumeState) (objects : ObjLogState) (plain now : PlainState) (shows : Shows old plain)
+    → IsOfOtherObjects plain now
     → IsPlainVolume now → ShowsObjects shows.data_at objects now → Shows (with_objects objects old) now
 objects_shown old objects plain now shows other valid shown = record {
   valid = valid;

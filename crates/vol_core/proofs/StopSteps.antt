@@ -43,7 +43,8 @@ on_some R None is = tt
 on_some R (Some x) is = is
 
 -- the step is that of the volume as it is seen before
-pub keeps_seen : (new : VolumeState) (inside seen : SteppedVolume) → inside ≡ seen → StepKeeps inside.volume new → StepKeeps seen.volume new
+pub keeps_seen : (new : VolumeState) (inside seen : SteppedVolume) → inside ≡ seen → StepKeeps inside.volume new
+    → StepKeeps seen.volume new
 keeps_seen new inside seen same keeps = subst (λ (s : SteppedVolume). StepKeeps s.volume new) same keeps
 
 -- ---- a volume that shows a plain one
@@ -86,7 +87,8 @@ pub record IsOfSameVolume (old new : ObjLogState) : Type 0 where
 pub own_after : (epoch : ℕ) (old new : VolumeState) → IsOfSameVolume old.objects new.objects
     → HasCommitted (owner_in epoch old) old.objects.batch.geometry new.log → HasOwnCommits epoch new
 own_after epoch old new same own =
-    subst₂ (λ uuid geometry. HasCommitted (record { uuid = uuid; epoch = epoch }) geometry new.log) (sym same.uuid) (sym same.geometry) own
+    subst₂ (λ uuid geometry. HasCommitted (record { uuid = uuid; epoch = epoch }) geometry new.log) (sym same.uuid)
+    (sym same.geometry) own
 
 -- no moment comes after it
 none_since : (owner : CacheOwner) (old new : LogState) (plain : PlainState) → new.commits.disk.moments ≡ old.commits.disk.moments
@@ -102,9 +104,11 @@ still_keeps old new same is epoch own = record {
 }
 
 -- the log of a look was read, or nothing was done
-pub read_is_still : (lba sectors : ℕ) (maps : MapsState) (are_made : Bool) (old new : LogState) → ReadsRange lba sectors maps are_made old new
+pub read_is_still : (lba sectors : ℕ) (maps : MapsState) (are_made : Bool) (old new : LogState)
+    → ReadsRange lba sectors maps are_made old new
     → IsStill old new
-read_is_still lba sectors maps are_made old new is = record { same = is.reads.same; commits = is.reads.commits; moments = is.reads.moments }
+read_is_still lba sectors maps are_made old new is =
+    record { same = is.reads.same; commits = is.reads.commits; moments = is.reads.moments }
 
 pub look_keeps : (old : VolumeState) (log : LogState) (pins : List ℕ) → IsStill old.log log
     → StepKeeps old (record old { log = log; pins = pins })
@@ -141,18 +145,22 @@ module _ (old : VolumeState) (objects : ObjLogState) where
       → Finishes state job receipt reply old.objects objects → StepKeeps old (with_objects objects old)
   finishing_keeps state job receipt (told.Done frontier) done =
       objects_keep (record { uuid = done.1.uuid; geometry = ap (λ b. b.geometry) done.2 })
-  finishing_keeps state job receipt (told.NotDone back given) done = by_list old.objects done.3 (record { uuid = refl; geometry = refl })
+  finishing_keeps state job receipt (told.NotDone back given) done =
+      by_list old.objects done.3 (record { uuid = refl; geometry = refl })
   finishing_keeps state job receipt reply done = absurd done
 
 -- ---- a flush
 
-pub flushing_keeps : (old : VolumeState) (log : LogState) (is_made : Bool) (end : ℕ) → IsUploads old.objects.uploads.queue old.objects.uploads.window
-    → IsOnDisk old.log → end ≡ old.objects.uploads.queue.end → CommitsFrom end is_made old.log log → StepKeeps old (with_log log old)
+pub flushing_keeps : (old : VolumeState) (log : LogState) (is_made : Bool) (end : ℕ)
+    → IsUploads old.objects.uploads.queue old.objects.uploads.window
+    → IsOnDisk old.log → end ≡ old.objects.uploads.queue.end → CommitsFrom end is_made old.log log
+    → StepKeeps old (with_log log old)
 flushing_keeps old log is_made end uploads on_disk end_is commits epoch own = record {
   own = commit_owns (owner_in epoch old) old.objects.batch.geometry end is_made old.log log own commits;
   since = λ plain shows.
       let counts = shown_have_counts shows.data_at old.objects plain uploads shows.valid shows.objects in
-      commit_keeps_stops (owner_in epoch old) shows.data_at old.log plain (shows_stops epoch old plain on_disk own shows) end is_made log
+      commit_keeps_stops (owner_in epoch old) shows.data_at old.log plain (shows_stops epoch old plain on_disk own shows) end
+      is_made log
       (end_is ∙ counts.end) commits;
 }
 
@@ -163,7 +171,8 @@ reserved_owns : (owner : CacheOwner) (geometry : Geometry) (log : LogState) (res
     → HasCommitted owner geometry (taken_for log reserved)
 reserved_owns owner geometry log reserved own = record { last = own.last; unfinished = own.unfinished; in_range = own.in_range }
 
-reserved_stops : (owner : CacheOwner) (data_at : ℕ → ℕ) (log : LogState) (plain : PlainState) (reserved : ℕ) → ShowsStops owner data_at log plain
+reserved_stops : (owner : CacheOwner) (data_at : ℕ → ℕ) (log : LogState) (plain : PlainState) (reserved : ℕ)
+    → ShowsStops owner data_at log plain
     → ShowsStops owner data_at (taken_for log reserved) plain
 reserved_stops owner data_at log plain reserved is =
     let disk = is.on_disk in
@@ -217,15 +226,18 @@ module _ (entry : Entry) (old : VolumeState) (uploads : IsUploads old.objects.up
       record {
         own =
             own_after epoch old (with_both objects log old) same
-            (enter_owns owner geometry entry end result before log comes.in_range (reserved_owns owner geometry old.log comes.reserved own) comes.log);
+            (enter_owns owner geometry entry end result before log comes.in_range
+            (reserved_owns owner geometry old.log comes.reserved own) comes.log);
         since = λ plain shows.
             let counts = shown_have_counts shows.data_at old.objects plain uploads shows.valid shows.objects in
             enter_keeps_stops owner shows.data_at before plain
-            (reserved_stops owner shows.data_at old.log plain comes.reserved (shows_stops epoch old plain on_disk own shows)) entry end result log
+            (reserved_stops owner shows.data_at old.log plain comes.reserved (shows_stops epoch old plain on_disk own shows))
+            entry end result log
             counts.end comes.log;
       }
 
-  refused_keeps : (why : Refusal) (objects : ObjLogState) (log : LogState) → IsRefusedEntry entry why old.objects objects old.log log
+  refused_keeps : (why : Refusal) (objects : ObjLogState) (log : LogState)
+      → IsRefusedEntry entry why old.objects objects old.log log
       → StepKeeps old (with_both objects log old)
   refused_keeps refusals.Range objects log is = unchanged_keeps old objects log is.1 is.2
   refused_keeps (refusals.Full full) objects log is = unchanged_keeps old objects log is.2 is.3

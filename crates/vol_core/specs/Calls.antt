@@ -1,5 +1,6 @@
 -- For this crate's own clauses: the calls of the log and of the list that an event makes.
-use Rattle.std.specs.Prelude.{◌≡◌, ℕ, ◌+◌, ◌-◌, ◌^◌, ◌<◌, ◌≤◌, ◌⊎◌, IsTrue, [], IfOk, IfErr, Option, Some, None, Bool, true, false, Result, Ok, Err, length}
+use Rattle.std.specs.Prelude.{◌≡◌, ℕ, ◌+◌, ◌-◌, ◌^◌, ◌<◌, ◌≤◌, ◌⊎◌, IsTrue, [], IfOk, IfErr, Option, Some, None, Bool, true}
+use Rattle.std.specs.Prelude.{false, Result, Ok, Err, length}
 use Rattle.lsvd_base.specs.declared.entry.Entry.{Entry}
 use Rattle.lsvd_base.specs.Range.{is_in_range}
 use Rattle.batcher.specs.Batch.{data_sectors, fullness}
@@ -10,7 +11,8 @@ use Rattle.commit_slot.specs.Committing.{FailsToCommit}
 use Rattle.cache_log.specs.declared.error.AppendError.{AppendError}
 use Rattle.cache_log.specs.declared.error.AppendError.TheVariants.{NoRoom, DeviceFault}
 use Rattle.cache_log.specs.Log.{LogState, next_seq, IsTrimmed, IsAppended, FailsToAppend}
-use Rattle.cache_log.specs.Committed.{body_of, KeepsCommits, HasSameList, IsReleased, IsCommittedLog, LeavesEntriesSince, IsOnDisk}
+use Rattle.cache_log.specs.Committed.{body_of, KeepsCommits, HasSameList, IsReleased, IsCommittedLog, LeavesEntriesSince}
+use Rattle.cache_log.specs.Committed.{IsOnDisk}
 use Rattle.obj_log.specs.State.{ObjLogState}
 use Rattle.obj_log.specs.Changes.{IsSame, IsAdded, HasSealedObject}
 use Rattle.lsvd_objstore.specs.Store.{ReceiptState}
@@ -100,10 +102,12 @@ pub record MayEnter (objects : ObjLogState) (log : LogState) : Type 0 where
 
 -- why the batch refuses an entry, where it does
 abbrev pub fullness_in : ObjLogState → Option Full
-fullness_in objects = fullness objects.batch.geometry.batch (sum_by data_sectors objects.batch.entries) (length objects.batch.entries)
+fullness_in objects = fullness objects.batch.geometry.batch (sum_by data_sectors objects.batch.entries)
+    (length objects.batch.entries)
 
 -- the batch takes the entry, memory for it was taken, and the log answered
-pub record ComesToLog (entry : Entry) (result : Result ℕ AppendError) (objects ready : ObjLogState) (old new : LogState) : Type 0 where
+pub record ComesToLog (entry : Entry) (result : Result ℕ AppendError) (objects ready : ObjLogState) (old new : LogState) :
+    Type 0 where
   pub in_range : is_in_range objects.batch.geometry entry ≡ true
   pub not_full : fullness_in objects ≡ None
   pub same : IsSame objects ready
@@ -112,12 +116,15 @@ pub record ComesToLog (entry : Entry) (result : Result ℕ AppendError) (objects
 
 -- why an entry was not entered
 abbrev pub IsRefusedEntry : Entry → Refusal → (objects after : ObjLogState) → (old new : LogState) → Type 0
-IsRefusedEntry entry refusals.Range objects after old new = (is_in_range objects.batch.geometry entry ≡ false) × (after ≡ objects) × (new ≡ old)
+IsRefusedEntry entry refusals.Range objects after old new = (is_in_range objects.batch.geometry entry ≡ false) × (after ≡ objects)
+    × (new ≡ old)
 IsRefusedEntry entry (refusals.Full full) objects after old new =
     (is_in_range objects.batch.geometry entry ≡ true) × (fullness_in objects ≡ Some full) × (after ≡ objects) × (new ≡ old)
-IsRefusedEntry entry (refusals.NoRoom need free) objects after old new = ComesToLog entry (Err (NoRoom need free)) objects after old new
+IsRefusedEntry entry (refusals.NoRoom need free) objects after old new =
+    ComesToLog entry (Err (NoRoom need free)) objects after old new
 IsRefusedEntry entry refusals.Fault objects after old new = ComesToLog entry (Err DeviceFault) objects after old new
-IsRefusedEntry entry refusals.OutOfMemory objects after old new = IsSame objects after × (new ≡ record old { reserved = new.reserved })
+IsRefusedEntry entry refusals.OutOfMemory objects after old new = IsSame objects after
+    × (new ≡ record old { reserved = new.reserved })
 
 -- an entry was entered
 pub record EntersBoth (entry : Entry) (count : ℕ) (objects after : ObjLogState) (old new : LogState) : Type 0 where
@@ -138,7 +145,8 @@ Enters entry reply objects after old new = ⊥
 -- a seal answered
 abbrev pub Seals : {R : Type 0} → Reply R → (old new : ObjLogState) → Type 0
 Seals (replies.Sealed number) old new =
-    HasSealedObject old new × (number ≡ old.uploads.window.last + 1) × (0 < length old.batch.entries) × (length old.uploads.window.objects ≡ 16 → ⊥)
+    HasSealedObject old new × (number ≡ old.uploads.window.last + 1) × (0 < length old.batch.entries)
+    × (length old.uploads.window.objects ≡ 16 → ⊥)
 Seals replies.Nothing old new = IsSame old new × (old.batch.entries ≡ [])
 Seals replies.Busy old new = IsSame old new × (0 < length old.batch.entries) × (length old.uploads.window.objects ≡ 16)
 Seals replies.OutOfMemory old new = IsSame old new
@@ -154,14 +162,16 @@ Takes reply old new = ⊥
 
 -- a put is out, and the receipt names its object
 abbrev pub IsDone : JobState → ReceiptState → ObjLogState → Type 0
-IsDone job receipt objects = IsOut objects.uploads job.name.number job.bytes × (receipt.name ≡ name_of objects.uploads.uuid job.name.number)
+IsDone job receipt objects = IsOut objects.uploads job.name.number job.bytes
+    × (receipt.name ≡ name_of objects.uploads.uuid job.name.number)
 
 -- a put that is done was told
 abbrev pub Finishes : {R : Type 0} → (R → ReceiptState) → JobState → R → Reply R → (old new : ObjLogState) → Type 0
 Finishes state job receipt (replies.Done frontier) old new =
     IsDone job (state receipt) old × IsPutDone job.name.number (state receipt) old.uploads new.uploads × (new.batch ≡ old.batch)
     × (frontier ≡ new.uploads.queue.frontier)
-Finishes state job receipt (replies.NotDone back given) old new = (IsDone job (state receipt) old → ⊥) × (back ≡ job) × (given ≡ receipt) × (new ≡ old)
+Finishes state job receipt (replies.NotDone back given) old new = (IsDone job (state receipt) old → ⊥) × (back ≡ job)
+    × (given ≡ receipt) × (new ≡ old)
 Finishes state job receipt reply old new = ⊥
 
 -- and one that failed

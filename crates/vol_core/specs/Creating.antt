@@ -14,8 +14,8 @@ use Rattle.vol_core.specs.Shows.{Shows}
 use Rattle.vol_core.specs.Step.{passing}
 use Rattle.vol_core.specs.Stops.{HasOwnCommits}
 
--- It shows the plain volume that was just created, whose device passes the calls that its own does, has made no step, and its last commit
--- has the number 0 and is of epoch 0.
+-- It shows the plain volume that was just created, whose device passes the calls that its own does, has made no step, and its
+-- last commit has the number 0 and is of epoch 0.
 pub record IsCreated (uuid : List ℕ) (geometry : Geometry) (stepped : SteppedVolume) : Type 0 where
   pub steps : stepped.steps ≡ 0
   pub uuid_is : stepped.volume.objects.uploads.uuid ≡ uuid

@@ -11,7 +11,8 @@ use Rattle.plain_disk.specs.declared.event.PlainEvent.TheVariants as events
 use Rattle.plain_disk.specs.declared.event.PlainReply.{PlainReply}
 use Rattle.plain_disk.specs.declared.event.PlainReply.TheVariants as replies
 use Rattle.vol_core.specs.declared.event.Event.{Event}
-use Rattle.vol_core.specs.declared.event.Event.TheVariants.{Write, Zero, Flush, Look, Release, Seal, TakeJob, JobDone, JobFailed, Status}
+use Rattle.vol_core.specs.declared.event.Event.TheVariants.{Write, Zero, Flush, Look, Release, Seal, TakeJob, JobDone, JobFailed}
+use Rattle.vol_core.specs.declared.event.Event.TheVariants.{Status}
 use Rattle.vol_core.specs.declared.reply.Refusal.{Refusal}
 use Rattle.vol_core.specs.declared.reply.Refusal.TheVariants as refusals
 use Rattle.vol_core.specs.declared.reply.Reply.{Reply}
@@ -28,9 +29,11 @@ IsOfPut volume job (Some number) = (number ≡ job.name.number) × IsOut volume.
 -- the same of a put that is done, for whose object the store gave a receipt
 abbrev pub IsOfDonePut : VolumeState → JobState → ReceiptState → Option ℕ → Type 0
 IsOfDonePut volume job receipt None =
-    IsOut volume.objects.uploads job.name.number job.bytes × (receipt.name ≡ name_of volume.objects.uploads.uuid job.name.number) → ⊥
+    IsOut volume.objects.uploads job.name.number job.bytes × (receipt.name ≡ name_of volume.objects.uploads.uuid job.name.number)
+    → ⊥
 IsOfDonePut volume job receipt (Some number) =
-    (number ≡ job.name.number) × IsOut volume.objects.uploads number job.bytes × (receipt.name ≡ name_of volume.objects.uploads.uuid number)
+    (number ≡ job.name.number) × IsOut volume.objects.uploads number job.bytes
+    × (receipt.name ≡ name_of volume.objects.uploads.uuid number)
 
 -- an event of a volume asks for that of the plain volume
 abbrev pub Asks : {R : Type 0} → (R → ReceiptState) → VolumeState → Event R → PlainEvent → Type 0
@@ -41,7 +44,8 @@ Asks state volume (Look lba sectors) event = event ≡ events.Look lba sectors
 Asks state volume (Release plan) event = event ≡ events.Release plan.objects
 Asks state volume Seal event = event ≡ events.Seal
 Asks state volume TakeJob event = event ≡ events.TakeJob
-Asks state volume (JobDone job receipt) event = (put : Option ℕ) × (event ≡ events.JobDone put) × IsOfDonePut volume job (state receipt) put
+Asks state volume (JobDone job receipt) event = (put : Option ℕ) × (event ≡ events.JobDone put)
+    × IsOfDonePut volume job (state receipt) put
 Asks state volume (JobFailed job) event = (put : Option ℕ) × (event ≡ events.JobFailed put) × IsOfPut volume job put
 Asks state volume Status event = event ≡ events.Status
 
@@ -56,18 +60,20 @@ TellsRefusal (refusals.NoRoom need free) reply = reply ≡ replies.NoRoom need f
 TellsRefusal refusals.Fault reply = reply ≡ replies.Fault
 TellsRefusal refusals.OutOfMemory reply = ⊥
 
--- A reply tells one of the plain volume. A plan gives the data that the plain volume answers, where the disk tells the entries of the
--- log's list; a job is that of the number.
+-- A reply tells one of the plain volume. A plan gives the data that the plain volume answers, where the disk tells the entries of
+-- the log's list; a job is that of the number.
 abbrev pub Tells : {R : Type 0} → (R → ReceiptState) → VolumeState → Reply R → PlainReply → Type 0
 Tells state volume (told.Entered count) reply = reply ≡ replies.Entered count
 Tells state volume (told.NotEntered entry why) reply = TellsRefusal why reply
 Tells state volume (told.Flushed count) reply = reply ≡ replies.Flushed count
 Tells state volume (told.Planned plan) reply =
-    (bytes : List ℕ) × (reply ≡ replies.Planned plan.front bytes plan.objects) × IfSome volume.log.entries (λ list. Gives plan bytes)
+    (bytes : List ℕ) × (reply ≡ replies.Planned plan.front bytes plan.objects)
+    × IfSome volume.log.entries (λ list. Gives plan bytes)
 Tells state volume told.Released reply = reply ≡ replies.Released
 Tells state volume (told.NotReleased plan) reply = reply ≡ replies.Nothing
 Tells state volume (told.Sealed number) reply = reply ≡ replies.Sealed number
-Tells state volume (told.Taken job) reply = (reply ≡ replies.Taken job.name.number) × IsJobOf volume.objects.uploads job.name.number job
+Tells state volume (told.Taken job) reply = (reply ≡ replies.Taken job.name.number)
+    × IsJobOf volume.objects.uploads job.name.number job
 Tells state volume (told.Done frontier) reply = reply ≡ replies.Done frontier
 Tells state volume (told.NotDone job receipt) reply = reply ≡ replies.Nothing
 Tells state volume told.Returned reply = reply ≡ replies.Returned

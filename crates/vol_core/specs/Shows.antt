@@ -10,9 +10,9 @@ use Rattle.objects_meaning.specs.Shows.{ShowsObjects}
 use Rattle.read_plan.specs.Pins.{times}
 use Rattle.vol_core.specs.Volume.{VolumeState, SteppedVolume}
 
--- A volume shows a plain volume: the list of its entries and objects shows those, the log on its cache shows the plain log, the same
--- objects are pinned, and the device passes the calls that the plain one does, where it tells them. So numbers and counts are the
--- plain volume's always, and bytes where the device and the receipts tell them.
+-- A volume shows a plain volume: the list of its entries and objects shows those, the log on its cache shows the plain log, the
+-- same objects are pinned, and the device passes the calls that the plain one does, where it tells them. So numbers and counts
+-- are the plain volume's always, and bytes where the device and the receipts tell them.
 pub record Shows (volume : VolumeState) (plain : PlainState) : Type 0 where
   pub valid : IsPlainVolume plain
   pub data_at : ℕ → ℕ

@@ -100,11 +100,12 @@ HasItsBytes event reply = Unit {0}
 abbrev pub passing : Fuse → PlainState → PlainState
 passing left plain = record plain { cache = record plain.cache { left = left } }
 
--- A step is one of the plain volume that the volume shows, whose device passes some calls: those that the volume's device tells that
--- it passes, where it has room for the step's; and else as many as it did, as if a fuse had failed the others. The reply tells the
--- plain volume's, and the volume shows what that becomes. Where the device has room for the step's calls, and as many writes were
--- pending on it as on the plain volume's cache, so they are then.
-pub record IsStep {R : Type 0} (state : R → ReceiptState) (event : Event R) (reply : Reply R) (plain : PlainState) (old new : VolumeState) : Type 0 where
+-- A step is one of the plain volume that the volume shows, whose device passes some calls: those that the volume's device tells
+-- that it passes, where it has room for the step's; and else as many as it did, as if a fuse had failed the others. The reply
+-- tells the plain volume's, and the volume shows what that becomes. Where the device has room for the step's calls, and as many
+-- writes were pending on it as on the plain volume's cache, so they are then.
+pub record IsStep {R : Type 0} (state : R → ReceiptState) (event : Event R) (reply : Reply R) (plain : PlainState)
+    (old new : VolumeState) : Type 0 where
   pub left : Fuse
   pub asked : PlainEvent
   pub asks : Asks state old event asked
@@ -146,4 +147,5 @@ HasBytesOf volume number bytes = HasBytesAt (index_of volume.objects.uploads num
 -- an object that is on its way keeps its bytes
 abbrev pub KeepsBytes : (old new : VolumeState) → Type 0
 KeepsBytes old new =
-    (number : ℕ) (bytes : List ℕ) → IsOnItsWay old number → HasBytesOf old number bytes → IsOnItsWay new number → HasBytesOf new number bytes
+    (number : ℕ) (bytes : List ℕ) → IsOnItsWay old number → HasBytesOf old number bytes → IsOnItsWay new number
+    → HasBytesOf new number bytes

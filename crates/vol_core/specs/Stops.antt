@@ -14,8 +14,8 @@ owner_in epoch volume = record { uuid = volume.objects.uploads.uuid; epoch = epo
 abbrev pub HasOwnCommits : (epoch : ℕ) → VolumeState → Type 0
 HasOwnCommits epoch volume = HasCommitted (owner_in epoch volume) volume.objects.batch.geometry volume.log
 
--- Whatever a stop leaves of the device now keeps the entries of each plain volume that the volume shows, up to the head of the last
--- commit or of the unfinished one.
+-- Whatever a stop leaves of the device now keeps the entries of each plain volume that the volume shows, up to the head of the
+-- last commit or of the unfinished one.
 abbrev pub KeepsNow : (epoch : ℕ) → VolumeState → Type 0
 KeepsNow epoch volume =
     (plain : PlainState) → Shows volume plain → StopKeepsNow (owner_in epoch volume) volume.log plain (IsCommittedHead volume.log)

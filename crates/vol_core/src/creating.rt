@@ -21,12 +21,13 @@ use uuid::Uuid;
 // The number of the first object, a checkpoint without rows.
 const FIRST_OBJECT: u64 = 1;
 
-/// Creates a volume on its cache device, which is formatted. The volume has no entries, and its one object is the one with the number 1,
-/// a checkpoint of no sectors, which the caller has put into the store.
+/// Creates a volume on its cache device, which is formatted. The volume has no entries, and its one object is
+/// the one with the number 1, a checkpoint of no sectors, which the caller has put into the store.
 ///
-/// The geometry is within the limits, and its log has just the sectors of the device past byte 4,096 (conditions). `Failed` comes
-/// with the device where a call of it failed; it is to be formatted again. The device is asked for the calls of formatting alone, of
-/// which those are made that its fuse passes, where it has room for them; and where it tells what it holds too, nothing is pending then.
+/// The geometry is within the limits, and its log has just the sectors of the device past byte 4,096
+/// (conditions). `Failed` comes with the device where a call of it failed; it is to be formatted again. The
+/// device is asked for the calls of formatting alone, of which those are made that its fuse passes, where it
+/// has room for them; and where it tells what it holds too, nothing is pending then.
 pub fn create<D: Disk, R: Receipt>(
     alloc: Global,
     disk: D,
@@ -38,7 +39,8 @@ pub fn create<D: Disk, R: Receipt>(
     requires is_disk { IsDisk (D.state disk) }
     ensures ok { IfOk result (IsCreated uuid geometry) }
     ensures is_disk { IfErr result (λ error. IsDisk (D.state error.0)) }
-    ensures calls { IfOk result (λ stepped. CostsFormat uuid true (D.state disk) stepped.volume.log.commits.disk) }
+    ensures calls { IfOk result (λ stepped. CostsFormat uuid true (D.state disk)
+        stepped.volume.log.commits.disk) }
     ensures err { IfErr result (λ error. CostsFormat uuid false (D.state disk) (D.state error.0)) }
     ensures pending { IfOk result (λ stepped.
         CanFormat (D.state disk) → ShowsPending stepped.volume.log (created_volume geometry).cache) }

@@ -30,7 +30,8 @@ pub(crate) fn enter<D: Disk, R: Receipt>(
     }
 }
 
-// Appends the record of an entry that the batch takes, and answers the sector at which it stands. Memory for the batch is taken, too.
+// Appends the record of an entry that the batch takes, and answers the sector at which it stands. Memory for
+// the batch is taken, too.
 fn append_record<D: Disk, R: Receipt>(
     objects: &mut ObjLog<R>,
     log: &mut CacheLog<D>,
@@ -54,11 +55,13 @@ fn append_record<D: Disk, R: Receipt>(
     Ok(append_or_commit(log, entry, objects.end())?)
 }
 
-// Appends an entry's record, which memory was reserved for, and answers the sector at which it stands. Where it has no room, and a
-// commit with its tail at the entry with the seq `end` releases records, that commit is made once, and it is tried again.
+// Appends an entry's record, which memory was reserved for, and answers the sector at which it stands. Where
+// it has no room, and a commit with its tail at the entry with the seq `end` releases records, that commit is
+// made once, and it is tried again.
 //
-// The seq of the entry is below 2^64 - 1, and the number of the last commit below 2^64 - 2 (conditions). `NoRoom` and `DeviceFault`
-// are those of `CacheLog::append`; `DeviceFault` comes too where the commit failed.
+// The seq of the entry is below 2^64 - 1, and the number of the last commit below 2^64 - 2 (conditions).
+// `NoRoom` and `DeviceFault` are those of `CacheLog::append`; `DeviceFault` comes too where the commit
+// failed.
 fn append_or_commit<D: Disk>(
     log: &mut CacheLog<D>,
     entry: &Entry,

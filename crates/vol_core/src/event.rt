@@ -20,7 +20,8 @@ pub enum Event<R: Receipt> {
     Seal,
     /// Begins the put of the lowest ready object.
     TakeJob,
-    /// The put of a job is done, and the store gave this receipt. It stands for just the bytes of the job (a condition of `step`).
+    /// The put of a job is done, and the store gave this receipt. It stands for just the bytes of the job (a
+    /// condition of `step`).
     JobDone { job: Job, receipt: R },
     /// The put of a job failed.
     JobFailed(Job),

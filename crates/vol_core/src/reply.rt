@@ -13,8 +13,8 @@ pub enum Refusal {
     Range,
     /// The entries that are in no object are full: an object is to be sealed first.
     Full(Full),
-    /// The record, with the pad before it, needs `need` sectors of the log, and `free` are free, even after a commit whose tail is
-    /// at the frontier's end: an object is to be acknowledged first.
+    /// The record, with the pad before it, needs `need` sectors of the log, and `free` are free, even after a
+    /// commit whose tail is at the frontier's end: an object is to be acknowledged first.
     NoRoom { need: u64, free: u64 },
     /// A call of the device failed.
     Fault,
@@ -71,7 +71,8 @@ pub enum Reply<R: Receipt> {
     Taken(Job),
     /// The put is acknowledged; the frontier is this number now.
     Done(u64),
-    /// The put is not out: its number is not started, the bytes are not the sealed ones, or the receipt names another object.
+    /// The put is not out: its number is not started, the bytes are not the sealed ones, or the receipt names
+    /// another object.
     NotDone {
         job: Job,
         receipt: R,
@@ -80,8 +81,8 @@ pub enum Reply<R: Receipt> {
     Returned,
     /// The put is not out.
     NotReturned(Job),
-    /// How many entries the history has, and the numbers of the last object that was sealed, of the frontier, and of the newest
-    /// checkpoint.
+    /// How many entries the history has, and the numbers of the last object that was sealed, of the frontier,
+    /// and of the newest checkpoint.
     Told {
         writes: u64,
         sealed: u64,

@@ -9,7 +9,8 @@ ghost use Rattle.log_meaning.specs.Fuses.{fuse_in};
 ghost use Rattle.vol_core.specs.Volume.{volume_of, with_budget_of};
 ghost use Rattle.vol_core.specs.declared.event.Event.TheVariants as events;
 ghost use Rattle.vol_core.specs.Shows.{Shows, IsVolume, IsSmall, NumbersGrow, max_number};
-ghost use Rattle.vol_core.specs.Step.{passing, HasItsReceipt, StepsAsPlain, HandsBack, HasItsBytes, HasSameSizes, tells_fault, CountsFault, KeepsBytes};
+ghost use Rattle.vol_core.specs.Step.{passing, HasItsReceipt, StepsAsPlain, HandsBack, HasItsBytes};
+ghost use Rattle.vol_core.specs.Step.{HasSameSizes, tells_fault, CountsFault, KeepsBytes};
 ghost use Rattle.vol_core.specs.Stops.{HasOwnCommits, KeepsNow, StepKeeps};
 ghost use Rattle.vol_core.specs.Calls.{HasRoomForStep, event_of};
 
@@ -30,7 +31,8 @@ use std::alloc::Global;
 use std::marker::Model;
 use uuid::Uuid;
 
-/// A volume: its entries and objects, and the log on its cache device `D`. A store gives receipts `R` for its objects.
+/// A volume: its entries and objects, and the log on its cache device `D`. A store gives receipts `R` for its
+/// objects.
 #[derive(Drop)]
 pub struct Volume<D: Disk, R: Receipt> {
     alloc: Global,
@@ -50,12 +52,16 @@ impl<D: Disk, R: Receipt> Model for Volume<D, R> {
 
     ghost view = { λ v. record { volume = volume_of v.objects v.log v.pins v.checkpoint; steps = v.steps } };
 
-    ghost invariant = { λ v. IsVolume (record { volume = volume_of v.objects v.log v.pins v.checkpoint; steps = v.steps }) };
+    ghost invariant = { λ v. IsVolume (record {
+      volume = volume_of v.objects v.log v.pins v.checkpoint;
+      steps = v.steps;
+    }) };
 }
 
 impl<D: Disk, R: Receipt> Volume<D, R> {
-    /// The volume of these entries and objects and this log, which together show a plain volume, and whose numbers are below 2^60
-    /// (conditions). Its newest checkpoint has this number. No plan of a read is out, and it has made no step.
+    /// The volume of these entries and objects and this log, which together show a plain volume, and whose
+    /// numbers are below 2^60 (conditions). Its newest checkpoint has this number. No plan of a read is out,
+    /// and it has made no step.
     pub fn new(alloc: Global, objects: ObjLog<R>, log: CacheLog<D>, checkpoint: u64) -> Volume<D, R>
         requires shows { (plain : PlainState) × Shows (volume_of objects log [] checkpoint) plain }
         requires small { IsSmall (volume_of objects log [] checkpoint) 0 }
@@ -71,15 +77,16 @@ impl<D: Disk, R: Receipt> Volume<D, R> {
         }
     }
 
-    /// One step: what the event asks for. Fewer than 2^60 were made, and a receipt that comes with a put that is done stands for just
-    /// the bytes of the job (conditions).
+    /// One step: what the event asks for. Fewer than 2^60 were made, and a receipt that comes with a put that
+    /// is done stands for just the bytes of the job (conditions).
     ///
-    /// The reply is that of the plain volume which this one shows, and this one then shows what that becomes. A device that fails a
-    /// call without being told to stop does as one whose fuse ends there. After want of memory the volume shows what it showed. A step
-    /// makes at most the device calls of one commit and one record, or one read for each run of sectors that a write past the
-    /// frontier's end wrote last; `Fault` is told exactly where one of them failed, which the device counted once. Where the device has
-    /// room for them, as many writes are pending on it after the step as on the plain volume's cache, if so many were before. A step
-    /// adds an entry and an object at most, and makes two commits at most.
+    /// The reply is that of the plain volume which this one shows, and this one then shows what that becomes.
+    /// A device that fails a call without being told to stop does as one whose fuse ends there. After want of
+    /// memory the volume shows what it showed. A step makes at most the device calls of one commit and one
+    /// record, or one read for each run of sectors that a write past the frontier's end wrote last; `Fault`
+    /// is told exactly where one of them failed, which the device counted once. Where the device has room for
+    /// them, as many writes are pending on it after the step as on the plain volume's cache, if so many were
+    /// before. A step adds an entry and an object at most, and makes two commits at most.
     pub fn step(&mut self, event: Event<R>) -> Reply<R>
         requires steps { self.old.steps < max_number }
         requires receipt { HasItsReceipt R.state event }
@@ -129,26 +136,29 @@ impl<D: Disk, R: Receipt> Volume<D, R> {
         self.objects.uuid()
     }
 
-    /// What is so of every volume whose commits are its own, as a fact for the proofs of callers: whatever a stop leaves of the device
-    /// now keeps the entries up to the head of the last commit, or of the unfinished one. Nothing is done.
+    /// What is so of every volume whose commits are its own, as a fact for the proofs of callers: whatever a
+    /// stop leaves of the device now keeps the entries up to the head of the last commit, or of the
+    /// unfinished one. Nothing is done.
     pub fn stands(&self)
         ensures { (epoch : ℕ) → HasOwnCommits epoch self.now.volume → KeepsNow epoch self.now.volume }
     {
         self.log.on_disk();
     }
 
-    /// What is so of every volume, as a fact for the proofs of callers: it shows a plain volume, and its numbers are bounded by its steps.
-    /// Nothing is done.
+    /// What is so of every volume, as a fact for the proofs of callers: it shows a plain volume, and its
+    /// numbers are bounded by its steps. Nothing is done.
     pub fn is_volume(&self)
         ensures { IsVolume self.now }
     {
         self.log.on_disk();
     }
 
-    /// What is so of the log and the objects of every volume, as facts for the proofs of callers. Nothing is done.
+    /// What is so of the log and the objects of every volume, as facts for the proofs of callers. Nothing is
+    /// done.
     pub fn is_ordered(&self)
         ensures on_disk { IsOnDisk self.now.volume.log }
-        ensures uploads { IsUploads self.now.volume.objects.uploads.queue self.now.volume.objects.uploads.window }
+        ensures uploads { IsUploads self.now.volume.objects.uploads.queue
+            self.now.volume.objects.uploads.window }
     {
         self.log.on_disk();
         self.objects.ordered();
@@ -169,14 +179,18 @@ impl<D: Disk, R: Receipt> Volume<D, R> {
         self.log.into_disk()
     }
 
-    /// Lends the device to a closure, which may be called, and changes no more of it than the calls that it still passes and its room
-    /// (conditions). What the closure answers is answered. The volume shows what it showed, but for these calls.
+    /// Lends the device to a closure, which may be called, and changes no more of it than the calls that it
+    /// still passes and its room (conditions). What the closure answers is answered. The volume shows what it
+    /// showed, but for these calls.
     pub fn with_disk<T, F: FnOnce(&mut D) -> T>(&mut self, change: F) -> T
         requires callable { F.IsAlwaysCallable change }
         requires keeps { (disk left : D) (answer : T)
             → FnOnceReturnsAtMut F.FnOnce change disk answer left
             → ChangesBudgetAlone (D.state disk) (D.state left) }
-        ensures rest { self.new ≡ record self.old { volume = with_budget_of self.new.volume.log.commits.disk self.old.volume } }
+        ensures rest { self.new ≡ record self.old {
+          volume = with_budget_of self.new.volume.log.commits.disk
+              self.old.volume;
+        } }
         ensures shows { (plain : PlainState) → Shows self.old.volume plain
             → Shows self.new.volume (passing (fuse_in self.new.volume.log.commits.disk.budget) plain) }
         ensures answer { (disk left : D)
@@ -303,7 +317,8 @@ impl<D: Disk, R: Receipt> Volume<D, R> {
     fn job_done(&mut self, job: Job, receipt: R) -> Reply<R>
         requires ready { HasRoomForStep self.old }
         requires receipt { HasItsReceipt R.state (events.JobDone job receipt) }
-        ensures step { StepsAsPlain R.state (events.JobDone job receipt) result self.old.volume self.new.volume }
+        ensures step { StepsAsPlain R.state (events.JobDone job receipt) result self.old.volume
+            self.new.volume }
         ensures back { HandsBack (events.JobDone job receipt) result }
         ensures steps { self.new.steps ≡ self.old.steps }
         ensures sizes { HasSameSizes self.old.volume self.new.volume }

@@ -1,10 +1,12 @@
 -- The rows of a look are as long as they can be.
-use Rattle.std.proofs.Common.{◌≡◌, ℕ, ◌+◌, ◌-◌, ◌<◌, ◌≤◌, ◌⊎◌, inl, inr, cond, Option, Some, None, Bool, true, false, List, [], ◌∷◌, ◌++◌, refl, sym, ◌∙◌, ap, arith}
+use Rattle.std.proofs.Common.{◌≡◌, ℕ, ◌+◌, ◌-◌, ◌<◌, ◌≤◌, ◌⊎◌, inl, inr, cond, Option, Some, None, Bool, true, false, List, []}
+use Rattle.std.proofs.Common.{◌∷◌, ◌++◌, refl, sym, ◌∙◌, ap, arith}
 use Rattle.std.specs.Prelude.{slice_get}
 use Rattle.std.specs.Option.{option_or}
 use Rattle.std.proofs.lemmas.Bool.{cases_lt}
 use Rattle.extent_map.specs.declared.extent.Extent.{Extent}
-use Rattle.extent_map.specs.Extents.{is_within, place_at, place_in_range, ComesBefore, IsShortest, IsFirstOfRange, StartsRange, IsBare, Fits, AllFit}
+use Rattle.extent_map.specs.Extents.{is_within, place_at, place_in_range, ComesBefore, IsShortest, IsFirstOfRange, StartsRange}
+use Rattle.extent_map.specs.Extents.{IsBare, Fits, AllFit}
 use Rattle.extent_map.specs.State.{MapState}
 use Rattle.extent_map.proofs.Places.{within, not_below, not_past, at_inside, at_past, none_before}
 use Rattle.volume_maps.specs.declared.place.ObjectPlace.{ObjectPlace}
@@ -27,11 +29,13 @@ module _ {P : Type 0} (on : ℕ → P → P) (on_none : (p : P) → on 0 p ≡ p
       let before : ComesBefore on row next = shortest.1 in
       elim (cases_lt e next.lba) [
         | inl low ↦
-            let none : place_at on (next ∷ more) e ≡ None = none_before on (next ∷ more) next.lba e shortest.2 (omega arith) low in
+            let none : place_at on (next ∷ more) e ≡ None =
+            none_before on (next ∷ more) next.lba e shortest.2 (omega arith) low in
             absurd cc
         | inr from ↦
             let at : e ≡ next.lba = omega (arith, before.in_order, from) in
-            let here : place_at on (next ∷ more) e ≡ Some (on (e - next.lba) next.place) = at_inside on next more e from (omega (arith, at, shortest.2.0)) in
+            let here : place_at on (next ∷ more) e ≡ Some (on (e - next.lba) next.place) =
+            at_inside on next more e from (omega (arith, at, shortest.2.0)) in
             let zero : e - next.lba ≡ 0 = omega (arith, at) in
             let same : on (e - next.lba) next.place ≡ next.place = ap (λ n. on n next.place) zero ∙ on_none next.place in
             absurd (before.apart at cc)
@@ -47,7 +51,8 @@ module _ {P : Type 0} (on : ℕ → P → P) (on_none : (p : P) → on 0 p ≡ p
       let e = head.lba + head.sectors in
       let at : e ≡ row.lba + row.sectors = rw same refl in
       let here : place_at on rest e ≡ old e =
-      sym (at_past on head rest e (omega arith)) ∙ places e ∙ ap (λ b. cond b (old e) None) (within lba sectors e (omega (arith, at)) (omega (arith, at))) in
+      sym (at_past on head rest e (omega arith)) ∙ places e
+      ∙ ap (λ b. cond b (old e) None) (within lba sectors e (omega (arith, at)) (omega (arith, at))) in
       next_breaks_off head rest shortest (here ∙ (ap old at ∙ goes_on ∙ rw (sym same) refl))
 
   pub first_breaks_off : (lba sectors : ℕ) (old : ℕ → Option P) (row : Extent P) → IsFirstOfRange on lba sectors old (Some row)
@@ -60,7 +65,8 @@ module _ {P : Type 0} (on : ℕ → P → P) (on_none : (p : P) → on 0 p ≡ p
       → places row.lba ≡ Some row.place
   starts_at places lba sectors row starts =
       let zero : row.lba - row.lba ≡ 0 = omega arith in
-      starts.places row.lba (omega arith) (omega (arith, starts.some)) ∙ ap Some (ap (λ n. on n row.place) zero ∙ on_none row.place)
+      starts.places row.lba (omega arith) (omega (arith, starts.some))
+      ∙ ap Some (ap (λ n. on n row.place) zero ∙ on_none row.place)
 
 -- a row, where there is one
 abbrev pub row_or : {P : Type 0} → Extent P → Option (Extent P) → Extent P
@@ -80,12 +86,14 @@ object_or other (Some (Log place)) = other
 object_or other (Some (Object place)) = place
 
 -- what both maps give is in the log's map, or else in the objects' map
-in_log : (logged : Option LogPlace) (settled : Option ObjectPlace) (place : LogPlace) → place_in logged settled ≡ Some (Log place) → logged ≡ Some place
+in_log : (logged : Option LogPlace) (settled : Option ObjectPlace) (place : LogPlace) → place_in logged settled ≡ Some (Log place)
+    → logged ≡ Some place
 in_log None None place is = absurd cc
 in_log None (Some other) place is = absurd cc
 in_log (Some other) settled place is = ap Some (ap (log_or place) is)
 
-in_objects : (logged : Option LogPlace) (settled : Option ObjectPlace) (place : ObjectPlace) → place_in logged settled ≡ Some (Object place)
+in_objects : (logged : Option LogPlace) (settled : Option ObjectPlace) (place : ObjectPlace)
+    → place_in logged settled ≡ Some (Object place)
     → (logged ≡ None) × (settled ≡ Some place)
 in_objects None None place is = absurd cc
 in_objects None (Some other) place is = (refl, ap Some (ap (object_or place) is))
@@ -104,7 +112,8 @@ volume_on_none (Object place) = ap Object (object_on_none place)
 
 module _ (settled : MapState ObjectPlace) (log : MapState LogPlace) (lba sectors : ℕ) where
   -- a row of the log's map is as long as it can be
-  pub logged_breaks_off : (row : Extent LogPlace) → IsFirstOfRange log_on lba sectors (place_at log_on log.rows) (Some row) → lba ≤ row.lba
+  pub logged_breaks_off : (row : Extent LogPlace) → IsFirstOfRange log_on lba sectors (place_at log_on log.rows) (Some row)
+      → lba ≤ row.lba
       → BreaksOff lba sectors (combined settled log) (as_logged row)
   logged_breaks_off row first from ends goes_on =
       let e = row.lba + row.sectors in
@@ -119,9 +128,11 @@ module _ (settled : MapState ObjectPlace) (log : MapState LogPlace) (lba sectors
       → BreaksOff lba sectors (combined settled log) (as_settled row)
   settled_breaks_off end row first from to order reason ends goes_on =
       let e = row.lba + row.sectors in
-      let both = in_objects (place_at log_on log.rows e) (place_at object_on settled.rows e) (object_on row.sectors row.place) goes_on in
+      let both = in_objects (place_at log_on log.rows e) (place_at object_on settled.rows e)
+      (object_on row.sectors row.place) goes_on in
       elim (cases_lt e (lba + (end - lba))) [
-        | inl low ↦ first_breaks_off object_on object_on_none lba (end - lba) (place_at object_on settled.rows) row first from low both.1
+        | inl low ↦ first_breaks_off object_on object_on_none lba (end - lba) (place_at object_on settled.rows) row first
+            from low both.1
         | inr past ↦ elim reason [
           | inl whole ↦ absurd (omega arith)
           | inr logged ↦
@@ -155,7 +166,8 @@ module _ (end : ℕ) (places : ℕ → Option VolumePlace) where
       → BreaksOff lba sectors places row → AreClosedAt (row.lba + row.sectors) end places (rows ++ row ∷ [])
   push_closed from lba sectors [] row range breaks = (omega arith, λ here low goes_on. breaks (omega (arith, range, low)) goes_on)
   push_closed from lba sectors (first ∷ []) row range breaks = push_closed from lba sectors [] row range breaks
-  push_closed from lba sectors (first ∷ next ∷ rows) row range breaks = push_closed from lba sectors (next ∷ rows) row range breaks
+  push_closed from lba sectors (first ∷ next ∷ rows) row range breaks =
+      push_closed from lba sectors (next ∷ rows) row range breaks
 
 -- rows fit with one more that does
 pub push_fits : {P : Type 0} (number : P → ℕ) (rows : List (Extent P)) (row : Extent P) → AllFit number rows → Fits number row
@@ -174,7 +186,8 @@ pub place_in_parts : (rows more : List (Extent VolumePlace)) (k : ℕ)
     → place_at volume_on (rows ++ more) k ≡ option_or (place_at volume_on rows k) (place_at volume_on more k)
 place_in_parts [] more k = refl
 place_in_parts (row ∷ rows) more k =
-    by_test (is_within row.lba row.sectors k) (volume_on (k - row.lba) row.place) (place_at volume_on rows k) (place_at volume_on (rows ++ more) k) (place_at volume_on more k)
+    by_test (is_within row.lba row.sectors k) (volume_on (k - row.lba) row.place) (place_at volume_on rows k)
+    (place_at volume_on (rows ++ more) k) (place_at volume_on more k)
     (place_in_parts rows more k)
 
 none_after : (place : Option VolumePlace) → option_or place None ≡ place
@@ -182,13 +195,15 @@ none_after None = refl
 none_after (Some place) = refl
 
 -- a range's places, and those outside it
-inside : (lba sectors : ℕ) (places : ℕ → Option VolumePlace) (k : ℕ) → lba ≤ k → k < lba + sectors → place_in_range lba sectors places k ≡ places k
+inside : (lba sectors : ℕ) (places : ℕ → Option VolumePlace) (k : ℕ) → lba ≤ k → k < lba + sectors
+    → place_in_range lba sectors places k ≡ places k
 inside lba sectors places k from low = ap (λ b. cond b (places k) None) (within lba sectors k from low)
 
 early : (lba sectors : ℕ) (places : ℕ → Option VolumePlace) (k : ℕ) → k < lba → place_in_range lba sectors places k ≡ None
 early lba sectors places k low = ap (λ b. cond b (places k) None) (not_below lba sectors k low)
 
-late : (lba sectors : ℕ) (places : ℕ → Option VolumePlace) (k : ℕ) → lba + sectors ≤ k → place_in_range lba sectors places k ≡ None
+late : (lba sectors : ℕ) (places : ℕ → Option VolumePlace) (k : ℕ) → lba + sectors ≤ k
+    → place_in_range lba sectors places k ≡ None
 late lba sectors places k high = ap (λ b. cond b (places k) None) (not_past lba sectors k high)
 
 module _ (lba from : ℕ) (places : ℕ → Option VolumePlace) (order : lba ≤ from) where
@@ -197,7 +212,8 @@ module _ (lba from : ℕ) (places : ℕ → Option VolumePlace) (order : lba ≤
       → place_at volume_on (row ∷ []) k ≡ Some (volume_on (k - row.lba) row.place)
   own row k low high = at_inside volume_on row [] k low high
 
-  not_own : (row : Extent VolumePlace) (k : ℕ) → (k < row.lba) ⊎ (row.lba + row.sectors ≤ k) → place_at volume_on (row ∷ []) k ≡ None
+  not_own : (row : Extent VolumePlace) (k : ℕ) → (k < row.lba) ⊎ (row.lba + row.sectors ≤ k)
+      → place_at volume_on (row ∷ []) k ≡ None
   not_own row k outside = elim outside [
     | inl low ↦ ap (λ b. cond b (Some (volume_on (k - row.lba) row.place)) None) (not_below row.lba row.sectors k low)
     | inr high ↦ ap (λ b. cond b (Some (volume_on (k - row.lba) row.place)) None) (not_past row.lba row.sectors k high)
@@ -213,7 +229,8 @@ module _ (lba from : ℕ) (places : ℕ → Option VolumePlace) (order : lba ≤
       elim (cases_lt k from) [
         | inl before ↦
             let none = not_own row k (inl (omega (arith, starts.from))) in
-            ap (option_or (place_in_range lba (from - lba) places k)) none ∙ (none_after (place_in_range lba (from - lba) places k)
+            ap (option_or (place_in_range lba (from - lba) places k)) none
+            ∙ (none_after (place_in_range lba (from - lba) places k)
             ∙ elim (cases_lt k lba) [
               | inl low ↦ early lba (from - lba) places k low ∙ sym (early lba all places k low)
               | inr high ↦
@@ -243,7 +260,8 @@ module _ (lba from : ℕ) (places : ℕ → Option VolumePlace) (order : lba ≤
       elim (cases_lt k lba) [
         | inl low ↦ early lba (from - lba) places k low ∙ sym (early lba sectors places k low)
         | inr high ↦ elim (cases_lt k from) [
-          | inl before ↦ inside lba (from - lba) places k high (omega arith) ∙ sym (inside lba sectors places k high (omega arith))
+          | inl before ↦ inside lba (from - lba) places k high (omega arith)
+              ∙ sym (inside lba sectors places k high (omega arith))
           | inr past ↦
               late lba (from - lba) places k (omega arith)
               ∙ elim (cases_lt k (lba + sectors)) [

@@ -23,8 +23,8 @@ SettlesAsReplay =
     → IsTrue (data_rows_may_stand volume sectors None 0 rows)
     → owner_of (settled_by number front rows before k) ≡ owner_by_change number (change_in rows payload k) (owner_of before)
 
--- A sector's place before and after an object of this number and these bytes did this to it: a sector that it put is at a place of the
--- object, one that it cleared has none, and any other is where it was.
+-- A sector's place before and after an object of this number and these bytes did this to it: a sector that it put is at a place
+-- of the object, one that it cleared has none, and any other is where it was.
 abbrev pub IsPlacedBy : (number : ℕ) (bytes : List ℕ) → Option Change → (before after : Option ObjectPlace) → Type 0
 IsPlacedBy number bytes None before after = after ≡ before
 IsPlacedBy number bytes (Some Clear) before after = after ≡ None
@@ -43,4 +43,5 @@ abbrev pub LogKeepsLaterEntries : Type 0
 LogKeepsLaterEntries =
     (data_at : ℕ → ℕ) (first k : ℕ) (entries later : List Entry) (rows : List DataRow) (payload : List ℕ)
     → change_in rows payload k ≡ change_at entries k
-    → logged_by (first + length entries) rows (left_at data_at first (entries ++ later) k) k ≡ left_at data_at (first + length entries) later k
+    → logged_by (first + length entries) rows (left_at data_at first (entries ++ later) k) k
+    ≡ left_at data_at (first + length entries) later k

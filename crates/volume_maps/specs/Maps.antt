@@ -34,7 +34,8 @@ row_place number front (Some place) i = Some (record { level = 0; number = numbe
 
 -- a sector's place in the objects' map after a row of that object
 abbrev pub settled_by_row : (number front : ℕ) → DataRow → Option ObjectPlace → ℕ → Option ObjectPlace
-settled_by_row number front row before k = if is_within row.lba row.sectors k then row_place number front row.place (k - row.lba) else before
+settled_by_row number front row before k = if is_within row.lba row.sectors k then row_place number front row.place (k - row.lba)
+    else before
 
 -- and after rows, one after the other
 abbrev pub settled_by : (number front : ℕ) → List DataRow → Option ObjectPlace → ℕ → Option ObjectPlace

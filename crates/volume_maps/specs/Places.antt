@@ -48,7 +48,8 @@ seq_of (Zeros seq) = seq
 
 -- where an entry with this seq, whose data begin at a sector of the log, leaves a sector: none where it does not cover it
 abbrev pub place_left_by : (seq data_at : ℕ) → Entry → ℕ → Option LogPlace
-place_left_by seq data_at (Write lba body) k = if is_within lba (length body / 512) k then Some (Data seq (data_at + (k - lba))) else None
+place_left_by seq data_at (Write lba body) k =
+    if is_within lba (length body / 512) k then Some (Data seq (data_at + (k - lba))) else None
 place_left_by seq data_at (Zero lba sectors) k = if is_within lba sectors k then Some (Zeros seq) else None
 
 -- the row of the log's map that says so
@@ -59,7 +60,8 @@ row_left_by seq data_at (Zero lba sectors) = record { lba = lba; sectors = secto
 -- where entries with seqs from one on leave a sector, each with its data where it is told: where the last that covers it does
 abbrev pub left_at : (data_at : ℕ → ℕ) → (first : ℕ) → List Entry → ℕ → Option LogPlace
 left_at data_at first [] k = None
-left_at data_at first (entry ∷ entries) k = option_or (left_at data_at (first + 1) entries k) (place_left_by first (data_at first) entry k)
+left_at data_at first (entry ∷ entries) k =
+    option_or (left_at data_at (first + 1) entries k) (place_left_by first (data_at first) entry k)
 
 -- ---- both maps as one
 

@@ -1,9 +1,10 @@
-//! The two maps of a volume: which object has each sector, by the objects up to the frontier, and where the log has the sectors that
-//! entries past its end changed.
+//! The two maps of a volume: which object has each sector, by the objects up to the frontier, and where the
+//! log has the sectors that entries past its end changed.
 //!
-//! Its contract: an entry that is entered changes the log's map on its sectors; a data object that is settled takes the sectors of
-//! its entries over from the log's map; a look gives each sector from the log's map, and else from the objects'.
-//! It stands on `extent_map` for both maps, on `object_stream` for what entries and objects do, and on `object_format` for rows.
+//! Its contract: an entry that is entered changes the log's map on its sectors; a data object that is settled
+//! takes the sectors of its entries over from the log's map; a look gives each sector from the log's map, and
+//! else from the objects'. It stands on `extent_map` for both maps, on `object_stream` for what entries and
+//! objects do, and on `object_format` for rows.
 #![tactic(auto)]
 
 mod laws;

@@ -1,5 +1,6 @@
 ghost use Rattle.std.specs.Prelude.{◌≡◌, ◌+◌, ◌<◌, ◌^◌, ◌↔◌, ℕ, IfOk, IfSome, IsNone};
-ghost use Rattle.extent_map.specs.Extents.{place_at, place_in_range, IsShortest, StartsRange, IsBare, Fits, AllFit};
+ghost use Rattle.extent_map.specs.Extents.{place_at, place_in_range, IsShortest, StartsRange, IsBare, Fits};
+ghost use Rattle.extent_map.specs.Extents.{AllFit};
 ghost use Rattle.volume_maps.specs.Places.{volume_on, volume_number, as_logged, as_settled};
 ghost use Rattle.volume_maps.specs.Look.{combined, BreaksOff};
 
@@ -16,7 +17,8 @@ pub(crate) fn look(
     sectors: u64,
 ) -> Result<Vec<Extent<VolumePlace>>, AllocError>
     requires { lba + sectors < 2 ^ 63 }
-    ensures places { IfOk result (λ rows. (k : ℕ) → place_at volume_on rows.items k ≡ place_in_range lba sectors (combined settled.now log.now) k) }
+    ensures places { IfOk result (λ rows. (k : ℕ) → place_at volume_on rows.items k ≡ place_in_range lba
+        sectors (combined settled.now log.now) k) }
     ensures shortest { IfOk result (λ rows. IsShortest volume_on rows.items) }
     ensures fits { IfOk result (λ rows. AllFit volume_number rows.items) }
 {

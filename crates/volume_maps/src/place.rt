@@ -3,7 +3,8 @@ ghost use Rattle.volume_maps.specs.Places.{seq_of};
 
 use extent_map::Place;
 
-// The number of an object's first sector, as a place: the last of its 2^32 sectors has the greatest number of a place.
+// The number of an object's first sector, as a place: the last of its 2^32 sectors has the greatest number of
+// a place.
 const FIRST_NUMBER: u64 = (1 << 63) - (1 << 32);
 
 /// Where an object has a sector. It takes 16 bytes, since a map of a large volume has millions of rows.
@@ -13,7 +14,8 @@ pub struct ObjectPlace {
     pub number: u64,
     /// How many clones lie between the volume and the object: 0 is for an object of the volume's own.
     pub level: u32,
-    /// The sector of the whole object, header and rows counted: the sector N is its 512 bytes from byte 512 N on.
+    /// The sector of the whole object, header and rows counted: the sector N is its 512 bytes from byte 512 N
+    /// on.
     pub sector: u32,
 }
 
@@ -141,9 +143,21 @@ impl Place for VolumePlace {
         self == other
     }
 
-    ghost on_none = { elim [ Log (Data seq sector) ↦ Prim.grind arith | Log (Zeros seq) ↦ refl | Object place ↦ Prim.grind arith ] };
+    ghost on_none = { elim [
+      | Log (Data seq sector) ↦ Prim.grind arith
+      | Log (Zeros seq) ↦ refl
+      | Object place ↦ Prim.grind arith
+    ] };
 
-    ghost on_twice = { λ a b. elim [ Log (Data seq sector) ↦ Prim.grind arith | Log (Zeros seq) ↦ refl | Object place ↦ Prim.grind arith ] };
+    ghost on_twice = { λ a b. elim [
+      | Log (Data seq sector) ↦ Prim.grind arith
+      | Log (Zeros seq) ↦ refl
+      | Object place ↦ Prim.grind arith
+    ] };
 
-    ghost number_on = { λ n. elim [ Log (Data seq sector) ↦ inl refl | Log (Zeros seq) ↦ inr (refl, refl) | Object place ↦ inl (Prim.omega arith) ] };
+    ghost number_on = { λ n. elim [
+      | Log (Data seq sector) ↦ inl refl
+      | Log (Zeros seq) ↦ inr (refl, refl)
+      | Object place ↦ inl (Prim.omega arith)
+    ] };
 }

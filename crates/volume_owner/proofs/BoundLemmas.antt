@@ -1,5 +1,7 @@
--- How much there is to help with at most: each entry past the frontier's end has a record in the log, and each object past it an entry.
-use Rattle.std.proofs.Common.{arith, ◌≡◌, ℕ, zero, suc, ◌+◌, ◌*◌, ◌-◌, ◌^◌, ◌≤◌, ◌<◌, nat_lt, Bool, true, false, if◌then◌else◌, List, [], ◌∷◌, length, take, drop, length-append, length-drop, refl, sym, ◌∙◌, ap, subst}
+-- How much there is to help with at most: each entry past the frontier's end has a record in the log, and each object past it an
+-- entry.
+use Rattle.std.proofs.Common.{arith, ◌≡◌, ℕ, zero, suc, ◌+◌, ◌*◌, ◌-◌, ◌^◌, ◌≤◌, ◌<◌, nat_lt, Bool, true, false, if◌then◌else◌}
+use Rattle.std.proofs.Common.{List, [], ◌∷◌, length, take, drop, length-append, length-drop, refl, sym, ◌∙◌, ap, subst}
 use Rattle.std.specs.Prelude.{Option, Some, None}
 use Rattle.std.proofs.lemmas.List.{take_all, take-append-drop}
 use Rattle.lsvd_base.specs.declared.entry.Entry.{Entry}
@@ -41,7 +43,8 @@ taken_by false rest size some = some
 count_rows : (rows : List Row) (log from used : ℕ) → Follow log from used rows → length rows ≤ used
 count_rows [] log from used follow = omega arith
 count_rows (row ∷ rows) log from used follow =
-    let some : 1 ≤ sectors_taken log from row = taken_by (nat_lt (position_of row) from) (log - from) (record_size row) (size_some row) in
+    let some : 1 ≤ sectors_taken log from row = taken_by (nat_lt (position_of row) from) (log - from) (record_size row)
+    (size_some row) in
     let fits = follow.1 in
     let rest = count_rows rows log (next log row) (used - sectors_taken log from row) follow.2 in
     omega (arith, some, fits, rest)
@@ -65,18 +68,23 @@ few_logged volume plain shows =
 
 -- ---- objects
 
-open_by : (receipt : Option ReceiptState) (number : ℕ) (has_spare : Bool) (objects : List OpenObject) (Rest : List OpenObject → Type 0) (most : ℕ)
-    → ((more : List OpenObject) → Rest more → length more ≤ most) → IsOpenFirst number receipt has_spare objects Rest → length objects ≤ suc most
+open_by : (receipt : Option ReceiptState) (number : ℕ) (has_spare : Bool) (objects : List OpenObject) (Rest : List OpenObject
+    → Type 0) (most : ℕ)
+    → ((more : List OpenObject) → Rest more → length more ≤ most) → IsOpenFirst number receipt has_spare objects Rest
+    → length objects ≤ suc most
 open_by (Some receipt) number has_spare objects Rest most rest are = (let few = rest objects are in omega (arith, few))
 open_by None number has_spare [] Rest most rest are = absurd are
 open_by None number has_spare (object ∷ objects) Rest most rest are = (let few = rest objects are.3 in omega (arith, few))
 
-few_open : (number : ℕ) (sealed : List SealedState) (objects : List OpenObject) → AreOpen number sealed objects → length objects ≤ length sealed
+few_open : (number : ℕ) (sealed : List SealedState) (objects : List OpenObject) → AreOpen number sealed objects
+    → length objects ≤ length sealed
 few_open number [] objects are = (let empty = ap (λ (o : List OpenObject). length o) are in omega (arith, empty))
 few_open number (one ∷ sealed) objects are =
-    open_by one.receipt number one.has_spare objects (AreOpen (number + 1) sealed) (length sealed) (few_open (number + 1) sealed) are
+    open_by one.receipt number one.has_spare objects (AreOpen (number + 1) sealed) (length sealed)
+    (few_open (number + 1) sealed) are
 
-follow_rest : (end n : ℕ) (objects : List StreamObject) → EndsFollow end objects → EndsFollow (end_after end (take n objects)) (drop n objects)
+follow_rest : (end n : ℕ) (objects : List StreamObject) → EndsFollow end objects
+    → EndsFollow (end_after end (take n objects)) (drop n objects)
 follow_rest end zero objects follow = follow
 follow_rest end (suc n) [] follow = tt
 follow_rest end (suc n) (object ∷ objects) follow = follow_rest object.end n objects follow.1
@@ -96,25 +104,29 @@ few_sealed volume number end entries (object ∷ objects) (one ∷ sealed) are f
 
 -- ---- both
 
-pub work_bound : (volume : VolumeState) (plain : PlainState) → Shows volume plain → IsUploads volume.objects.uploads.queue volume.objects.uploads.window
+pub work_bound : (volume : VolumeState) (plain : PlainState) → Shows volume plain
+    → IsUploads volume.objects.uploads.queue volume.objects.uploads.window
     → work_of volume ≤ 3 * 2 ^ 31
 work_bound volume plain shows uploads =
     let queue : QueueState = volume.objects.uploads.queue in
     let stream : Stream = stream_in plain in
     let objects = shows.objects.stream.objects in
     let k : ℕ = queue.frontier - plain.number in
-    let follow = subst (λ e. EndsFollow e (drop k plain.objects)) (sym objects.end) (follow_rest plain.end k plain.objects shows.valid.stream.ends) in
+    let follow = subst (λ e. EndsFollow e (drop k plain.objects)) (sym objects.end)
+    (follow_rest plain.end k plain.objects shows.valid.stream.ends) in
     let sealed = few_sealed (expected_of_volume volume.objects) queue.frontier queue.end
     (from_object queue.frontier stream).entries (drop k plain.objects) queue.sealed objects.sealed follow in
     let whole : end_after (end_at stream queue.frontier) (drop k plain.objects) ≡ end_after plain.end plain.objects =
-    sym (end_in_parts plain.end (take k plain.objects) (drop k plain.objects)) ∙ ap (end_after plain.end) (take-append-drop k plain.objects) in
+    sym (end_in_parts plain.end (take k plain.objects) (drop k plain.objects))
+    ∙ ap (end_after plain.end) (take-append-drop k plain.objects) in
     let start : end_after queue.end (drop k plain.objects) ≡ end_after plain.end plain.objects =
     ap (λ e. end_after e (drop k plain.objects)) objects.end ∙ whole in
     let all : take (last_number stream - plain.number) plain.objects ≡ plain.objects =
     take_all (last_number stream - plain.number) plain.objects (omega arith) in
     let last_end : end_at stream (last_number stream) ≡ end_after plain.end plain.objects = ap (end_after plain.end) all in
     let frontier : queue.frontier ≡ frontier_of plain =
-    sym (frontier_below queue volume.objects.uploads.window uploads) ∙ ap (λ (w : WindowState). below_open w) shows.objects.window in
+    sym (frontier_below queue volume.objects.uploads.window uploads)
+    ∙ ap (λ (w : WindowState). below_open w) shows.objects.window in
     let end : queue.end ≡ frontier_end plain = objects.end ∙ ap (end_at stream) frontier in
     let open_ = few_open (queue.frontier + 1) queue.sealed volume.objects.uploads.window.objects uploads.opened in
     let batch = ap (λ (es : List Entry). length es) shows.objects.stream.entries in
@@ -122,6 +134,7 @@ work_bound volume plain shows uploads =
     let logged = length-drop (frontier_end plain - plain.end) plain.entries in
     let few = few_logged volume plain shows in
     let from = ends_from plain (frontier_of plain) shows.valid in
-    let later = ends_grow stream (frontier_of plain) (last_number stream) shows.valid.stream.ends (frontier_is_sealed plain shows.valid) in
+    let later = ends_grow stream (frontier_of plain) (last_number stream) shows.valid.stream.ends
+    (frontier_is_sealed plain shows.valid) in
     let within = shows.valid.stream.within in
     omega (arith, sealed, start, last_end, end, open_, batch, unsealed, logged, few, from, later, within)

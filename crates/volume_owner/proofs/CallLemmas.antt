@@ -27,7 +27,8 @@ pub becomes_same : (uuid : List ℕ) (objects : Option Objects) → Becomes (Kee
 becomes_same uuid None = refl
 becomes_same uuid (Some objects) = (objects, refl, λ name other. refl)
 
-pub becomes_then : (uuid : List ℕ) (old mid new : Option Objects) → Becomes (KeepsOtherNames uuid) old mid → Becomes (KeepsOtherNames uuid) mid new
+pub becomes_then : (uuid : List ℕ) (old mid new : Option Objects) → Becomes (KeepsOtherNames uuid) old mid
+    → Becomes (KeepsOtherNames uuid) mid new
     → Becomes (KeepsOtherNames uuid) old new
 becomes_then uuid None mid new first second = subst (λ o. Becomes (KeepsOtherNames uuid) o new) first second
 becomes_then uuid (Some old) mid new first second =
@@ -46,11 +47,13 @@ may_keep uuid number name bytes is old new (inr put) other not_own = put_keeps u
 
 -- ---- faults
 
-pub disk_counts : (failed : Bool) (old_disk new_disk store : ℕ) → Counts failed old_disk new_disk → CountsEitherFault failed old_disk new_disk store store
+pub disk_counts : (failed : Bool) (old_disk new_disk store : ℕ) → Counts failed old_disk new_disk
+    → CountsEitherFault failed old_disk new_disk store store
 disk_counts false old_disk new_disk store counts = (counts, refl)
 disk_counts true old_disk new_disk store counts = inl (counts, refl)
 
-pub store_counts : (failed : Bool) (disk old_store new_store : ℕ) → Counts failed old_store new_store → CountsEitherFault failed disk disk old_store new_store
+pub store_counts : (failed : Bool) (disk old_store new_store : ℕ) → Counts failed old_store new_store
+    → CountsEitherFault failed disk disk old_store new_store
 store_counts false disk old_store new_store counts = (refl, counts)
 store_counts true disk old_store new_store counts = inr (refl, counts)
 
@@ -64,8 +67,10 @@ quiet_call most added old new store makes same = record {
   faults = (same, refl);
 }
 
-pub disk_call : (most : ℕ) (added : List Entry) (failed : Bool) (old new : SteppedVolume) (store : StoreState) → MakesSteps most added old new
-    → Counts failed old.volume.log.commits.disk.faults new.volume.log.commits.disk.faults → IsCall most added failed old new store store
+pub disk_call : (most : ℕ) (added : List Entry) (failed : Bool) (old new : SteppedVolume) (store : StoreState)
+    → MakesSteps most added old new
+    → Counts failed old.volume.log.commits.disk.faults new.volume.log.commits.disk.faults
+    → IsCall most added failed old new store store
 disk_call most added failed old new store makes counts = record {
   steps = makes;
   store = becomes_same old.volume.objects.uploads.uuid store.objects;
@@ -73,7 +78,8 @@ disk_call most added failed old new store makes counts = record {
 }
 
 pub call_then : (m n : ℕ) (added : List Entry) (failed : Bool) (old mid new : SteppedVolume) (first second third : StoreState)
-    → IsCall m [] false old mid first second → IsCall n added failed mid new second third → IsCall (m + n) added failed old new first third
+    → IsCall m [] false old mid first second → IsCall n added failed mid new second third
+    → IsCall (m + n) added failed old new first third
 call_then m n added failed old mid new first second third one two = record {
   steps = makes_then m n added old mid new one.steps two.steps;
   store =
@@ -81,7 +87,8 @@ call_then m n added failed old mid new first second third one two = record {
       (subst (λ u. Becomes (KeepsOtherNames u) second.objects third.objects) one.steps.sizes.uuid two.store);
   faults =
       subst (λ d. CountsEitherFault failed d new.volume.log.commits.disk.faults first.faults third.faults) one.faults.0
-      (subst (λ s. CountsEitherFault failed mid.volume.log.commits.disk.faults new.volume.log.commits.disk.faults s third.faults) one.faults.1 two.faults);
+      (subst (λ s. CountsEitherFault failed mid.volume.log.commits.disk.faults new.volume.log.commits.disk.faults s third.faults)
+      one.faults.1 two.faults);
 }
 
 pub call_fewer : (m n : ℕ) (added : List Entry) (failed : Bool) (old new : SteppedVolume) (first second : StoreState) → m ≤ n
@@ -95,35 +102,45 @@ call_fewer m n added failed old new first second less call = record {
 -- ---- a put
 
 -- the name of a job, made of the volume's uuid and the job's number
-pub job_name : (name job : ObjName) (uuid told : List ℕ) (number : ℕ) → name ≡ name_of told number → told ≡ uuid → number ≡ job.number
+pub job_name : (name job : ObjName) (uuid told : List ℕ) (number : ℕ) → name ≡ name_of told number → told ≡ uuid
+    → number ≡ job.number
     → name ≡ name_of uuid job.number
 job_name name job uuid told number is same_uuid same_number =
     is ∙ ap (λ u. name_of u number) same_uuid ∙ ap (name_of uuid) same_number
 
-pub put_call : (uuid : List ℕ) (number : ℕ) (name : ObjName) (bytes : List ℕ) (old new : SteppedVolume) (first second : StoreState)
-    → old.volume.objects.uploads.uuid ≡ uuid → name ≡ name_of uuid number → Becomes (IsPut name bytes) first.objects second.objects
-    → second.faults ≡ first.faults → MakesSteps 1 [] old new → new.volume.log.commits.disk.faults ≡ old.volume.log.commits.disk.faults
+pub put_call : (uuid : List ℕ) (number : ℕ) (name : ObjName) (bytes : List ℕ) (old new : SteppedVolume)
+    (first second : StoreState)
+    → old.volume.objects.uploads.uuid ≡ uuid → name ≡ name_of uuid number
+    → Becomes (IsPut name bytes) first.objects second.objects
+    → second.faults ≡ first.faults → MakesSteps 1 [] old new
+    → new.volume.log.commits.disk.faults ≡ old.volume.log.commits.disk.faults
     → IsCall 1 [] false old new first second
 put_call uuid number name bytes old new first second uuid_is is put counted makes same = record {
   steps = makes;
   store = subst (λ u. Becomes (KeepsOtherNames u) first.objects second.objects) (sym uuid_is)
-      (becomes_by (IsPut name bytes) (KeepsOtherNames uuid) (put_keeps uuid number name bytes is) first.objects second.objects put);
+      (becomes_by (IsPut name bytes) (KeepsOtherNames uuid) (put_keeps uuid number name bytes is) first.objects
+      second.objects put);
   faults = (same, counted);
 }
 
-pub failed_put_call : (T : Type 0) (error : StoreError) (uuid : List ℕ) (number : ℕ) (name : ObjName) (bytes : List ℕ) (old new : SteppedVolume)
+pub failed_put_call : (T : Type 0) (error : StoreError) (uuid : List ℕ) (number : ℕ) (name : ObjName) (bytes : List ℕ)
+    (old new : SteppedVolume)
     (first second : StoreState) → old.volume.objects.uploads.uuid ≡ uuid → name ≡ name_of uuid number
     → (error ≡ store_errors.Failed → Becomes (MayBePut name bytes) first.objects second.objects)
     → (error ≡ store_errors.OutOfMemory → second ≡ first) → Counts (has_failed {T = T} (Err error)) first.faults second.faults
     → MakesSteps 1 [] old new → new.volume.log.commits.disk.faults ≡ old.volume.log.commits.disk.faults
     → IsCall 1 [] (is_eio {T = Unit {0}} (Err (of_store error))) old new first second
-failed_put_call T store_errors.Failed uuid number name bytes old new first second uuid_is is failed unchanged counts makes same = record {
-  steps = makes;
-  store = subst (λ u. Becomes (KeepsOtherNames u) first.objects second.objects) (sym uuid_is)
-      (becomes_by (MayBePut name bytes) (KeepsOtherNames uuid) (may_keep uuid number name bytes is) first.objects second.objects (failed refl));
-  faults = inr (same, counts);
-}
-failed_put_call T store_errors.OutOfMemory uuid number name bytes old new first second uuid_is is failed unchanged counts makes same =
+failed_put_call T store_errors.Failed uuid number name bytes old new first second uuid_is is failed unchanged counts makes same =
+    record {
+      steps = makes;
+      store = subst (λ u. Becomes (KeepsOtherNames u) first.objects second.objects) (sym uuid_is)
+          (becomes_by (MayBePut name bytes) (KeepsOtherNames uuid) (may_keep uuid number name bytes is) first.objects
+          second.objects
+          (failed refl));
+      faults = inr (same, counts);
+    }
+failed_put_call T store_errors.OutOfMemory uuid number name bytes old new first second uuid_is is failed unchanged counts
+    makes same =
     subst (λ s. IsCall 1 [] false old new first s) (sym (unchanged refl)) (quiet_call 1 [] old new first makes same)
 
 -- ---- want of memory
@@ -135,7 +152,8 @@ memory_alone (Err errors.Range) is = refl
 memory_alone (Err errors.Eio) is = let bad : ⊥ = cc in absurd bad
 memory_alone (Err errors.OutOfMemory) is = refl
 
-pub memory_no_range : {T : Type 0} (result : Result T OwnerError) → IsOkUnless result errors.OutOfMemory → IsErrOf result errors.Range → ⊥
+pub memory_no_range : {T : Type 0} (result : Result T OwnerError) → IsOkUnless result errors.OutOfMemory
+    → IsErrOf result errors.Range → ⊥
 memory_no_range (Ok value) is range = cc
 memory_no_range (Err errors.Range) is range = let bad : ⊥ = cc in bad
 memory_no_range (Err errors.Eio) is range = cc
@@ -143,18 +161,22 @@ memory_no_range (Err errors.OutOfMemory) is range = cc
 
 -- ---- an error that is handed on
 
-pub handed_on : {T : Type 0} (result : Result T OwnerError) (error : OwnerError) → IsErrAnd result (λ e. e ≡ error) → result ≡ Err error
+pub handed_on : {T : Type 0} (result : Result T OwnerError) (error : OwnerError) → IsErrAnd result (λ e. e ≡ error)
+    → result ≡ Err error
 handed_on (Ok value) error is = let bad : ⊥ = is in absurd bad
 handed_on (Err other) error is = ap Err is
 
 -- a call that ends with it
-pub call_ends : (entry : Entry) (most : ℕ) (result : Result ℕ OwnerError) (error : OwnerError) (old new : SteppedVolume) (first second : StoreState)
+pub call_ends : (entry : Entry) (most : ℕ) (result : Result ℕ OwnerError) (error : OwnerError) (old new : SteppedVolume)
+    (first second : StoreState)
     → IsErrAnd result (λ e. e ≡ error) → IsCall most [] (is_eio {T = ℕ} (Err error)) old new first second
     → IsCall most (added_by entry result) (is_eio result) old new first second
 call_ends entry most result error old new first second is call =
-    subst (λ (r : Result ℕ OwnerError). IsCall most (added_by entry r) (is_eio r) old new first second) (sym (handed_on result error is)) call
+    subst (λ (r : Result ℕ OwnerError). IsCall most (added_by entry r) (is_eio r) old new first second)
+    (sym (handed_on result error is)) call
 
-pub call_ends_none : {T : Type 0} (most : ℕ) (result : Result T OwnerError) (error : OwnerError) (old new : SteppedVolume) (first second : StoreState)
+pub call_ends_none : {T : Type 0} (most : ℕ) (result : Result T OwnerError) (error : OwnerError) (old new : SteppedVolume)
+    (first second : StoreState)
     → IsErrAnd result (λ e. e ≡ error) → IsCall most [] (is_eio {T = T} (Err error)) old new first second
     → IsCall most [] (is_eio result) old new first second
 call_ends_none {T} most result error old new first second is call =
@@ -169,8 +191,10 @@ same_eio A B errors.OutOfMemory = refl
 -- ---- a read
 
 -- a look, a fetch, and the release of the plan
-pub read_call : (most : ℕ) (failed : Bool) (old mid last : SteppedVolume) (first second : StoreState) → 2 ≤ most → MakesSteps 1 [] old mid → MakesSteps 1 [] mid last
-    → mid.volume.log.commits.disk.faults ≡ old.volume.log.commits.disk.faults → last.volume.log.commits.disk.faults ≡ mid.volume.log.commits.disk.faults
+pub read_call : (most : ℕ) (failed : Bool) (old mid last : SteppedVolume) (first second : StoreState) → 2 ≤ most
+    → MakesSteps 1 [] old mid → MakesSteps 1 [] mid last
+    → mid.volume.log.commits.disk.faults ≡ old.volume.log.commits.disk.faults
+    → last.volume.log.commits.disk.faults ≡ mid.volume.log.commits.disk.faults
     → OnlyCounts first second → Counts failed first.faults second.faults → IsCall most [] failed old last first second
 read_call most failed old mid last first second two look release looked released only counts =
     let uuid : List ℕ = old.volume.objects.uploads.uuid in
@@ -179,5 +203,6 @@ read_call most failed old mid last first second two look release looked released
     record {
       steps = makes_fewer 2 most [] old last two (makes_then 1 1 [] old mid last look release);
       store = subst (λ o. Becomes (KeepsOtherNames uuid) first.objects o) (sym objects) (becomes_same uuid first.objects);
-      faults = subst (λ d. CountsEitherFault failed disk d first.faults second.faults) (sym (released ∙ looked)) (store_counts failed disk first.faults second.faults counts);
+      faults = subst (λ d. CountsEitherFault failed disk d first.faults second.faults) (sym (released ∙ looked))
+          (store_counts failed disk first.faults second.faults counts);
     }

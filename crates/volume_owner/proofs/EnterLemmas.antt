@@ -1,5 +1,6 @@
 -- What an attempt to enter an entry does.
-use Rattle.std.proofs.Common.{arith, ◌≡◌, ℕ, zero, suc, ◌+◌, ◌<◌, ◌⊎◌, inl, inr, Bool, true, false, cond, List, [], ◌∷◌, ◌++◌, length, length-append, refl, sym, ◌∙◌, ap, subst}
+use Rattle.std.proofs.Common.{arith, ◌≡◌, ℕ, zero, suc, ◌+◌, ◌<◌, ◌⊎◌, inl, inr, Bool, true, false, cond, List, [], ◌∷◌, ◌++◌}
+use Rattle.std.proofs.Common.{length, length-append, refl, sym, ◌∙◌, ap, subst}
 use Rattle.lsvd_base.specs.declared.entry.Entry.{Entry}
 use Rattle.lsvd_base.specs.declared.entry.Entry.TheVariants as entries
 use Rattle.lsvd_base.specs.Range.{is_in_range}
@@ -77,7 +78,8 @@ record IsIn {R : Type 0} (entry : Entry) (reply : Reply R) (plain : PlainState) 
   pins : after.pins ≡ plain.pins
 
 -- it was not: the volume has the same entries and objects, and the reply tells why
-record IsOut {R : Type 0} (state : R → ReceiptState) (entry : Entry) (reply : Reply R) (plain : PlainState) (old new : VolumeState) : Type 0 where
+record IsOut {R : Type 0} (state : R → ReceiptState) (entry : Entry) (reply : Reply R) (plain : PlainState)
+    (old new : VolumeState) : Type 0 where
   other : (count : ℕ) → reply ≡ told.Entered count → ⊥
   after : PlainState
   shows : Shows new after
@@ -87,18 +89,22 @@ record IsOut {R : Type 0} (state : R → ReceiptState) (entry : Entry) (reply : 
   pins : after.pins ≡ plain.pins
   why : ((left : Fuse) × Tells state old reply (enter_reply (passing left plain) entry)) ⊎ (lacks_memory reply ≡ true)
 
-entering_by : {R : Type 0} (state : R → ReceiptState) (entry : Entry) (reply : Reply R) (plain : PlainState) (old new : VolumeState)
+entering_by : {R : Type 0} (state : R → ReceiptState) (entry : Entry) (reply : Reply R) (plain : PlainState)
+    (old new : VolumeState)
     (left now : Fuse) (is_in : Bool) → Shows old plain → is_entered (passing left plain) entry ≡ is_in
-    → Tells state old reply (enter_reply (passing left plain) entry) → Shows new (passing now (after_entering entry (passing left plain)))
+    → Tells state old reply (enter_reply (passing left plain) entry)
+    → Shows new (passing now (after_entering entry (passing left plain)))
     → IsIn entry reply plain new ⊎ IsOut state entry reply plain old new
 entering_by state entry reply plain old new left now true shows is tells now_shows =
     let ready : PlainState = passing left plain in
     let goes = entering_goes_on ready entry (asked_of entry) (after_entry ready entry) (passing_keeps left plain shows.valid) in
     inl (record {
-      told_is = tells_entered state old reply (history_length plain + 1) (subst (Tells state old reply) (entered_is_answered ready entry is) tells);
+      told_is = tells_entered state old reply (history_length plain + 1)
+          (subst (Tells state old reply) (entered_is_answered ready entry is) tells);
       after = passing now (after_entering entry ready);
       shows = now_shows;
-      goes = goes_on_passing (entry ∷ []) left now plain (after_entering entry ready) (subst (λ b. GoesOn (entered_if b entry) ready (after_entering entry ready)) is goes);
+      goes = goes_on_passing (entry ∷ []) left now plain (after_entering entry ready)
+          (subst (λ b. GoesOn (entered_if b entry) ready (after_entering entry ready)) is goes);
       window = refl;
       pins = refl;
     })
@@ -106,7 +112,8 @@ entering_by state entry reply plain old new left now false shows is tells now_sh
     let ready : PlainState = passing left plain in
     let goes = entering_goes_on ready entry (asked_of entry) (after_entry ready entry) (passing_keeps left plain shows.valid) in
     let none = subst (λ b. GoesOn (entered_if b entry) ready (after_entering entry ready)) is goes in
-    let same : (after_entering entry ready).entries ≡ plain.entries = ap (λ (b : Bool). cond b (plain.entries ++ entry ∷ []) plain.entries) is in
+    let same : (after_entering entry ready).entries ≡ plain.entries =
+    ap (λ (b : Bool). cond b (plain.entries ++ entry ∷ []) plain.entries) is in
     inr (record {
       other = λ count told_it.
           let replied = subst (λ r. Tells state old r (enter_reply ready entry)) told_it tells in
@@ -129,7 +136,8 @@ entering state entry reply plain old new shows (inl s) =
     let asked = asks_entry state old entry s.asked s.asks in
     let tells : Tells state old reply (enter_reply ready entry) =
     subst (Tells state old reply) (ap (plain_reply ready) asked ∙ reply_of_entry ready entry) s.tells in
-    let after : plain_after s.asked ready ≡ after_entering entry ready = ap (λ e. plain_after e ready) asked ∙ after_entry ready entry in
+    let after : plain_after s.asked ready ≡ after_entering entry ready = ap (λ e. plain_after e ready) asked
+    ∙ after_entry ready entry in
     let now : Fuse = fuse_in new.log.commits.disk.budget in
     entering_by state entry reply plain old new s.left now (is_entered ready entry) shows refl tells
     (subst (λ (p : PlainState). Shows new (passing now p)) after s.shows)
@@ -146,7 +154,8 @@ entering state entry reply plain old new shows (inr n) = inr (record {
 
 -- ---- the attempt
 
-still_idle : (plain after : PlainState) → after.window ≡ plain.window → after.pins ≡ plain.pins → IsIdlePlain plain → IsIdlePlain after
+still_idle : (plain after : PlainState) → after.window ≡ plain.window → after.pins ≡ plain.pins → IsIdlePlain plain
+    → IsIdlePlain after
 still_idle plain after window pins idle = record {
   puts = ap (λ (w : WindowState). any_started w.objects) window ∙ idle.puts;
   plans = pins ∙ idle.plans;
@@ -156,7 +165,8 @@ none_or_some : (n : ℕ) → (n ≡ 0) ⊎ (0 < n)
 none_or_some zero = inl refl
 none_or_some (suc n) = inr (omega arith)
 
-again_is_other : (R : Type 0) (back : Entry) (why : Refusal) → is_again why ≡ true → lacks_memory {R = R} (told.NotEntered back why) ≡ true → ⊥
+again_is_other : (R : Type 0) (back : Entry) (why : Refusal) → is_again why ≡ true
+    → lacks_memory {R = R} (told.NotEntered back why) ≡ true → ⊥
 again_is_other R back refusals.Range again lacks = cc
 again_is_other R back (refusals.Full why) again lacks = cc
 again_is_other R back (refusals.NoRoom needed left) again lacks = cc
@@ -190,7 +200,8 @@ module _ {R : Type 0} (state : R → ReceiptState) (entry : Entry) (reply : Repl
     steps = omega (arith, of.steps);
   }
 
-  pub entered_length : (count : ℕ) (plain : PlainState) → Shows old.volume plain → reply ≡ told.Entered count → IsLengthOf count new.volume
+  pub entered_length : (count : ℕ) (plain : PlainState) → Shows old.volume plain → reply ≡ told.Entered count
+      → IsLengthOf count new.volume
   entered_length count plain shows is =
       elim (entering state entry reply plain old.volume new.volume shows (of.step plain shows)) [
         | inl e ↦
@@ -225,8 +236,10 @@ module _ {R : Type 0} (state : R → ReceiptState) (entry : Entry) (reply : Repl
       ]
 
   -- one that may be tried again leaves what is left to help with, and there is some
-  pub again_work : (plain : PlainState) (back : Entry) (why : Refusal) → Shows old.volume plain → is_in_range old.volume.objects.batch.geometry entry ≡ true
-      → reply ≡ told.NotEntered back why → is_again why ≡ true → (0 < work_of new.volume) × (work_of new.volume ≡ work_of old.volume)
+  pub again_work : (plain : PlainState) (back : Entry) (why : Refusal) → Shows old.volume plain
+      → is_in_range old.volume.objects.batch.geometry entry ≡ true
+      → reply ≡ told.NotEntered back why → is_again why ≡ true → (0 < work_of new.volume)
+      × (work_of new.volume ≡ work_of old.volume)
   again_work plain back why shows inside is again =
       let was = shown_work old.volume plain shows in
       elim (entering state entry reply plain old.volume new.volume shows (of.step plain shows)) [
@@ -242,8 +255,10 @@ module _ {R : Type 0} (state : R → ReceiptState) (entry : Entry) (reply : Repl
                 | inr lacks ↦ absurd (again_is_other R back why again (subst (λ r. lacks_memory r ≡ true) is lacks))
                 | inl tells ↦
                     let ready : PlainState = passing tells.0 plain in
-                    let range : is_in_range ready.geometry entry ≡ true = ap (λ g. is_in_range g entry) (sym shows.objects.geometry) ∙ inside in
-                    let left = nothing_left ready entry (passing_keeps tells.0 plain shows.valid) range (omega (arith, none, was)) (omega (arith, none, was)) in
+                    let range : is_in_range ready.geometry entry ≡ true =
+                    ap (λ g. is_in_range g entry) (sym shows.objects.geometry) ∙ inside in
+                    let left = nothing_left ready entry (passing_keeps tells.0 plain shows.valid) range (omega (arith, none, was))
+                    (omega (arith, none, was)) in
                     let told_it = subst (λ r. Tells state old.volume r (enter_reply ready entry)) is tells.1 in
                     absurd (again_tells why (enter_reply ready entry) (history_length ready + 1) again told_it left)
               ]
@@ -255,11 +270,13 @@ module _ {R : Type 0} (state : R → ReceiptState) (entry : Entry) (reply : Repl
   pub attempt_makes : MakesSteps 1 (entered_by entry (attempt_in reply)) old new
   attempt_makes =
       elim (reply_cases reply) [
-        | inl e ↦ subst (λ (r : Reply R). MakesSteps 1 (entered_by entry (attempt_in r)) old new) (sym e.1) (entered_makes e.0 e.1)
+        | inl e ↦ subst (λ (r : Reply R). MakesSteps 1 (entered_by entry (attempt_in r)) old new) (sym e.1)
+            (entered_makes e.0 e.1)
         | inr o ↦ subst (λ es. MakesSteps 1 es old new) (sym (o.none entry)) (refused_makes o.other)
       ]
 
-  pub attempt_counts : (plain : PlainState) → Shows old.volume plain → (count : ℕ) → attempt_in reply ≡ attempts.Entered count → IsLengthOf count new.volume
+  pub attempt_counts : (plain : PlainState) → Shows old.volume plain → (count : ℕ) → attempt_in reply ≡ attempts.Entered count
+      → IsLengthOf count new.volume
   attempt_counts plain shows count is =
       elim (reply_cases reply) [
         | inl e ↦
@@ -273,8 +290,10 @@ module _ {R : Type 0} (state : R → ReceiptState) (entry : Entry) (reply : Repl
   back_is (entries.Write lba body) back why hands = hands
   back_is (entries.Zero lba sectors) back why hands = hands
 
-  again_hands : (back : Entry) (plain : PlainState) → Shows old.volume plain → is_in_range old.volume.objects.batch.geometry entry ≡ true
-      → HandsBack (event_of entry) reply → attempt_in reply ≡ attempts.Again back → MayTryAgain entry (attempts.Again back) old.volume new.volume
+  again_hands : (back : Entry) (plain : PlainState) → Shows old.volume plain
+      → is_in_range old.volume.objects.batch.geometry entry ≡ true
+      → HandsBack (event_of entry) reply → attempt_in reply ≡ attempts.Again back
+      → MayTryAgain entry (attempts.Again back) old.volume new.volume
   again_hands back plain shows inside hands is =
       elim (reply_cases reply) [
         | inl e ↦ (let tried = ap attempt_in e.1 in let bad : ⊥ = cc in absurd bad)
@@ -285,7 +304,8 @@ module _ {R : Type 0} (state : R → ReceiptState) (entry : Entry) (reply : Repl
             (same, work.0, work.1)
       ]
 
-  hands_by : (attempt : Attempt) (plain : PlainState) → Shows old.volume plain → is_in_range old.volume.objects.batch.geometry entry ≡ true
+  hands_by : (attempt : Attempt) (plain : PlainState) → Shows old.volume plain
+      → is_in_range old.volume.objects.batch.geometry entry ≡ true
       → HandsBack (event_of entry) reply → attempt_in reply ≡ attempt → MayTryAgain entry attempt old.volume new.volume
   hands_by (attempts.Again back) plain shows inside hands is = again_hands back plain shows inside hands is
   hands_by (attempts.Entered count) plain shows inside hands is = tt

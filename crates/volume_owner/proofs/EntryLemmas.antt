@@ -1,5 +1,8 @@
--- What an entry of the plain volume is answered: that it is entered, or where nothing is left to seal and to put, that a call failed.
-use Rattle.std.proofs.Common.{arith, ◌≡◌, ℕ, ◌+◌, ◌*◌, ◌-◌, ◌≤◌, ◌<◌, ◌⊎◌, inl, inr, nat_le, nat_lt, Bool, true, false, not, ◌&&◌, ◌||◌, Option, Some, None, is_some, unwrap_or, IsTrue, List, [], ◌∷◌, length, length-drop, refl, sym, ◌∙◌, ap, subst}
+-- What an entry of the plain volume is answered: that it is entered, or where nothing is left to seal and to put, that a call
+-- failed.
+use Rattle.std.proofs.Common.{arith, ◌≡◌, ℕ, ◌+◌, ◌*◌, ◌-◌, ◌≤◌, ◌<◌, ◌⊎◌, inl, inr, nat_le, nat_lt, Bool, true, false, not, ◌&&◌}
+use Rattle.std.proofs.Common.{◌||◌, Option, Some, None, is_some, unwrap_or, IsTrue, List, [], ◌∷◌, length, length-drop, refl, sym}
+use Rattle.std.proofs.Common.{◌∙◌, ap, subst}
 use Rattle.std.specs.Prelude.{option_map, if◌then◌else◌}
 use Rattle.std.specs.List.{sum_by}
 use Rattle.std.proofs.lemmas.Bool.Decides.{nat_tests}
@@ -35,12 +38,14 @@ use Rattle.volume_owner.proofs.PlainLemmas.{is_entered}
 abbrev answered : Option PlainReply → (made room passed : Bool) → (no_room : PlainReply) (count : ℕ) → PlainReply
 answered refusal made room passed no_room count =
     unwrap_or refusal
-    (if not made then replies.Fault else (if not room then no_room else (if passed then replies.Entered count else replies.Fault)))
+    (if not made then replies.Fault else (if not room then no_room else
+    (if passed then replies.Entered count else replies.Fault)))
 
 abbrev taken : Option PlainReply → (made room passed : Bool) → Bool
 taken refusal made room passed = not (is_some refusal) && made && room && passed
 
-taken_answers : (refusal : Option PlainReply) (made room passed : Bool) (no_room : PlainReply) (count : ℕ) → taken refusal made room passed ≡ true
+taken_answers : (refusal : Option PlainReply) (made room passed : Bool) (no_room : PlainReply) (count : ℕ)
+    → taken refusal made room passed ≡ true
     → answered refusal made room passed no_room count ≡ replies.Entered count
 taken_answers None true true true no_room count is = refl
 taken_answers None true true false no_room count is = let bad : ⊥ = cc in absurd bad
@@ -85,7 +90,8 @@ empty_list : {A : Type 0} (list : List A) → length list ≡ 0 → list ≡ []
 empty_list [] is = refl
 empty_list (x ∷ list) is = let bad : ⊥ = omega arith in absurd bad
 
-no_fullness : (batch : ℕ) (list : List Entry) → 0 < batch → length list ≡ 0 → fullness batch (sum_by data_sectors list) (length list) ≡ None
+no_fullness : (batch : ℕ) (list : List Entry) → 0 < batch → length list ≡ 0
+    → fullness batch (sum_by data_sectors list) (length list) ≡ None
 no_fullness batch list some is =
     let none : fullness batch 0 0 ≡ None = grind (arith, nat_tests) in
     subst (λ (l : List Entry). fullness batch (sum_by data_sectors l) (length l) ≡ None) (sym (empty_list list is)) none
@@ -104,7 +110,9 @@ no_refusal : (plain : PlainState) (entry : Entry) → IsPlainVolume plain → is
     → length (unsealed_entries plain) ≡ 0 → batch_refusal plain entry ≡ None
 no_refusal plain entry valid inside none =
     let some = batch_has_some plain.geometry valid.limits in
-    ap (λ (b : Bool). if b then option_map reply_of_full (fullness plain.geometry.batch (sum_by data_sectors (unsealed_entries plain)) (length (unsealed_entries plain))) else Some replies.Range) inside
+    ap (λ (b : Bool). if b then option_map reply_of_full
+    (fullness plain.geometry.batch (sum_by data_sectors (unsealed_entries plain)) (length (unsealed_entries plain))) else
+    Some replies.Range) inside
     ∙ ap (option_map reply_of_full) (no_fullness plain.geometry.batch (unsealed_entries plain) some none)
 
 -- a log without records has room for two of the longest ones
@@ -121,8 +129,10 @@ all_is_sealed : (plain : PlainState) → IsPlainVolume plain → length (unseale
     → frontier_end plain ≡ history_length plain
 all_is_sealed plain valid none no_objects =
     let last : frontier_of plain ≡ last_number (stream_in plain) =
-    ap (λ (objects : List OpenObject). below_lowest objects plain.window.last) (empty_list plain.window.objects no_objects) ∙ valid.last in
-    let end : frontier_end plain ≡ end_at (stream_in plain) (last_number (stream_in plain)) = ap (end_at (stream_in plain)) last in
+    ap (λ (objects : List OpenObject). below_lowest objects plain.window.last) (empty_list plain.window.objects no_objects)
+    ∙ valid.last in
+    let end : frontier_end plain ≡ end_at (stream_in plain) (last_number (stream_in plain)) =
+    ap (end_at (stream_in plain)) last in
     let long = length-drop (end_at (stream_in plain) (last_number (stream_in plain)) - plain.end) plain.entries in
     omega (arith, end, long, ends_from plain (frontier_of plain) valid, frontier_ends plain valid, none)
 
@@ -134,13 +144,15 @@ tail_at_end size count log sectors is tail short =
     let same = is.0 in
     empty_has_room log sectors (uses_nothing log.records (omega arith)) is.1.room (omega arith)
 
-committed_tail : (seq : ℕ) (cache : PlainCache) → passes_commit cache ≡ true → (cache_after_commit seq cache).log.last.tail.seq ≡ seq
+committed_tail : (seq : ℕ) (cache : PlainCache) → passes_commit cache ≡ true
+    → (cache_after_commit seq cache).log.last.tail.seq ≡ seq
 committed_tail seq cache passed =
     let made = commit_made seq cache (ap (passes cache.left) (calls_of_commit cache.log.unfinished) ∙ passed) in
     ap (λ (l : PlainLog). l.last.tail.seq) made.same_log
 
 -- the log has room for an entry, once a commit for it was made where one was to be
-room_by : (plain : PlainState) (entry : Entry) (had later passed : Bool) → IsPlainVolume plain → is_in_range plain.geometry entry ≡ true
+room_by : (plain : PlainState) (entry : Entry) (had later passed : Bool) → IsPlainVolume plain
+    → is_in_range plain.geometry entry ≡ true
     → frontier_end plain ≡ history_length plain → has_room_for plain.cache entry ≡ had
     → nat_lt plain.cache.log.last.tail.seq (frontier_end plain) ≡ later → passes_commit plain.cache ≡ passed
     → (not (not had && later) || passed) ≡ true
@@ -158,15 +170,18 @@ room_by plain entry false true true valid inside ends had lies passes made =
     let short = record_is_short plain.geometry entry inside in
     let two = log_has_two plain.geometry valid.limits in
     let cache : PlainCache = cache_after_commit (frontier_end plain) plain.cache in
-    let kept = commit_keeps plain.geometry.log (frontier_end plain) (history_length plain) plain.cache (frontier_ends plain valid) (valid.size, valid.log) in
+    let kept = commit_keeps plain.geometry.log (frontier_end plain) (history_length plain) plain.cache (frontier_ends plain valid)
+    (valid.size, valid.log) in
     let log : IsLogOf plain.geometry.log (history_length plain) (history_length plain) cache.log =
     subst (λ n. IsLogOf plain.geometry.log n (history_length plain) cache.log) ends kept in
-    tail_at_end plain.geometry.log (history_length plain) cache.log (record_sectors entry) log (committed_tail (frontier_end plain) plain.cache passes ∙ ends) (omega arith)
+    tail_at_end plain.geometry.log (history_length plain) cache.log (record_sectors entry) log
+    (committed_tail (frontier_end plain) plain.cache passes ∙ ends) (omega arith)
 room_by plain entry false true false valid inside ends had lies passes made = let bad : ⊥ = cc in absurd bad
 
 -- by whether the commit was made and the record's writes pass
 rest_answered : (made room passed : Bool) (no_room : PlainReply) (count : ℕ) → (made ≡ true → room ≡ true)
-    → (answered None made room passed no_room count ≡ replies.Entered count) ⊎ (answered None made room passed no_room count ≡ replies.Fault)
+    → (answered None made room passed no_room count ≡ replies.Entered count)
+    ⊎ (answered None made room passed no_room count ≡ replies.Fault)
 rest_answered false room passed no_room count has = inr refl
 rest_answered true true true no_room count has = inl refl
 rest_answered true true false no_room count has = inr refl
@@ -186,5 +201,6 @@ nothing_left plain entry valid inside none no_objects =
     let n : ℕ = history_length plain + 1 in
     let log : PlainLog = (cache_for plain entry).log in
     let no_room : PlainReply = replies.NoRoom (need (room_in log) (record_sectors entry)) (free (room_in log)) in
-    let P : Option PlainReply → Type 0 = λ o. (answered o made room passed no_room n ≡ replies.Entered n) ⊎ (answered o made room passed no_room n ≡ replies.Fault) in
+    let P : Option PlainReply → Type 0 = λ o. (answered o made room passed no_room n ≡ replies.Entered n)
+    ⊎ (answered o made room passed no_room n ≡ replies.Fault) in
     subst P (sym refusal) (rest_answered made room passed no_room n has)

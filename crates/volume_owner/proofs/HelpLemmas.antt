@@ -1,5 +1,6 @@
 -- What the steps of a help do: a put begins, is done, or fails; an object is sealed.
-use Rattle.std.proofs.Common.{arith, ◌≡◌, ℕ, ◌+◌, ◌*◌, ◌-◌, ◌<◌, ◌==◌, ◌⊎◌, inl, inr, Bool, true, false, cond, not, ◌&&◌, List, [], ◌∷◌, ◌++◌, length, take, length-append, length-drop, refl, sym, ◌∙◌, ap, subst}
+use Rattle.std.proofs.Common.{arith, ◌≡◌, ℕ, ◌+◌, ◌*◌, ◌-◌, ◌<◌, ◌==◌, ◌⊎◌, inl, inr, Bool, true, false, cond, not, ◌&&◌, List}
+use Rattle.std.proofs.Common.{[], ◌∷◌, ◌++◌, length, take, length-append, length-drop, refl, sym, ◌∙◌, ap, subst}
 use Rattle.std.specs.Prelude.{Option, Some, None, Result, Ok, Err, IfOk, if◌then◌else◌}
 use Rattle.std.specs.List.{list_any}
 use Rattle.std.proofs.lemmas.Bool.Decides.{nat_tests}
@@ -14,7 +15,8 @@ use Rattle.object_stream.specs.Stream.{end_after, end_at, last_number, GoesTo, E
 use Rattle.object_stream.specs.Replay.{name_of}
 use Rattle.object_stream.proofs.StreamLemmas.{end_in_parts}
 use Rattle.upload_window.specs.declared.object.OpenObject.{OpenObject}
-use Rattle.upload_window.specs.Window.{WindowState, has_number, lowest_ready, is_started, with_started, marked, acknowledged, entered, below_open}
+use Rattle.upload_window.specs.Window.{WindowState, has_number, lowest_ready, is_started, with_started, marked, acknowledged}
+use Rattle.upload_window.specs.Window.{entered, below_open}
 use Rattle.object_uploads.specs.Order.{IsUploads}
 use Rattle.object_uploads.specs.State.{JobState}
 use Rattle.object_uploads.specs.Changes.{IsJobOf}
@@ -24,7 +26,8 @@ use Rattle.plain_disk.specs.declared.event.PlainEvent.TheVariants as events
 use Rattle.plain_disk.specs.declared.event.PlainReply.{PlainReply}
 use Rattle.plain_disk.specs.declared.event.PlainReply.TheVariants as replies
 use Rattle.plain_disk.specs.State.{PlainState, stream_in, unsealed_entries}
-use Rattle.plain_disk.specs.Objects.{is_under_way, is_busy, has_unsealed, end_of_next, reply_of_taken, window_after_take, window_after_done, seal_reply, after_seal}
+use Rattle.plain_disk.specs.Objects.{is_under_way, is_busy, has_unsealed, end_of_next, reply_of_taken, window_after_take}
+use Rattle.plain_disk.specs.Objects.{window_after_done, seal_reply, after_seal}
 use Rattle.plain_disk.specs.Reads.{are_pinned}
 use Rattle.plain_disk.specs.Step.{plain_reply, plain_after}
 use Rattle.plain_disk.specs.Valid.{IsPlainVolume}
@@ -44,7 +47,8 @@ use Rattle.volume_owner.specs.declared.error.OwnerError.{OwnerError}
 use Rattle.volume_owner.specs.Replies.{job_in, seal_in}
 use Rattle.volume_owner.specs.Helping.{work_of, HasHelped, IsTaken}
 use Rattle.volume_owner.proofs.PlainLemmas.{is_quiet}
-use Rattle.volume_owner.proofs.WindowLemmas.{any_started, none_is_ready, started_once, begun_alone, without_shorter, without_it, entered_none, ready_is_open, marked_numbers, marked_long}
+use Rattle.volume_owner.proofs.WindowLemmas.{any_started, none_is_ready, started_once, begun_alone, without_shorter, without_it}
+use Rattle.volume_owner.proofs.WindowLemmas.{entered_none, ready_is_open, marked_numbers, marked_long}
 use Rattle.volume_owner.proofs.TellsLemmas.{tells_taken, tells_no_fault}
 use Rattle.volume_owner.proofs.ReplyLemmas.{job_cases, seal_cases, memory_is_no_fault}
 use Rattle.volume_owner.proofs.StepLemmas.{shown_work, shown_idle, idle_shown, plans_shown, plans_plain, Steps, quiet_makes}
@@ -74,20 +78,25 @@ silent_reply plain (events.Write lba body) silent is = cc
 silent_reply plain (events.Zero lba sectors) silent is = cc
 silent_reply plain events.Flush silent is = cc
 silent_reply plain (events.Look lba sectors) silent is = cc
-silent_reply plain (events.Release numbers) silent is = either_reply (are_pinned numbers plain.pins) replies.Released replies.Nothing (λ e. cc) (λ e. cc) is
+silent_reply plain (events.Release numbers) silent is = either_reply (are_pinned numbers plain.pins) replies.Released
+    replies.Nothing (λ e. cc) (λ e. cc) is
 silent_reply plain events.Seal silent is =
-    either_reply (has_unsealed plain) (if is_busy plain then replies.Busy else replies.Sealed (plain.window.last + 1)) replies.Nothing
+    either_reply (has_unsealed plain) (if is_busy plain then replies.Busy else replies.Sealed (plain.window.last + 1))
+    replies.Nothing
     (either_reply (is_busy plain) replies.Busy (replies.Sealed (plain.window.last + 1)) (λ e. cc) (λ e. cc)) (λ e. cc) is
 silent_reply plain events.TakeJob silent is = taken_reply (lowest_ready plain.window.objects) is
 silent_reply plain (events.JobDone job) silent is =
-    either_reply (is_under_way job plain.window) (replies.Done (below_open (window_after_done job plain.window))) replies.Nothing (λ e. cc) (λ e. cc) is
+    either_reply (is_under_way job plain.window) (replies.Done (below_open (window_after_done job plain.window))) replies.Nothing
+    (λ e. cc) (λ e. cc) is
 silent_reply plain (events.JobFailed job) silent is =
     either_reply (is_under_way job plain.window) replies.Returned replies.Nothing (λ e. cc) (λ e. cc) is
 silent_reply plain events.Status silent is = cc
 
 -- no call of the device fails in it
-pub silent_faults : {R : Type 0} (state : R → ReceiptState) (event : Event R) (reply : Reply R) (plain : PlainState) (old new : SteppedVolume)
-    → ((asked : PlainEvent) → Asks state old.volume event asked → is_silent asked ≡ true) → Shows old.volume plain → Steps state event reply old new
+pub silent_faults : {R : Type 0} (state : R → ReceiptState) (event : Event R) (reply : Reply R) (plain : PlainState)
+    (old new : SteppedVolume)
+    → ((asked : PlainEvent) → Asks state old.volume event asked → is_silent asked ≡ true) → Shows old.volume plain
+    → Steps state event reply old new
     → new.volume.log.commits.disk.faults ≡ old.volume.log.commits.disk.faults
 silent_faults state event reply plain old new silent shows of =
     let none : tells_fault reply ≡ false =
@@ -101,7 +110,8 @@ silent_faults state event reply plain old new silent shows of =
 -- ---- a put begins
 
 -- what such a step leaves
-record IsAfterTake {R : Type 0} (state : R → ReceiptState) (reply : Reply R) (plain : PlainState) (old new : VolumeState) : Type 0 where
+record IsAfterTake {R : Type 0} (state : R → ReceiptState) (reply : Reply R) (plain : PlainState) (old new : VolumeState) :
+    Type 0 where
   after : PlainState
   shows : Shows new after
   unsealed : unsealed_entries after ≡ unsealed_entries plain
@@ -109,8 +119,10 @@ record IsAfterTake {R : Type 0} (state : R → ReceiptState) (reply : Reply R) (
   window : after.window ≡ window_after_take (lowest_ready plain.window.objects) plain.window
   tells : Tells state old reply (reply_of_taken (lowest_ready plain.window.objects))
 
-after_take_by : {R : Type 0} (state : R → ReceiptState) (reply : Reply R) (plain : PlainState) (old new : VolumeState) → Shows old plain
-    → IsStep state asks.TakeJob reply plain old new ⊎ IsNoStep asks.TakeJob reply plain old new → IsAfterTake state reply plain old new
+after_take_by : {R : Type 0} (state : R → ReceiptState) (reply : Reply R) (plain : PlainState) (old new : VolumeState)
+    → Shows old plain
+    → IsStep state asks.TakeJob reply plain old new ⊎ IsNoStep asks.TakeJob reply plain old new
+    → IsAfterTake state reply plain old new
 after_take_by state reply plain old new shows (inl s) =
     let ready : PlainState = passing s.left plain in
     let now : Fuse = fuse_in new.log.commits.disk.budget in
@@ -128,7 +140,8 @@ taken_number : {R : Type 0} (state : R → ReceiptState) (volume : VolumeState) 
     → Tells {R = R} state volume (told.Taken job) (reply_of_taken lowest)
     → (lowest ≡ Some job.name.number) × IsJobOf volume.objects.uploads job.name.number job
 taken_number state volume None job tells = (let is = tells.0 in let bad : ⊥ = cc in absurd bad)
-taken_number state volume (Some number) job tells = (let is = tells.0 in let same : number ≡ job.name.number = cc in (ap Some same, tells.1))
+taken_number state volume (Some number) job tells = (let is = tells.0 in let same : number ≡ job.name.number = cc in
+    (ap Some same, tells.1))
 
 -- a job that a reply hands out was taken
 pub handed_job : {R : Type 0} (reply : Reply R) (job : JobState) → job_in reply ≡ Some job → reply ≡ told.Taken job
@@ -150,7 +163,8 @@ none_lowest state volume reply (Some number) tells none =
     let bad : ⊥ = cc in
     absurd bad
 
-module _ {R : Type 0} (state : R → ReceiptState) (reply : Reply R) (old new : SteppedVolume) (of : Steps state asks.TakeJob reply old new)
+module _ {R : Type 0} (state : R → ReceiptState) (reply : Reply R) (old new : SteppedVolume)
+    (of : Steps state asks.TakeJob reply old new)
     (plain : PlainState) (shows : Shows old.volume plain) where
   taking : IsAfterTake state reply plain old.volume new.volume
   taking = after_take_by state reply plain old.volume new.volume shows (of.step plain shows)
@@ -162,17 +176,20 @@ module _ {R : Type 0} (state : R → ReceiptState) (reply : Reply R) (old new : 
   take_faults = silent_faults state asks.TakeJob reply plain old new (λ asked is. ap is_silent is) shows of
 
   -- a put that begins is out, alone
-  pub taken_is : (job : JobState) → IsIdle old.volume → reply ≡ told.Taken job → IsTaken job new.volume × (work_of new.volume ≡ work_of old.volume)
+  pub taken_is : (job : JobState) → IsIdle old.volume → reply ≡ told.Taken job → IsTaken job new.volume
+      × (work_of new.volume ≡ work_of old.volume)
   taken_is job idle is =
       let after = taking in
       let was = shown_idle old.volume plain shows idle in
       let n : ℕ = job.name.number in
       let objects : List OpenObject = plain.window.objects in
-      let number = taken_number state old.volume (lowest_ready objects) job (subst (λ r. Tells state old.volume r (reply_of_taken (lowest_ready objects))) is after.tells) in
+      let number = taken_number state old.volume (lowest_ready objects) job
+      (subst (λ r. Tells state old.volume r (reply_of_taken (lowest_ready objects))) is after.tells) in
       let open_ : list_any (has_number n) objects ≡ true = ready_is_open n _ objects number.0 in
       let window : new.volume.objects.uploads.window ≡ marked n true plain.window =
       after.shows.objects.window ∙ after.window ∙ ap (λ lowest. window_after_take lowest plain.window) number.0 in
-      let now : new.volume.objects.uploads.window.objects ≡ with_started n true objects = ap (λ (w : WindowState). w.objects) window in
+      let now : new.volume.objects.uploads.window.objects ≡ with_started n true objects =
+      ap (λ (w : WindowState). w.objects) window in
       let old_open : list_any (has_number n) old.volume.objects.uploads.window.objects ≡ true =
       ap (λ (w : WindowState). list_any (has_number n) w.objects) shows.objects.window ∙ open_ in
       let new_open : list_any (has_number n) new.volume.objects.uploads.window.objects ≡ true =
@@ -180,7 +197,8 @@ module _ {R : Type 0} (state : R → ReceiptState) (reply : Reply R) (old new : 
       let before = shown_work old.volume plain shows in
       let later = shown_work new.volume after.after after.shows in
       let unsealed = ap (λ (es : List Entry). length es) after.unsealed in
-      let long = ap (λ (w : WindowState). length w.objects) (after.window ∙ ap (λ lowest. window_after_take lowest plain.window) number.0) in (
+      let long = ap (λ (w : WindowState). length w.objects) (after.window
+      ∙ ap (λ lowest. window_after_take lowest plain.window) number.0) in (
         record {
           out = record {
             started = ap (is_started n) now ∙ started_once n objects open_;
@@ -194,15 +212,18 @@ module _ {R : Type 0} (state : R → ReceiptState) (reply : Reply R) (old new : 
       )
 
   -- where none begins, none is on its way
-  pub none_taken : IsIdle old.volume → IsUploads old.volume.objects.uploads.queue old.volume.objects.uploads.window → job_in reply ≡ None
+  pub none_taken : IsIdle old.volume → IsUploads old.volume.objects.uploads.queue old.volume.objects.uploads.window
+      → job_in reply ≡ None
       → (new.volume.objects.uploads.window.objects ≡ []) × IsIdle new.volume × (work_of new.volume ≡ work_of old.volume)
   none_taken idle uploads none =
       let after = taking in
       let was = shown_idle old.volume plain shows idle in
-      let lowest : lowest_ready plain.window.objects ≡ None = none_lowest state old.volume reply (lowest_ready plain.window.objects) after.tells none in
+      let lowest : lowest_ready plain.window.objects ≡ None =
+      none_lowest state old.volume reply (lowest_ready plain.window.objects) after.tells none in
       let same : after.after.window ≡ plain.window = after.window ∙ ap (λ l. window_after_take l plain.window) lowest in
       let empty : old.volume.objects.uploads.window.objects ≡ [] =
-      none_is_ready (old.volume.objects.uploads.queue.frontier + 1) old.volume.objects.uploads.queue.sealed old.volume.objects.uploads.window.objects uploads.opened idle.puts
+      none_is_ready (old.volume.objects.uploads.queue.frontier + 1) old.volume.objects.uploads.queue.sealed
+      old.volume.objects.uploads.window.objects uploads.opened idle.puts
       (ap (λ (w : WindowState). lowest_ready w.objects) shows.objects.window ∙ lowest) in
       let now : new.volume.objects.uploads.window ≡ old.volume.objects.uploads.window =
       after.shows.objects.window ∙ same ∙ sym shows.objects.window in
@@ -228,12 +249,14 @@ record IsAfterPut (window : WindowState → WindowState) (plain : PlainState) (n
   pins : after.pins ≡ plain.pins
   window_is : after.window ≡ window plain.window
 
-done_put : (volume : VolumeState) (job : JobState) (receipt : ReceiptState) (put : Option ℕ) → IsTaken job volume → receipt.name ≡ job.name
+done_put : (volume : VolumeState) (job : JobState) (receipt : ReceiptState) (put : Option ℕ) → IsTaken job volume
+    → receipt.name ≡ job.name
     → IsOfDonePut volume job receipt put → put ≡ Some job.name.number
 done_put volume job receipt None taken named is = absurd (is (taken.out, named ∙ taken.named))
 done_put volume job receipt (Some number) taken named is = ap Some is.0
 
-failed_put : (volume : VolumeState) (job : JobState) (put : Option ℕ) → IsTaken job volume → IsOfPut volume job put → put ≡ Some job.name.number
+failed_put : (volume : VolumeState) (job : JobState) (put : Option ℕ) → IsTaken job volume → IsOfPut volume job put
+    → put ≡ Some job.name.number
 failed_put volume job None taken is = absurd (is taken.out)
 failed_put volume job (Some number) taken is = ap Some is.0
 
@@ -243,7 +266,8 @@ module _ {R : Type 0} (state : R → ReceiptState) (job : JobState) (receipt : R
   started_is : is_started job.name.number plain.window.objects ≡ true
   started_is = ap (λ (w : WindowState). is_started job.name.number w.objects) (sym shows.objects.window) ∙ taken.out.started
 
-  after_done_by : IsStep state (asks.JobDone job receipt) reply plain old.volume new.volume ⊎ IsNoStep (asks.JobDone job receipt) reply plain old.volume new.volume
+  after_done_by : IsStep state (asks.JobDone job receipt) reply plain old.volume new.volume
+      ⊎ IsNoStep (asks.JobDone job receipt) reply plain old.volume new.volume
       → IsAfterPut (acknowledged job.name.number) plain new.volume
   after_done_by (inl s) =
       let ready : PlainState = passing s.left plain in
@@ -287,11 +311,13 @@ module _ {R : Type 0} (state : R → ReceiptState) (job : JobState) (receipt : R
       )
 
 module _ {R : Type 0} (state : R → ReceiptState) (job : JobState) (reply : Reply R) (old new : SteppedVolume)
-    (of : Steps state (asks.JobFailed job) reply old new) (plain : PlainState) (shows : Shows old.volume plain) (taken : IsTaken job old.volume) where
+    (of : Steps state (asks.JobFailed job) reply old new) (plain : PlainState) (shows : Shows old.volume plain)
+    (taken : IsTaken job old.volume) where
   was_started_is : is_started job.name.number plain.window.objects ≡ true
   was_started_is = ap (λ (w : WindowState). is_started job.name.number w.objects) (sym shows.objects.window) ∙ taken.out.started
 
-  after_failed_by : IsStep state (asks.JobFailed job) reply plain old.volume new.volume ⊎ IsNoStep (asks.JobFailed job) reply plain old.volume new.volume
+  after_failed_by : IsStep state (asks.JobFailed job) reply plain old.volume new.volume
+      ⊎ IsNoStep (asks.JobFailed job) reply plain old.volume new.volume
       → IsAfterPut (marked job.name.number false) plain new.volume
   after_failed_by (inl s) =
       let ready : PlainState = passing s.left plain in
@@ -352,13 +378,15 @@ fewer_unsealed plain valid after =
     let more = length-append plain.objects (object ∷ []) in
     let whole : take (last_number (stream_in plain) - plain.number) plain.objects ≡ plain.objects =
     take_all (last_number (stream_in plain) - plain.number) plain.objects (omega arith) in
-    let ends : end_at (stream_in plain) (last_number (stream_in plain)) ≡ end_after plain.end plain.objects = ap (end_after plain.end) whole in
+    let ends : end_at (stream_in plain) (last_number (stream_in plain)) ≡ end_after plain.end plain.objects =
+    ap (end_after plain.end) whole in
     let all : take (last_number (stream_in (with_sealed plain)) - plain.number) objects ≡ objects =
     take_all (last_number (stream_in (with_sealed plain)) - plain.number) objects (omega arith) in
     let last_end : end_at (stream_in (with_sealed plain)) (last_number (stream_in (with_sealed plain))) ≡ object.end =
     ap (end_after plain.end) all ∙ end_in_parts plain.end plain.objects (object ∷ []) in
     let before = length-drop (end_at (stream_in plain) (last_number (stream_in plain)) - plain.end) plain.entries in
-    let later = length-drop (end_at (stream_in (with_sealed plain)) (last_number (stream_in (with_sealed plain))) - plain.end) plain.entries in
+    let later = length-drop (end_at (stream_in (with_sealed plain)) (last_number (stream_in (with_sealed plain))) - plain.end)
+    plain.entries in
     let within = after.stream.within in
     let from = ends_from plain (last_number (stream_in plain)) valid in
     omega (arith, goes, ends, last_end, before, later, within, from)
@@ -371,17 +399,26 @@ record IsAfterSeal {R : Type 0} (reply : Reply R) (plain : PlainState) (new : Vo
   idle : any_started after.window.objects ≡ false
   less : (number : ℕ) → reply ≡ told.Sealed number
       → 2 * length (unsealed_entries after) + length after.window.objects < 2 * length (unsealed_entries plain)
-  none : reply ≡ told.Nothing → (length (unsealed_entries plain) ≡ 0) × (2 * length (unsealed_entries after) + length after.window.objects ≡ 0)
+  none : reply ≡ told.Nothing → (length (unsealed_entries plain) ≡ 0)
+      × (2 * length (unsealed_entries after) + length after.window.objects ≡ 0)
 
-seal_by : {R : Type 0} (state : R → ReceiptState) (volume : VolumeState) (reply : Reply R) (plain : PlainState) (new : VolumeState) (left now : Fuse)
-    (has busy : Bool) (number : ℕ) → IsPlainVolume plain → has_unsealed plain ≡ has → is_busy plain ≡ busy → plain.window.objects ≡ []
+seal_by : {R : Type 0} (state : R → ReceiptState) (volume : VolumeState) (reply : Reply R) (plain : PlainState)
+    (new : VolumeState) (left now : Fuse)
+    (has busy : Bool) (number : ℕ) → IsPlainVolume plain → has_unsealed plain ≡ has → is_busy plain ≡ busy
+    → plain.window.objects ≡ []
     → Tells state volume reply (if has then (if busy then replies.Busy else replies.Sealed number) else replies.Nothing)
     → Shows new (passing now (cond (has && not busy) (with_sealed (passing left plain)) (passing left plain)))
     → IsPlainVolume (cond (has && not busy) (with_sealed plain) plain)
     → IsAfterSeal reply plain new
 seal_by state volume reply plain new left now true false number valid has_is busy_is none tells shows after =
     let few = fewer_unsealed plain valid after in
-    let opened : OpenObject = record { number = plain.window.last + 1; is_checkpoint = false; is_started = false; was_started = false } in
+    let opened : OpenObject = record {
+      number = plain.window.last + 1;
+      is_checkpoint = false;
+      is_started =
+          false;
+      was_started = false;
+    } in
     let long = length-append plain.window.objects (opened ∷ []) in
     let empty = ap (λ (o : List OpenObject). length o) none in
     record {
@@ -390,7 +427,8 @@ seal_by state volume reply plain new left now true false number valid has_is bus
       pins = refl;
       idle = entered_none plain.window.objects opened (ap any_started none) refl;
       less = λ sealed is. omega (arith, few, long, empty);
-      none = λ is. (let told_it = subst (λ r. Tells state volume r (replies.Sealed number)) is tells in let bad : ⊥ = cc in absurd bad);
+      none = λ is. (let told_it = subst (λ r. Tells state volume r (replies.Sealed number)) is tells in let bad : ⊥ = cc in
+          absurd bad);
     }
 seal_by state volume reply plain new left now true true number valid has_is busy_is none tells shows after =
     let empty = ap (λ (o : List OpenObject). length o == 16) none in let bad : ⊥ = cc in absurd bad
@@ -402,7 +440,8 @@ seal_by state volume reply plain new left now false busy number valid has_is bus
       shows = shows;
       pins = refl;
       idle = ap any_started none;
-      less = λ sealed is. (let told_it = subst (λ r. Tells state volume r replies.Nothing) is tells in let bad : ⊥ = cc in absurd bad);
+      less = λ sealed is. (let told_it = subst (λ r. Tells state volume r replies.Nothing) is tells in let bad : ⊥ = cc in
+          absurd bad);
       none = λ is. (nothing, omega (arith, nothing, empty));
     }
 
@@ -412,7 +451,8 @@ sealed_lacks R number lacks = cc
 nothing_lacks : (R : Type 0) → lacks_memory {R = R} told.Nothing ≡ true → ⊥
 nothing_lacks R lacks = cc
 
-module _ {R : Type 0} (state : R → ReceiptState) (reply : Reply R) (old new : SteppedVolume) (of : Steps state asks.Seal reply old new)
+module _ {R : Type 0} (state : R → ReceiptState) (reply : Reply R) (old new : SteppedVolume)
+    (of : Steps state asks.Seal reply old new)
     (plain : PlainState) (shows : Shows old.volume plain) where
   pub seal_makes : MakesSteps 1 [] old new
   seal_makes = quiet_makes state asks.Seal reply old new (λ asked is. ap is_quiet is) of
@@ -421,13 +461,17 @@ module _ {R : Type 0} (state : R → ReceiptState) (reply : Reply R) (old new : 
   seal_faults = silent_faults state asks.Seal reply plain old new (λ asked is. ap is_silent is) shows of
 
   sealing : plain.window.objects ≡ []
-      → IsStep state asks.Seal reply plain old.volume new.volume ⊎ IsNoStep asks.Seal reply plain old.volume new.volume → IsAfterSeal reply plain new.volume
+      → IsStep state asks.Seal reply plain old.volume new.volume ⊎ IsNoStep asks.Seal reply plain old.volume new.volume
+      → IsAfterSeal reply plain new.volume
   sealing none (inl s) =
       let ready : PlainState = passing s.left plain in
       let now : Fuse = fuse_in new.volume.log.commits.disk.budget in
-      let shown : Shows new.volume (passing now (after_seal ready)) = subst (λ e. Shows new.volume (passing now (plain_after e ready))) s.asks s.shows in
-      let tells : Tells state old.volume reply (seal_reply ready) = subst (λ e. Tells state old.volume reply (plain_reply ready e)) s.asks s.tells in
-      seal_by state old.volume reply plain new.volume s.left now (has_unsealed plain) (is_busy plain) (plain.window.last + 1) shows.valid refl refl none
+      let shown : Shows new.volume (passing now (after_seal ready)) =
+      subst (λ e. Shows new.volume (passing now (plain_after e ready))) s.asks s.shows in
+      let tells : Tells state old.volume reply (seal_reply ready) =
+      subst (λ e. Tells state old.volume reply (plain_reply ready e)) s.asks s.tells in
+      seal_by state old.volume reply plain new.volume s.left now (has_unsealed plain) (is_busy plain) (plain.window.last + 1)
+      shows.valid refl refl none
       tells shown (seal_keeps plain shows.valid)
   sealing none (inr n) = record {
     after = plain;

@@ -41,13 +41,15 @@ helped_first old store idle = record {
 }
 
 -- what was some is less after a help
-pub helped_some : (has_helped : Bool) (old new : VolumeState) → 0 < work_of old → HasHelped has_helped old new → work_of new < work_of old
+pub helped_some : (has_helped : Bool) (old new : VolumeState) → 0 < work_of old → HasHelped has_helped old new
+    → work_of new < work_of old
 helped_some true old new some less = less
 helped_some false old new some none = (let nothing = none.0 in omega (arith, some, nothing))
 
 module _ (old now : SteppedVolume) (first second : StoreState) (helped : IsHelped old now first second) where
   -- the steps are few enough for more
-  pub helped_few : old.steps ≤ max_steps → IsVolume old → IsUploads old.volume.objects.uploads.queue old.volume.objects.uploads.window
+  pub helped_few : old.steps ≤ max_steps → IsVolume old
+      → IsUploads old.volume.objects.uploads.queue old.volume.objects.uploads.window
       → now.steps + 3 < max_number
   helped_few few is uploads =
       let bound = work_bound old.volume is.plain is.shows uploads in
@@ -64,11 +66,13 @@ module _ (old now : SteppedVolume) (first second : StoreState) (helped : IsHelpe
       (call_then (helping_steps old now) 3 added failed old now new first second third helped.call call)
 
   -- or after which it goes on, with less left
-  pub helped_more : (new : SteppedVolume) (third : StoreState) → IsCall 3 [] false now new second third → work_of new.volume < work_of now.volume
+  pub helped_more : (new : SteppedVolume) (third : StoreState) → IsCall 3 [] false now new second third
+      → work_of new.volume < work_of now.volume
       → IsIdle new.volume → IsHelped old new first third
   helped_more new third call less idle = record {
     less = omega (arith, helped.less, less);
-    call = call_fewer (helping_steps old now + 3) (helping_steps old new) [] false old new first third (omega (arith, helped.less, less))
+    call = call_fewer (helping_steps old now + 3) (helping_steps old new) [] false old new first third
+        (omega (arith, helped.less, less))
         (call_then (helping_steps old now) 3 [] false old now new first second third helped.call call);
     idle = idle;
   }
@@ -76,7 +80,8 @@ module _ (old now : SteppedVolume) (first second : StoreState) (helped : IsHelpe
 -- ---- what these steps are
 
 pub one_attempt : (added : List Entry) (failed : Bool) (now new : SteppedVolume) (store : StoreState) → MakesSteps 1 added now new
-    → Counts failed now.volume.log.commits.disk.faults new.volume.log.commits.disk.faults → IsCall 3 added failed now new store store
+    → Counts failed now.volume.log.commits.disk.faults new.volume.log.commits.disk.faults
+    → IsCall 3 added failed now new store store
 one_attempt added failed now new store makes counts =
     call_fewer 1 3 added failed now new store store (omega arith) (disk_call 1 added failed now new store makes counts)
 
@@ -90,7 +95,8 @@ pub one_help : (failed : Bool) (now new : SteppedVolume) (second third : StoreSt
     → IsCall 3 [] failed now new second third
 one_help failed now new second third help = call_fewer 2 3 [] failed now new second third (omega arith) help
 
-pub help_and_flush : (failed : Bool) (now mid new : SteppedVolume) (second third : StoreState) → IsCall 2 [] false now mid second third
+pub help_and_flush : (failed : Bool) (now mid new : SteppedVolume) (second third : StoreState)
+    → IsCall 2 [] false now mid second third
     → MakesSteps 1 [] mid new → Counts failed mid.volume.log.commits.disk.faults new.volume.log.commits.disk.faults
     → IsCall 3 [] failed now new second third
 help_and_flush failed now mid new second third help makes counts =

@@ -15,6 +15,8 @@ pub shown_is_idle : (volume : VolumeState) (plain : PlainState) → Shows volume
     → list_any (λ object. object.is_started) plain.window.objects ≡ false → plain.pins ≡ [] → IsIdle volume
 shown_is_idle volume plain shows none no_plans = idle_shown volume plain shows (record { puts = none; plans = no_plans })
 
-pub created_is_idle : (uuid : List ℕ) (geometry : Geometry) (stepped : SteppedVolume) → IsCreated uuid geometry stepped → IsIdle stepped.volume
+pub created_is_idle : (uuid : List ℕ) (geometry : Geometry) (stepped : SteppedVolume) → IsCreated uuid geometry stepped
+    → IsIdle stepped.volume
 created_is_idle uuid geometry stepped created =
-    shown_is_idle stepped.volume (passing (fuse_in stepped.volume.log.commits.disk.budget) (created_volume geometry)) created.shows refl refl
+    shown_is_idle stepped.volume (passing (fuse_in stepped.volume.log.commits.disk.budget) (created_volume geometry))
+    created.shows refl refl

@@ -1,12 +1,14 @@
 -- What an event leaves of a plain volume, which goes on from it.
-use Rattle.std.proofs.Common.{arith, ◌≡◌, ℕ, ◌+◌, ◌≤◌, Bool, true, false, cond, not, ◌&&◌, List, [], ◌∷◌, ◌++◌, append-nil, refl, sym, ◌∙◌, ap, subst}
+use Rattle.std.proofs.Common.{arith, ◌≡◌, ℕ, ◌+◌, ◌≤◌, Bool, true, false, cond, not, ◌&&◌, List, [], ◌∷◌, ◌++◌, append-nil, refl}
+use Rattle.std.proofs.Common.{sym, ◌∙◌, ap, subst}
 use Rattle.lsvd_base.specs.declared.entry.Entry.{Entry}
 use Rattle.lsvd_base.specs.Limits.{may_transfer}
 use Rattle.object_stream.specs.declared.object.Content.TheVariants.{Data}
 use Rattle.object_stream.specs.declared.object.StreamObject.{StreamObject}
 use Rattle.upload_window.specs.Window.{entered}
 use Rattle.plain_disk.specs.declared.event.PlainEvent.{PlainEvent}
-use Rattle.plain_disk.specs.declared.event.PlainEvent.TheVariants.{Write, Zero, Flush, Look, Release, Seal, TakeJob, JobDone, JobFailed, Status}
+use Rattle.plain_disk.specs.declared.event.PlainEvent.TheVariants.{Write, Zero, Flush, Look, Release, Seal, TakeJob, JobDone}
+use Rattle.plain_disk.specs.declared.event.PlainEvent.TheVariants.{JobFailed, Status}
 use Rattle.plain_disk.specs.Cache.{passes_entry, after_reads}
 use Rattle.plain_disk.specs.State.{PlainState, frontier_of, folded_to}
 use Rattle.plain_disk.specs.Entries.{cache_for, comes_to_log, after_entering}
@@ -23,7 +25,8 @@ use Rattle.volume_owner.specs.History.{GoesOn}
 -- ---- the frontier
 
 -- no event lowers it: the volume may be folded up to it before
-pub frontier_grows : (plain : PlainState) (event : PlainEvent) → IsPlainVolume plain → frontier_of plain ≤ frontier_of (plain_after event plain)
+pub frontier_grows : (plain : PlainState) (event : PlainEvent) → IsPlainVolume plain
+    → frontier_of plain ≤ frontier_of (plain_after event plain)
 frontier_grows plain event valid =
     let n : ℕ = frontier_of plain in
     let folded = folding_keeps plain n valid valid.opened (omega arith) in
@@ -38,16 +41,23 @@ pub record KeepsEntries (plain after : PlainState) : Type 0 where
   pub opens : after ≡ record plain { objects = after.objects; window = after.window; pins = after.pins; cache = after.cache }
   pub objects : (more : List StreamObject) × (after.objects ≡ plain.objects ++ more)
 
-either_keeps : (plain : PlainState) (b : Bool) (x y : PlainState) → KeepsEntries plain x → KeepsEntries plain y → KeepsEntries plain (cond b x y)
+either_keeps : (plain : PlainState) (b : Bool) (x y : PlainState) → KeepsEntries plain x → KeepsEntries plain y
+    → KeepsEntries plain (cond b x y)
 either_keeps plain true x y keeps other = keeps
 either_keeps plain false x y other keeps = keeps
 
 -- the same objects
-same_objects : (plain after : PlainState) → after ≡ record plain { window = after.window; pins = after.pins; cache = after.cache } → KeepsEntries plain after
+same_objects : (plain after : PlainState) → after ≡ record plain { window = after.window; pins = after.pins; cache = after.cache }
+    → KeepsEntries plain after
 same_objects plain after is =
     let objects : after.objects ≡ plain.objects = ap (λ (s : PlainState). s.objects) is in
     record {
-      opens = is ∙ ap (λ (o : List StreamObject). record plain { objects = o; window = after.window; pins = after.pins; cache = after.cache }) (sym objects);
+      opens = is ∙ ap (λ (o : List StreamObject). record plain {
+        objects = o;
+        window = after.window;
+        pins = after.pins;
+        cache = after.cache;
+      }) (sym objects);
       objects = ([], objects ∙ sym (append-nil plain.objects));
     }
 
@@ -66,13 +76,18 @@ quiet_keeps plain (Look lba sectors) quiet =
       cache = after_reads (look_calls plain lba sectors) plain.cache;
       pins = cond (passes_look plain lba sectors) (plain.pins ++ objects_read plain lba sectors) plain.pins;
     } in
-    either_keeps plain (may_transfer plain.geometry lba sectors) after plain (same_objects plain after refl) (same_objects plain plain refl)
+    either_keeps plain (may_transfer plain.geometry lba sectors) after plain (same_objects plain after refl)
+    (same_objects plain plain refl)
 quiet_keeps plain (Release numbers) quiet =
     let after : PlainState = record plain { pins = without_pins numbers plain.pins } in
     either_keeps plain (are_pinned numbers plain.pins) after plain (same_objects plain after refl) (same_objects plain plain refl)
 quiet_keeps plain Seal quiet =
     let object : StreamObject = record { content = Data; end = end_of_next plain } in
-    let after : PlainState = record plain { objects = plain.objects ++ object ∷ []; window = entered (plain.window.last + 1) false plain.window } in
+    let after : PlainState = record plain {
+      objects = plain.objects ++ object ∷ [];
+      window =
+          entered (plain.window.last + 1) false plain.window;
+    } in
     either_keeps plain (has_unsealed plain && not (is_busy plain)) after plain
     (record { opens = refl; objects = (object ∷ [], refl) }) (same_objects plain plain refl)
 quiet_keeps plain TakeJob quiet = same_objects plain (plain_after TakeJob plain) refl
@@ -80,14 +95,21 @@ quiet_keeps plain (JobDone job) quiet = same_objects plain (plain_after (JobDone
 quiet_keeps plain (JobFailed job) quiet = same_objects plain (plain_after (JobFailed job) plain) refl
 quiet_keeps plain Status quiet = same_objects plain plain refl
 
-pub quiet_goes_on : (plain : PlainState) (event : PlainEvent) → IsPlainVolume plain → is_quiet event ≡ true → GoesOn [] plain (plain_after event plain)
+pub quiet_goes_on : (plain : PlainState) (event : PlainEvent) → IsPlainVolume plain → is_quiet event ≡ true
+    → GoesOn [] plain (plain_after event plain)
 quiet_goes_on plain event valid quiet =
     let after : PlainState = plain_after event plain in
     let keeps = quiet_keeps plain event quiet in
     record {
       opens =
           keeps.opens
-          ∙ ap (λ (es : List Entry). record plain { entries = es; objects = after.objects; window = after.window; pins = after.pins; cache = after.cache })
+          ∙ ap (λ (es : List Entry). record plain {
+            entries = es;
+            objects = after.objects;
+            window = after.window;
+            pins = after.pins;
+            cache = after.cache;
+          })
           (sym (append-nil plain.entries));
       objects = keeps.objects;
       frontier = frontier_grows plain event valid;
@@ -108,17 +130,25 @@ with_entries_if : (b : Bool) (entry : Entry) (list : List Entry) → cond b (lis
 with_entries_if true entry list = refl
 with_entries_if false entry list = sym (append-nil list)
 
-pub entering_goes_on : (plain : PlainState) (entry : Entry) (event : PlainEvent) → plain_after event plain ≡ after_entering entry plain
+pub entering_goes_on : (plain : PlainState) (entry : Entry) (event : PlainEvent)
+    → plain_after event plain ≡ after_entering entry plain
     → IsPlainVolume plain → GoesOn (entered_if (is_entered plain entry) entry) plain (after_entering entry plain)
 entering_goes_on plain entry event is valid =
     let after : PlainState = after_entering entry plain in
     record {
       opens =
-          ap (λ (es : List Entry). record plain { entries = es; objects = after.objects; window = after.window; pins = after.pins; cache = after.cache })
+          ap (λ (es : List Entry). record plain {
+            entries = es;
+            objects = after.objects;
+            window = after.window;
+            pins = after.pins;
+            cache = after.cache;
+          })
           (with_entries_if (is_entered plain entry) entry plain.entries);
       objects = ([], sym (append-nil plain.objects));
       frontier = omega arith;
-      committed = subst (λ (s : PlainState). plain.cache.log.last.head.seq ≤ s.cache.log.last.head.seq) is (events_keep_committed plain event valid).0;
+      committed = subst (λ (s : PlainState). plain.cache.log.last.head.seq ≤ s.cache.log.last.head.seq) is
+          (events_keep_committed plain event valid).0;
     }
 
 -- ---- one after the other

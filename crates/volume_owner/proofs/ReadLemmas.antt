@@ -1,5 +1,6 @@
 -- What a flush does, and a look with the release of its plan.
-use Rattle.std.proofs.Common.{◌≡◌, ℕ, ◌/◌, ◌==◌, nat_eq, ◌⊎◌, inl, inr, Bool, true, false, cond, ◌&&◌, ◌||◌, List, [], ◌∷◌, ◌++◌, length, refl, sym, ◌∙◌, ap, subst}
+use Rattle.std.proofs.Common.{◌≡◌, ℕ, ◌/◌, ◌==◌, nat_eq, ◌⊎◌, inl, inr, Bool, true, false, cond, ◌&&◌, ◌||◌, List, [], ◌∷◌, ◌++◌}
+use Rattle.std.proofs.Common.{length, refl, sym, ◌∙◌, ap, subst}
 use Rattle.std.specs.Prelude.{Option, Some, None, IfSome, IsSome, Ok, Err, if◌then◌else◌}
 use Rattle.std.specs.List.{list_any}
 use Rattle.std.proofs.lemmas.Bool.{eq-eqb}
@@ -16,7 +17,8 @@ use Rattle.plain_disk.specs.Cache.{passes_commit, after_reads}
 use Rattle.plain_disk.specs.Sectors.{sectors_at}
 use Rattle.plain_disk.specs.State.{PlainState, history_length, image_now}
 use Rattle.plain_disk.specs.Entries.{flush_reply, after_flush}
-use Rattle.plain_disk.specs.Reads.{look_calls, passes_look, objects_read, look_reply, after_look, unpinned, are_pinned, without_pins}
+use Rattle.plain_disk.specs.Reads.{look_calls, passes_look, objects_read, look_reply, after_look, unpinned, are_pinned}
+use Rattle.plain_disk.specs.Reads.{without_pins}
 use Rattle.plain_disk.specs.Step.{plain_reply, plain_after}
 use Rattle.plain_disk.proofs.FlushLemmas.{flush_commits}
 use Rattle.read_plan.specs.Plan.{PlanState, Gives, GivesNoOther}
@@ -45,16 +47,19 @@ use Rattle.volume_owner.proofs.HelpLemmas.{is_silent, silent_faults}
 -- ---- a flush
 
 -- what it leaves
-record IsAfterFlush {R : Type 0} (state : R → ReceiptState) (reply : Reply R) (plain : PlainState) (old new : VolumeState) : Type 0 where
+record IsAfterFlush {R : Type 0} (state : R → ReceiptState) (reply : Reply R) (plain : PlainState) (old new : VolumeState) :
+    Type 0 where
   left : Fuse
   shows : Shows new (passing (fuse_in new.log.commits.disk.budget) (after_flush (passing left plain)))
   tells : Tells state old reply (flush_reply (passing left plain))
 
 after_flush_by : {R : Type 0} (state : R → ReceiptState) (reply : Reply R) (plain : PlainState) (old new : VolumeState)
-    → IsStep state asks.Flush reply plain old new ⊎ IsNoStep asks.Flush reply plain old new → IsAfterFlush state reply plain old new
+    → IsStep state asks.Flush reply plain old new ⊎ IsNoStep asks.Flush reply plain old new
+    → IsAfterFlush state reply plain old new
 after_flush_by state reply plain old new (inl s) = record {
   left = s.left;
-  shows = subst (λ e. Shows new (passing (fuse_in new.log.commits.disk.budget) (plain_after e (passing s.left plain)))) s.asks s.shows;
+  shows = subst (λ e. Shows new (passing (fuse_in new.log.commits.disk.budget) (plain_after e (passing s.left plain))))
+      s.asks s.shows;
   tells = subst (λ e. Tells state old reply (plain_reply (passing s.left plain) e)) s.asks s.tells;
 }
 after_flush_by state reply plain old new (inr n) = (let may = n.may in let bad : ⊥ = cc in absurd bad)
@@ -70,7 +75,8 @@ flush_by : {R : Type 0} (state : R → ReceiptState) (volume : VolumeState) (rep
 flush_by state volume reply true count tells = inl (refl, tells_flushed state volume reply count tells)
 flush_by state volume reply false count tells = inr (tells_failed state volume reply tells)
 
-module _ {R : Type 0} (state : R → ReceiptState) (reply : Reply R) (old new : SteppedVolume) (of : Steps state asks.Flush reply old new)
+module _ {R : Type 0} (state : R → ReceiptState) (reply : Reply R) (old new : SteppedVolume)
+    (of : Steps state asks.Flush reply old new)
     (plain : PlainState) (shows : Shows old.volume plain) where
   flushing : IsAfterFlush state reply plain old.volume new.volume
   flushing = after_flush_by state reply plain old.volume new.volume (of.step plain shows)
@@ -88,7 +94,8 @@ module _ {R : Type 0} (state : R → ReceiptState) (reply : Reply R) (old new : 
   flush_work = shown_work new.volume _ flushing.shows ∙ sym (shown_work old.volume plain shows)
 
   -- it is told to be done
-  pub flushed_is : (count : ℕ) → reply ≡ told.Flushed count → IsLengthOf count new.volume × IsDurable new.volume × (tells_fault reply ≡ false)
+  pub flushed_is : (count : ℕ) → reply ≡ told.Flushed count → IsLengthOf count new.volume × IsDurable new.volume
+      × (tells_fault reply ≡ false)
   flushed_is count is =
       let after = flushing in
       let ready : PlainState = passing after.left plain in
@@ -148,7 +155,8 @@ planned_reply reply plan is =
 
 -- where there is none, its error tells whether a call of the device failed
 pub no_plan : {R : Type 0} (reply : Reply R) (error : OwnerError) → plan_in reply ≡ Err error
-    → ((plan : PlanState) → reply ≡ told.Planned plan → ⊥) × (is_eio {T = ℕ} (Err error) ≡ tells_fault reply) × (error ≡ errors.Range → ⊥)
+    → ((plan : PlanState) → reply ≡ told.Planned plan → ⊥) × (is_eio {T = ℕ} (Err error) ≡ tells_fault reply)
+    × (error ≡ errors.Range → ⊥)
 no_plan reply error is =
     elim (plan_cases reply) [
       | inl e ↦ (let planned = ap plan_in e.1 in let bad : ⊥ = cc in absurd bad)
@@ -162,7 +170,8 @@ no_plan reply error is =
     ]
 
 -- what it leaves
-record IsAfterLook {R : Type 0} (state : R → ReceiptState) (reply : Reply R) (lba sectors : ℕ) (plain : PlainState) (old new : VolumeState) : Type 0 where
+record IsAfterLook {R : Type 0} (state : R → ReceiptState) (reply : Reply R) (lba sectors : ℕ) (plain : PlainState)
+    (old new : VolumeState) : Type 0 where
   left : Fuse
   now : Fuse
   shows : Shows new (passing now (after_look lba sectors (passing left plain)))
@@ -174,9 +183,11 @@ pub record IsPlanOf (plan : PlanState) (lba sectors : ℕ) (plain : PlainState) 
   pub objects : plan.objects ≡ objects_read plain lba sectors
   pub gives : IfSome volume.log.entries (λ list. Gives plan (sectors_at lba sectors (image_now plain)))
 
-planned_by : {R : Type 0} (state : R → ReceiptState) (volume : VolumeState) (plan : PlanState) (lba sectors : ℕ) (plain : PlainState) (may passed : Bool)
+planned_by : {R : Type 0} (state : R → ReceiptState) (volume : VolumeState) (plan : PlanState) (lba sectors : ℕ)
+    (plain : PlainState) (may passed : Bool)
     → Tells {R = R} state volume (told.Planned plan)
-    (if may then (if passed then replies.Planned (history_length plain) (sectors_at lba sectors (image_now plain)) (objects_read plain lba sectors) else replies.Fault) else replies.Range)
+    (if may then (if passed then replies.Planned (history_length plain) (sectors_at lba sectors (image_now plain))
+    (objects_read plain lba sectors) else replies.Fault) else replies.Range)
     → (may ≡ true) × (passed ≡ true) × IsPlanOf plan lba sectors plain volume
 planned_by state volume plan lba sectors plain true true tells =
     let (bytes, is, gives) = tells in
@@ -200,7 +211,8 @@ pinned_again [] = (refl, refl)
 pinned_again (number ∷ numbers) =
     let same : nat_eq number number ≡ true = eq-eqb number number refl in
     let rest = pinned_again numbers in (
-      ap (λ b. (b || list_any (λ pin. pin == number) numbers) && are_pinned numbers (cond b numbers (number ∷ unpinned number numbers))) same ∙ rest.0,
+      ap (λ b. (b || list_any (λ pin. pin == number) numbers) && are_pinned numbers
+          (cond b numbers (number ∷ unpinned number numbers))) same ∙ rest.0,
       ap (λ b. without_pins numbers (cond b numbers (number ∷ unpinned number numbers))) same ∙ rest.1,
     )
 
@@ -210,7 +222,8 @@ module _ {R : Type 0} (state : R → ReceiptState) (reply : Reply R) (lba sector
   look_makes = quiet_makes state (asks.Look lba sectors) reply old new (λ asked is. ap is_quiet is) of
 
   after_look_by : (plain : PlainState)
-      → IsStep state (asks.Look lba sectors) reply plain old.volume new.volume ⊎ IsNoStep (asks.Look lba sectors) reply plain old.volume new.volume
+      → IsStep state (asks.Look lba sectors) reply plain old.volume new.volume
+      ⊎ IsNoStep (asks.Look lba sectors) reply plain old.volume new.volume
       → IsAfterLook state reply lba sectors plain old.volume new.volume ⊎ ((lacks_memory reply ≡ true) × Shows new.volume plain)
   after_look_by plain (inl s) =
       let now : Fuse = fuse_in new.volume.log.commits.disk.budget in
@@ -226,22 +239,27 @@ module _ {R : Type 0} (state : R → ReceiptState) (reply : Reply R) (lba sector
   looked_idle_by : (plain : PlainState) (left now : Fuse) (may passed : Bool) → IsIdlePlain plain
       → ((plan : PlanState) → reply ≡ told.Planned plan → ⊥)
       → Tells state old.volume reply
-      (if may then (if passed then replies.Planned (history_length plain) (sectors_at lba sectors (image_now plain)) (objects_read plain lba sectors) else replies.Fault) else replies.Range)
+      (if may then (if passed then replies.Planned (history_length plain) (sectors_at lba sectors (image_now plain))
+      (objects_read plain lba sectors) else replies.Fault) else replies.Range)
       → Shows new.volume (passing now (if may then record (passing left plain) {
         cache = after_reads (look_calls plain lba sectors) (passing left plain).cache;
         pins = if passed then plain.pins ++ objects_read plain lba sectors else plain.pins;
       } else passing left plain)) → IsIdle new.volume
   looked_idle_by plain left now true true was not_planned tells shows =
       let planned = tells_planned state old.volume reply _ _ _ tells in absurd (not_planned planned.0 planned.1)
-  looked_idle_by plain left now true false was not_planned tells shows = idle_shown new.volume _ shows (record { puts = was.puts; plans = was.plans })
-  looked_idle_by plain left now false passed was not_planned tells shows = idle_shown new.volume _ shows (record { puts = was.puts; plans = was.plans })
+  looked_idle_by plain left now true false was not_planned tells shows =
+      idle_shown new.volume _ shows (record { puts = was.puts; plans = was.plans })
+  looked_idle_by plain left now false passed was not_planned tells shows =
+      idle_shown new.volume _ shows (record { puts = was.puts; plans = was.plans })
 
-  pub not_looked_idle : (plain : PlainState) → Shows old.volume plain → IsIdle old.volume → ((plan : PlanState) → reply ≡ told.Planned plan → ⊥) → IsIdle new.volume
+  pub not_looked_idle : (plain : PlainState) → Shows old.volume plain → IsIdle old.volume
+      → ((plan : PlanState) → reply ≡ told.Planned plan → ⊥) → IsIdle new.volume
   not_looked_idle plain shows idle not_planned =
       let was = shown_idle old.volume plain shows idle in
       elim (after_look_by plain (of.step plain shows)) [
         | inl a ↦
-            looked_idle_by plain a.left a.now (may_transfer plain.geometry lba sectors) (passes_look (passing a.left plain) lba sectors) was not_planned a.tells a.shows
+            looked_idle_by plain a.left a.now (may_transfer plain.geometry lba sectors)
+            (passes_look (passing a.left plain) lba sectors) was not_planned a.tells a.shows
         | inr n ↦ idle_shown new.volume plain n.1 was
       ]
 
@@ -255,7 +273,8 @@ module _ {R : Type 0} (state : R → ReceiptState) (reply : Reply R) (lba sector
 
   looked_by : (plan : PlanState) (plain : PlainState) (left now : Fuse) (may passed : Bool)
       → Tells {R = R} state old.volume (told.Planned plan)
-      (if may then (if passed then replies.Planned (history_length plain) (sectors_at lba sectors (image_now plain)) (objects_read plain lba sectors) else replies.Fault) else replies.Range)
+      (if may then (if passed then replies.Planned (history_length plain) (sectors_at lba sectors (image_now plain))
+      (objects_read plain lba sectors) else replies.Fault) else replies.Range)
       → Shows new.volume (passing now (if may then record (passing left plain) {
         cache = after_reads (look_calls plain lba sectors) (passing left plain).cache;
         pins = if passed then plain.pins ++ objects_read plain lba sectors else plain.pins;
@@ -270,53 +289,63 @@ module _ {R : Type 0} (state : R → ReceiptState) (reply : Reply R) (lba sector
   looked plan plain shows is =
       elim (after_look_by plain (of.step plain shows)) [
         | inl a ↦
-            looked_by plan plain a.left a.now (may_transfer plain.geometry lba sectors) (passes_look (passing a.left plain) lba sectors)
+            looked_by plan plain a.left a.now (may_transfer plain.geometry lba sectors)
+            (passes_look (passing a.left plain) lba sectors)
             (subst (λ r. Tells state old.volume r (look_reply (passing a.left plain) lba sectors)) is a.tells) a.shows
         | inr n ↦ (let lacked = ap lacks_memory is in let lacks = n.0 in let bad : ⊥ = cc in absurd bad)
       ]
 
-  pub look_shown : (plan : PlanState) (plain : PlainState) → Shows old.volume plain → reply ≡ told.Planned plan → (after : PlainState) × Shows new.volume after
+  pub look_shown : (plan : PlanState) (plain : PlainState) → Shows old.volume plain → reply ≡ told.Planned plan
+      → (after : PlainState) × Shows new.volume after
   look_shown plan plain shows is = (let look = looked plan plain shows is in (look.after, look.shows))
 
-  pub look_faults : (plan : PlanState) → reply ≡ told.Planned plan → new.volume.log.commits.disk.faults ≡ old.volume.log.commits.disk.faults
+  pub look_faults : (plan : PlanState) → reply ≡ told.Planned plan
+      → new.volume.log.commits.disk.faults ≡ old.volume.log.commits.disk.faults
   look_faults plan is =
       subst (λ b. Counts b old.volume.log.commits.disk.faults new.volume.log.commits.disk.faults) (ap tells_fault is) of.faults
 
   -- ---- the plan is given back
 
-  module _ (plan : PlanState) (back : Reply R) (last : SteppedVolume) (given : Steps state (asks.Release plan) back new last) where
-    pub release_makes : MakesSteps 1 [] new last
-    release_makes = quiet_makes state (asks.Release plan) back new last (λ asked is. ap is_quiet is) given
+  module _ (plan : PlanState) (back : Reply R) (last : SteppedVolume) (given : Steps state (asks.Release plan) back new last)
+    where
+      pub release_makes : MakesSteps 1 [] new last
+      release_makes = quiet_makes state (asks.Release plan) back new last (λ asked is. ap is_quiet is) given
 
-    pub release_faults : (plain : PlainState) → Shows new.volume plain → last.volume.log.commits.disk.faults ≡ new.volume.log.commits.disk.faults
-    release_faults plain shows = silent_faults state (asks.Release plan) back plain new last (λ asked is. ap is_silent is) shows given
+      pub release_faults : (plain : PlainState) → Shows new.volume plain
+          → last.volume.log.commits.disk.faults ≡ new.volume.log.commits.disk.faults
+      release_faults plain shows = silent_faults state (asks.Release plan) back plain new last (λ asked is. ap is_silent is)
+          shows given
 
-    released_by : (plain : PlainState) → any_started plain.window.objects ≡ false → plain.pins ≡ plan.objects
-        → IsStep state (asks.Release plan) back plain new.volume last.volume ⊎ IsNoStep (asks.Release plan) back plain new.volume last.volume
-        → IsIdle last.volume
-    released_by plain puts pins (inl s) =
-        let ready : PlainState = passing s.left plain in
-        let now : Fuse = fuse_in last.volume.log.commits.disk.budget in
-        let all = pinned_again plan.objects in
-        let are : are_pinned plan.objects plain.pins ≡ true = ap (are_pinned plan.objects) pins ∙ all.0 in
-        let none : without_pins plan.objects plain.pins ≡ [] = ap (without_pins plan.objects) pins ∙ all.1 in
-        let shown : Shows last.volume (passing now (plain_after (events.Release plan.objects) ready)) =
-        subst (λ e. Shows last.volume (passing now (plain_after e ready))) s.asks s.shows in
-        let gone : Shows last.volume (passing now (record ready { pins = without_pins plan.objects plain.pins })) =
-        subst (λ (b : Bool). Shows last.volume (passing now (if b then record ready { pins = without_pins plan.objects plain.pins } else ready))) are shown in
-        idle_shown last.volume _ gone (record { puts = puts; plans = none })
-    released_by plain puts pins (inr n) = (let may = n.may in let bad : ⊥ = cc in absurd bad)
+      released_by : (plain : PlainState) → any_started plain.window.objects ≡ false → plain.pins ≡ plan.objects
+          → IsStep state (asks.Release plan) back plain new.volume last.volume
+          ⊎ IsNoStep (asks.Release plan) back plain new.volume last.volume
+          → IsIdle last.volume
+      released_by plain puts pins (inl s) =
+          let ready : PlainState = passing s.left plain in
+          let now : Fuse = fuse_in last.volume.log.commits.disk.budget in
+          let all = pinned_again plan.objects in
+          let are : are_pinned plan.objects plain.pins ≡ true = ap (are_pinned plan.objects) pins ∙ all.0 in
+          let none : without_pins plan.objects plain.pins ≡ [] = ap (without_pins plan.objects) pins ∙ all.1 in
+          let shown : Shows last.volume (passing now (plain_after (events.Release plan.objects) ready)) =
+          subst (λ e. Shows last.volume (passing now (plain_after e ready))) s.asks s.shows in
+          let gone : Shows last.volume (passing now (record ready { pins = without_pins plan.objects plain.pins })) =
+          subst (λ (b : Bool). Shows last.volume
+          (passing now (if b then record ready { pins = without_pins plan.objects plain.pins } else ready))) are shown in
+          idle_shown last.volume _ gone (record { puts = puts; plans = none })
+      released_by plain puts pins (inr n) = (let may = n.may in let bad : ⊥ = cc in absurd bad)
 
-    pub released_idle : (plain : PlainState) → Shows old.volume plain → IsIdle old.volume → reply ≡ told.Planned plan → IsIdle last.volume
-    released_idle plain shows idle is =
-        let was = shown_idle old.volume plain shows idle in
-        let look = looked plan plain shows is in
-        released_by look.after (ap (λ (w : WindowState). any_started w.objects) look.window ∙ was.puts)
-        (look.pins ∙ ap (λ (p : List ℕ). p ++ plan.objects) was.plans) (given.step look.after look.shows)
+      pub released_idle : (plain : PlainState) → Shows old.volume plain → IsIdle old.volume → reply ≡ told.Planned plan
+          → IsIdle last.volume
+      released_idle plain shows idle is =
+          let was = shown_idle old.volume plain shows idle in
+          let look = looked plan plain shows is in
+          released_by look.after (ap (λ (w : WindowState). any_started w.objects) look.window ∙ was.puts)
+          (look.pins ∙ ap (λ (p : List ℕ). p ++ plan.objects) was.plans) (given.step look.after look.shows)
 
   -- ---- what it gives
 
-  pub looked_length : (plan : PlanState) (plain : PlainState) → Shows old.volume plain → reply ≡ told.Planned plan → IsLengthOf plan.front old.volume
+  pub looked_length : (plan : PlanState) (plain : PlainState) → Shows old.volume plain → reply ≡ told.Planned plan
+      → IsLengthOf plan.front old.volume
   looked_length plan plain shows is = length_is plan.front old.volume plain shows (looked plan plain shows is).of_plain.front
 
   pub looked_sectors : (plan : PlanState) (bytes : List ℕ) → reply ≡ told.Planned plan → length bytes / 512 ≡ sectors
@@ -324,4 +353,5 @@ module _ {R : Type 0} (state : R → ReceiptState) (reply : Reply R) (lba sector
   looked_sectors plan bytes is size gives tells plain shows =
       let gave = (looked plan plain shows is).of_plain.gives in
       let had : Gives plan (sectors_at lba sectors (image_now plain)) = if_some old.volume.log.entries _ tells.log gave in
-      sym (gives tells.receipts (sectors_at lba sectors (image_now plain)) had) ∙ ap (λ n. sectors_at lba n (image_now plain)) (sym size)
+      sym (gives tells.receipts (sectors_at lba sectors (image_now plain)) had)
+      ∙ ap (λ n. sectors_at lba n (image_now plain)) (sym size)

@@ -27,53 +27,190 @@ pub record IsOther {R : Type 0} (reply : Reply R) : Type 0 where
   pub other : (count : ℕ) → reply ≡ told.Entered count → ⊥
   pub none : (entry : Entry) → entered_by entry (attempt_in reply) ≡ []
   pub fault : attempt_failed (attempt_in reply) ≡ tells_fault reply
-  pub again : (back : Entry) → attempt_in reply ≡ Again back → (why : Refusal) × (reply ≡ told.NotEntered back why) × (is_again why ≡ true)
+  pub again : (back : Entry) → attempt_in reply ≡ Again back → (why : Refusal) × (reply ≡ told.NotEntered back why)
+      × (is_again why ≡ true)
   pub count : (count : ℕ) → attempt_in reply ≡ Entered count → ⊥
 
 pub reply_cases : {R : Type 0} (reply : Reply R) → ((count : ℕ) × (reply ≡ told.Entered count)) ⊎ IsOther reply
 reply_cases (told.Entered n) = inl (n, refl)
 reply_cases (told.NotEntered entry refusals.Range) =
-    inr (record { other = λ count is. cc; none = λ entry. refl; fault = refl; again = λ back is. (let bad : ⊥ = cc in absurd bad); count = λ count is. cc })
+    inr (record {
+      other = λ count is. cc;
+      none = λ entry. refl;
+      fault = refl;
+      again = λ back is. (let bad : ⊥ = cc in absurd bad);
+      count = λ count is. cc;
+    })
 reply_cases (told.NotEntered entry (refusals.Full why)) =
-    inr (record { other = λ count is. cc; none = λ entry. refl; fault = refl; again = λ back is. (refusals.Full why, (let same : entry ≡ back = cc in ap (λ (e : Entry). told.NotEntered e (refusals.Full why)) same), refl); count = λ count is. cc })
+    inr (record {
+      other = λ count is. cc;
+      none = λ entry. refl;
+      fault = refl;
+      again = λ back is. (
+        refusals.Full why,
+        (let same : entry ≡ back = cc in
+            ap (λ (e : Entry). told.NotEntered e (refusals.Full why)) same),
+        refl,
+      );
+      count = λ count is. cc;
+    })
 reply_cases (told.NotEntered entry (refusals.NoRoom needed left)) =
-    inr (record { other = λ count is. cc; none = λ entry. refl; fault = refl; again = λ back is. (refusals.NoRoom needed left, (let same : entry ≡ back = cc in ap (λ (e : Entry). told.NotEntered e (refusals.NoRoom needed left)) same), refl); count = λ count is. cc })
+    inr (record {
+      other = λ count is. cc;
+      none = λ entry. refl;
+      fault = refl;
+      again = λ back is. (
+        refusals.NoRoom needed left,
+        (let same : entry ≡ back = cc in
+            ap (λ (e : Entry). told.NotEntered e (refusals.NoRoom needed left)) same),
+        refl,
+      );
+      count = λ count is. cc;
+    })
 reply_cases (told.NotEntered entry refusals.Fault) =
-    inr (record { other = λ count is. cc; none = λ entry. refl; fault = refl; again = λ back is. (let bad : ⊥ = cc in absurd bad); count = λ count is. cc })
+    inr (record {
+      other = λ count is. cc;
+      none = λ entry. refl;
+      fault = refl;
+      again = λ back is. (let bad : ⊥ = cc in absurd bad);
+      count = λ count is. cc;
+    })
 reply_cases (told.NotEntered entry refusals.OutOfMemory) =
-    inr (record { other = λ count is. cc; none = λ entry. refl; fault = refl; again = λ back is. (let bad : ⊥ = cc in absurd bad); count = λ count is. cc })
+    inr (record {
+      other = λ count is. cc;
+      none = λ entry. refl;
+      fault = refl;
+      again = λ back is. (let bad : ⊥ = cc in absurd bad);
+      count = λ count is. cc;
+    })
 reply_cases (told.Flushed n) =
-    inr (record { other = λ count is. cc; none = λ entry. refl; fault = refl; again = λ back is. (let bad : ⊥ = cc in absurd bad); count = λ count is. cc })
+    inr (record {
+      other = λ count is. cc;
+      none = λ entry. refl;
+      fault = refl;
+      again = λ back is. (let bad : ⊥ = cc in absurd bad);
+      count = λ count is. cc;
+    })
 reply_cases (told.Planned plan) =
-    inr (record { other = λ count is. cc; none = λ entry. refl; fault = refl; again = λ back is. (let bad : ⊥ = cc in absurd bad); count = λ count is. cc })
+    inr (record {
+      other = λ count is. cc;
+      none = λ entry. refl;
+      fault = refl;
+      again = λ back is. (let bad : ⊥ = cc in absurd bad);
+      count = λ count is. cc;
+    })
 reply_cases told.Released =
-    inr (record { other = λ count is. cc; none = λ entry. refl; fault = refl; again = λ back is. (let bad : ⊥ = cc in absurd bad); count = λ count is. cc })
+    inr (record {
+      other = λ count is. cc;
+      none = λ entry. refl;
+      fault = refl;
+      again = λ back is. (let bad : ⊥ = cc in absurd bad);
+      count = λ count is. cc;
+    })
 reply_cases (told.NotReleased plan) =
-    inr (record { other = λ count is. cc; none = λ entry. refl; fault = refl; again = λ back is. (let bad : ⊥ = cc in absurd bad); count = λ count is. cc })
+    inr (record {
+      other = λ count is. cc;
+      none = λ entry. refl;
+      fault = refl;
+      again = λ back is. (let bad : ⊥ = cc in absurd bad);
+      count = λ count is. cc;
+    })
 reply_cases (told.Sealed n) =
-    inr (record { other = λ count is. cc; none = λ entry. refl; fault = refl; again = λ back is. (let bad : ⊥ = cc in absurd bad); count = λ count is. cc })
+    inr (record {
+      other = λ count is. cc;
+      none = λ entry. refl;
+      fault = refl;
+      again = λ back is. (let bad : ⊥ = cc in absurd bad);
+      count = λ count is. cc;
+    })
 reply_cases (told.Taken job) =
-    inr (record { other = λ count is. cc; none = λ entry. refl; fault = refl; again = λ back is. (let bad : ⊥ = cc in absurd bad); count = λ count is. cc })
+    inr (record {
+      other = λ count is. cc;
+      none = λ entry. refl;
+      fault = refl;
+      again = λ back is. (let bad : ⊥ = cc in absurd bad);
+      count = λ count is. cc;
+    })
 reply_cases (told.Done n) =
-    inr (record { other = λ count is. cc; none = λ entry. refl; fault = refl; again = λ back is. (let bad : ⊥ = cc in absurd bad); count = λ count is. cc })
+    inr (record {
+      other = λ count is. cc;
+      none = λ entry. refl;
+      fault = refl;
+      again = λ back is. (let bad : ⊥ = cc in absurd bad);
+      count = λ count is. cc;
+    })
 reply_cases (told.NotDone job receipt) =
-    inr (record { other = λ count is. cc; none = λ entry. refl; fault = refl; again = λ back is. (let bad : ⊥ = cc in absurd bad); count = λ count is. cc })
+    inr (record {
+      other = λ count is. cc;
+      none = λ entry. refl;
+      fault = refl;
+      again = λ back is. (let bad : ⊥ = cc in absurd bad);
+      count = λ count is. cc;
+    })
 reply_cases told.Returned =
-    inr (record { other = λ count is. cc; none = λ entry. refl; fault = refl; again = λ back is. (let bad : ⊥ = cc in absurd bad); count = λ count is. cc })
+    inr (record {
+      other = λ count is. cc;
+      none = λ entry. refl;
+      fault = refl;
+      again = λ back is. (let bad : ⊥ = cc in absurd bad);
+      count = λ count is. cc;
+    })
 reply_cases (told.NotReturned job) =
-    inr (record { other = λ count is. cc; none = λ entry. refl; fault = refl; again = λ back is. (let bad : ⊥ = cc in absurd bad); count = λ count is. cc })
+    inr (record {
+      other = λ count is. cc;
+      none = λ entry. refl;
+      fault = refl;
+      again = λ back is. (let bad : ⊥ = cc in absurd bad);
+      count = λ count is. cc;
+    })
 reply_cases (told.Told a b c d) =
-    inr (record { other = λ count is. cc; none = λ entry. refl; fault = refl; again = λ back is. (let bad : ⊥ = cc in absurd bad); count = λ count is. cc })
+    inr (record {
+      other = λ count is. cc;
+      none = λ entry. refl;
+      fault = refl;
+      again = λ back is. (let bad : ⊥ = cc in absurd bad);
+      count = λ count is. cc;
+    })
 reply_cases told.Range =
-    inr (record { other = λ count is. cc; none = λ entry. refl; fault = refl; again = λ back is. (let bad : ⊥ = cc in absurd bad); count = λ count is. cc })
+    inr (record {
+      other = λ count is. cc;
+      none = λ entry. refl;
+      fault = refl;
+      again = λ back is. (let bad : ⊥ = cc in absurd bad);
+      count = λ count is. cc;
+    })
 reply_cases told.Nothing =
-    inr (record { other = λ count is. cc; none = λ entry. refl; fault = refl; again = λ back is. (let bad : ⊥ = cc in absurd bad); count = λ count is. cc })
+    inr (record {
+      other = λ count is. cc;
+      none = λ entry. refl;
+      fault = refl;
+      again = λ back is. (let bad : ⊥ = cc in absurd bad);
+      count = λ count is. cc;
+    })
 reply_cases told.Busy =
-    inr (record { other = λ count is. cc; none = λ entry. refl; fault = refl; again = λ back is. (let bad : ⊥ = cc in absurd bad); count = λ count is. cc })
+    inr (record {
+      other = λ count is. cc;
+      none = λ entry. refl;
+      fault = refl;
+      again = λ back is. (let bad : ⊥ = cc in absurd bad);
+      count = λ count is. cc;
+    })
 reply_cases told.Fault =
-    inr (record { other = λ count is. cc; none = λ entry. refl; fault = refl; again = λ back is. (let bad : ⊥ = cc in absurd bad); count = λ count is. cc })
+    inr (record {
+      other = λ count is. cc;
+      none = λ entry. refl;
+      fault = refl;
+      again = λ back is. (let bad : ⊥ = cc in absurd bad);
+      count = λ count is. cc;
+    })
 reply_cases told.OutOfMemory =
-    inr (record { other = λ count is. cc; none = λ entry. refl; fault = refl; again = λ back is. (let bad : ⊥ = cc in absurd bad); count = λ count is. cc })
+    inr (record {
+      other = λ count is. cc;
+      none = λ entry. refl;
+      fault = refl;
+      again = λ back is. (let bad : ⊥ = cc in absurd bad);
+      count = λ count is. cc;
+    })
 
 -- ---- other replies
 
@@ -171,11 +308,16 @@ pub record HasNoPlan {R : Type 0} (reply : Reply R) : Type 0 where
 
 pub plan_cases : {R : Type 0} (reply : Reply R) → ((plan : PlanState) × (reply ≡ told.Planned plan)) ⊎ HasNoPlan reply
 plan_cases (told.Entered n) = inr (record { error = errors.OutOfMemory; is = refl; fault = refl; no_range = λ is. cc })
-plan_cases (told.NotEntered entry refusals.Range) = inr (record { error = errors.OutOfMemory; is = refl; fault = refl; no_range = λ is. cc })
-plan_cases (told.NotEntered entry (refusals.Full why)) = inr (record { error = errors.OutOfMemory; is = refl; fault = refl; no_range = λ is. cc })
-plan_cases (told.NotEntered entry (refusals.NoRoom needed left)) = inr (record { error = errors.OutOfMemory; is = refl; fault = refl; no_range = λ is. cc })
-plan_cases (told.NotEntered entry refusals.Fault) = inr (record { error = errors.Eio; is = refl; fault = refl; no_range = λ is. cc })
-plan_cases (told.NotEntered entry refusals.OutOfMemory) = inr (record { error = errors.OutOfMemory; is = refl; fault = refl; no_range = λ is. cc })
+plan_cases (told.NotEntered entry refusals.Range) =
+    inr (record { error = errors.OutOfMemory; is = refl; fault = refl; no_range = λ is. cc })
+plan_cases (told.NotEntered entry (refusals.Full why)) =
+    inr (record { error = errors.OutOfMemory; is = refl; fault = refl; no_range = λ is. cc })
+plan_cases (told.NotEntered entry (refusals.NoRoom needed left)) =
+    inr (record { error = errors.OutOfMemory; is = refl; fault = refl; no_range = λ is. cc })
+plan_cases (told.NotEntered entry refusals.Fault) =
+    inr (record { error = errors.Eio; is = refl; fault = refl; no_range = λ is. cc })
+plan_cases (told.NotEntered entry refusals.OutOfMemory) =
+    inr (record { error = errors.OutOfMemory; is = refl; fault = refl; no_range = λ is. cc })
 plan_cases (told.Flushed n) = inr (record { error = errors.OutOfMemory; is = refl; fault = refl; no_range = λ is. cc })
 plan_cases (told.Planned plan) = inl (plan, refl)
 plan_cases told.Released = inr (record { error = errors.OutOfMemory; is = refl; fault = refl; no_range = λ is. cc })

@@ -1,5 +1,6 @@
 -- What a step of a volume adds to its history.
-use Rattle.std.proofs.Common.{arith, ◌≡◌, ℕ, ◌+◌, ◌*◌, ◌≤◌, ◌⊎◌, inl, inr, true, false, List, [], ◌∷◌, ◌++◌, length, length-append, append-nil, append_assoc, refl, sym, ◌∙◌, ap}
+use Rattle.std.proofs.Common.{arith, ◌≡◌, ℕ, ◌+◌, ◌*◌, ◌≤◌, ◌⊎◌, inl, inr, true, false, List, [], ◌∷◌, ◌++◌, length}
+use Rattle.std.proofs.Common.{length-append, append-nil, append_assoc, refl, sym, ◌∙◌, ap}
 use Rattle.lsvd_base.specs.declared.entry.Entry.{Entry}
 use Rattle.lsvd_device.specs.Calls.{Fuse}
 use Rattle.lsvd_objstore.specs.Store.{ReceiptState}
@@ -41,12 +42,25 @@ goes_on_passing added left now plain after goes = record {
   committed = goes.committed;
 }
 
-pub goes_on_then : (added : List Entry) (plain mid after : PlainState) → GoesOn [] plain mid → GoesOn added mid after → GoesOn added plain after
+pub goes_on_then : (added : List Entry) (plain mid after : PlainState) → GoesOn [] plain mid → GoesOn added mid after
+    → GoesOn added plain after
 goes_on_then added plain mid after first second = record {
   opens =
       second.opens
-      ∙ ap (λ (m : PlainState). record m { entries = m.entries ++ added; objects = after.objects; window = after.window; pins = after.pins; cache = after.cache }) first.opens
-      ∙ ap (λ (es : List Entry). record plain { entries = es ++ added; objects = after.objects; window = after.window; pins = after.pins; cache = after.cache })
+      ∙ ap (λ (m : PlainState). record m {
+        entries = m.entries ++ added;
+        objects = after.objects;
+        window = after.window;
+        pins = after.pins;
+        cache = after.cache;
+      }) first.opens
+      ∙ ap (λ (es : List Entry). record plain {
+        entries = es ++ added;
+        objects = after.objects;
+        window = after.window;
+        pins = after.pins;
+        cache = after.cache;
+      })
       (append-nil plain.entries);
   objects = (
     first.objects.0 ++ second.objects.0,
@@ -66,7 +80,8 @@ adds_then added old mid new first second plain shows =
 pub same_sizes : (old mid new : VolumeState) → HasSameSizes old mid → HasSameSizes mid new → HasSameSizes old new
 same_sizes old mid new first second = record { geometry = second.geometry ∙ first.geometry; uuid = second.uuid ∙ first.uuid }
 
-pub makes_then : (m n : ℕ) (added : List Entry) (old mid new : SteppedVolume) → MakesSteps m [] old mid → MakesSteps n added mid new
+pub makes_then : (m n : ℕ) (added : List Entry) (old mid new : SteppedVolume) → MakesSteps m [] old mid
+    → MakesSteps n added mid new
     → MakesSteps (m + n) added old new
 makes_then m n added old mid new first second = record {
   adds = adds_then added old.volume mid.volume new.volume first.adds second.adds;
@@ -75,7 +90,8 @@ makes_then m n added old mid new first second = record {
   steps = omega (arith, first.steps, second.steps);
 }
 
-pub makes_fewer : (m n : ℕ) (added : List Entry) (old new : SteppedVolume) → m ≤ n → MakesSteps m added old new → MakesSteps n added old new
+pub makes_fewer : (m n : ℕ) (added : List Entry) (old new : SteppedVolume) → m ≤ n → MakesSteps m added old new
+    → MakesSteps n added old new
 makes_fewer m n added old new less makes = record {
   adds = makes.adds;
   sizes = makes.sizes;
@@ -98,13 +114,15 @@ shown_length volume plain shows =
     let counted = shows.log.counted in
     let seq : plain.cache.log.last.tail.seq ≡ log.commits.body.tail.seq = ap (λ (c : PlainCommit). c.tail.seq) shows.log.last in
     let many : length plain.cache.log.records ≡ length (all_rows log) =
-    ap (λ (r : List PlainRecord). length r) shows.log.records ∙ records_count (all_rows log) log.room.log log.commits.body.tail.position in
+    ap (λ (r : List PlainRecord). length r) shows.log.records
+    ∙ records_count (all_rows log) log.room.log log.commits.body.tail.position in
     let long = length-append log.held log.rows in
     let whole = shows.valid.log.counted in
     omega (arith, counted, seq, many, long, whole)
 
 -- the history has one length
-pub length_is : (count : ℕ) (volume : VolumeState) (plain : PlainState) → Shows volume plain → count ≡ history_length plain → IsLengthOf count volume
+pub length_is : (count : ℕ) (volume : VolumeState) (plain : PlainState) → Shows volume plain → count ≡ history_length plain
+    → IsLengthOf count volume
 length_is count volume plain shows is other others = is ∙ sym (shown_length volume plain shows) ∙ shown_length volume other others
 
 -- ---- what is out
@@ -145,7 +163,8 @@ idle_shown volume plain shows idle = record {
 -- ---- a step
 
 -- what a step promises, as far as an owner takes it
-pub record Steps {R : Type 0} (state : R → ReceiptState) (event : Event R) (reply : Reply R) (old new : SteppedVolume) : Type 0 where
+pub record Steps {R : Type 0} (state : R → ReceiptState) (event : Event R) (reply : Reply R) (old new : SteppedVolume) :
+    Type 0 where
   pub step : StepsAsPlain state event reply old.volume new.volume
   pub steps : new.steps ≡ old.steps + 1
   pub sizes : HasSameSizes old.volume new.volume
@@ -154,7 +173,8 @@ pub record Steps {R : Type 0} (state : R → ReceiptState) (event : Event R) (re
   pub faults : CountsFault reply old.volume new.volume
 
 -- a step that enters nothing
-pub quiet_after : {R : Type 0} (state : R → ReceiptState) (event : Event R) (reply : Reply R) (plain : PlainState) (old new : VolumeState)
+pub quiet_after : {R : Type 0} (state : R → ReceiptState) (event : Event R) (reply : Reply R) (plain : PlainState)
+    (old new : VolumeState)
     → ((asked : PlainEvent) → Asks state old event asked → is_quiet asked ≡ true) → Shows old plain
     → IsStep state event reply plain old new ⊎ IsNoStep event reply plain old new
     → (after : PlainState) × Shows new after × GoesOn [] plain after

@@ -135,7 +135,8 @@ tells_sealed state volume told.Fault number tells = let bad : ⊥ = cc in absurd
 tells_sealed state volume told.OutOfMemory number tells = absurd tells
 
 -- that a read was planned
-tells_planned_refusal : (why : Refusal) (front : ℕ) (bytes objects : List ℕ) → TellsRefusal why (replies.Planned front bytes objects) → ⊥
+tells_planned_refusal : (why : Refusal) (front : ℕ) (bytes objects : List ℕ)
+    → TellsRefusal why (replies.Planned front bytes objects) → ⊥
 tells_planned_refusal refusals.Range front bytes objects tells = cc
 tells_planned_refusal (refusals.Full (full.Sectors sectors)) front bytes objects tells = cc
 tells_planned_refusal (refusals.Full (full.Entries entries)) front bytes objects tells = cc
@@ -143,10 +144,12 @@ tells_planned_refusal (refusals.NoRoom needed left) front bytes objects tells = 
 tells_planned_refusal refusals.Fault front bytes objects tells = cc
 tells_planned_refusal refusals.OutOfMemory front bytes objects tells = tells
 
-pub tells_planned : {R : Type 0} (state : R → ReceiptState) (volume : VolumeState) (reply : Reply R) (front : ℕ) (bytes objects : List ℕ)
+pub tells_planned : {R : Type 0} (state : R → ReceiptState) (volume : VolumeState) (reply : Reply R) (front : ℕ)
+    (bytes objects : List ℕ)
     → Tells state volume reply (replies.Planned front bytes objects) → (plan : PlanState) × (reply ≡ told.Planned plan)
 tells_planned state volume (told.Entered n) front bytes objects tells = let bad : ⊥ = cc in absurd bad
-tells_planned state volume (told.NotEntered entry why) front bytes objects tells = absurd (tells_planned_refusal why front bytes objects tells)
+tells_planned state volume (told.NotEntered entry why) front bytes objects tells =
+    absurd (tells_planned_refusal why front bytes objects tells)
 tells_planned state volume (told.Flushed n) front bytes objects tells = let bad : ⊥ = cc in absurd bad
 tells_planned state volume (told.Planned plan) front bytes objects tells = (plan, refl)
 tells_planned state volume told.Released front bytes objects tells = let bad : ⊥ = cc in absurd bad

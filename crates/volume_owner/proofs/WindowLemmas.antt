@@ -1,5 +1,6 @@
 -- The objects on their way to the store, of which no put is under way between the calls of an owner.
-use Rattle.std.proofs.Common.{arith, ◌≡◌, ℕ, suc, ◌+◌, nat_eq, Bool, true, false, cond, ◌||◌, List, [], ◌∷◌, ◌++◌, length, refl, sym, ap, subst, inl, inr}
+use Rattle.std.proofs.Common.{arith, ◌≡◌, ℕ, suc, ◌+◌, nat_eq, Bool, true, false, cond, ◌||◌, List, [], ◌∷◌, ◌++◌, length, refl}
+use Rattle.std.proofs.Common.{sym, ap, subst, inl, inr}
 use Rattle.std.specs.Prelude.{Option, Some, None, option_map, find}
 use Rattle.std.specs.List.{list_any}
 use Rattle.std.proofs.Math.Bool.{or-true}
@@ -30,18 +31,22 @@ abbrev FirstIsData : List OpenObject → Type 0
 FirstIsData [] = Unit {0}
 FirstIsData (object ∷ objects) = object.is_checkpoint ≡ false
 
-data_by : (number : ℕ) (receipt : Option ReceiptState) (has_spare : Bool) (objects : List OpenObject) (Rest : List OpenObject → Type 0)
-    → ((more : List OpenObject) → Rest more → FirstIsData more) → IsOpenFirst number receipt has_spare objects Rest → FirstIsData objects
+data_by : (number : ℕ) (receipt : Option ReceiptState) (has_spare : Bool) (objects : List OpenObject)
+    (Rest : List OpenObject → Type 0)
+    → ((more : List OpenObject) → Rest more → FirstIsData more) → IsOpenFirst number receipt has_spare objects Rest
+    → FirstIsData objects
 data_by number (Some receipt) has_spare objects Rest rest are = rest objects are
 data_by number None has_spare [] Rest rest are = absurd are
 data_by number None has_spare (object ∷ objects) Rest rest are = are.1
 
-first_is_data : (number : ℕ) (sealed : List SealedState) (objects : List OpenObject) → AreOpen number sealed objects → FirstIsData objects
+first_is_data : (number : ℕ) (sealed : List SealedState) (objects : List OpenObject) → AreOpen number sealed objects
+    → FirstIsData objects
 first_is_data number [] objects are = subst FirstIsData (sym are) tt
 first_is_data number (one ∷ sealed) objects are =
     data_by number one.receipt one.has_spare objects (AreOpen (number + 1) sealed) (first_is_data (number + 1) sealed) are
 
-ready_by : (object : OpenObject) (objects : List OpenObject) → object.is_started ≡ false → object.is_checkpoint ≡ false → is_ready objects object ≡ true
+ready_by : (object : OpenObject) (objects : List OpenObject) → object.is_started ≡ false → object.is_checkpoint ≡ false
+    → is_ready objects object ≡ true
 ready_by object objects not_started no_checkpoint = rw (not_started, no_checkpoint) refl
 
 -- so one is ready, unless there is none
@@ -52,13 +57,15 @@ none_is_ready number sealed (object ∷ objects) are none lowest =
     let first = none_started_first object objects none in
     let ready : is_ready (object ∷ objects) object ≡ true =
     ready_by object (object ∷ objects) first.0 (first_is_data number sealed (object ∷ objects) are) in
-    let found = ap (λ (b : Bool). option_map (λ (o : OpenObject). o.number) (cond b (Some object) (find (is_ready (object ∷ objects)) objects))) ready in
+    let found = ap (λ (b : Bool). option_map (λ (o : OpenObject). o.number)
+    (cond b (Some object) (find (is_ready (object ∷ objects)) objects))) ready in
     let bad : ⊥ = cc in
     absurd bad
 
 -- ---- a put begins
 
-pub started_once : (n : ℕ) (objects : List OpenObject) → list_any (has_number n) objects ≡ true → is_started n (with_started n true objects) ≡ true
+pub started_once : (n : ℕ) (objects : List OpenObject) → list_any (has_number n) objects ≡ true
+    → is_started n (with_started n true objects) ≡ true
 started_once n [] open_ = let bad : ⊥ = cc in absurd bad
 started_once n (object ∷ objects) open_ =
     elim (cases_eq object.number n) [
@@ -88,7 +95,8 @@ begun_alone n (object ∷ objects) none =
 
 -- ---- a put is done
 
-pub without_shorter : (n : ℕ) (objects : List OpenObject) → is_started n objects ≡ true → length (without n objects) + 1 ≡ length objects
+pub without_shorter : (n : ℕ) (objects : List OpenObject) → is_started n objects ≡ true
+    → length (without n objects) + 1 ≡ length objects
 without_shorter n [] is = let bad : ⊥ = cc in absurd bad
 without_shorter n (object ∷ objects) is =
     elim (cases_eq object.number n) [
@@ -100,7 +108,8 @@ without_shorter n (object ∷ objects) is =
           rw not_here (omega (arith, rest))
     ]
 
-pub without_it : (n : ℕ) (objects : List OpenObject) → any_started (with_started n false objects) ≡ false → any_started (without n objects) ≡ false
+pub without_it : (n : ℕ) (objects : List OpenObject) → any_started (with_started n false objects) ≡ false
+    → any_started (without n objects) ≡ false
 without_it n [] none = refl
 without_it n (object ∷ objects) none =
     elim (cases_eq object.number n) [
@@ -151,7 +160,8 @@ marked_numbers k n started [] = refl
 marked_numbers k n started (object ∷ objects) =
     let changed : OpenObject = record object { is_started = started; was_started = object.was_started || started } in
     let rest = marked_numbers k n started objects in
-    elim (has_number n object) as (λ b. list_any (has_number k) (cond b (changed ∷ objects) (object ∷ with_started n started objects))
+    elim (has_number n object) as (λ b. list_any (has_number k)
+    (cond b (changed ∷ objects) (object ∷ with_started n started objects))
     ≡ list_any (has_number k) (object ∷ objects)) [
       | true ↦ refl
       | false ↦ ap (λ b. has_number k object || b) rest
@@ -162,7 +172,8 @@ marked_long n started [] = refl
 marked_long n started (object ∷ objects) =
     let changed : OpenObject = record object { is_started = started; was_started = object.was_started || started } in
     let rest = marked_long n started objects in
-    elim (has_number n object) as (λ b. length (cond b (changed ∷ objects) (object ∷ with_started n started objects)) ≡ suc (length objects)) [
+    elim (has_number n object) as (λ b. length (cond b (changed ∷ objects) (object ∷ with_started n started objects))
+    ≡ suc (length objects)) [
       | true ↦ refl
       | false ↦ ap suc rest
     ]

@@ -59,7 +59,8 @@ CountsEitherFault true old_disk new_disk old_store new_store =
 
 -- under each name but those of a volume's numbered objects stands what stood there
 abbrev pub KeepsOtherNames : (uuid : List ℕ) → Objects → Objects → Type 0
-KeepsOtherNames uuid old new = (name : ObjName) → ((number : ℕ) → name ≡ name_of uuid number → ⊥) → found new name ≡ found old name
+KeepsOtherNames uuid old new = (name : ObjName) → ((number : ℕ) → name ≡ name_of uuid number → ⊥)
+    → found new name ≡ found old name
 
 -- ---- a call
 
@@ -72,10 +73,12 @@ pub record MakesSteps (most : ℕ) (added : List Entry) (old new : SteppedVolume
 
 -- A call made steps of a volume, and puts of its objects into a store: the store has changed under the names of the volume's own
 -- numbered objects alone. One call of the disk or of the store failed in it, or none did.
-pub record IsCall (most : ℕ) (added : List Entry) (failed : Bool) (old new : SteppedVolume) (old_store new_store : StoreState) : Type 0 where
+pub record IsCall (most : ℕ) (added : List Entry) (failed : Bool) (old new : SteppedVolume) (old_store new_store : StoreState) :
+    Type 0 where
   pub steps : MakesSteps most added old new
   pub store : Becomes (KeepsOtherNames old.volume.objects.uploads.uuid) old_store.objects new_store.objects
-  pub faults : CountsEitherFault failed old.volume.log.commits.disk.faults new.volume.log.commits.disk.faults old_store.faults new_store.faults
+  pub faults : CountsEitherFault failed old.volume.log.commits.disk.faults new.volume.log.commits.disk.faults old_store.faults
+      new_store.faults
 
 -- an entry that was answered is entered, and one that was not is not
 abbrev pub added_by : {E : Type 0} → Entry → Result ℕ E → List Entry

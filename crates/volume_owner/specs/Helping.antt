@@ -10,8 +10,8 @@ use Rattle.vol_core.specs.Volume.{VolumeState}
 use Rattle.volume_owner.specs.declared.replies.Attempt.{Attempt}
 use Rattle.volume_owner.specs.declared.replies.Attempt.TheVariants.{Entered, Again, Failed}
 
--- What is left to help with: each entry that is in no object has to be sealed and put, and each object on its way to be put. A help
--- lowers it.
+-- What is left to help with: each entry that is in no object has to be sealed and put, and each object on its way to be put. A
+-- help lowers it.
 abbrev pub work_of : VolumeState → ℕ
 work_of volume = 2 * length volume.objects.batch.entries + length volume.objects.uploads.window.objects
 
@@ -24,7 +24,8 @@ HasHelped false old new = (work_of old ≡ 0) × (work_of new ≡ 0)
 pub record IsTaken (job : JobState) (volume : VolumeState) : Type 0 where
   pub out : IsOut volume.objects.uploads job.name.number job.bytes
   pub named : job.name ≡ name_of volume.objects.uploads.uuid job.name.number
-  pub alone : list_any (λ object. object.is_started) (with_started job.name.number false volume.objects.uploads.window.objects) ≡ false
+  pub alone : list_any (λ object. object.is_started) (with_started job.name.number false volume.objects.uploads.window.objects)
+      ≡ false
   pub plans : volume.pins ≡ []
 
 -- what an attempt entered

@@ -4,8 +4,8 @@ use Rattle.lsvd_base.specs.declared.entry.Entry.{Entry}
 use Rattle.object_stream.specs.declared.object.StreamObject.{StreamObject}
 use Rattle.plain_disk.specs.State.{PlainState, frontier_of}
 
--- One plain volume goes on from another, with these entries more: it opens as that does, it has its objects and perhaps more, and what
--- was acknowledged or committed is so still.
+-- One plain volume goes on from another, with these entries more: it opens as that does, it has its objects and perhaps more, and
+-- what was acknowledged or committed is so still.
 pub record GoesOn (added : List Entry) (plain after : PlainState) : Type 0 where
   pub opens : after ≡ record plain {
     entries = plain.entries ++ added;

@@ -26,9 +26,11 @@ pub(crate) fn enter<D: Disk, R: Receipt, S: Store<Receipt = R>>(
 ) -> Result<u64, OwnerError>
     requires steps { volume.old.steps ≤ max_steps }
     requires idle { IsIdle volume.old.volume }
-    ensures call { IsCall most_of_call (added_by entry result) (is_eio result) volume.old volume.new (S.state store.old) (S.state store.new) }
+    ensures call { IsCall most_of_call (added_by entry result) (is_eio result) volume.old volume.new
+        (S.state store.old) (S.state store.new) }
     ensures count { IfOk result (λ count. IsLengthOf count volume.new.volume) }
-    ensures range { IsErrOf result OwnerError.Range ↔ (is_in_range volume.old.volume.objects.batch.geometry entry ≡ false) }
+    ensures range { IsErrOf result OwnerError.Range ↔ (is_in_range volume.old.volume.objects.batch.geometry
+        entry ≡ false) }
     ensures idle { IsIdle volume.new.volume }
 {
     if !in_range(&entry, &volume.geometry()) {
@@ -56,7 +58,8 @@ fn try_entry<D: Disk, R: Receipt>(volume: &mut Volume<D, R>, entry: Entry) -> At
     ensures steps { MakesSteps 1 (entered_by entry result) volume.old volume.new }
     ensures count { (count : ℕ) → result ≡ Attempt.Entered count → IsLengthOf count volume.new.volume }
     ensures back { MayTryAgain entry result volume.old.volume volume.new.volume }
-    ensures faults { Counts (attempt_failed result) volume.old.volume.log.commits.disk.faults volume.new.volume.log.commits.disk.faults }
+    ensures faults { Counts (attempt_failed result) volume.old.volume.log.commits.disk.faults
+        volume.new.volume.log.commits.disk.faults }
     ensures idle { IsIdle volume.new.volume }
 {
     volume.is_volume();

@@ -17,8 +17,8 @@ use std::alloc::Global;
 use uuid::Uuid;
 use vol_core::{Event, Volume};
 
-/// Puts the lowest object that waits for its put; where none does, seals the next one. Answers whether there was one, or were entries
-/// for one.
+/// Puts the lowest object that waits for its put; where none does, seals the next one. Answers whether there
+/// was one, or were entries for one.
 ///
 /// `Eio` comes where the put failed, and `OutOfMemory` where memory ran out. The object then waits again.
 pub(crate) fn help<D: Disk, R: Receipt, S: Store<Receipt = R>>(
@@ -72,8 +72,8 @@ fn put<D: Disk, R: Receipt, S: Store<Receipt = R>>(
     }
 }
 
-// Seals the next object. No object is on its way (a condition). Answers whether there were entries for one; the one error is that memory
-// ran out.
+// Seals the next object. No object is on its way (a condition). Answers whether there were entries for one;
+// the one error is that memory ran out.
 fn seal<D: Disk, R: Receipt>(volume: &mut Volume<D, R>) -> Result<bool, OwnerError>
     requires steps { volume.old.steps < max_number }
     requires idle { IsIdle volume.old.volume }

@@ -7,10 +7,12 @@ ghost use Rattle.vol_core.specs.Shows.{Shows};
 ghost use Rattle.vol_core.specs.Volume.{VolumeState, SteppedVolume};
 ghost use Rattle.volume_owner.specs.Owner.{IsIdle};
 
-/// A law: a volume may have an owner where no put is under way and no plan is out in a plain volume that it shows. So it is of one that was
-/// just created.
+/// A law: a volume may have an owner where no put is under way and no plan is out in a plain volume that it
+/// shows. So it is of one that was just created.
 pub fn a_new_volume_is_idle()
     ensures shown { (volume : VolumeState) (plain : PlainState) → Shows volume plain
-        → list_any (λ object. object.is_started) plain.window.objects ≡ false → plain.pins ≡ [] → IsIdle volume }
-    ensures created { (uuid : List ℕ) (geometry : Geometry) (stepped : SteppedVolume) → IsCreated uuid geometry stepped → IsIdle stepped.volume }
+        → list_any (λ object. object.is_started) plain.window.objects ≡ false → plain.pins ≡ []
+        → IsIdle volume }
+    ensures created { (uuid : List ℕ) (geometry : Geometry) (stepped : SteppedVolume)
+        → IsCreated uuid geometry stepped → IsIdle stepped.volume }
 {}

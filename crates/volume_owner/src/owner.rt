@@ -1,10 +1,12 @@
-ghost use Rattle.std.specs.Prelude.{◌≡◌, ◌<◌, ◌≤◌, ◌↔◌, ◌/◌, ◌%◌, [], IsTrue, false, length, IfOk, OnOk, IsErrOf, is_err};
+ghost use Rattle.std.specs.Prelude.{◌≡◌, ◌<◌, ◌≤◌, ◌↔◌, ◌/◌, ◌%◌, [], IsTrue, false, length, IfOk, OnOk};
+ghost use Rattle.std.specs.Prelude.{IsErrOf, is_err};
 ghost use Rattle.lsvd_base.specs.declared.entry.Entry.TheVariants as entries;
 ghost use Rattle.lsvd_base.specs.Limits.{is_within_limits, may_transfer};
 ghost use Rattle.lsvd_base.specs.Range.{is_in_range};
 ghost use Rattle.lsvd_fault.specs.Faults.{Counts};
 ghost use Rattle.volume_owner.specs.Owner.{IsIdle, max_steps, most_of_call};
-ghost use Rattle.volume_owner.specs.Calls.{MakesSteps, IsCall, IsLengthOf, IsDurable, IsDrained, HasSectors, added_by};
+ghost use Rattle.volume_owner.specs.Calls.{MakesSteps, IsCall, IsLengthOf, IsDurable, IsDrained, HasSectors};
+ghost use Rattle.volume_owner.specs.Calls.{added_by};
 ghost use Rattle.volume_owner.specs.Errors.{is_eio};
 
 use crate::draining::drain;
@@ -22,8 +24,8 @@ use vol_core::Volume;
 
 /// A volume with one owner, who makes whole requests of it. The store is lent for each.
 ///
-/// Each call has the condition that the volume made 2^59 steps at most since it was mounted, and itself makes 2^40 at most. So who
-/// asks `steps` before each request has room for several calls.
+/// Each call has the condition that the volume made 2^59 steps at most since it was mounted, and itself makes
+/// 2^40 at most. So who asks `steps` before each request has room for several calls.
 #[derive(Drop)]
 pub struct Owner<D: Disk, R: Receipt> {
     volume: Volume<D, R>,
@@ -41,8 +43,8 @@ impl<D: Disk, R: Receipt> Model for Owner<D, R> {
 }
 
 impl<D: Disk, R: Receipt> Owner<D, R> {
-    /// The owner of a volume. No put of an object is under way, and no plan of a read is out (a condition), as when it was just created
-    /// or mounted.
+    /// The owner of a volume. No put of an object is under way, and no plan of a read is out (a condition),
+    /// as when it was just created or mounted.
     pub fn new(volume: Volume<D, R>) -> Owner<D, R>
         requires { IsIdle volume.volume }
         ensures { result ≡ volume }
@@ -52,8 +54,9 @@ impl<D: Disk, R: Receipt> Owner<D, R> {
 
     /// Writes the data at the sectors from `lba` on, and answers how many entries the history has now.
     ///
-    /// `Range` comes exactly where the sectors are not 1 to `max_write` that lie inside the volume. `Eio` comes where a call of the disk or
-    /// of the store failed, which that counted, and `OutOfMemory` where memory ran out. After an error nothing was entered.
+    /// `Range` comes exactly where the sectors are not 1 to `max_write` that lie inside the volume. `Eio`
+    /// comes where a call of the disk or of the store failed, which that counted, and `OutOfMemory` where
+    /// memory ran out. After an error nothing was entered.
     pub fn write<S: Store<Receipt = R>>(
         &mut self,
         alloc: Global,
@@ -62,7 +65,8 @@ impl<D: Disk, R: Receipt> Owner<D, R> {
         body: Body,
     ) -> Result<u64, OwnerError>
         requires { self.old.steps ≤ max_steps }
-        ensures call { IsCall most_of_call (added_by (entries.Write lba body) result) (is_eio result) self.old self.new (S.state store.old) (S.state store.new) }
+        ensures call { IsCall most_of_call (added_by (entries.Write lba body) result) (is_eio result) self.old
+            self.new (S.state store.old) (S.state store.new) }
         ensures count { IfOk result (λ count. IsLengthOf count self.new.volume) }
         ensures range { IsErrOf result OwnerError.Range
             ↔ (is_in_range self.old.volume.objects.batch.geometry (entries.Write lba body) ≡ false) }
@@ -72,8 +76,8 @@ impl<D: Disk, R: Receipt> Owner<D, R> {
 
     /// Puts zeros at `sectors` sectors from `lba` on, and answers how many entries the history has now.
     ///
-    /// `Range` comes exactly where there is no sector, or not all of them lie inside the volume; the other errors are those of `write`.
-    /// After an error nothing was entered.
+    /// `Range` comes exactly where there is no sector, or not all of them lie inside the volume; the other
+    /// errors are those of `write`. After an error nothing was entered.
     pub fn zero<S: Store<Receipt = R>>(
         &mut self,
         alloc: Global,
@@ -82,7 +86,8 @@ impl<D: Disk, R: Receipt> Owner<D, R> {
         sectors: u64,
     ) -> Result<u64, OwnerError>
         requires { self.old.steps ≤ max_steps }
-        ensures call { IsCall most_of_call (added_by (entries.Zero lba sectors) result) (is_eio result) self.old self.new (S.state store.old) (S.state store.new) }
+        ensures call { IsCall most_of_call (added_by (entries.Zero lba sectors) result) (is_eio result)
+            self.old self.new (S.state store.old) (S.state store.new) }
         ensures count { IfOk result (λ count. IsLengthOf count self.new.volume) }
         ensures range { IsErrOf result OwnerError.Range
             ↔ (is_in_range self.old.volume.objects.batch.geometry (entries.Zero lba sectors) ≡ false) }
@@ -90,30 +95,33 @@ impl<D: Disk, R: Receipt> Owner<D, R> {
         enter(alloc, &mut self.volume, store, Entry::Zero { lba, sectors })
     }
 
-    /// Makes each entry so far durable, and answers how many the history has. The one error is that a call of the disk failed, which
-    /// that counted.
+    /// Makes each entry so far durable, and answers how many the history has. The one error is that a call of
+    /// the disk failed, which that counted.
     pub fn flush(&mut self) -> Result<u64, Failed>
         requires { self.old.steps ≤ max_steps }
         ensures steps { MakesSteps 1 [] self.old self.new }
-        ensures faults { Counts (is_err result) self.old.volume.log.commits.disk.faults self.new.volume.log.commits.disk.faults }
+        ensures faults { Counts (is_err result) self.old.volume.log.commits.disk.faults
+            self.new.volume.log.commits.disk.faults }
         ensures count { IfOk result (λ count. IsLengthOf count self.new.volume) }
         ensures durable { OnOk result (IsDurable self.new.volume) }
     {
         flush(&mut self.volume)
     }
 
-    /// Seals and puts until no entry is unsealed and each object is acknowledged, and then flushes. Answers how many entries the history
-    /// has. A server calls it before it ends.
+    /// Seals and puts until no entry is unsealed and each object is acknowledged, and then flushes. Answers
+    /// how many entries the history has. A server calls it before it ends.
     ///
-    /// `Eio` comes where a call of the disk or of the store failed, which that counted, and `OutOfMemory` where memory ran out; `Range`
-    /// never comes. After an error some of this may be done, and the call may be made again. Nothing is entered.
+    /// `Eio` comes where a call of the disk or of the store failed, which that counted, and `OutOfMemory`
+    /// where memory ran out; `Range` never comes. After an error some of this may be done, and the call may
+    /// be made again. Nothing is entered.
     pub fn drain<S: Store<Receipt = R>>(
         &mut self,
         alloc: Global,
         store: &mut S,
     ) -> Result<u64, OwnerError>
         requires { self.old.steps ≤ max_steps }
-        ensures call { IsCall most_of_call [] (is_eio result) self.old self.new (S.state store.old) (S.state store.new) }
+        ensures call { IsCall most_of_call [] (is_eio result) self.old self.new (S.state store.old)
+            (S.state store.new) }
         ensures count { IfOk result (λ count. IsLengthOf count self.new.volume) }
         ensures drained { OnOk result (IsDrained self.new.volume) }
         ensures range { IsErrOf result OwnerError.Range → ⊥ }
@@ -121,11 +129,13 @@ impl<D: Disk, R: Receipt> Owner<D, R> {
         drain(alloc, &mut self.volume, store)
     }
 
-    /// Reads the sectors from `lba` on into the whole of a buffer of whole sectors (a condition), and answers the front: how many entries
-    /// the history has that the sectors are those of. Where the volume tells what it holds, they are its sectors.
+    /// Reads the sectors from `lba` on into the whole of a buffer of whole sectors (a condition), and answers
+    /// the front: how many entries the history has that the sectors are those of. Where the volume tells what
+    /// it holds, they are its sectors.
     ///
-    /// `Range` comes exactly where the sectors are not 1 to `max_write` that lie inside the volume. `Eio` comes where a call of the disk or
-    /// of the store failed, which that counted, and `OutOfMemory` where memory ran out. After an error any bytes stand in the buffer.
+    /// `Range` comes exactly where the sectors are not 1 to `max_write` that lie inside the volume. `Eio`
+    /// comes where a call of the disk or of the store failed, which that counted, and `OutOfMemory` where
+    /// memory ran out. After an error any bytes stand in the buffer.
     pub fn read<S: Store<Receipt = R>>(
         &mut self,
         store: &mut S,
@@ -134,7 +144,8 @@ impl<D: Disk, R: Receipt> Owner<D, R> {
     ) -> Result<u64, OwnerError>
         requires steps { self.old.steps ≤ max_steps }
         requires whole { length buf.old % 512 ≡ 0 }
-        ensures call { IsCall most_of_call [] (is_eio result) self.old self.new (S.state store.old) (S.state store.new) }
+        ensures call { IsCall most_of_call [] (is_eio result) self.old self.new (S.state store.old)
+            (S.state store.new) }
         ensures front { IfOk result (λ front. IsLengthOf front self.old.volume) }
         ensures bytes { OnOk result (HasSectors R.state self.old.volume lba buf.new) }
         ensures range { IsErrOf result OwnerError.Range

@@ -1,4 +1,5 @@
-ghost use Rattle.std.specs.Prelude.{◌≡◌, ◌<◌, ◌≤◌, ◌↔◌, ◌/◌, ◌%◌, [], false, length, IfOk, OnOk, IsErrOf, is_err};
+ghost use Rattle.std.specs.Prelude.{◌≡◌, ◌<◌, ◌≤◌, ◌↔◌, ◌/◌, ◌%◌, [], false, length, IfOk, OnOk, IsErrOf};
+ghost use Rattle.std.specs.Prelude.{is_err};
 ghost use Rattle.lsvd_base.specs.Limits.{may_transfer};
 ghost use Rattle.lsvd_fault.specs.Faults.{Counts};
 ghost use Rattle.vol_core.specs.Shows.{max_number};
@@ -15,8 +16,8 @@ use lsvd_fault::Failed;
 use lsvd_objstore::{Receipt, Store};
 use vol_core::{Event, Volume};
 
-/// Reads the sectors from `lba` on into the whole of a buffer of whole sectors (a condition): plans the read, fetches it, and gives the
-/// plan back, whatever the fetch answered. The front is answered.
+/// Reads the sectors from `lba` on into the whole of a buffer of whole sectors (a condition): plans the read,
+/// fetches it, and gives the plan back, whatever the fetch answered. The front is answered.
 pub(crate) fn read<D: Disk, R: Receipt, S: Store<Receipt = R>>(
     volume: &mut Volume<D, R>,
     store: &mut S,
@@ -26,10 +27,12 @@ pub(crate) fn read<D: Disk, R: Receipt, S: Store<Receipt = R>>(
     requires steps { volume.old.steps ≤ max_steps }
     requires idle { IsIdle volume.old.volume }
     requires whole { length buf.old % 512 ≡ 0 }
-    ensures call { IsCall most_of_call [] (is_eio result) volume.old volume.new (S.state store.old) (S.state store.new) }
+    ensures call { IsCall most_of_call [] (is_eio result) volume.old volume.new (S.state store.old)
+        (S.state store.new) }
     ensures front { IfOk result (λ front. IsLengthOf front volume.old.volume) }
     ensures bytes { OnOk result (HasSectors R.state volume.old.volume lba buf.new) }
-    ensures range { IsErrOf result OwnerError.Range ↔ (may_transfer volume.old.volume.objects.batch.geometry lba (length buf.old / 512) ≡ false) }
+    ensures range { IsErrOf result OwnerError.Range ↔ (may_transfer volume.old.volume.objects.batch.geometry
+        lba (length buf.old / 512) ≡ false) }
     ensures idle { IsIdle volume.new.volume }
 {
     volume.is_volume();
@@ -45,7 +48,8 @@ pub(crate) fn read<D: Disk, R: Receipt, S: Store<Receipt = R>>(
     Ok(front)
 }
 
-/// Commits each entry so far, and answers the length of the history. `Failed` comes where a call of the disk failed.
+/// Commits each entry so far, and answers the length of the history. `Failed` comes where a call of the disk
+/// failed.
 pub(crate) fn flush<D: Disk, R: Receipt>(volume: &mut Volume<D, R>) -> Result<u64, Failed>
     requires steps { volume.old.steps < max_number }
     requires idle { IsIdle volume.old.volume }
@@ -53,7 +57,8 @@ pub(crate) fn flush<D: Disk, R: Receipt>(volume: &mut Volume<D, R>) -> Result<u6
     ensures count { IfOk result (λ count. IsLengthOf count volume.new.volume) }
     ensures durable { OnOk result (IsDurable volume.new.volume) }
     ensures work { work_of volume.new.volume ≡ work_of volume.old.volume }
-    ensures faults { Counts (is_err result) volume.old.volume.log.commits.disk.faults volume.new.volume.log.commits.disk.faults }
+    ensures faults { Counts (is_err result) volume.old.volume.log.commits.disk.faults
+        volume.new.volume.log.commits.disk.faults }
     ensures idle { IsIdle volume.new.volume }
 {
     volume.is_volume();

@@ -13,7 +13,8 @@ use vol_core::{Refusal, Reply};
 pub(crate) enum Attempt {
     /// The entry was entered; the history has this length now.
     Entered(u64),
-    /// The batch or the log has no room for the entry, which is handed back. An object is to be sealed or put first.
+    /// The batch or the log has no room for the entry, which is handed back. An object is to be sealed or put
+    /// first.
     Again(Entry),
     /// A call of the disk failed.
     Failed,
@@ -72,7 +73,8 @@ pub(crate) fn count_of<R: Receipt>(reply: Reply<R>) -> Option<u64>
     }
 }
 
-/// Whether a reply tells that an object was sealed, where none is on its way, or that there was nothing to seal.
+/// Whether a reply tells that an object was sealed, where none is on its way, or that there was nothing to
+/// seal.
 pub(crate) fn seal_of<R: Receipt>(reply: Reply<R>) -> Result<bool, OwnerError>
     ensures { result ≡ seal_in reply }
 {

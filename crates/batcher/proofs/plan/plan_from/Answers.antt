@@ -11,9 +11,15 @@ loop-index-preserved c =
     let offered : IsOffered c.args.geometry.now.batch c.loop-index.plan entry c.offer.new.self =
     record { full = c.offer.ensures.full; put = c.offer.ensures.put } in
     record {
-      planned = plan_offered c.args.geometry.now.batch c.args.entries.now.items c.args.from c.loop-index.index entry c.loop-index.plan c.offer.new.self
+      planned = plan_offered c.args.geometry.now.batch c.args.entries.now.items c.args.from c.loop-index.index entry
+          c.loop-index.plan c.offer.new.self
           c.loop-index.invariant.planned offered c.loop-index.auto.index (omega arith) c.index.ensures;
-      room = omega (arith, c.loop-index.invariant.room, offered_room c.args.geometry.now.batch entry c.loop-index.plan c.offer.new.self offered);
+      room = omega (
+        arith,
+        c.loop-index.invariant.room,
+        offered_room c.args.geometry.now.batch entry c.loop-index.plan
+            c.offer.new.self offered,
+      );
     }
 
 pub returns-clause-plan : goal.returns-clause-plan
@@ -22,5 +28,6 @@ returns-clause-plan c =
     let all : c.loop-index.index - c.args.from ≡ min max_entries (length rest) =
     omega (arith, length-drop c.args.from c.args.entries.now.items, c.min-most.ensures, c.len.ensures, c.requires.from) in
     most_is_plan c.args.geometry.now.batch rest c.loop-index.plan
-    (subst (λ list. IsPlanOf c.args.geometry.now.batch list c.loop-index.plan) (ap (λ n. take n rest) all ∙ take_min max_entries rest)
+    (subst (λ list. IsPlanOf c.args.geometry.now.batch list c.loop-index.plan) (ap (λ n. take n rest) all
+    ∙ take_min max_entries rest)
     c.loop-index.invariant.planned)

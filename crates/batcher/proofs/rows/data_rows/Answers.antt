@@ -14,7 +14,8 @@ pub add-requires-clause-payload : goal.add-requires-clause-payload
 add-requires-clause-payload c =
     omega (
       arith,
-      (fits_at place_number c.loop-extent.extent-index c.args.extents.now (record { lba = 0; sectors = 0; place = Data 0 0 }) c.requires.fits c.loop-extent-test.true).sectors,
+      (fits_at place_number c.loop-extent.extent-index c.args.extents.now (record { lba = 0; sectors = 0; place = Data 0 0 })
+          c.requires.fits c.loop-extent-test.true).sectors,
       sum_by-take-le extent_payload c.args.extents.now c.loop-extent.extent-index,
       c.loop-extent.invariant.payload,
       c.requires.payload,

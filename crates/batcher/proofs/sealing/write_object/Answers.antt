@@ -7,12 +7,18 @@ use Rattle.batcher.proofs.sealing.write_object.Goals as goal
 
 pub new-requires : goal.new-requires
 new-requires c =
-    may_be_written c.args.expected.now c.args.first_seq c.args.end_seq c.args.entries.now.items c.args.extents.now c.in_ok-data_rows.field-0
+    may_be_written c.args.expected.now c.args.first_seq c.args.end_seq c.args.entries.now.items c.args.extents.now
+    c.in_ok-data_rows.field-0
     c.in_ok-data_rows.ensures c.requires
 
 pub append_payload-requires-clause-size : goal.append_payload-requires-clause-size
 append_payload-requires-clause-size c =
-    omega (arith, c.in_ok-writer.ensures.missing, payload_is c.args.extents.now c.in_ok-data_rows.field-0 c.in_ok-data_rows.ensures)
+    omega (
+      arith,
+      c.in_ok-writer.ensures.missing,
+      payload_is c.args.extents.now c.in_ok-data_rows.field-0
+          c.in_ok-data_rows.ensures,
+    )
 
 pub finish-requires : goal.finish-requires
 finish-requires c =

@@ -1,4 +1,5 @@
-use Rattle.std.proofs.Common.{rules, ◌≡◌, ◌<◌, ◌^◌, ◌∷◌, ◌++◌, [], ℕ, List, true, sym, ◌∙◌, ap, length, ◌≤◌, ◌+◌, ◌-◌, ◌*◌, subst, arith}
+use Rattle.std.proofs.Common.{rules, ◌≡◌, ◌<◌, ◌^◌, ◌∷◌, ◌++◌, [], ℕ, List, true, sym, ◌∙◌, ap, length, ◌≤◌, ◌+◌, ◌-◌, ◌*◌, subst}
+use Rattle.std.proofs.Common.{arith}
 use Rattle.std.specs.Prelude.{IfErr}
 use Rattle.lsvd_device.specs.Medium.{Medium}
 use Rattle.lsvd_device.specs.Device.{HoldsNow}
@@ -10,7 +11,8 @@ use Rattle.cache_log.specs.Rows.{sectors_taken, next}
 use Rattle.cache_log.specs.Reads.{AreReadOnly, opens_without_fault, headers_of, headers_of_rows}
 use Rattle.cache_log.specs.Opening.{entry_count, AreRowsOfLog, AreRecordsInRange, IsBadLog}
 use Rattle.cache_log.specs.Headers.{FitsFrom, HasRow, IsBadRow, AreReadTimes}
-use Rattle.cache_log.proofs.ReadCounts.{read_none, times_then, only_of_times, open_error_then, header_most, headers_most, headers_more}
+use Rattle.cache_log.proofs.ReadCounts.{read_none, times_then, only_of_times, open_error_then, header_most, headers_most}
+use Rattle.cache_log.proofs.ReadCounts.{headers_more}
 use Rattle.cache_log.proofs.ReadRowsLemmas.{first_far, first_has_now, next_far, next_has_now, last_far, last_has_now, bad_on_err}
 use Rattle.cache_log.proofs.RowLemmas.{place_of}
 use Rattle.cache_log.proofs.opening.read_rows.Goals as goal
@@ -19,7 +21,8 @@ pub loop-seq-init : goal.loop-seq-init
 loop-seq-init g c =
     let geometry : Geometry = c.args.geometry.now in
     let body : CommitBody = c.body-body.result in
-    let may : MayStand body geometry.log = subst (λ b. MayStand b geometry.log) (sym c.body-body.ensures.body) c.requires.may_stand in
+    let may : MayStand body geometry.log = subst (λ b. MayStand b geometry.log) (sym c.body-body.ensures.body)
+    c.requires.may_stand in
     let moments : List Medium = c.args.commits.now.disk.moments in
     let far = first_far geometry body may in
     let has = first_has_now geometry body moments may in
@@ -36,11 +39,18 @@ returns-in_err-row-clause-bad g c =
     let rows : List Row = c.loop-seq.rows.items in
     let seq : ℕ = c.loop-seq.seq in
     let moments : List Medium = c.args.commits.now.disk.moments in
-    let bad : IfErr c.from_residual.result (λ e. IsBadRow geometry (place_of body.head.seq c.loop-seq.position c.loop-seq.to_head seq) seq c.loop-seq.commits.disk.moments e) = search rules in
-    let bad_at_first : IfErr c.from_residual.result (λ e. IsBadRow geometry (place_of body.head.seq c.loop-seq.position c.loop-seq.to_head seq) seq moments e) =
-    subst (λ m. IfErr c.from_residual.result (λ e. IsBadRow geometry (place_of body.head.seq c.loop-seq.position c.loop-seq.to_head seq) seq m e)) c.loop-seq.invariant.times.moments bad in
+    let bad : IfErr c.from_residual.result
+    (λ e. IsBadRow geometry (place_of body.head.seq c.loop-seq.position c.loop-seq.to_head seq) seq
+    c.loop-seq.commits.disk.moments e) = search rules in
+    let bad_at_first : IfErr c.from_residual.result
+    (λ e. IsBadRow geometry (place_of body.head.seq c.loop-seq.position c.loop-seq.to_head seq) seq moments e) =
+    subst (λ m. IfErr c.from_residual.result
+    (λ e. IsBadRow geometry (place_of body.head.seq c.loop-seq.position c.loop-seq.to_head seq) seq m e))
+    c.loop-seq.invariant.times.moments bad in
     let small : seq < 2 ^ 64 = omega arith in
-    let is = bad_on_err c.from_residual.result geometry body rows c.loop-seq.position c.loop-seq.to_head seq c.args.commits.now.disk.size moments c.requires.limits c.requires.inside c.requires.on_disk.is_disk.media c.loop-seq-test.true small
+    let is = bad_on_err c.from_residual.result geometry body rows c.loop-seq.position c.loop-seq.to_head seq
+    c.args.commits.now.disk.size moments c.requires.limits c.requires.inside c.requires.on_disk.is_disk.media
+    c.loop-seq-test.true small
     c.loop-seq.invariant.far c.loop-seq.invariant.has bad_at_first in
     subst (λ b. IfErr c.from_residual.result (λ e. IsBadLog geometry b moments e)) c.body-body.ensures.body is
 
@@ -54,10 +64,14 @@ returns-in_err-row-clause-err g c =
     let log : ℕ = c.args.geometry.now.log in
     let rows : List Row = c.loop-seq.rows.items in
     let count : ℕ = headers_of_rows log body.tail.position rows in
-    let second : IfErr c.from_residual.result (λ e. AreReadOnly 2 (opens_without_fault e) c.loop-seq.commits c.read_row.new.commits) = search rules in
-    let small = within count (length rows) body.tail.seq body.head.seq c.loop-seq.seq (headers_most log body.tail.position rows) c.loop-seq.invariant.far.next_seq c.loop-seq-test.true in
-    let all = open_error_then c.from_residual.result count 2 (2 * entry_count body) c.args.commits.now c.loop-seq.commits c.read_row.new.commits (only_of_times count count _ _ c.loop-seq.invariant.times (omega arith)) second small in
-    subst (λ b. IfErr c.from_residual.result (λ e. AreReadOnly (2 * entry_count b) (opens_without_fault e) c.args.commits.now c.read_row.new.commits)) c.body-body.ensures.body all
+    let second : IfErr c.from_residual.result (λ e. AreReadOnly 2 (opens_without_fault e) c.loop-seq.commits
+    c.read_row.new.commits) = search rules in
+    let small = within count (length rows) body.tail.seq body.head.seq c.loop-seq.seq (headers_most log body.tail.position rows)
+    c.loop-seq.invariant.far.next_seq c.loop-seq-test.true in
+    let all = open_error_then c.from_residual.result count 2 (2 * entry_count body) c.args.commits.now c.loop-seq.commits
+    c.read_row.new.commits (only_of_times count count _ _ c.loop-seq.invariant.times (omega arith)) second small in
+    subst (λ b. IfErr c.from_residual.result (λ e. AreReadOnly (2 * entry_count b) (opens_without_fault e) c.args.commits.now
+    c.read_row.new.commits)) c.body-body.ensures.body all
 
 pub returns-in_err-push_back-clause-err : goal.returns-in_err-push_back-clause-err
 returns-in_err-push_back-clause-err g c =
@@ -65,19 +79,24 @@ returns-in_err-push_back-clause-err g c =
     let log : ℕ = c.args.geometry.now.log in
     let rows : List Row = c.loop-seq.rows.items in
     let count : ℕ = headers_of_rows log body.tail.position rows in
-    let small = within count (length rows) body.tail.seq body.head.seq c.loop-seq.seq (headers_most log body.tail.position rows) c.loop-seq.invariant.far.next_seq c.loop-seq-test.true in
-    let one : AreReadTimes (headers_of c.loop-seq.position c.in_ok-row.row) c.loop-seq.commits c.read_row.new.commits = c.in_ok-row.ensures.read in
+    let small = within count (length rows) body.tail.seq body.head.seq c.loop-seq.seq (headers_most log body.tail.position rows)
+    c.loop-seq.invariant.far.next_seq c.loop-seq-test.true in
+    let one : AreReadTimes (headers_of c.loop-seq.position c.in_ok-row.row) c.loop-seq.commits c.read_row.new.commits =
+    c.in_ok-row.ensures.read in
     let few = header_most c.loop-seq.position c.in_ok-row.row in
-    let both = times_then count (headers_of c.loop-seq.position c.in_ok-row.row) c.args.commits.now c.loop-seq.commits c.read_row.new.commits c.loop-seq.invariant.times one in
+    let both = times_then count (headers_of c.loop-seq.position c.in_ok-row.row) c.args.commits.now c.loop-seq.commits
+    c.read_row.new.commits c.loop-seq.invariant.times one in
     let all : AreReadOnly (2 * entry_count c.args.commits.now.body) true c.args.commits.now c.read_row.new.commits =
-    subst (λ b. AreReadOnly (2 * entry_count b) true c.args.commits.now c.read_row.new.commits) c.body-body.ensures.body (only_of_times (count + headers_of c.loop-seq.position c.in_ok-row.row) _ _ _ both (omega (arith, few, small))) in
+    subst (λ b. AreReadOnly (2 * entry_count b) true c.args.commits.now c.read_row.new.commits) c.body-body.ensures.body
+    (only_of_times (count + headers_of c.loop-seq.position c.in_ok-row.row) _ _ _ both (omega (arith, few, small))) in
     search (all, rules)
 
 pub loop-seq-preserved : goal.loop-seq-preserved
 loop-seq-preserved g c =
     let geometry : Geometry = c.args.geometry.now in
     let body : CommitBody = c.body-body.result in
-    let may : MayStand body geometry.log = subst (λ b. MayStand b geometry.log) (sym c.body-body.ensures.body) c.requires.may_stand in
+    let may : MayStand body geometry.log = subst (λ b. MayStand b geometry.log) (sym c.body-body.ensures.body)
+    c.requires.may_stand in
     let rows : List Row = c.loop-seq.rows.items in
     let seq : ℕ = c.loop-seq.seq in
     let position : ℕ = c.loop-seq.position in
@@ -85,18 +104,25 @@ loop-seq-preserved g c =
     let moments : List Medium = c.args.commits.now.disk.moments in
     let row : Row = c.in_ok-row.row in
     let fit : FitsFrom geometry (place_of body.head.seq position to_head seq) seq row = search rules in
-    let has : HoldsNow (λ now. HasRow geometry (place_of body.head.seq position to_head seq) seq now.bytes row) c.loop-seq.commits.disk.moments = search rules in
+    let has : HoldsNow (λ now. HasRow geometry (place_of body.head.seq position to_head seq) seq now.bytes row)
+    c.loop-seq.commits.disk.moments = search rules in
     let has_at_first : HoldsNow (λ now. HasRow geometry (place_of body.head.seq position to_head seq) seq now.bytes row) moments =
-    subst (λ m. HoldsNow (λ now. HasRow geometry (place_of body.head.seq position to_head seq) seq now.bytes row) m) c.loop-seq.invariant.times.moments has in
+    subst (λ m. HoldsNow (λ now. HasRow geometry (place_of body.head.seq position to_head seq) seq now.bytes row) m)
+    c.loop-seq.invariant.times.moments has in
     let pushed : c.push_back.new.self.items ≡ rows ++ row ∷ [] = search rules in
     let took : c.sectors_taken-to_head.result ≡ sectors_taken geometry.log position row = search rules in
     let to : c.next-position.result ≡ next geometry.log row = search rules in
     let one : AreReadTimes (headers_of position row) c.loop-seq.commits c.read_row.new.commits = c.in_ok-row.ensures.read in
-    let both = times_then (headers_of_rows geometry.log body.tail.position rows) (headers_of position row) c.args.commits.now c.loop-seq.commits c.read_row.new.commits c.loop-seq.invariant.times one in
-    let counted : headers_of_rows geometry.log body.tail.position rows + headers_of position row ≡ headers_of_rows geometry.log body.tail.position (rows ++ row ∷ []) =
-    ap (λ p. headers_of_rows geometry.log body.tail.position rows + headers_of p row) (sym c.loop-seq.invariant.far.at_end) ∙ sym (headers_more rows row geometry.log body.tail.position) in
+    let both = times_then (headers_of_rows geometry.log body.tail.position rows) (headers_of position row) c.args.commits.now
+    c.loop-seq.commits c.read_row.new.commits c.loop-seq.invariant.times one in
+    let counted : headers_of_rows geometry.log body.tail.position rows + headers_of position row ≡ headers_of_rows geometry.log
+    body.tail.position (rows ++ row ∷ []) =
+    ap (λ p. headers_of_rows geometry.log body.tail.position rows + headers_of p row) (sym c.loop-seq.invariant.far.at_end)
+    ∙ sym (headers_more rows row geometry.log body.tail.position) in
     let far = next_far geometry body rows position to_head seq row may c.loop-seq.invariant.far fit in
-    let so_far = next_has_now geometry body rows position to_head seq c.args.commits.now.disk.size row moments c.requires.limits c.requires.inside c.requires.on_disk.is_disk.media c.loop-seq-test.true c.loop-seq.invariant.far fit has_at_first c.loop-seq.invariant.has in
+    let so_far = next_has_now geometry body rows position to_head seq c.args.commits.now.disk.size row moments c.requires.limits
+    c.requires.inside c.requires.on_disk.is_disk.media c.loop-seq-test.true c.loop-seq.invariant.far fit has_at_first
+    c.loop-seq.invariant.has in
     record {
       times = rw pushed (subst (λ n. AreReadTimes n c.args.commits.now c.read_row.new.commits) counted both);
       far = rw (pushed, took, to) far;
@@ -107,21 +133,28 @@ pub returns-clause-rows : goal.returns-clause-rows
 returns-clause-rows g c =
     let geometry : Geometry = c.args.geometry.now in
     let body : CommitBody = c.body-body.result in
-    let may : MayStand body geometry.log = subst (λ b. MayStand b geometry.log) (sym c.body-body.ensures.body) c.requires.may_stand in
+    let may : MayStand body geometry.log = subst (λ b. MayStand b geometry.log) (sym c.body-body.ensures.body)
+    c.requires.may_stand in
     let end : c.loop-seq.seq ≡ body.head.seq = (let o = may.in_order in omega (arith, o)) in
-    let are = last_far geometry body c.loop-seq.rows.items c.loop-seq.position c.loop-seq.to_head c.loop-seq.seq may end c.loop-seq.invariant.far in
+    let are = last_far geometry body c.loop-seq.rows.items c.loop-seq.position c.loop-seq.to_head c.loop-seq.seq may end
+    c.loop-seq.invariant.far in
     subst (λ b. AreRowsOfLog geometry b c.loop-seq.rows.items) c.body-body.ensures.body are
 
 pub returns-clause-records : goal.returns-clause-records
 returns-clause-records g c =
     let geometry : Geometry = c.args.geometry.now in
     let body : CommitBody = c.body-body.result in
-    let may : MayStand body geometry.log = subst (λ b. MayStand b geometry.log) (sym c.body-body.ensures.body) c.requires.may_stand in
+    let may : MayStand body geometry.log = subst (λ b. MayStand b geometry.log) (sym c.body-body.ensures.body)
+    c.requires.may_stand in
     let end : c.loop-seq.seq ≡ body.head.seq = (let o = may.in_order in omega (arith, o)) in
-    let are = last_far geometry body c.loop-seq.rows.items c.loop-seq.position c.loop-seq.to_head c.loop-seq.seq may end c.loop-seq.invariant.far in
-    let all = last_has_now geometry body c.loop-seq.rows.items c.loop-seq.position c.loop-seq.to_head c.loop-seq.seq c.args.commits.now.disk.moments may are c.loop-seq.invariant.has in
-    subst (λ b. HoldsNow (λ now. AreRecordsInRange geometry b c.loop-seq.rows.items now.bytes) c.args.commits.now.disk.moments) c.body-body.ensures.body all
+    let are = last_far geometry body c.loop-seq.rows.items c.loop-seq.position c.loop-seq.to_head c.loop-seq.seq may end
+    c.loop-seq.invariant.far in
+    let all = last_has_now geometry body c.loop-seq.rows.items c.loop-seq.position c.loop-seq.to_head c.loop-seq.seq
+    c.args.commits.now.disk.moments may are c.loop-seq.invariant.has in
+    subst (λ b. HoldsNow (λ now. AreRecordsInRange geometry b c.loop-seq.rows.items now.bytes) c.args.commits.now.disk.moments)
+    c.body-body.ensures.body all
 
 pub returns-clause-read : goal.returns-clause-read
 returns-clause-read g c =
-    subst (λ (b : CommitBody). AreReadTimes (headers_of_rows c.args.geometry.now.log b.tail.position c.loop-seq.rows.items) c.args.commits.now c.loop-seq.commits) c.body-body.ensures.body c.loop-seq.invariant.times
+    subst (λ (b : CommitBody). AreReadTimes (headers_of_rows c.args.geometry.now.log b.tail.position c.loop-seq.rows.items)
+    c.args.commits.now c.loop-seq.commits) c.body-body.ensures.body c.loop-seq.invariant.times

@@ -8,14 +8,16 @@ use Rattle.cache_log.specs.Log.{row_of}
 use Rattle.cache_log.specs.Reads.{AreReadOnly, reads_without_fault}
 use Rattle.cache_log.specs.declared.row.Row.{Row}
 use Rattle.cache_log.proofs.ReadCounts.{read_none, only_of_times, only_then, only_more, read_error_then}
-use Rattle.cache_log.proofs.ReadLemmas.{none_so_far, one_so_far, all_so_far, none_of_so_far, one_of_so_far, all_of_so_far, row_lies, lies_in_same, SoFar, AreOfSoFar}
+use Rattle.cache_log.proofs.ReadLemmas.{none_so_far, one_so_far, all_so_far, none_of_so_far, one_of_so_far, all_of_so_far}
+use Rattle.cache_log.proofs.ReadLemmas.{row_lies, lies_in_same, SoFar, AreOfSoFar}
 use Rattle.cache_log.proofs.transfer.read_entries.Goals as goal
 
 pub loop-index-init : goal.loop-index-init
 loop-index-init g c = record {
   only = only_of_times 0 _ _ _ (read_none c.args.commits.now c.requires.on_disk) (omega arith);
   within = omega arith;
-  so_far = none_so_far c.args.rows.now.items c.args.skipped c.new-entries.result.items c.args.commits.now.disk.moments c.new-entries.ensures.items;
+  so_far = none_so_far c.args.rows.now.items c.args.skipped c.new-entries.result.items c.args.commits.now.disk.moments
+      c.new-entries.ensures.items;
   rows = none_of_so_far c.args.rows.now.items c.args.skipped c.new-entries.result.items c.new-entries.ensures.items;
 }
 
@@ -25,14 +27,17 @@ read_entry-requires-clause-inside g c =
     let old : CommitsState = c.args.commits.now in
     let inside : c.loop-index.index < length rows = search rules in
     let is : c.index.result.now ≡ get_or rows c.loop-index.index c.index.result.now = search rules in
-    lies_in_same c.index.result.now old.disk c.loop-index.commits.disk c.loop-index.invariant.only.reads.calls.size (row_lies rows c.loop-index.index c.index.result.now old.disk inside is c.requires.inside)
+    lies_in_same c.index.result.now old.disk c.loop-index.commits.disk c.loop-index.invariant.only.reads.calls.size
+    (row_lies rows c.loop-index.index c.index.result.now old.disk inside is c.requires.inside)
 
 pub returns-in_err-read_entry-clause-err : goal.returns-in_err-read_entry-clause-err
 returns-in_err-read_entry-clause-err g c =
-    let second : IfErr c.from_residual.result (λ e. AreReadOnly 1 (reads_without_fault e) c.loop-index.commits c.read_entry.new.commits) = search rules in
+    let second : IfErr c.from_residual.result (λ e. AreReadOnly 1 (reads_without_fault e) c.loop-index.commits
+    c.read_entry.new.commits) = search rules in
     let inside : c.loop-index.index < length c.args.rows.now.items = search rules in
     let from = c.loop-index.auto.index in
-    read_error_then c.from_residual.result (c.loop-index.index - c.args.skipped) 1 (length c.args.rows.now.items - c.args.skipped) c.args.commits.now c.loop-index.commits c.read_entry.new.commits c.loop-index.invariant.only second
+    read_error_then c.from_residual.result (c.loop-index.index - c.args.skipped) 1 (length c.args.rows.now.items - c.args.skipped)
+    c.args.commits.now c.loop-index.commits c.read_entry.new.commits c.loop-index.invariant.only second
     (omega (arith, inside, from))
 
 pub returns-in_err-push-clause-err : goal.returns-in_err-push-clause-err
@@ -41,7 +46,8 @@ returns-in_err-push-clause-err g c =
     let from = c.loop-index.auto.index in
     let one : AreReadOnly 1 true c.loop-index.commits c.read_entry.new.commits = search rules in
     let all : AreReadOnly (length c.args.rows.now.items - c.args.skipped) true c.args.commits.now c.read_entry.new.commits =
-    only_then (c.loop-index.index - c.args.skipped) 1 (length c.args.rows.now.items - c.args.skipped) true c.args.commits.now c.loop-index.commits c.read_entry.new.commits c.loop-index.invariant.only one (omega (arith, inside, from)) in
+    only_then (c.loop-index.index - c.args.skipped) 1 (length c.args.rows.now.items - c.args.skipped) true c.args.commits.now
+    c.loop-index.commits c.read_entry.new.commits c.loop-index.invariant.only one (omega (arith, inside, from)) in
     search (all, rules)
 
 pub loop-index-preserved : goal.loop-index-preserved
@@ -56,26 +62,33 @@ loop-index-preserved g c =
     let one : AreReadOnly 1 true c.loop-index.commits c.read_entry.new.commits = search rules in
     let read : HoldsNow (λ n. entry ≡ entry_of n.bytes row) c.loop-index.commits.disk.moments = search rules in
     let own : row ≡ row_of (seq_of row) (position_of row) entry = search rules in
-    let read_first : HoldsNow (λ n. entry ≡ entry_of n.bytes row) old.disk.moments = subst (HoldsNow (λ n. entry ≡ entry_of n.bytes row)) c.loop-index.invariant.only.moments read in
+    let read_first : HoldsNow (λ n. entry ≡ entry_of n.bytes row) old.disk.moments =
+    subst (HoldsNow (λ n. entry ≡ entry_of n.bytes row)) c.loop-index.invariant.only.moments read in
     let pushed : c.push.new.self.items ≡ c.loop-index.entries.items ++ entry ∷ [] = search rules in
-    let more = one_so_far rows c.args.skipped c.loop-index.index c.loop-index.entries.items row entry old.disk.moments from inside is c.loop-index.invariant.so_far read_first in
+    let more = one_so_far rows c.args.skipped c.loop-index.index c.loop-index.entries.items row entry old.disk.moments from inside
+    is c.loop-index.invariant.so_far read_first in
     record {
-      only = only_then (c.loop-index.index - c.args.skipped) 1 (c.loop-index.index + 1 - c.args.skipped) true old c.loop-index.commits c.read_entry.new.commits c.loop-index.invariant.only one (omega (arith, from));
+      only = only_then (c.loop-index.index - c.args.skipped) 1 (c.loop-index.index + 1 - c.args.skipped) true old
+          c.loop-index.commits c.read_entry.new.commits c.loop-index.invariant.only one (omega (arith, from));
       within = omega (arith, inside, from);
       so_far = subst (λ list. SoFar rows c.args.skipped (c.loop-index.index + 1) list old.disk.moments) (sym pushed) more;
       rows = subst (AreOfSoFar rows c.args.skipped (c.loop-index.index + 1)) (sym pushed)
-          (one_of_so_far rows c.args.skipped c.loop-index.index c.loop-index.entries.items row entry from inside is c.loop-index.invariant.rows own);
+          (one_of_so_far rows c.args.skipped c.loop-index.index c.loop-index.entries.items row entry from inside is
+          c.loop-index.invariant.rows own);
     }
 
 pub returns-clause-entries : goal.returns-clause-entries
 returns-clause-entries g c =
     let end : length c.args.rows.now.items ≤ c.loop-index.index = search rules in
-    all_so_far c.args.rows.now.items c.args.skipped c.loop-index.index c.loop-index.entries.items c.args.commits.now.disk.moments end c.loop-index.invariant.so_far
+    all_so_far c.args.rows.now.items c.args.skipped c.loop-index.index c.loop-index.entries.items c.args.commits.now.disk.moments
+    end c.loop-index.invariant.so_far
 
 pub returns-clause-rows : goal.returns-clause-rows
 returns-clause-rows g c =
     let end : length c.args.rows.now.items ≤ c.loop-index.index = search rules in
-    all_of_so_far c.args.rows.now.items c.args.skipped c.loop-index.index c.loop-index.entries.items end c.loop-index.invariant.rows
+    all_of_so_far c.args.rows.now.items c.args.skipped c.loop-index.index c.loop-index.entries.items end
+    c.loop-index.invariant.rows
 
 pub returns-clause-read : goal.returns-clause-read
-returns-clause-read g c = only_more _ _ true c.args.commits.now c.loop-index.commits c.loop-index.invariant.only c.loop-index.invariant.within
+returns-clause-read g c = only_more _ _ true c.args.commits.now c.loop-index.commits c.loop-index.invariant.only
+    c.loop-index.invariant.within

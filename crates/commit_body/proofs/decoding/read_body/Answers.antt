@@ -4,7 +4,10 @@ use Rattle.commit_body.specs.declared.body.CommitBody.{CommitBody}
 use Rattle.commit_body.specs.Body.{MayStand}
 use Rattle.commit_body.proofs.BodyLemmas.{no_magic, no_filler, no_slot, no_place, body_if_passes}
 use Rattle.commit_body.proofs.decoding.read_body.Goals as goal
-use Rattle.commit_body.proofs.decoding.read_body.Goals.{then-not-has_magic-via-then-not-has_magic, then-not-has_magic-via-else-not-has_magic+then-not-has_filler, then-number-slot-via-then-number-slot, then-number-slot-via-else-number-slot+then-not-is_within}
+use Rattle.commit_body.proofs.decoding.read_body.Goals.{then-not-has_magic-via-then-not-has_magic}
+use Rattle.commit_body.proofs.decoding.read_body.Goals.{then-not-has_magic-via-else-not-has_magic+then-not-has_filler}
+use Rattle.commit_body.proofs.decoding.read_body.Goals.{then-number-slot-via-then-number-slot}
+use Rattle.commit_body.proofs.decoding.read_body.Goals.{then-number-slot-via-else-number-slot+then-not-is_within}
 
 -- what implies a test that failed does not hold
 not_so : (P : Type 0) (test : Bool) → test ≡ false → (P → IsTrue test) → P → ⊥

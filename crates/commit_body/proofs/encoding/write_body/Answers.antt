@@ -23,8 +23,11 @@ returns c =
     let to_epoch = written_front 24 8 (magic ++ uuid) epoch _ _ to_uuid front refl c.write_u64.ensures in
     let front_32 : length (magic ++ uuid ++ epoch) ≡ 32 = length-append (magic ++ uuid) epoch ∙ ap (λ n. n + 8) front in
     let to_number = written_front 32 8 (magic ++ uuid ++ epoch) number _ _ to_epoch front_32 refl c.write_u64-2.ensures in
-    let front_40 : length (magic ++ uuid ++ epoch ++ number) ≡ 40 = length-append (magic ++ uuid ++ epoch) number ∙ ap (λ n. n + 8) front_32 in
+    let front_40 : length (magic ++ uuid ++ epoch ++ number) ≡ 40 = length-append (magic ++ uuid ++ epoch) number
+    ∙ ap (λ n. n + 8) front_32 in
     let to_tail = written_front 40 16 (magic ++ uuid ++ epoch ++ number) tail _ _ to_number front_40 refl c.write_mark.ensures in
-    let front_56 : length (magic ++ uuid ++ epoch ++ number ++ tail) ≡ 56 = length-append (magic ++ uuid ++ epoch ++ number) tail ∙ ap (λ n. n + 16) front_40 in
-    let to_head = written_front 56 16 (magic ++ uuid ++ epoch ++ number ++ tail) head _ _ to_tail front_56 refl c.write_mark-2.ensures in
+    let front_56 : length (magic ++ uuid ++ epoch ++ number ++ tail) ≡ 56 = length-append (magic ++ uuid ++ epoch ++ number) tail
+    ∙ ap (λ n. n + 16) front_40 in
+    let to_head = written_front 56 16 (magic ++ uuid ++ epoch ++ number ++ tail) head _ _ to_tail front_56 refl
+    c.write_mark-2.ensures in
     filled_body body c.args.number c.write_mark-2.new.sector c.fill.new.self (search rules) to_head (search rules)

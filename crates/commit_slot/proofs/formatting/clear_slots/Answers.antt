@@ -14,4 +14,5 @@ returns-clause-ok g c =
     let new : DiskState = g.D.Disk.state c.sync.new.self in
     let moments : middle.moments ≡ moments_after (after_write 0 clear_bytes) old.moments = search rules in
     on_ok_as _ (new.moments ≡ moments_after after_sync middle.moments) (HoldsNow IsClear new.moments)
-    (clears old middle new c.requires.size c.requires.is_disk c.write.ensures.disk c.write.ensures.call.size moments) c.sync.ensures.ok
+    (clears old middle new c.requires.size c.requires.is_disk c.write.ensures.disk c.write.ensures.call.size moments)
+    c.sync.ensures.ok

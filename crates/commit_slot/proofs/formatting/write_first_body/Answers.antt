@@ -27,5 +27,7 @@ returns-clause-ok g c =
       moments = search rules;
       moments' = search rules;
     } in
-    let is_body : IsBody piece (log_of old.size) 0 c.args.body.now 0 = record { bytes = c.write_body.ensures; in_slot = refl; may_stand = c.requires.may_stand; numbers = c.requires.numbers } in
-    on_ok_as _ (new.moments ≡ moments_after after_sync next.moments) (WritesFirst c.args.body.now old new) (writes_first c.args.body.now piece old middle next new are is_body) c.sync.ensures.ok
+    let is_body : IsBody piece (log_of old.size) 0 c.args.body.now 0 =
+    record { bytes = c.write_body.ensures; in_slot = refl; may_stand = c.requires.may_stand; numbers = c.requires.numbers } in
+    on_ok_as _ (new.moments ≡ moments_after after_sync next.moments) (WritesFirst c.args.body.now old new)
+    (writes_first c.args.body.now piece old middle next new are is_body) c.sync.ensures.ok

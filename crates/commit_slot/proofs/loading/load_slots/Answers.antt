@@ -4,13 +4,17 @@ use Rattle.commit_slot.specs.Slots.{log_of}
 use Rattle.commit_slot.specs.Reading.{ReadsAs}
 use Rattle.commit_slot.specs.Loading.{FailsToLoad}
 use Rattle.commit_slot.specs.declared.error.LoadError.TheVariants.{DeviceFault}
-use Rattle.commit_slot.proofs.LoadPaths.{IsRead, IsMended, size_of, moments_of, read_crash_safe, read_costs, found_before, mended_crash_safe, mended_leaves, mended_costs, mended_settles, mended_durable, mended_durable_now, mended_synced}
+use Rattle.commit_slot.proofs.LoadPaths.{IsRead, IsMended, size_of, moments_of, read_crash_safe, read_costs, found_before}
+use Rattle.commit_slot.proofs.LoadPaths.{mended_crash_safe, mended_leaves, mended_costs, mended_settles, mended_durable}
+use Rattle.commit_slot.proofs.LoadPaths.{mended_durable_now, mended_synced}
 use Rattle.commit_slot.proofs.loading.load_slots.Given as given
 use Rattle.commit_slot.proofs.loading.load_slots.Goals as goal
-use Rattle.commit_slot.proofs.loading.load_slots.Goals.{After-from_residual-in_err-body, After-log_of, After-from_residual-in_err-mend_slots, In_ok-mend_slots}
+use Rattle.commit_slot.proofs.loading.load_slots.Goals.{After-from_residual-in_err-body, After-log_of}
+use Rattle.commit_slot.proofs.loading.load_slots.Goals.{After-from_residual-in_err-mend_slots, In_ok-mend_slots}
 
 -- the read failed
-read_failed : (g : given.Over) (c : After-from_residual-in_err-body g) → IsRead false (g.D.Disk.state c.args.disk.now) (g.D.Disk.state c.sync.new.self) (g.D.Disk.state c.read_newest.new.disk)
+read_failed : (g : given.Over) (c : After-from_residual-in_err-body g)
+    → IsRead false (g.D.Disk.state c.args.disk.now) (g.D.Disk.state c.sync.new.self) (g.D.Disk.state c.read_newest.new.disk)
 read_failed g c = record {
   least = c.requires.size;
   is_disk = c.requires.is_disk;
@@ -22,7 +26,8 @@ read_failed g c = record {
 }
 
 -- no slot was open
-read_none : (g : given.Over) (c : After-log_of g) → IsRead true (g.D.Disk.state c.args.disk.now) (g.D.Disk.state c.sync.new.self) (g.D.Disk.state c.read_newest.new.disk)
+read_none : (g : given.Over) (c : After-log_of g) → IsRead true (g.D.Disk.state c.args.disk.now) (g.D.Disk.state c.sync.new.self)
+    (g.D.Disk.state c.read_newest.new.disk)
 read_none g c = record {
   least = c.requires.size;
   is_disk = c.requires.is_disk;
@@ -35,7 +40,8 @@ read_none g c = record {
 
 -- the mending failed
 mend_failed : (g : given.Over) (c : After-from_residual-in_err-mend_slots g)
-    → IsMended c.in-Some.number c.in-Some.body false (g.D.Disk.state c.args.disk.now) (g.D.Disk.state c.sync.new.self) (g.D.Disk.state c.read_newest.new.disk) (g.D.Disk.state c.mend_slots.new.disk)
+    → IsMended c.in-Some.number c.in-Some.body false (g.D.Disk.state c.args.disk.now) (g.D.Disk.state c.sync.new.self)
+    (g.D.Disk.state c.read_newest.new.disk) (g.D.Disk.state c.mend_slots.new.disk)
 mend_failed g c =
     let old : DiskState = g.D.Disk.state c.args.disk.now in
     let read : IsRead true old (g.D.Disk.state c.sync.new.self) (g.D.Disk.state c.read_newest.new.disk) = record {
@@ -49,7 +55,8 @@ mend_failed g c =
     } in
     record {
       read = read;
-      found = subst (λ f. HoldsNow (λ now. ReadsAs (log_of old.size) now.bytes f) old.moments) c.in-Some.is (found_before true _ _ _ _ read c.in_ok-body.ensures.ok);
+      found = subst (λ f. HoldsNow (λ now. ReadsAs (log_of old.size) now.bytes f) old.moments) c.in-Some.is
+          (found_before true _ _ _ _ read c.in_ok-body.ensures.ok);
       is_disk = c.mend_slots.ensures.is_disk;
       costs = c.in_err-mend_slots.ensures.costs;
       newest = c.mend_slots.ensures.newest;
@@ -58,7 +65,8 @@ mend_failed g c =
 
 -- it was made
 mended : (g : given.Over) (c : In_ok-mend_slots g)
-    → IsMended c.in-Some.number c.in-Some.body true (g.D.Disk.state c.args.disk.now) (g.D.Disk.state c.sync.new.self) (g.D.Disk.state c.read_newest.new.disk) (g.D.Disk.state c.mend_slots.new.disk)
+    → IsMended c.in-Some.number c.in-Some.body true (g.D.Disk.state c.args.disk.now) (g.D.Disk.state c.sync.new.self)
+    (g.D.Disk.state c.read_newest.new.disk) (g.D.Disk.state c.mend_slots.new.disk)
 mended g c =
     let old : DiskState = g.D.Disk.state c.args.disk.now in
     let read : IsRead true old (g.D.Disk.state c.sync.new.self) (g.D.Disk.state c.read_newest.new.disk) = record {
@@ -72,7 +80,8 @@ mended g c =
     } in
     record {
       read = read;
-      found = subst (λ f. HoldsNow (λ now. ReadsAs (log_of old.size) now.bytes f) old.moments) c.in-Some.is (found_before true _ _ _ _ read c.in_ok-body.ensures.ok);
+      found = subst (λ f. HoldsNow (λ now. ReadsAs (log_of old.size) now.bytes f) old.moments) c.in-Some.is
+          (found_before true _ _ _ _ read c.in_ok-body.ensures.ok);
       is_disk = c.mend_slots.ensures.is_disk;
       costs = c.in_ok-mend_slots.ensures.costs;
       newest = c.mend_slots.ensures.newest;
@@ -84,7 +93,8 @@ returns-in_err-body-clause-crash_safe g c = read_crash_safe false _ _ _ (read_fa
 
 pub returns-in_err-body-clause-err : goal.returns-in_err-body-clause-err
 returns-in_err-body-clause-err g c =
-    let fault : FailsToLoad DeviceFault (g.D.Disk.state c.args.disk.now) (g.D.Disk.state c.read_newest.new.disk) = read_costs false _ _ _ (read_failed g c) in
+    let fault : FailsToLoad DeviceFault (g.D.Disk.state c.args.disk.now) (g.D.Disk.state c.read_newest.new.disk) =
+    read_costs false _ _ _ (read_failed g c) in
     search rules
 
 pub returns-in_default-clause-crash_safe : goal.returns-in_default-clause-crash_safe
@@ -94,7 +104,8 @@ pub returns-in_default-clause-err : goal.returns-in_default-clause-err
 returns-in_default-clause-err g c =
     let old : DiskState = g.D.Disk.state c.args.disk.now in (
       c.log_of.ensures ∙ ap log_of (c.len.ensures.size ∙ size_of true _ _ _ (read_none g c)),
-      subst (λ f. HoldsNow (λ now. ReadsAs (log_of old.size) now.bytes f) old.moments) c.in_default.is (found_before true _ _ _ _ (read_none g c) c.in_ok-body.ensures.ok),
+      subst (λ f. HoldsNow (λ now. ReadsAs (log_of old.size) now.bytes f) old.moments) c.in_default.is
+          (found_before true _ _ _ _ (read_none g c) c.in_ok-body.ensures.ok),
       moments_of true _ _ _ (read_none g c),
       read_costs true _ _ _ (read_none g c),
     )
@@ -103,11 +114,13 @@ pub returns-in_err-mend_slots-clause-crash_safe : goal.returns-in_err-mend_slots
 returns-in_err-mend_slots-clause-crash_safe g c = mended_crash_safe _ _ false _ _ _ _ (mend_failed g c)
 
 pub returns-in_err-mend_slots-clause-leaves_settled : goal.returns-in_err-mend_slots-clause-leaves_settled
-returns-in_err-mend_slots-clause-leaves_settled g c = mended_leaves _ _ false _ _ _ _ (mend_failed g c) c.mend_slots.ensures.unwritten
+returns-in_err-mend_slots-clause-leaves_settled g c =
+    mended_leaves _ _ false _ _ _ _ (mend_failed g c) c.mend_slots.ensures.unwritten
 
 pub returns-in_err-mend_slots-clause-err : goal.returns-in_err-mend_slots-clause-err
 returns-in_err-mend_slots-clause-err g c =
-    let fault : FailsToLoad DeviceFault (g.D.Disk.state c.args.disk.now) (g.D.Disk.state c.mend_slots.new.disk) = mended_costs _ _ false _ _ _ _ (mend_failed g c) in
+    let fault : FailsToLoad DeviceFault (g.D.Disk.state c.args.disk.now) (g.D.Disk.state c.mend_slots.new.disk) =
+    mended_costs _ _ false _ _ _ _ (mend_failed g c) in
     search rules
 
 pub returns-clause-read : goal.returns-clause-read

@@ -17,5 +17,6 @@ returns-clause-ok g c =
     let third : HoldsNow (λ now. SlotHas log now.bytes 2 c.in_ok-third.third) next.moments = search rules in
     let P : List Medium → Type 0 = HoldsNow (λ now. SlotHas log now.bytes 1 c.in_ok-second.second) in
     let Q : List Medium → Type 0 = HoldsNow (λ now. SlotHas log now.bytes 2 c.in_ok-third.third) in
-    newest_now log old.moments c.in_ok-first.first c.in_ok-second.second c.in_ok-third.third c.newer_of.result c.newer_of-2.result c.newer_of.ensures c.newer_of-2.ensures first
+    newest_now log old.moments c.in_ok-first.first c.in_ok-second.second c.in_ok-third.third c.newer_of.result c.newer_of-2.result
+    c.newer_of.ensures c.newer_of-2.ensures first
     (subst P c.read_slot.ensures.moments second) (subst Q (c.read_slot-2.ensures.moments ∙ c.read_slot.ensures.moments) third)

@@ -27,9 +27,11 @@ part_kept-requires g c κs within =
         (
           order,
           (
-            next_fits g.P.Place.on c.args.lba c.args.end order g.test g.P.Place.number _ _ _ _ so_far c.in-Some.row (sym c.get.ensures ∙ c.in-Some.is),
+            next_fits g.P.Place.on c.args.lba c.args.end order g.test g.P.Place.number _ _ _ _ so_far c.in-Some.row
+                (sym c.get.ensures ∙ c.in-Some.is),
             (
-              next_spans g.P.Place.on c.args.lba c.args.end order g.test g.P.Place.number _ _ _ _ so_far c.in-Some.row (sym c.get.ensures ∙ c.in-Some.is),
+              next_spans g.P.Place.on c.args.lba c.args.end order g.test g.P.Place.number _ _ _ _ so_far c.in-Some.row
+                  (sym c.get.ensures ∙ c.in-Some.is),
               calls,
             ),
           ),
@@ -47,9 +49,12 @@ loop-row-preserved g c =
       free = c.keep_part-kept.ensures.free ∙ c.loop-row.invariant.free;
       kept = subst (λ ns. IsIn ns c.keep_part-kept.result) (sym same) c.keep_part-kept.ensures.place;
       place = c.next-at.ensures.place;
-      so_far = kept_more g.P.Place.on c.args.lba c.args.end order g.test g.P.Place.number _ _ _ _ so_far c.in-Some.row (sym c.get.ensures ∙ c.in-Some.is)
-          c.keep_part-kept.new.rows.items (option_to_list c.part_kept.result) (cursor_index c.loop-row.rows.lengths c.keep_part-kept.result)
-          (cursor_index c.keep_part-kept.new.rows.lengths c.keep_part-kept.result) (cursor_index c.keep_part-kept.new.rows.lengths c.next-at.result)
+      so_far = kept_more g.P.Place.on c.args.lba c.args.end order g.test g.P.Place.number _ _ _ _ so_far c.in-Some.row
+          (sym c.get.ensures ∙ c.in-Some.is)
+          c.keep_part-kept.new.rows.items (option_to_list c.part_kept.result)
+          (cursor_index c.loop-row.rows.lengths c.keep_part-kept.result)
+          (cursor_index c.keep_part-kept.new.rows.lengths c.keep_part-kept.result)
+          (cursor_index c.keep_part-kept.new.rows.lengths c.next-at.result)
           c.part_kept.ensures c.keep_part-kept.ensures.front c.keep_part-kept.ensures.back c.keep_part-kept.ensures.near
           (ap (λ ns. cursor_index ns c.keep_part-kept.result) same)
           (c.next-at.ensures.index ∙ ap (λ ns. cursor_index ns c.loop-row.at + 1) same);
@@ -59,7 +64,8 @@ pub returns-then-end-row-clause-rows : goal.returns-then-end-row-clause-rows
 returns-then-end-row-clause-rows g c =
     let order = c.requires.1.1.0 in
     let now = c.loop-row in
-    ap (λ ns. take (cursor_index ns now.kept) now.rows.items ++ drop (cursor_index ns now.at) now.rows.items) (sym now.invariant.lengths)
+    ap (λ ns. take (cursor_index ns now.kept) now.rows.items ++ drop (cursor_index ns now.at) now.rows.items)
+    (sym now.invariant.lengths)
     ∙ kept_past g.P.Place.on c.args.lba c.args.end order g.test g.P.Place.number _ _ _ _ now.invariant.so_far c.in-Some.row
     (sym c.get.ensures ∙ c.in-Some.is) c.if-end-row.true
 
@@ -67,5 +73,7 @@ pub returns-in_default-clause-rows : goal.returns-in_default-clause-rows
 returns-in_default-clause-rows g c =
     let order = c.requires.1.1.0 in
     let now = c.loop-row in
-    ap (λ ns. take (cursor_index ns now.kept) now.rows.items ++ drop (cursor_index ns now.at) now.rows.items) (sym now.invariant.lengths)
-    ∙ kept_all g.P.Place.on c.args.lba c.args.end order g.test g.P.Place.number _ _ _ _ now.invariant.so_far (sym c.get.ensures ∙ c.in_default.is)
+    ap (λ ns. take (cursor_index ns now.kept) now.rows.items ++ drop (cursor_index ns now.at) now.rows.items)
+    (sym now.invariant.lengths)
+    ∙ kept_all g.P.Place.on c.args.lba c.args.end order g.test g.P.Place.number _ _ _ _ now.invariant.so_far (sym c.get.ensures
+    ∙ c.in_default.is)

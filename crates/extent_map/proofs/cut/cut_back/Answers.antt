@@ -9,21 +9,26 @@ use Rattle.extent_map.proofs.cut.cut_back.Goals as goal
 pub returns-in_default-clause-front : goal.returns-in_default-clause-front
 returns-in_default-clause-front g c =
     ap (λ k. take k c.args.rows.now.items) c.in_default.ensures
-    ∙ sym (none_before g.P.Place.on (take (cursor_index c.args.rows.now.lengths c.args.next) c.args.rows.now.items) c.args.at (cursor_index c.args.rows.now.lengths c.args.next) c.requires.shortest c.requires.index c.in_default.ensures)
+    ∙ sym (none_before g.P.Place.on (take (cursor_index c.args.rows.now.lengths c.args.next) c.args.rows.now.items) c.args.at
+    (cursor_index c.args.rows.now.lengths c.args.next) c.requires.shortest c.requires.index c.in_default.ensures)
 
 pub overflow_add-row : goal.overflow_add-row
 overflow_add-row g c =
     let i = cursor_index c.args.rows.now.lengths c.in-Some.last in
-    let read = read_front c.args.rows.now.items i (cursor_index c.args.rows.now.lengths c.args.next) c.in-Some.row c.in-Some.ensures.1 c.in-Some.ensures.2 in
-    let fits = last_fits g.P.Place.on (take (cursor_index c.args.rows.now.lengths c.args.next) c.args.rows.now.items) c.args.at (cursor_index c.args.rows.now.lengths c.args.next) c.requires.shortest c.requires.index
+    let read = read_front c.args.rows.now.items i (cursor_index c.args.rows.now.lengths c.args.next) c.in-Some.row
+    c.in-Some.ensures.1 c.in-Some.ensures.2 in
+    let fits = last_fits g.P.Place.on (take (cursor_index c.args.rows.now.lengths c.args.next) c.args.rows.now.items) c.args.at
+    (cursor_index c.args.rows.now.lengths c.args.next) c.requires.shortest c.requires.index
     i c.in-Some.row c.in-Some.ensures.1 read g.P.Place.number c.requires.fits in
     omega (arith, fits.sectors)
 
 pub overflow_sub-at : goal.overflow_sub-at
 overflow_sub-at g c =
     let i = cursor_index c.args.rows.now.lengths c.in-Some.last in
-    let read = read_front c.args.rows.now.items i (cursor_index c.args.rows.now.lengths c.args.next) c.in-Some.row c.in-Some.ensures.1 c.in-Some.ensures.2 in
-    let begins = last_begins g.P.Place.on (take (cursor_index c.args.rows.now.lengths c.args.next) c.args.rows.now.items) c.args.at (cursor_index c.args.rows.now.lengths c.args.next) c.requires.shortest c.requires.index
+    let read = read_front c.args.rows.now.items i (cursor_index c.args.rows.now.lengths c.args.next) c.in-Some.row
+    c.in-Some.ensures.1 c.in-Some.ensures.2 in
+    let begins = last_begins g.P.Place.on (take (cursor_index c.args.rows.now.lengths c.args.next) c.args.rows.now.items)
+    c.args.at (cursor_index c.args.rows.now.lengths c.args.next) c.requires.shortest c.requires.index
     i c.in-Some.row c.in-Some.ensures.1 read in
     omega (arith, begins)
 
@@ -35,8 +40,10 @@ returns-then-at-row-clause-front g c =
     let inside = slice_get_within c.args.rows.now.items i c.in-Some.row c.in-Some.ensures.2 in
     ap (take n) c.replace.ensures.items
     ∙ written_front c.args.rows.now.items i n (cut_short c.args.at c.in-Some.row) c.in-Some.ensures.1 inside
-    ∙ ap (λ xs. xs ++ cut_short c.args.at c.in-Some.row ∷ []) (sym (take-take i n c.args.rows.now.items (omega (arith, c.in-Some.ensures.1))))
-    ∙ sym (before_part g.P.Place.on (take (cursor_index c.args.rows.now.lengths c.args.next) c.args.rows.now.items) c.args.at (cursor_index c.args.rows.now.lengths c.args.next) c.requires.shortest c.requires.index
+    ∙ ap (λ xs. xs ++ cut_short c.args.at c.in-Some.row ∷ [])
+    (sym (take-take i n c.args.rows.now.items (omega (arith, c.in-Some.ensures.1))))
+    ∙ sym (before_part g.P.Place.on (take (cursor_index c.args.rows.now.lengths c.args.next) c.args.rows.now.items) c.args.at
+    (cursor_index c.args.rows.now.lengths c.args.next) c.requires.shortest c.requires.index
     i c.in-Some.row c.in-Some.ensures.1 read c.if-at-row.true)
 
 pub returns-else-at-row-clause-front : goal.returns-else-at-row-clause-front
@@ -44,6 +51,7 @@ returns-else-at-row-clause-front g c =
     let i = cursor_index c.args.rows.now.lengths c.in-Some.last in
     let n = cursor_index c.args.rows.now.lengths c.args.next in
     let read = read_front c.args.rows.now.items i n c.in-Some.row c.in-Some.ensures.1 c.in-Some.ensures.2 in
-    sym (before_whole g.P.Place.on (take (cursor_index c.args.rows.now.lengths c.args.next) c.args.rows.now.items) c.args.at (cursor_index c.args.rows.now.lengths c.args.next) c.requires.shortest c.requires.index
+    sym (before_whole g.P.Place.on (take (cursor_index c.args.rows.now.lengths c.args.next) c.args.rows.now.items) c.args.at
+    (cursor_index c.args.rows.now.lengths c.args.next) c.requires.shortest c.requires.index
     i c.in-Some.row c.in-Some.ensures.1 read c.if-at-row.false
     ∙ take-take n n c.args.rows.now.items (omega arith))

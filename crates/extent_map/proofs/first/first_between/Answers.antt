@@ -7,16 +7,19 @@ use Rattle.extent_map.proofs.first.first_between.Goals as goal
 
 pub returns-in_err-row : goal.returns-in_err-row
 returns-in_err-row g c =
-    c.from_residual.ensures ∙ none_first g.P.Place.on c.args.end (rows_from g.P.Place.on c.args.lba c.args.rows.now.items) (sym c.in_err-row.was ∙ c.first_past.ensures)
+    c.from_residual.ensures ∙ none_first g.P.Place.on c.args.end (rows_from g.P.Place.on c.args.lba c.args.rows.now.items)
+    (sym c.in_err-row.was ∙ c.first_past.ensures)
 
 pub before-requires : goal.before-requires
 before-requires g c =
     fits_first g.P.Place.on g.P.Place.number (rows_from g.P.Place.on c.args.lba c.args.rows.now.items) c.in_ok-row.row
-    (fit_from g.P.Place.on g.P.Place.number g.met.P.Place.number_on c.args.lba c.args.rows.now.items c.requires.shortest c.requires.fits)
+    (fit_from g.P.Place.on g.P.Place.number g.met.P.Place.number_on c.args.lba c.args.rows.now.items c.requires.shortest
+    c.requires.fits)
     (sym c.in_ok-row.was ∙ c.first_past.ensures)
 
 pub returns : goal.returns
 returns g c =
     c.before-2.ensures
     ∙ part_first g.P.Place.on c.args.end (rows_from g.P.Place.on c.args.lba c.args.rows.now.items) c.in_ok-row.row
-    (shortest_from g.P.Place.on g.met.P.Place.on_twice c.args.lba c.args.rows.now.items c.requires.shortest) (sym c.in_ok-row.was ∙ c.first_past.ensures)
+    (shortest_from g.P.Place.on g.met.P.Place.on_twice c.args.lba c.args.rows.now.items c.requires.shortest) (sym c.in_ok-row.was
+    ∙ c.first_past.ensures)

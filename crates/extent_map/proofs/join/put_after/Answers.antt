@@ -7,7 +7,8 @@ use Rattle.extent_map.proofs.join.put_after.Goals as goal
 
 pub goes_on-requires : goal.goes_on-requires
 goes_on-requires g c =
-    fits_read g.P.Place.number c.args.rows.now.items (cursor_index c.args.rows.now.lengths c.in-Some.last_at) c.in-Some.last c.requires.fits c.in-Some.ensures.2
+    fits_read g.P.Place.number c.args.rows.now.items (cursor_index c.args.rows.now.lengths c.in-Some.last_at) c.in-Some.last
+    c.requires.fits c.in-Some.ensures.2
 
 pub returns-then-not-goes_on-clause-rows : goal.returns-then-not-goes_on-clause-rows
 returns-then-not-goes_on-clause-rows g c =
@@ -17,11 +18,14 @@ returns-then-not-goes_on-clause-rows g c =
 
 pub replace-requires-clause-some : goal.replace-requires-clause-some
 replace-requires-clause-some g c =
-    slice_get_within c.args.rows.now.items (cursor_index c.args.rows.now.lengths c.in-Some.last_at) c.in-Some.last c.in-Some.ensures.2
+    slice_get_within c.args.rows.now.items (cursor_index c.args.rows.now.lengths c.in-Some.last_at) c.in-Some.last
+    c.in-Some.ensures.2
 
 pub returns-clause-rows : goal.returns-clause-rows
 returns-clause-rows g c =
-    subst (λ xs. IsPutAfter g.P.Place.on (take (cursor_index c.args.rows.now.lengths c.args.at) c.args.rows.now.items) c.args.row (drop (cursor_index c.args.rows.now.lengths c.args.at) c.args.rows.now.items) xs)
+    subst (λ xs. IsPutAfter g.P.Place.on (take (cursor_index c.args.rows.now.lengths c.args.at) c.args.rows.now.items) c.args.row
+    (drop (cursor_index c.args.rows.now.lengths c.args.at) c.args.rows.now.items) xs)
     (sym c.replace.ensures.items)
     (put_onto g.P.Place.on c.args.rows.now.items (cursor_index c.args.rows.now.lengths c.args.at) c.args.row
-    (cursor_index c.args.rows.now.lengths c.in-Some.last_at) c.in-Some.last c.in-Some.ensures.1 c.in-Some.ensures.2 (c.goes_on.ensures.0 c.if-not-goes_on.false))
+    (cursor_index c.args.rows.now.lengths c.in-Some.last_at) c.in-Some.last c.in-Some.ensures.1 c.in-Some.ensures.2
+    (c.goes_on.ensures.0 c.if-not-goes_on.false))

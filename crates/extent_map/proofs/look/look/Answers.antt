@@ -34,18 +34,22 @@ loop-row-init g c =
 
 pub before-requires : goal.before-requires
 before-requires g c =
-    fits_read g.P.Place.number c.args.rows.now.items (cursor_index c.args.rows.now.lengths c.loop-row.at) c.in-Some-get.row c.requires.fits
+    fits_read g.P.Place.number c.args.rows.now.items (cursor_index c.args.rows.now.lengths c.loop-row.at) c.in-Some-get.row
+    c.requires.fits
     (sym c.get.ensures ∙ c.in-Some-get.is)
 
 pub next-at-requires-clause-some : goal.next-at-requires-clause-some
 next-at-requires-clause-some g c =
-    slice_get_within c.args.rows.now.items (cursor_index c.args.rows.now.lengths c.loop-row.at) c.in-Some-get.row (sym c.get.ensures ∙ c.in-Some-get.is)
+    slice_get_within c.args.rows.now.items (cursor_index c.args.rows.now.lengths c.loop-row.at) c.in-Some-get.row
+    (sym c.get.ensures ∙ c.in-Some-get.is)
 
 pub loop-row-smaller : goal.loop-row-smaller
 loop-row-smaller g c =
     let rows = c.args.rows.now in
-    let inside = slice_get_within rows.items (cursor_index rows.lengths c.loop-row.at) c.in-Some-get.row (sym c.get.ensures ∙ c.in-Some-get.is) in
-    let less : length rows.items - cursor_index rows.lengths c.next-at.result < length rows.items - cursor_index rows.lengths c.loop-row.at =
+    let inside = slice_get_within rows.items (cursor_index rows.lengths c.loop-row.at) c.in-Some-get.row (sym c.get.ensures
+    ∙ c.in-Some-get.is) in
+    let less : length rows.items - cursor_index rows.lengths c.next-at.result < length rows.items - cursor_index rows.lengths
+    c.loop-row.at =
     omega (arith, inside, c.next-at.ensures.index) in
     less
 
@@ -57,9 +61,11 @@ loop-row-preserved g c =
     let long = ap length c.in_ok-push-2.ensures.items ∙ length-append found (c.in-Some-before.part ∷ []) in
     record {
       place = c.next-at.ensures.place;
-      all = walked_step g.P.Place.on c.args.end (cursor_index rows.lengths c.loop-row.at) rows.items c.in-Some-get.row (sym c.get.ensures ∙ c.in-Some-get.is)
+      all = walked_step g.P.Place.on c.args.end (cursor_index rows.lengths c.loop-row.at) rows.items c.in-Some-get.row
+          (sym c.get.ensures ∙ c.in-Some-get.is)
           (cursor_index rows.lengths c.next-at.result) c.in-Some-before.part found c.push-in-Some-get.new.self.items whole
-          c.next-at.ensures.index (sym c.in-Some-before.is ∙ c.before-in-Some-get.ensures) c.in_ok-push-2.ensures.items c.loop-row.invariant.all;
+          c.next-at.ensures.index (sym c.in-Some-before.is ∙ c.before-in-Some-get.ensures) c.in_ok-push-2.ensures.items
+          c.loop-row.invariant.all;
       steps = omega (arith, long, c.count.ensures, c.loop-row.invariant.steps);
       rises = omega (arith, c.count.ensures, c.loop-row.invariant.rises);
     }
@@ -72,7 +78,8 @@ returns-clause-rows g c =
     let none : rows_before c.args.end (drop n rows.items) ≡ [] =
     elim c.match-get.branch [
       | in-Some-get+in_default-before w ↦
-          walked_past g.P.Place.on c.args.end n rows.items w.in-Some-get.row (sym c.get.ensures ∙ w.in-Some-get.is) c.requires.shortest
+          walked_past g.P.Place.on c.args.end n rows.items w.in-Some-get.row (sym c.get.ensures ∙ w.in-Some-get.is)
+          c.requires.shortest
           (sym w.in_default-before.is ∙ w.before-in-Some-get.ensures)
       | in_default-get w ↦ walked_all g.P.Place.on c.args.end n rows.items (sym c.get.ensures ∙ w.in_default-get.is)
     ] in

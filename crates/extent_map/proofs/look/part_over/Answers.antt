@@ -17,33 +17,43 @@ returns-in_err-row-clause-part g c =
 
 pub overflow_add-row : goal.overflow_add-row
 overflow_add-row g c =
-    let fits = last_fits g.P.Place.on c.args.rows.now.items c.args.lba (cursor_index c.args.rows.now.lengths c.args.next) c.requires.shortest c.requires.index
-    (cursor_index c.args.rows.now.lengths c.in_ok-row.field-0-0) c.in_ok-row.row c.in_ok-row.ensures.1 c.in_ok-row.ensures.2 g.P.Place.number c.requires.fits in
+    let fits = last_fits g.P.Place.on c.args.rows.now.items c.args.lba (cursor_index c.args.rows.now.lengths c.args.next)
+    c.requires.shortest c.requires.index
+    (cursor_index c.args.rows.now.lengths c.in_ok-row.field-0-0) c.in_ok-row.row c.in_ok-row.ensures.1 c.in_ok-row.ensures.2
+    g.P.Place.number c.requires.fits in
     omega (arith, fits.sectors)
 
 pub returns-then-row-lba-clause-part : goal.returns-then-row-lba-clause-part
 returns-then-row-lba-clause-part g c =
     ap (rows_before c.args.end)
-    (sym (from_whole g.P.Place.on c.args.rows.now.items c.args.lba (cursor_index c.args.rows.now.lengths c.args.next) c.requires.shortest c.requires.index
-    (cursor_index c.args.rows.now.lengths c.in_ok-row.field-0-0) c.in_ok-row.row c.in_ok-row.ensures.1 c.in_ok-row.ensures.2 c.if-row-lba.true))
+    (sym (from_whole g.P.Place.on c.args.rows.now.items c.args.lba (cursor_index c.args.rows.now.lengths c.args.next)
+    c.requires.shortest c.requires.index
+    (cursor_index c.args.rows.now.lengths c.in_ok-row.field-0-0) c.in_ok-row.row c.in_ok-row.ensures.1 c.in_ok-row.ensures.2
+    c.if-row-lba.true))
 
 pub rest-requires-clause-fits : goal.rest-requires-clause-fits
 rest-requires-clause-fits g c =
-    last_fits g.P.Place.on c.args.rows.now.items c.args.lba (cursor_index c.args.rows.now.lengths c.args.next) c.requires.shortest c.requires.index
-    (cursor_index c.args.rows.now.lengths c.in_ok-row.field-0-0) c.in_ok-row.row c.in_ok-row.ensures.1 c.in_ok-row.ensures.2 g.P.Place.number c.requires.fits
+    last_fits g.P.Place.on c.args.rows.now.items c.args.lba (cursor_index c.args.rows.now.lengths c.args.next) c.requires.shortest
+    c.requires.index
+    (cursor_index c.args.rows.now.lengths c.in_ok-row.field-0-0) c.in_ok-row.row c.in_ok-row.ensures.1 c.in_ok-row.ensures.2
+    g.P.Place.number c.requires.fits
 
 pub rest-requires-clause-from : goal.rest-requires-clause-from
 rest-requires-clause-from g c =
-    let begins = last_begins g.P.Place.on c.args.rows.now.items c.args.lba (cursor_index c.args.rows.now.lengths c.args.next) c.requires.shortest c.requires.index
+    let begins = last_begins g.P.Place.on c.args.rows.now.items c.args.lba (cursor_index c.args.rows.now.lengths c.args.next)
+    c.requires.shortest c.requires.index
     (cursor_index c.args.rows.now.lengths c.in_ok-row.field-0-0) c.in_ok-row.row c.in_ok-row.ensures.1 c.in_ok-row.ensures.2 in
     omega (arith, begins)
 
 pub before-requires-2 : goal.before-requires-2
 before-requires-2 g c =
-    let begins = last_begins g.P.Place.on c.args.rows.now.items c.args.lba (cursor_index c.args.rows.now.lengths c.args.next) c.requires.shortest c.requires.index
+    let begins = last_begins g.P.Place.on c.args.rows.now.items c.args.lba (cursor_index c.args.rows.now.lengths c.args.next)
+    c.requires.shortest c.requires.index
     (cursor_index c.args.rows.now.lengths c.in_ok-row.field-0-0) c.in_ok-row.row c.in_ok-row.ensures.1 c.in_ok-row.ensures.2 in
-    let fits = last_fits g.P.Place.on c.args.rows.now.items c.args.lba (cursor_index c.args.rows.now.lengths c.args.next) c.requires.shortest c.requires.index
-    (cursor_index c.args.rows.now.lengths c.in_ok-row.field-0-0) c.in_ok-row.row c.in_ok-row.ensures.1 c.in_ok-row.ensures.2 g.P.Place.number c.requires.fits in
+    let fits = last_fits g.P.Place.on c.args.rows.now.items c.args.lba (cursor_index c.args.rows.now.lengths c.args.next)
+    c.requires.shortest c.requires.index
+    (cursor_index c.args.rows.now.lengths c.in_ok-row.field-0-0) c.in_ok-row.row c.in_ok-row.ensures.1 c.in_ok-row.ensures.2
+    g.P.Place.number c.requires.fits in
     rest_fits g.P.Place.on g.P.Place.number g.met.P.Place.number_on c.args.lba c.in_ok-row.row c.rest.result
     fits begins (omega (arith, c.if-row-lba.false)) c.rest.ensures
 
@@ -55,4 +65,5 @@ returns-clause-part g c =
     ∙ ap (λ row. rows_before c.args.end (row ∷ drop n rows)) c.rest.ensures
     ∙ ap (rows_before c.args.end)
     (sym (from_part g.P.Place.on rows c.args.lba n c.requires.shortest c.requires.index
-    (cursor_index c.args.rows.now.lengths c.in_ok-row.field-0-0) c.in_ok-row.row c.in_ok-row.ensures.1 c.in_ok-row.ensures.2 (omega (arith, c.if-row-lba.false))))
+    (cursor_index c.args.rows.now.lengths c.in_ok-row.field-0-0) c.in_ok-row.row c.in_ok-row.ensures.1 c.in_ok-row.ensures.2
+    (omega (arith, c.if-row-lba.false))))

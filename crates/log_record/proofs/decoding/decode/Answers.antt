@@ -26,18 +26,21 @@ returns-then-read_u64-seq-clause-none c =
 pub returns-in_default-clause-none : goal.returns-in_default-clause-none
 returns-in_default-clause-none c =
     rw c.refused-in_default.ensures
-    (no_header _ _ _ _ reasons.Range (search rules) c.requires.limits (λ found. c.in_default.ensures.none found.0 found.1 found.2))
+    (no_header _ _ _ _ reasons.Range (search rules) c.requires.limits
+    (λ found. c.in_default.ensures.none found.0 found.1 found.2))
 
 pub returns-then-not-has_filler-clause-none : goal.returns-then-not-has_filler-clause-none
 returns-then-not-has_filler-clause-none c =
     rw c.refused-then-not-has_filler.ensures
-    (no_header _ _ _ _ reasons.Zeros (search rules) c.requires.limits (not_so _ _ c.if-not-has_filler.true c.has_filler.ensures.1))
+    (no_header _ _ _ _ reasons.Zeros (search rules) c.requires.limits
+    (not_so _ _ c.if-not-has_filler.true c.has_filler.ensures.1))
 
 pub returns-then-not-fits-clause-none : goal.returns-then-not-fits-clause-none
 returns-then-not-fits-clause-none c =
     rw c.refused-then-not-fits.ensures
     (no_header _ c.args.seq c.args.geometry.now _ reasons.Place (search rules) c.requires.limits
-    (not_at_place c.args.sector.now c.args.seq c.args.geometry.now c.args.place.now c.in-Some.head c.in-Some.ensures.numbers (sym c.fits.ensures ∙ c.if-not-fits.true)))
+    (not_at_place c.args.sector.now c.args.seq c.args.geometry.now c.args.place.now c.in-Some.head c.in-Some.ensures.numbers
+    (sym c.fits.ensures ∙ c.if-not-fits.true)))
 
 pub returns-then-not-has_filler-clause-refused : goal.returns-then-not-has_filler-clause-refused
 returns-then-not-has_filler-clause-refused c =

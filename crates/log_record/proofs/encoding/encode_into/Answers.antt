@@ -18,5 +18,6 @@ returns-in-Write c =
 
 pub returns-in_default : goal.returns-in_default
 returns-in_default c =
-    zero_has_no_data c.args.entry.now c.in_default.field-0 c.in_default.field-1 c.args.seq c.args.bytes.now _ c.in_default.is c.requires
+    zero_has_no_data c.args.entry.now c.in_default.field-0 c.in_default.field-1 c.args.seq c.args.bytes.now _
+    c.in_default.is c.requires
     (subst (λ (h : Head). IsHeaderOf h c.args.seq c.write_header.new.sector) c.of.ensures c.write_header.ensures)

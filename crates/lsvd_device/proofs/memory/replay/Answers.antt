@@ -1,4 +1,5 @@
-use Rattle.std.proofs.Common.{rules, ◌≡◌, ◌+◌, ◌<◌, ◌≤◌, ◌^◌, ℕ, List, [], ◌∷◌, ◌-◌, length, take, drop, get_or, replicate, ◌∙◌, ap, subst, arith}
+use Rattle.std.proofs.Common.{rules, ◌≡◌, ◌+◌, ◌<◌, ◌≤◌, ◌^◌, ℕ, List, [], ◌∷◌, ◌-◌, length, take, drop, get_or, replicate, ◌∙◌}
+use Rattle.std.proofs.Common.{ap, subst, arith}
 use Rattle.std.proofs.lemmas.List.{length-drop, take_rest, get_or_default}
 use Rattle.lsvd_device.specs.Memory.{bytes_written, LiesInside, contents_from}
 use Rattle.lsvd_device.specs.declared.change.Change.{Change}
@@ -12,10 +13,12 @@ loop-change-init c =
     first_far c.args.at c.args.changes.now c.args.written.now c.args.buf.now c.fill.new.self zeros
 
 pub slice_bounds-put_change-count : goal.slice_bounds-put_change-count
-slice_bounds-put_change-count c = far_inside c.args.at c.args.changes.now c.loop-change.change-index c.loop-change.from c.args.written.now c.args.buf.now c.loop-change.buf c.loop-change.invariant c.requires.counted
+slice_bounds-put_change-count c = far_inside c.args.at c.args.changes.now c.loop-change.change-index c.loop-change.from
+    c.args.written.now c.args.buf.now c.loop-change.buf c.loop-change.invariant c.requires.counted
 
 pub slice_bounds-put_change-start : goal.slice_bounds-put_change-start
-slice_bounds-put_change-start c = far_inside c.args.at c.args.changes.now c.loop-change.change-index c.loop-change.from c.args.written.now c.args.buf.now c.loop-change.buf c.loop-change.invariant c.requires.counted
+slice_bounds-put_change-start c = far_inside c.args.at c.args.changes.now c.loop-change.change-index c.loop-change.from
+    c.args.written.now c.args.buf.now c.loop-change.buf c.loop-change.invariant c.requires.counted
 
 pub put_change-from-requires-clause-fits : goal.put_change-from-requires-clause-fits
 put_change-from-requires-clause-fits c =
@@ -27,7 +30,8 @@ put_change-from-requires-clause-fits c =
     let inside : k < length changes = search rules in
     let is : change ≡ get_or changes k change = get_or_default changes k (Write 0 0) change inside in
     let next = written_next changes k used change written inside is c.loop-change.invariant.used' c.requires.counted in
-    let rest : length (take (length written - used) (drop used written)) ≡ length written - used = ap length (take_rest written used) ∙ length-drop used written in
+    let rest : length (take (length written - used) (drop used written)) ≡ length written - used =
+    ap length (take_rest written used) ∙ length-drop used written in
     omega (arith, rest, next)
 
 pub overflow_add-from : goal.overflow_add-from
@@ -55,11 +59,15 @@ loop-change-preserved c =
     let is : change ≡ get_or changes k change = get_or_default changes k (Write 0 0) change inside in
     let rest : take (length written - used) (drop used written) ≡ drop used written = take_rest written used in
     let same : length c.put_change-from.new.buf ≡ length c.loop-change.buf = search rules in
-    let shown = subst (λ xs. (bytes : List ℕ) → c.args.at + length c.loop-change.buf ≤ length bytes → LiesInside (length bytes) change
+    let shown = subst (λ xs. (bytes : List ℕ) → c.args.at + length c.loop-change.buf ≤ length bytes
+    → LiesInside (length bytes) change
     → c.loop-change.buf ≡ take (length c.loop-change.buf) (drop c.args.at bytes)
-    → c.put_change-from.new.buf ≡ take (length c.loop-change.buf) (drop c.args.at (contents_from bytes (change ∷ []) xs))) rest c.put_change-from.ensures.shown in
-    let far = next_far c.args.at changes k used written c.args.buf.now c.loop-change.buf c.put_change-from.new.buf change inside is c.loop-change.invariant same shown in
+    → c.put_change-from.new.buf ≡ take (length c.loop-change.buf) (drop c.args.at (contents_from bytes (change ∷ []) xs))) rest
+    c.put_change-from.ensures.shown in
+    let far = next_far c.args.at changes k used written c.args.buf.now c.loop-change.buf c.put_change-from.new.buf change inside
+    is c.loop-change.invariant same shown in
     rw c.put_change-from.ensures.count far
 
 pub returns : goal.returns
-returns c = last_far c.args.at c.args.changes.now c.loop-change.change-index c.loop-change.from c.args.written.now c.args.buf.now c.loop-change.buf (search rules) c.loop-change.invariant
+returns c = last_far c.args.at c.args.changes.now c.loop-change.change-index c.loop-change.from c.args.written.now c.args.buf.now
+    c.loop-change.buf (search rules) c.loop-change.invariant

@@ -8,12 +8,14 @@ use Rattle.lsvd_device.proofs.Stopped.{parts_of, has_stopped}
 use Rattle.lsvd_device.proofs.stop.stop.Goals as goal
 
 pub make_again-requires-clause-counted : goal.make_again-requires-clause-counted
-make_again-requires-clause-counted c = (parts_of c.args.size c.args.synced c.args.changes.now c.args.written.now c.args.fates.now c.requires).before
+make_again-requires-clause-counted c = (parts_of c.args.size c.args.synced c.args.changes.now c.args.written.now c.args.fates.now
+    c.requires).before
 
 pub make_again-requires-clause-inside : goal.make_again-requires-clause-inside
 make_again-requires-clause-inside c =
     let P : ℕ → Type 0 = λ n. LieInside n (take c.args.synced c.args.changes.now) in
-    subst P (sym c.in_ok-disk.ensures.size) (parts_of c.args.size c.args.synced c.args.changes.now c.args.written.now c.args.fates.now c.requires).before_inside
+    subst P (sym c.in_ok-disk.ensures.size) (parts_of c.args.size c.args.synced c.args.changes.now c.args.written.now
+    c.args.fates.now c.requires).before_inside
 
 pub slice_bounds-make_by_fates-count-2 : goal.slice_bounds-make_by_fates-count-2
 slice_bounds-make_by_fates-count-2 c =
@@ -57,10 +59,14 @@ returns-clause-left c =
     let after : List Medium = c.make_by_fates.new.disk.moments in
     let size : c.make_again.new.disk.size ≡ c.args.size = c.make_again.ensures.size ∙ c.in_ok-disk.ensures.size in
     let P : ℕ → Type 0 = λ n. LeavesBy n c.args.fates.now (drop c.args.synced changes) (drop used written) before after in
-    let Q : List Change → Type 0 = λ cs. LeavesBy c.make_again.new.disk.size c.args.fates.now cs (take (length written - used) (drop used written)) before after in
-    let R : List ℕ → Type 0 = λ xs. LeavesBy c.make_again.new.disk.size c.args.fates.now (drop c.args.synced changes) xs before after in
-    let left = subst P size (subst R (take_rest written used) (subst Q (take_rest changes c.args.synced) c.in_ok-make_by_fates.ensures.left)) in
-    (has_stopped c.args.size c.args.synced used changes written c.args.fates.now c.in_ok-disk.disk.moments before after c.sync.new.disk.moments c.requires c.in_ok-disk.ensures.moments c.in_ok-used.ensures.moments
+    let Q : List Change → Type 0 = λ cs. LeavesBy c.make_again.new.disk.size c.args.fates.now cs
+    (take (length written - used) (drop used written)) before after in
+    let R : List ℕ → Type 0 = λ xs. LeavesBy c.make_again.new.disk.size c.args.fates.now (drop c.args.synced changes) xs
+    before after in
+    let left = subst P size (subst R (take_rest written used)
+    (subst Q (take_rest changes c.args.synced) c.in_ok-make_by_fates.ensures.left)) in
+    (has_stopped c.args.size c.args.synced used changes written c.args.fates.now c.in_ok-disk.disk.moments before after
+    c.sync.new.disk.moments c.requires c.in_ok-disk.ensures.moments c.in_ok-used.ensures.moments
     c.in_ok-used.ensures.used left c.in_ok-sync.ensures.moments).stopped
 
 pub returns-clause-may_leave : goal.returns-clause-may_leave
@@ -72,8 +78,12 @@ returns-clause-may_leave c =
     let after : List Medium = c.make_by_fates.new.disk.moments in
     let size : c.make_again.new.disk.size ≡ c.args.size = c.make_again.ensures.size ∙ c.in_ok-disk.ensures.size in
     let P : ℕ → Type 0 = λ n. LeavesBy n c.args.fates.now (drop c.args.synced changes) (drop used written) before after in
-    let Q : List Change → Type 0 = λ cs. LeavesBy c.make_again.new.disk.size c.args.fates.now cs (take (length written - used) (drop used written)) before after in
-    let R : List ℕ → Type 0 = λ xs. LeavesBy c.make_again.new.disk.size c.args.fates.now (drop c.args.synced changes) xs before after in
-    let left = subst P size (subst R (take_rest written used) (subst Q (take_rest changes c.args.synced) c.in_ok-make_by_fates.ensures.left)) in
-    (has_stopped c.args.size c.args.synced used changes written c.args.fates.now c.in_ok-disk.disk.moments before after c.sync.new.disk.moments c.requires c.in_ok-disk.ensures.moments c.in_ok-used.ensures.moments
+    let Q : List Change → Type 0 = λ cs. LeavesBy c.make_again.new.disk.size c.args.fates.now cs
+    (take (length written - used) (drop used written)) before after in
+    let R : List ℕ → Type 0 = λ xs. LeavesBy c.make_again.new.disk.size c.args.fates.now (drop c.args.synced changes) xs
+    before after in
+    let left = subst P size (subst R (take_rest written used)
+    (subst Q (take_rest changes c.args.synced) c.in_ok-make_by_fates.ensures.left)) in
+    (has_stopped c.args.size c.args.synced used changes written c.args.fates.now c.in_ok-disk.disk.moments before after
+    c.sync.new.disk.moments c.requires c.in_ok-disk.ensures.moments c.in_ok-used.ensures.moments
     c.in_ok-used.ensures.used left c.in_ok-sync.ensures.moments).may_leave

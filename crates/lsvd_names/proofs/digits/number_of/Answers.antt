@@ -26,7 +26,8 @@ overflow_add-number c =
 
 pub returns-in_err-hex_digit_of-clause-none : goal.returns-in_err-hex_digit_of-clause-none
 returns-in_err-hex_digit_of-clause-none c =
-    rw c.from_residual.ensures (bad_digit c.args.digits.now c.loop-digit.digit-index (omega arith) c.in_err-hex_digit_of.ensures.none)
+    rw c.from_residual.ensures (bad_digit c.args.digits.now c.loop-digit.digit-index (omega arith)
+    c.in_err-hex_digit_of.ensures.none)
 
 pub loop-digit-preserved : goal.loop-digit-preserved
 loop-digit-preserved c =

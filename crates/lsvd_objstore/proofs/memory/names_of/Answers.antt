@@ -10,4 +10,5 @@ returns-clause-names c =
     (are_names (lists c.args.uuid c.args.objects.now c.in_ok-names.ensures.ordered c.requires))
 
 pub returns-clause-listed : goal.returns-clause-listed
-returns-clause-listed c = rw (c.in_ok-names.ensures.between, c.first_name.ensures, c.last_name.ensures) (lists c.args.uuid c.args.objects.now c.in_ok-names.ensures.ordered c.requires)
+returns-clause-listed c = rw (c.in_ok-names.ensures.between, c.first_name.ensures, c.last_name.ensures)
+    (lists c.args.uuid c.args.objects.now c.in_ok-names.ensures.ordered c.requires)

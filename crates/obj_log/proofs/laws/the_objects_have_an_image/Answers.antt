@@ -1,4 +1,5 @@
-use Rattle.obj_log.proofs.ImageLemmas.{new_list_has_blank, room_keeps_image, adding_keeps_image, sealing_keeps_image, jobs_keep_image, done_makes_image, adopting_makes_image}
+use Rattle.obj_log.proofs.ImageLemmas.{new_list_has_blank, room_keeps_image, adding_keeps_image, sealing_keeps_image}
+use Rattle.obj_log.proofs.ImageLemmas.{jobs_keep_image, done_makes_image, adopting_makes_image}
 use Rattle.obj_log.proofs.laws.the_objects_have_an_image.Goals as goal
 
 pub returns : goal.returns

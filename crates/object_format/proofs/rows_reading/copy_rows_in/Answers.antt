@@ -6,7 +6,8 @@ use Rattle.object_format.proofs.rows_reading.copy_rows_in.Goals as goal
 
 pub loop-preserved : goal.loop-preserved
 loop-preserved c = record {
-  all = read_more 44 copy_row_in c.args.count c.loop.counter c.loop.rows.items c.push.new.self.items _ c.read.result c.loop.rest.now
+  all = read_more 44 copy_row_in c.args.count c.loop.counter c.loop.rows.items c.push.new.self.items _ c.read.result
+      c.loop.rest.now
       (omega arith) (pushed (c.read.result ∷ []) refl c.in_ok-push.was c.push.ensures.items) c.read.ensures c.loop.invariant.all;
   room = read_room 44 c.args.count c.loop.counter c.loop.rest.now (omega arith) c.loop.invariant.room;
 }

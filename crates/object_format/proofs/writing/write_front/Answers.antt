@@ -12,9 +12,11 @@ write_header-requires c = length-take-le 64 c.args.front.now (omega (arith, c.re
 pub returns : goal.returns
 returns c =
     let header_size = c.write_header.auto.head ∙ length-take-le 64 c.args.front.now (omega (arith, c.requires.size)) in
-    let room : c.rows_end-rows_end.result ≤ length c.args.front.now = omega (arith, c.requires.size, c.rows_end-rows_end.ensures.is) in
+    let room : c.rows_end-rows_end.result ≤ length c.args.front.now =
+    omega (arith, c.requires.size, c.rows_end-rows_end.ensures.is) in
     front_if_written c.args.header.now c.args.rows.now c.rows_end-rows_end.result c.args.front.now
     c.write_header.new.head c.write.new.bytes c.fill.new.self
     c.rows_end-rows_end.ensures.is c.requires.size
-    header_size (c.write.auto.bytes ∙ length-row_slot c.rows_end-rows_end.result c.args.front.now c.write_header.new.head room header_size)
+    header_size (c.write.auto.bytes ∙ length-row_slot c.rows_end-rows_end.result c.args.front.now c.write_header.new.head room
+    header_size)
     c.write_header.ensures c.write.ensures (search rules)

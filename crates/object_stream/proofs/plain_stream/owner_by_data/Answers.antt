@@ -13,4 +13,5 @@ loop-entry-preserved c =
     c.owner_by_entry-owner.ensures
     ∙ (ap (owner_by_change c.args.number (entry_change entry sector)) c.loop-entry.invariant
     ∙ (sym (owner_by_later c.args.number (entry_change entry sector) (change_at (take i entries) sector) c.args.before)
-    ∙ sym (ap (λ change. owner_by_change c.args.number change c.args.before) (change_more entries i entry sector c.loop-entry-test.true c.entry-item.is))))
+    ∙ sym (ap (λ change. owner_by_change c.args.number change c.args.before)
+    (change_more entries i entry sector c.loop-entry-test.true c.entry-item.is))))

@@ -1,5 +1,12 @@
-use Rattle.object_uploads.proofs.ImageLemmas.{image_begins, entering_keeps_image, sealing_keeps_image, room_keeps_image, jobs_keep_image}
+use Rattle.object_uploads.proofs.ImageLemmas.{image_begins, entering_keeps_image, sealing_keeps_image, room_keeps_image}
+use Rattle.object_uploads.proofs.ImageLemmas.{jobs_keep_image}
 use Rattle.object_uploads.proofs.laws.the_objects_keep_their_image.Goals as goal
 
 pub returns : goal.returns
-returns c = record { begins = image_begins; entered = entering_keeps_image; sealed = sealing_keeps_image; same = room_keeps_image; jobs = jobs_keep_image }
+returns c = record {
+  begins = image_begins;
+  entered = entering_keeps_image;
+  sealed = sealing_keeps_image;
+  same = room_keeps_image;
+  jobs = jobs_keep_image;
+}

@@ -1,5 +1,11 @@
-use Rattle.objects_meaning.proofs.ShowLemmas.{new_shows_created, shown_have_counts, shown_with_other_cache, shown_with_other_places}
+use Rattle.objects_meaning.proofs.ShowLemmas.{new_shows_created, shown_have_counts, shown_with_other_cache}
+use Rattle.objects_meaning.proofs.ShowLemmas.{shown_with_other_places}
 use Rattle.objects_meaning.proofs.laws.the_list_shows_a_plain_volume.Goals as goal
 
 pub returns : goal.returns
-returns c = record { created = new_shows_created; counts = shown_have_counts; cache = shown_with_other_cache; places = shown_with_other_places }
+returns c = record {
+  created = new_shows_created;
+  counts = shown_have_counts;
+  cache = shown_with_other_cache;
+  places = shown_with_other_places;
+}

@@ -15,11 +15,13 @@ loop-low-preserved-then-test g c =
       bound = omega arith;
       passes = λ p d says some.
           let said = says c.index-xs-middle.result c.test.result (says_at g.F.Fn c.test.ensures refl) in
-          probed c.args.xs.now (middle + 1 - 1) middle c.index-xs-middle.result d p true (omega arith) (omega arith) c.index-xs-middle.is (sym said ∙ c.if-test.true);
+          probed c.args.xs.now (middle + 1 - 1) middle c.index-xs-middle.result d p true (omega arith) (omega arith)
+          c.index-xs-middle.is (sym said ∙ c.if-test.true);
       fails = c.loop-low.invariant.fails;
       steps =
           subst (Halved (length c.args.xs.now) (high - (middle + 1))) (sym is)
-          (halved_more (length c.args.xs.now) (high - low) (high - (middle + 1)) (c.loop-low.steps - c.args.steps.now) (omega arith) (omega arith) c.loop-low.invariant.steps);
+          (halved_more (length c.args.xs.now) (high - low) (high - (middle + 1)) (c.loop-low.steps - c.args.steps.now)
+          (omega arith) (omega arith) c.loop-low.invariant.steps);
       rises = omega arith;
     }
 
@@ -35,10 +37,12 @@ loop-low-preserved g c =
       passes = c.loop-low.invariant.passes;
       fails = λ p d says some.
           let said = says c.index-xs-middle.result c.test.result (says_at g.F.Fn c.test.ensures refl) in
-          probed c.args.xs.now middle middle c.index-xs-middle.result d p false refl some c.index-xs-middle.is (sym said ∙ c.if-test.false);
+          probed c.args.xs.now middle middle c.index-xs-middle.result d p false refl some c.index-xs-middle.is (sym said
+          ∙ c.if-test.false);
       steps =
           subst (Halved (length c.args.xs.now) (middle - low)) (sym is)
-          (halved_more (length c.args.xs.now) (high - low) (middle - low) (c.loop-low.steps - c.args.steps.now) (omega arith) (omega arith) c.loop-low.invariant.steps);
+          (halved_more (length c.args.xs.now) (high - low) (middle - low) (c.loop-low.steps - c.args.steps.now) (omega arith)
+          (omega arith) c.loop-low.invariant.steps);
       rises = omega arith;
     }
 

@@ -5,4 +5,5 @@ use Rattle.page_list.proofs.search.starts_passing.Goals as goal
 
 pub returns-in-Some : goal.returns-in-Some
 returns-in-Some g c p says =
-    says c.in-Some.item c.test.result (says_at g.F.Fn c.test.ensures refl) ∙ first_passes p c.args.page.now c.in-Some.item c.in-Some.ensures
+    says c.in-Some.item c.test.result (says_at g.F.Fn c.test.ensures refl)
+    ∙ first_passes p c.args.page.now c.in-Some.item c.in-Some.ensures

@@ -1,4 +1,5 @@
-use Rattle.pending_meaning.proofs.Shown.{synced_shows_pending, still_shows_pending, entry_shows_pending, commit_shows_pending, failed_commit_shows_pending}
+use Rattle.pending_meaning.proofs.Shown.{synced_shows_pending, still_shows_pending, entry_shows_pending, commit_shows_pending}
+use Rattle.pending_meaning.proofs.Shown.{failed_commit_shows_pending}
 use Rattle.pending_meaning.proofs.laws.calls_leave_pending_what_the_plain_cache_has.Goals as goal
 
 pub returns : goal.returns

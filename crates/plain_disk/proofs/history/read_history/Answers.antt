@@ -2,13 +2,15 @@ use Rattle.std.proofs.Common.{◌≡◌, ◌+◌, ◌*◌, ◌<◌, ◌≤◌, �
 use Rattle.std.proofs.lemmas.List.{take_at}
 use Rattle.lsvd_base.specs.Image.{blank, after}
 use Rattle.plain_disk.specs.Sectors.{sectors_at}
-use Rattle.plain_disk.proofs.Overlaid.{sectors_at-blank, transfer_ends, EndsBy-more, EndsBy-in_range, entry_in_range, one_more, sectors_limit}
+use Rattle.plain_disk.proofs.Overlaid.{sectors_at-blank, transfer_ends, EndsBy-more, EndsBy-in_range, entry_in_range, one_more}
+use Rattle.plain_disk.proofs.Overlaid.{sectors_limit}
 use Rattle.plain_disk.proofs.history.read_history.Goals as goal
 
 pub loop-entry-init : goal.loop-entry-init
 loop-entry-init c =
     let g = c.args.geometry.now in
-    let zeros : c.in_ok-window.window.items ≡ replicate c.in-Some.count 0 = c.in_ok-window.ensures.items_if_clones_equal (λ _ e. e) in
+    let zeros : c.in_ok-window.window.items ≡ replicate c.in-Some.count 0 =
+    c.in_ok-window.ensures.items_if_clones_equal (λ _ e. e) in
     let count : c.in-Some.count ≡ 512 * c.args.sectors = omega arith in
     let ends : c.args.lba + c.args.sectors ≤ g.sectors = transfer_ends g c.args.lba c.args.sectors (search rules) in
     zeros ∙ (ap (λ n. replicate n 0) count ∙ sym (sectors_at-blank c.args.lba c.args.sectors g.sectors ends))

@@ -8,5 +8,6 @@ loop-preserved c =
     let has : numbers_of c.args.landed.now (c.loop.last + 1) ≡ true = search rules in
     record {
       at = omega (arith, c.loop.invariant.at);
-      rest = landed_more (numbers_of c.args.landed.now) c.loop.last c.args.count c.loop.counter (omega arith) has ∙ c.loop.invariant.rest;
+      rest = landed_more (numbers_of c.args.landed.now) c.loop.last c.args.count c.loop.counter (omega arith) has
+          ∙ c.loop.invariant.rest;
     }

@@ -7,5 +7,6 @@ abbrev pub invariant-loop : goal.invariant-loop
 invariant-loop l =
     record {
       at : l.last ≡ l.number + l.counter;
-      rest : landed_after (numbers_of l.landed) l.last (l.count - l.counter) ≡ landed_after (numbers_of l.landed) l.number l.count;
+      rest : landed_after (numbers_of l.landed) l.last (l.count - l.counter) ≡ landed_after (numbers_of l.landed)
+          l.number l.count;
     }

@@ -5,4 +5,5 @@ use Rattle.plain_disk.proofs.plans.is_covered.Given as goal
 
 abbrev pub invariant-loop-entry : goal.invariant-loop-entry
 invariant-loop-entry l =
-    list_any (λ entry. covers_sector entry l.sector) (drop l.entry-index l.entries) ≡ list_any (λ entry. covers_sector entry l.sector) l.entries
+    list_any (λ entry. covers_sector entry l.sector) (drop l.entry-index l.entries)
+    ≡ list_any (λ entry. covers_sector entry l.sector) l.entries

@@ -6,5 +6,6 @@ use Rattle.plain_disk.proofs.plans.is_object_read.Given as goal
 
 abbrev pub invariant-loop-sector : goal.invariant-loop-sector
 invariant-loop-sector l =
-    list_any (is_read_at (stream_of l.stream) l.frontier l.logged l.number) (range_with_len l.sector (l.lba + l.sectors - l.sector))
+    list_any (is_read_at (stream_of l.stream) l.frontier l.logged l.number)
+    (range_with_len l.sector (l.lba + l.sectors - l.sector))
     ≡ list_any (is_read_at (stream_of l.stream) l.frontier l.logged l.number) (range_with_len l.lba l.sectors)

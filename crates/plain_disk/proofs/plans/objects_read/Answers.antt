@@ -9,7 +9,8 @@ use Rattle.plain_disk.proofs.plans.objects_read.Goals as goal
 pub loop-before-preserved : goal.loop-before-preserved
 loop-before-preserved c =
     let test = λ (number : ℕ).
-    list_any (is_read_at (stream_of c.args.stream.now) c.args.frontier c.args.logged.now number) (range_with_len c.args.lba c.args.sectors) in
+    list_any (is_read_at (stream_of c.args.stream.now) c.args.frontier c.args.logged.now number)
+    (range_with_len c.args.lba c.args.sectors) in
     let number : ℕ = c.loop-before.before + 1 in
     let rest : List ℕ = filter test (range_with_len (number + 1) (c.args.frontier + 1 - (number + 1))) in
     let inside : number < c.args.frontier + 1 = omega (arith, c.loop-before-test.true) in

@@ -11,12 +11,14 @@ loop-count-preserved c =
     let count = c.loop-count.count in
     let entry = c.index-entries-count.result in
     let fails : is_some (fullness_of_first c.args.batch entries count) ≡ false =
-    ap (λ n. is_some (fullness c.args.batch n count)) (sym c.loop-count.invariant.sum) ∙ (sym c.is_full.ensures.full ∙ c.if-is_full.false) in
+    ap (λ n. is_some (fullness c.args.batch n count)) (sym c.loop-count.invariant.sum)
+    ∙ (sym c.is_full.ensures.full ∙ c.if-is_full.false) in
     let more : sum_by data_sectors (take (count + 1) entries) ≡ sum_by data_sectors (take count entries) + data_sectors entry =
     sum_by_more data_sectors entries count entry c.loop-count-test.true
     ∙ ap (λ e. sum_by data_sectors (take count entries) + data_sectors e) (sym c.index-entries-count.is) in
     record {
       sum = omega (arith, more, c.loop-count.invariant.sum, c.data_sectors-sectors.ensures.sectors);
-      rest = found_later (λ n. is_some (fullness_of_first c.args.batch entries n)) count (length entries) c.loop-count-test.true fails
+      rest = found_later (λ n. is_some (fullness_of_first c.args.batch entries n)) count (length entries)
+          c.loop-count-test.true fails
           ∙ c.loop-count.invariant.rest;
     }

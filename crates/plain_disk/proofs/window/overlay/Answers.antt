@@ -3,7 +3,8 @@ use Rattle.plain_disk.proofs.window.overlay.Goals as goal
 
 pub returns-in-Write : goal.returns-in-Write
 returns-in-Write c =
-    rw c.in-Write.is (overlaid-Write c.args.lba c.in-Write.at c.in-Write.body c.args.window.now c.paste.new.window c.as_bytes.ensures.whole (rw (← c.as_bytes.ensures.bytes) c.paste.ensures))
+    rw c.in-Write.is (overlaid-Write c.args.lba c.in-Write.at c.in-Write.body c.args.window.now c.paste.new.window
+    c.as_bytes.ensures.whole (rw (← c.as_bytes.ensures.bytes) c.paste.ensures))
 
 pub returns-in-Zero : goal.returns-in-Zero
 returns-in-Zero c =

@@ -13,7 +13,8 @@ rows_can : (g : given.Over) (c : After-deref g)
     → CanRead c.args.lba c.args.sectors c.args.log.now c.args.objects.now.uploads.queue c.in_ok-rows.rows.items
 rows_can g c =
     let looked = c.in_ok-rows.ensures in
-    can_read c.args.lba c.args.sectors c.args.log.now c.args.objects.now.uploads.queue c.in_ok-rows.rows.items c.requires.log c.requires.objects
+    can_read c.args.lba c.args.sectors c.args.log.now c.args.objects.now.uploads.queue c.in_ok-rows.rows.items c.requires.log
+    c.requires.objects
     looked.shortest looked.places
 
 pub pieces_of-requires : goal.pieces_of-requires
@@ -28,13 +29,15 @@ zeros g c = c.in_ok-bytes.ensures.items_if_clones_equal (λ y is. is)
 
 count : (g : given.Over) (c : After-deref-4 g) → length c.in_ok-bytes.bytes.items / 512 ≡ c.args.sectors
 count g c =
-    let len : length c.in_ok-bytes.bytes.items ≡ 512 * c.args.sectors = ap length (zeros g c) ∙ length-replicate (512 * c.args.sectors) 0 in
+    let len : length c.in_ok-bytes.bytes.items ≡ 512 * c.args.sectors = ap length (zeros g c)
+    ∙ length-replicate (512 * c.args.sectors) 0 in
     omega (arith, len)
 
 pub read_rows-requires : goal.read_rows-requires
 read_rows-requires g c =
     let can = rows_can g (goal.at.read_rows-requires g c).After-deref in
-    let readable = are_readable c.args.lba c.args.sectors c.args.log.now c.args.objects.now.uploads.queue c.in_ok-rows.rows.items can in
+    let readable = are_readable c.args.lba c.args.sectors c.args.log.now c.args.objects.now.uploads.queue
+    c.in_ok-rows.rows.items can in
     rw c.deref-4.ensures.value (rw (count g c) readable)
 
 -- what the log has was read over zeros
@@ -53,8 +56,10 @@ returns-in_default-clause-same_pins g c = λ number.
 pub invariant_of-result : goal.invariant_of-result
 invariant_of-result g c =
     let before = goal.at.invariant_of-result g c in (
-      lie_inside c.args.lba c.args.sectors c.args.log.now c.args.objects.now.uploads.queue c.in_ok-rows.rows.items c.in-Ok.bytes.items c.in_ok-pieces.pieces.items
-          (rows_can g before.After-deref) (read g c (zeros g before.After-deref-4)) (rw c.deref.ensures.value at c.in_ok-pieces.ensures.pieces),
+      lie_inside c.args.lba c.args.sectors c.args.log.now c.args.objects.now.uploads.queue c.in_ok-rows.rows.items
+          c.in-Ok.bytes.items c.in_ok-pieces.pieces.items
+          (rows_can g before.After-deref) (read g c (zeros g before.After-deref-4))
+          (rw c.deref.ensures.value at c.in_ok-pieces.ensures.pieces),
       c.in_ok-numbers.ensures.ascending,
     )
 
@@ -62,8 +67,14 @@ pub returns-clause-plan : goal.returns-clause-plan
 returns-clause-plan g c =
     let before = goal.at.returns-clause-plan g c in
     is_plan c.args.lba c.args.sectors c.args.objects.now c.args.log.now c.in_ok-rows.rows.items
-    (record { front = c.next_seq.result; bytes = c.in-Ok.bytes.items; pieces = c.in_ok-pieces.pieces.items; objects = c.in_ok-numbers.numbers.items })
-    (rows_can g before.After-deref) (rw c.batch.ensures at c.next_seq.ensures) (read g before.After-next_seq (zeros g before.After-deref-4)) (rw c.deref.ensures.value at c.in_ok-pieces.ensures.pieces)
+    (record {
+      front = c.next_seq.result;
+      bytes = c.in-Ok.bytes.items;
+      pieces = c.in_ok-pieces.pieces.items;
+      objects = c.in_ok-numbers.numbers.items;
+    })
+    (rows_can g before.After-deref) (rw c.batch.ensures at c.next_seq.ensures)
+    (read g before.After-next_seq (zeros g before.After-deref-4)) (rw c.deref.ensures.value at c.in_ok-pieces.ensures.pieces)
     c.in_ok-numbers.ensures.ascending (rw c.deref-2.ensures.value at c.in_ok-numbers.ensures.same)
 
 pub returns-clause-pinned : goal.returns-clause-pinned

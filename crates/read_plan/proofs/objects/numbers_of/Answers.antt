@@ -7,7 +7,8 @@ use Rattle.std.proofs.lemmas.Map.Keys.{IsStrictlyIncreasing-dedup}
 use Rattle.read_plan.proofs.objects.numbers_of.Goals as goal
 
 pub returns-clause-ascending : goal.returns-clause-ascending
-returns-clause-ascending c = rw (dedup_is _ _ _ c.dedup.ensures.filtered) (IsStrictlyIncreasing-dedup _ c.sort_unstable.ensures.sorted)
+returns-clause-ascending c = rw (dedup_is _ _ _ c.dedup.ensures.filtered)
+    (IsStrictlyIncreasing-dedup _ c.sort_unstable.ensures.sorted)
 
 pub returns-clause-same : goal.returns-clause-same
 returns-clause-same c = λ number.

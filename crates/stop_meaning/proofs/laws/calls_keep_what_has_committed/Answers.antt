@@ -1,4 +1,5 @@
-use Rattle.stop_meaning.proofs.CommittedLemmas.{formatted_has_committed, same_has_committed, trimmed_has_committed, appended_has_committed, commit_has_committed}
+use Rattle.stop_meaning.proofs.CommittedLemmas.{formatted_has_committed, same_has_committed, trimmed_has_committed}
+use Rattle.stop_meaning.proofs.CommittedLemmas.{appended_has_committed, commit_has_committed}
 use Rattle.stop_meaning.proofs.laws.calls_keep_what_has_committed.Goals as goal
 
 pub returns : goal.returns

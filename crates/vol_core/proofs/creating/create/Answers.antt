@@ -12,16 +12,19 @@ use Rattle.vol_core.proofs.creating.create.Given as given
 use Rattle.vol_core.proofs.creating.create.Goals.{After-new-objects}
 use Rattle.vol_core.proofs.creating.create.Goals as goal
 
-shows : (g : given.Over) (c : After-new-objects g) → Shows (volume_of c.new-objects.result c.in_ok-log.log [] 1) (passing (fuse_in c.in_ok-log.log.commits.disk.budget) (created_volume c.args.geometry))
+shows : (g : given.Over) (c : After-new-objects g) → Shows (volume_of c.new-objects.result c.in_ok-log.log [] 1)
+    (passing (fuse_in c.in_ok-log.log.commits.disk.budget) (created_volume c.args.geometry))
 shows g c =
     let e = c.new-objects.ensures in
-    created_shows c.new-objects.result c.in_ok-log.log _ 0 c.args.geometry _ c.requires.limits c.requires.log c.in_ok-log.ensures.ok
+    created_shows c.new-objects.result c.in_ok-log.log _ 0 c.args.geometry _ c.requires.limits c.requires.log
+    c.in_ok-log.ensures.ok
     e.batch e.window e.frontier e.end e.sealed e.settled e.log
 
 own : (g : given.Over) (c : After-new-objects g) → HasOwnCommits 0 (volume_of c.new-objects.result c.in_ok-log.log [] 1)
 own g c =
     let e = c.new-objects.ensures in
-    created_own c.new-objects.result c.in_ok-log.log c.into_bytes.result (g.D.Disk.state c.args.disk) (c.into_bytes.ensures ∙ sym e.uuid)
+    created_own c.new-objects.result c.in_ok-log.log c.into_bytes.result (g.D.Disk.state c.args.disk) (c.into_bytes.ensures
+    ∙ sym e.uuid)
     c.in_ok-log.ensures.ok
 
 pub new-requires-clause-shows : goal.new-requires-clause-shows
@@ -48,4 +51,5 @@ pends g c can =
 pub returns-clause-pending : goal.returns-clause-pending
 returns-clause-pending g c = λ can.
     let before = (goal.at.returns-clause-pending g c).After-new-objects in
-    subst (λ (s : SteppedVolume). ShowsPending s.volume.log (created_volume c.args.geometry).cache) (sym c.new.ensures) (pends g before can)
+    subst (λ (s : SteppedVolume). ShowsPending s.volume.log (created_volume c.args.geometry).cache) (sym c.new.ensures)
+    (pends g before can)

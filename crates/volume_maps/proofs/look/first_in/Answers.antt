@@ -19,10 +19,16 @@ returns-in-Some-first_in-clause-breaks_off c =
     elim c.match-logged.branch [
       | in-Some w ↦
           let logged = w.in-Some.ensures.row in
-          settled_breaks_off settled log c.args.lba c.args.sectors end row first starts.from starts.to (omega (arith, w.end-is, logged.from))
-          (inr (w.in-Some.row.place, rw w.end-is (starts_at log_on log_on_none (place_at log_on log.rows) c.args.lba c.args.sectors w.in-Some.row logged)))
+          settled_breaks_off settled log c.args.lba c.args.sectors end row first starts.from starts.to
+          (omega (arith, w.end-is, logged.from))
+          (inr (
+            w.in-Some.row.place,
+            rw w.end-is (starts_at log_on log_on_none (place_at log_on log.rows) c.args.lba
+                c.args.sectors w.in-Some.row logged),
+          ))
       | in-None w ↦
-          settled_breaks_off settled log c.args.lba c.args.sectors end row first starts.from starts.to (omega (arith, w.end-is)) (inl w.end-is)
+          settled_breaks_off settled log c.args.lba c.args.sectors end row first starts.from starts.to (omega (arith, w.end-is))
+          (inl w.end-is)
     ] in
     rw c.settled_row.ensures breaks
 

@@ -3,7 +3,8 @@ use Rattle.std.specs.Option.{option_or}
 use Rattle.extent_map.specs.Extents.{place_at}
 use Rattle.volume_maps.specs.Places.{volume_on, volume_number}
 use Rattle.volume_maps.specs.Look.{combined}
-use Rattle.volume_maps.proofs.LookLemmas.{volume_on_none, starts_at, push_shortest, push_closed, place_in_parts, push_places, push_fits}
+use Rattle.volume_maps.proofs.LookLemmas.{volume_on_none, starts_at, push_shortest, push_closed, place_in_parts, push_places}
+use Rattle.volume_maps.proofs.LookLemmas.{push_fits}
 use Rattle.volume_maps.proofs.look.look.Goals as goal
 
 pub loop-row-preserved : goal.loop-row-preserved
@@ -22,7 +23,8 @@ loop-row-preserved c =
       refl,
       omega (arith, kept.1, starts.from),
       omega (arith, range, starts.to),
-      rw pushed (push_shortest end places from rows row kept.3 kept.4 starts.some starts.from (omega (arith, range, starts.to, starts.some)) at),
+      rw pushed (push_shortest end places from rows row kept.3 kept.4 starts.some starts.from
+          (omega (arith, range, starts.to, starts.some)) at),
       rw pushed (push_closed end places from from (end - from) rows row range c.in-Some.ensures.breaks_off),
       λ k.
           ap (λ items. place_at volume_on items k) pushed

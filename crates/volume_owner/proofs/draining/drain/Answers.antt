@@ -20,7 +20,8 @@ help-requires-clause-steps g c =
     let now : SteppedVolume = c.loop.volume in
     let first : StoreState = g.S.Store.state c.args.store.now in
     let second : StoreState = g.S.Store.state c.loop.store in
-    let few = helped_few old now first second c.loop.invariant c.requires.steps c.is_volume.ensures c.is_ordered.ensures.uploads in
+    let few = helped_few old now first second c.loop.invariant c.requires.steps c.is_volume.ensures
+    c.is_ordered.ensures.uploads in
     omega (arith, few)
 
 pub returns-in_err-help-clause-call : goal.returns-in_err-help-clause-call
@@ -47,7 +48,8 @@ loop-preserved g c =
     let second : StoreState = g.S.Store.state c.loop.store in
     let third : StoreState = g.S.Store.state c.help.new.store in
     let less = subst (λ b. HasHelped b now.volume new.volume) c.if-branch.true c.in_ok-help.ensures.less in
-    helped_more old now first second c.loop.invariant new third (one_help false now new second third c.in_ok-help.ensures.help) less c.in_ok-help.ensures.idle
+    helped_more old now first second c.loop.invariant new third (one_help false now new second third c.in_ok-help.ensures.help)
+    less c.in_ok-help.ensures.idle
 
 pub flush-requires-clause-steps : goal.flush-requires-clause-steps
 flush-requires-clause-steps g c =
@@ -55,7 +57,8 @@ flush-requires-clause-steps g c =
     let now : SteppedVolume = c.loop.volume in
     let first : StoreState = g.S.Store.state c.args.store.now in
     let second : StoreState = g.S.Store.state c.loop.store in
-    let few = helped_few old now first second c.loop.invariant c.requires.steps c.is_volume.ensures c.is_ordered.ensures.uploads in
+    let few = helped_few old now first second c.loop.invariant c.requires.steps c.is_volume.ensures
+    c.is_ordered.ensures.uploads in
     let two = c.in_ok-help.ensures.help.steps.steps in
     omega (arith, few, two)
 
@@ -68,9 +71,11 @@ returns-in_err-flush-clause-call g c =
     let first : StoreState = g.S.Store.state c.args.store.now in
     let second : StoreState = g.S.Store.state c.loop.store in
     let third : StoreState = g.S.Store.state c.help.new.store in
-    call_ends_none most_of_call c.from_residual-in_err-flush.result errors.Eio old new first third c.from_residual-in_err-flush.ensures.1
+    call_ends_none most_of_call c.from_residual-in_err-flush.result errors.Eio old new first third
+    c.from_residual-in_err-flush.ensures.1
     (helped_ends old now first second c.loop.invariant [] true new third c.is_volume.ensures c.is_ordered.ensures.uploads
-    (help_and_flush true now mid new second third c.in_ok-help.ensures.help c.in_err-flush.ensures.steps c.in_err-flush.ensures.faults))
+    (help_and_flush true now mid new second third c.in_ok-help.ensures.help c.in_err-flush.ensures.steps
+    c.in_err-flush.ensures.faults))
 
 pub returns-clause-call : goal.returns-clause-call
 returns-clause-call g c =
@@ -82,4 +87,5 @@ returns-clause-call g c =
     let second : StoreState = g.S.Store.state c.loop.store in
     let third : StoreState = g.S.Store.state c.help.new.store in
     helped_ends old now first second c.loop.invariant [] false new third c.is_volume.ensures c.is_ordered.ensures.uploads
-    (help_and_flush false now mid new second third c.in_ok-help.ensures.help c.in_ok-flush.ensures.steps c.in_ok-flush.ensures.faults)
+    (help_and_flush false now mid new second third c.in_ok-help.ensures.help c.in_ok-flush.ensures.steps
+    c.in_ok-flush.ensures.faults)

@@ -17,7 +17,8 @@ try_entry-requires-clause-steps g c =
     let now : SteppedVolume = c.loop-count.volume in
     let first : StoreState = g.S.Store.state c.args.store.now in
     let second : StoreState = g.S.Store.state c.loop-count.store in
-    let few = helped_few old now first second c.loop-count.invariant.1 c.requires.steps c.is_volume.ensures c.is_ordered.ensures.uploads in
+    let few = helped_few old now first second c.loop-count.invariant.1 c.requires.steps c.is_volume.ensures
+    c.is_ordered.ensures.uploads in
     omega (arith, few)
 
 pub help-requires-clause-steps : goal.help-requires-clause-steps
@@ -26,7 +27,8 @@ help-requires-clause-steps g c =
     let now : SteppedVolume = c.loop-count.volume in
     let first : StoreState = g.S.Store.state c.args.store.now in
     let second : StoreState = g.S.Store.state c.loop-count.store in
-    let few = helped_few old now first second c.loop-count.invariant.1 c.requires.steps c.is_volume.ensures c.is_ordered.ensures.uploads in
+    let few = helped_few old now first second c.loop-count.invariant.1 c.requires.steps c.is_volume.ensures
+    c.is_ordered.ensures.uploads in
     let one = c.in-Again.ensures.steps.steps in
     omega (arith, few, one)
 
@@ -39,7 +41,8 @@ returns-in-Entered-clause-call g c =
     let first : StoreState = g.S.Store.state c.args.store.now in
     let second : StoreState = g.S.Store.state c.loop-count.store in
     subst (λ e. IsCall most_of_call (e ∷ []) false old new first second) c.loop-count.invariant.0
-    (helped_ends old now first second c.loop-count.invariant.1 (left ∷ []) false new second c.is_volume.ensures c.is_ordered.ensures.uploads
+    (helped_ends old now first second c.loop-count.invariant.1 (left ∷ []) false new second c.is_volume.ensures
+    c.is_ordered.ensures.uploads
     (one_attempt (left ∷ []) false now new second c.in-Entered.ensures.steps c.in-Entered.ensures.faults))
 
 pub returns-in-Failed-clause-call : goal.returns-in-Failed-clause-call
@@ -76,7 +79,8 @@ loop-count-preserved g c =
     let less : work_of new.volume < work_of now.volume = subst (λ n. work_of new.volume < n) back.2 lower in (
       back.0 ∙ c.loop-count.invariant.0,
       helped_more old now first second c.loop-count.invariant.1 new third
-          (attempt_and_help false now mid new second third c.in-Again.ensures.steps c.in-Again.ensures.faults c.in_ok-help.ensures.help)
+          (attempt_and_help false now mid new second third c.in-Again.ensures.steps c.in-Again.ensures.faults
+          c.in_ok-help.ensures.help)
           less c.in_ok-help.ensures.idle,
     )
 
@@ -92,7 +96,9 @@ returns-in_err-help-clause-call g c =
     let third : StoreState = g.S.Store.state c.help.new.store in
     let error : OwnerError = c.in_err-help.field-0.0 in
     let failed = is_eio {T = Bool} (Err error) in
-    let fails = helped_ends old now first second c.loop-count.invariant.1 [] failed new third c.is_volume.ensures c.is_ordered.ensures.uploads
-    (attempt_and_help failed now mid new second third c.in-Again.ensures.steps c.in-Again.ensures.faults c.in_err-help.ensures.help) in
+    let fails = helped_ends old now first second c.loop-count.invariant.1 [] failed new third c.is_volume.ensures
+    c.is_ordered.ensures.uploads
+    (attempt_and_help failed now mid new second third c.in-Again.ensures.steps c.in-Again.ensures.faults
+    c.in_err-help.ensures.help) in
     call_ends entry most_of_call c.from_residual.result error old new first third c.from_residual.ensures.1
     (subst (λ b. IsCall most_of_call [] b old new first third) (same_eio Bool ℕ error) fails)

@@ -27,7 +27,8 @@ put-requires-clause-job g c =
       bytes = c.step.ensures.bytes;
       faults = c.step.ensures.faults;
     } in
-    let taken = taken_is state reply old mid of plain shows c.in-Some.job c.requires.idle (handed_job reply c.in-Some.job (sym c.job_of.ensures ∙ c.in-Some.is)) in
+    let taken = taken_is state reply old mid of plain shows c.in-Some.job c.requires.idle
+    (handed_job reply c.in-Some.job (sym c.job_of.ensures ∙ c.in-Some.is)) in
     taken.0
 
 pub returns-in_err-put-in-Some-clause-help : goal.returns-in_err-put-in-Some-clause-help
@@ -54,7 +55,8 @@ returns-in_err-put-in-Some-clause-help g c =
     call_ends_none 2 c.from_residual.result error old last first second c.from_residual.ensures.1
     (subst (λ b. IsCall 2 [] b old last first second) (same_eio (Unit {0}) Bool error)
     (call_then 1 1 [] failed old mid last first first second
-    (quiet_call 1 [] old mid first (take_makes state reply old mid of plain shows) (take_faults state reply old mid of plain shows)) c.in_err-put-in-Some.ensures.call))
+    (quiet_call 1 [] old mid first (take_makes state reply old mid of plain shows)
+    (take_faults state reply old mid of plain shows)) c.in_err-put-in-Some.ensures.call))
 
 pub returns-in_ok-put-in-Some-clause-help : goal.returns-in_ok-put-in-Some-clause-help
 returns-in_ok-put-in-Some-clause-help g c =
@@ -74,7 +76,8 @@ returns-in_ok-put-in-Some-clause-help g c =
     } in
     let first : StoreState = g.S.Store.state c.args.store.now in
     call_then 1 1 [] false old mid c.put.new.volume first first (g.S.Store.state c.put.new.store)
-    (quiet_call 1 [] old mid first (take_makes state reply old mid of plain shows) (take_faults state reply old mid of plain shows)) c.in_ok-put-in-Some.ensures.call
+    (quiet_call 1 [] old mid first (take_makes state reply old mid of plain shows)
+    (take_faults state reply old mid of plain shows)) c.in_ok-put-in-Some.ensures.call
 
 pub returns-in_ok-put-in-Some-clause-less : goal.returns-in_ok-put-in-Some-clause-less
 returns-in_ok-put-in-Some-clause-less g c =
@@ -92,7 +95,8 @@ returns-in_ok-put-in-Some-clause-less g c =
       bytes = c.step.ensures.bytes;
       faults = c.step.ensures.faults;
     } in
-    let taken = taken_is state reply old mid of plain shows c.in-Some.job c.requires.idle (handed_job reply c.in-Some.job (sym c.job_of.ensures ∙ c.in-Some.is)) in
+    let taken = taken_is state reply old mid of plain shows c.in-Some.job c.requires.idle
+    (handed_job reply c.in-Some.job (sym c.job_of.ensures ∙ c.in-Some.is)) in
     subst (λ w. work_of c.put.new.volume.volume < w) taken.1 c.in_ok-put-in-Some.ensures.less
 
 pub seal-requires : goal.seal-requires
@@ -111,7 +115,8 @@ seal-requires g c =
       bytes = c.step.ensures.bytes;
       faults = c.step.ensures.faults;
     } in
-    let left = none_taken state reply old mid of plain shows c.requires.idle c.is_ordered.ensures.uploads (sym c.job_of.ensures ∙ c.in-None.is) in
+    let left = none_taken state reply old mid of plain shows c.requires.idle c.is_ordered.ensures.uploads (sym c.job_of.ensures
+    ∙ c.in-None.is) in
     record {
       steps = omega (arith, c.requires.steps, of.steps);
       idle = left.1;
@@ -134,13 +139,15 @@ returns-in-None g c =
       bytes = c.step.ensures.bytes;
       faults = c.step.ensures.faults;
     } in
-    let left = none_taken state reply old mid of plain shows c.requires.idle c.is_ordered.ensures.uploads (sym c.job_of.ensures ∙ c.in-None.is) in
+    let left = none_taken state reply old mid of plain shows c.requires.idle c.is_ordered.ensures.uploads (sym c.job_of.ensures
+    ∙ c.in-None.is) in
     let first : StoreState = g.S.Store.state c.args.store.now in
     let no_fault = memory_alone c.seal.result c.seal.ensures.error in
     record {
       help = subst (λ b. IsCall 2 [] b old c.seal.new.volume first first) (sym no_fault)
           (call_then 1 1 [] false old mid c.seal.new.volume first first first
-          (quiet_call 1 [] old mid first (take_makes state reply old mid of plain shows) (take_faults state reply old mid of plain shows))
+          (quiet_call 1 [] old mid first (take_makes state reply old mid of plain shows)
+          (take_faults state reply old mid of plain shows))
           (quiet_call 1 [] mid c.seal.new.volume first c.seal.ensures.steps c.seal.ensures.faults));
       less = helped_as c.seal.result old.volume mid.volume c.seal.new.volume.volume left.2 c.seal.ensures.less;
       error = memory_no_range c.seal.result c.seal.ensures.error;

@@ -22,7 +22,8 @@ returns-in-Ok-clause-call g c =
     let name : ObjName = c.object_name-name.result in
     let taken = c.requires.job in
     let name_is : name ≡ name_of uuid job.name.number =
-    job_name name job.name uuid c.into_bytes.result c.name.result.now.number c.object_name-name.ensures.is (c.into_bytes.ensures ∙ c.uuid.ensures)
+    job_name name job.name uuid c.into_bytes.result c.name.result.now.number c.object_name-name.ensures.is (c.into_bytes.ensures
+    ∙ c.uuid.ensures)
     (ap (λ (n : ObjName). n.number) c.name.ensures) in
     let plain = c.is_volume.ensures.plain in
     let shows = c.is_volume.ensures.shows in
@@ -36,7 +37,8 @@ returns-in-Ok-clause-call g c =
       bytes = c.step.ensures.bytes;
       faults = c.step.ensures.faults;
     } in
-    put_call uuid job.name.number name c.object.result.now old c.step.new.self (g.S.Store.state c.args.store.now) (g.S.Store.state c.put.new.self)
+    put_call uuid job.name.number name c.object.result.now old c.step.new.self (g.S.Store.state c.args.store.now)
+    (g.S.Store.state c.put.new.self)
     refl name_is c.in-Ok.ensures.put c.in-Ok.ensures.count
     (done_makes state job receipt c.step.result old c.step.new.self of plain shows taken named)
     (done_faults state job receipt c.step.result old c.step.new.self of plain shows taken named)
@@ -50,7 +52,8 @@ returns-in-Ok-clause-less g c =
     let name : ObjName = c.object_name-name.result in
     let taken = c.requires.job in
     let name_is : name ≡ name_of uuid job.name.number =
-    job_name name job.name uuid c.into_bytes.result c.name.result.now.number c.object_name-name.ensures.is (c.into_bytes.ensures ∙ c.uuid.ensures)
+    job_name name job.name uuid c.into_bytes.result c.name.result.now.number c.object_name-name.ensures.is (c.into_bytes.ensures
+    ∙ c.uuid.ensures)
     (ap (λ (n : ObjName). n.number) c.name.ensures) in
     let plain = c.is_volume.ensures.plain in
     let shows = c.is_volume.ensures.shows in
@@ -75,7 +78,8 @@ returns-in-Ok-clause-idle g c =
     let name : ObjName = c.object_name-name.result in
     let taken = c.requires.job in
     let name_is : name ≡ name_of uuid job.name.number =
-    job_name name job.name uuid c.into_bytes.result c.name.result.now.number c.object_name-name.ensures.is (c.into_bytes.ensures ∙ c.uuid.ensures)
+    job_name name job.name uuid c.into_bytes.result c.name.result.now.number c.object_name-name.ensures.is (c.into_bytes.ensures
+    ∙ c.uuid.ensures)
     (ap (λ (n : ObjName). n.number) c.name.ensures) in
     let plain = c.is_volume.ensures.plain in
     let shows = c.is_volume.ensures.shows in
@@ -100,7 +104,8 @@ returns-in-Err-clause-call g c =
     let name : ObjName = c.object_name-name.result in
     let taken = c.requires.job in
     let name_is : name ≡ name_of uuid job.name.number =
-    job_name name job.name uuid c.into_bytes.result c.name.result.now.number c.object_name-name.ensures.is (c.into_bytes.ensures ∙ c.uuid.ensures)
+    job_name name job.name uuid c.into_bytes.result c.name.result.now.number c.object_name-name.ensures.is (c.into_bytes.ensures
+    ∙ c.uuid.ensures)
     (ap (λ (n : ObjName). n.number) c.name.ensures) in
     let plain = c.is_volume.ensures.plain in
     let shows = c.is_volume.ensures.shows in
@@ -116,7 +121,8 @@ returns-in-Err-clause-call g c =
     let first : StoreState = g.S.Store.state c.args.store.now in
     let second : StoreState = g.S.Store.state c.put.new.self in
     subst (λ e. IsCall 1 [] (is_eio {T = Unit {0}} (Err e)) old c.step-in-Err.new.self first second) (sym c.into.ensures)
-    (failed_put_call g.row.R.Denot error uuid job.name.number name c.object.result.now old c.step-in-Err.new.self first second refl name_is
+    (failed_put_call g.row.R.Denot error uuid job.name.number name c.object.result.now old c.step-in-Err.new.self first second
+    refl name_is
     (λ is. c.in-Err.ensures.failed (ap Err is)) (λ is. c.in-Err.ensures.unchanged (ap Err is)) c.in-Err.ensures.count
     (failed_makes state job c.step-in-Err.result old c.step-in-Err.new.self of plain shows taken)
     (failed_faults state job c.step-in-Err.result old c.step-in-Err.new.self of plain shows taken))
@@ -130,7 +136,8 @@ returns-in-Err-clause-idle g c =
     let name : ObjName = c.object_name-name.result in
     let taken = c.requires.job in
     let name_is : name ≡ name_of uuid job.name.number =
-    job_name name job.name uuid c.into_bytes.result c.name.result.now.number c.object_name-name.ensures.is (c.into_bytes.ensures ∙ c.uuid.ensures)
+    job_name name job.name uuid c.into_bytes.result c.name.result.now.number c.object_name-name.ensures.is (c.into_bytes.ensures
+    ∙ c.uuid.ensures)
     (ap (λ (n : ObjName). n.number) c.name.ensures) in
     let plain = c.is_volume.ensures.plain in
     let shows = c.is_volume.ensures.shows in

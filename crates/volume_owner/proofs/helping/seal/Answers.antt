@@ -29,7 +29,8 @@ returns g c =
     let left = sealed_leaves state reply old new of plain shows c.requires.idle c.requires.none in
     record {
       steps = seal_makes state reply old new of plain shows;
-      less = subst (λ (r : Result Bool OwnerError). IfOk r (λ has_sealed. HasHelped has_sealed old.volume new.volume)) (sym c.seal_of.ensures) left.1;
+      less = subst (λ (r : Result Bool OwnerError). IfOk r (λ has_sealed. HasHelped has_sealed old.volume new.volume))
+          (sym c.seal_of.ensures) left.1;
       error = subst (λ (r : Result Bool OwnerError). IsOkUnless r errors.OutOfMemory) (sym c.seal_of.ensures) (seal_alone reply);
       faults = seal_faults state reply old new of plain shows;
       idle = left.0;

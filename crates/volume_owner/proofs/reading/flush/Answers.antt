@@ -22,7 +22,8 @@ returns-in-Some g c =
       bytes = c.step.ensures.bytes;
       faults = c.step.ensures.faults;
     } in
-    let is = flushed_is state reply old new of plain shows c.in-Some.count (flushed_reply reply c.in-Some.count (sym c.count_of.ensures ∙ c.in-Some.is)) in
+    let is = flushed_is state reply old new of plain shows c.in-Some.count
+    (flushed_reply reply c.in-Some.count (sym c.count_of.ensures ∙ c.in-Some.is)) in
     record {
       steps = flush_makes state reply old new of plain shows;
       count = is.0;

@@ -11,7 +11,8 @@ use Rattle.volume_owner.specs.declared.error.OwnerError.{OwnerError}
 use Rattle.volume_owner.specs.declared.error.OwnerError.TheVariants as errors
 use Rattle.volume_owner.proofs.StepLemmas.{Steps, makes_fewer}
 use Rattle.volume_owner.proofs.CallLemmas.{call_ends_none, disk_call, read_call, handed_on}
-use Rattle.volume_owner.proofs.ReadLemmas.{planned_reply, no_plan, look_makes, look_faults, look_shown, not_looked_idle, release_makes, release_faults, released_idle, looked_length, looked_sectors}
+use Rattle.volume_owner.proofs.ReadLemmas.{planned_reply, no_plan, look_makes, look_faults, look_shown, not_looked_idle}
+use Rattle.volume_owner.proofs.ReadLemmas.{release_makes, release_faults, released_idle, looked_length, looked_sectors}
 use Rattle.volume_owner.proofs.reading.read.Goals as goal
 
 pub returns-in_err-plan-clause-call : goal.returns-in_err-plan-clause-call
@@ -35,7 +36,8 @@ returns-in_err-plan-clause-call g c =
     let error : OwnerError = c.in_err-plan.field-0.0 in
     let none = no_plan reply error (sym c.plan_of.ensures ∙ c.in_err-plan.was) in
     let first : StoreState = g.S.Store.state c.args.store.now in
-    let counts = subst (λ b. Counts b old.volume.log.commits.disk.faults mid.volume.log.commits.disk.faults) (sym none.1) of.faults in
+    let counts = subst (λ b. Counts b old.volume.log.commits.disk.faults mid.volume.log.commits.disk.faults) (sym none.1)
+    of.faults in
     call_ends_none most_of_call c.from_residual.result error old mid first first c.from_residual.ensures.1
     (disk_call most_of_call [] (is_eio {T = ℕ} (Err error)) old mid first
     (makes_fewer 1 most_of_call [] old mid (omega arith) (look_makes state reply lba sectors old mid of)) counts)
@@ -84,7 +86,8 @@ returns-in_err-plan-clause-range g c =
     let none = no_plan reply error (sym c.plan_of.ensures ∙ c.in_err-plan.was) in
     let is = handed_on c.from_residual.result error c.from_residual.ensures.1 in
     let inside : may_transfer old.volume.objects.batch.geometry lba sectors ≡ true =
-    ap (λ geometry. may_transfer geometry lba sectors) (sym c.geometry.ensures) ∙ sym c.may_transfer.ensures ∙ c.if-not-may_transfer.false in (
+    ap (λ geometry. may_transfer geometry lba sectors) (sym c.geometry.ensures) ∙ sym c.may_transfer.ensures
+    ∙ c.if-not-may_transfer.false in (
       λ range. (let same : error ≡ errors.Range = cc in absurd (none.2 same)),
       λ outside. (let bad : ⊥ = cc in absurd bad),
     )
@@ -121,11 +124,15 @@ returns-in_err-fetched-clause-call g c =
     let first : StoreState = g.S.Store.state c.args.store.now in
     let second : StoreState = g.S.Store.state c.fetch-fetched.new.store in
     let shown = look_shown state reply lba sectors old mid of plan plain shows planned in
-    let call = λ (failed : Bool) (counts : Counts failed first.faults second.faults). read_call most_of_call failed old mid last first second (omega arith)
-    (look_makes state reply lba sectors old mid of) (release_makes state reply lba sectors old mid of plan c.step-2.result last given)
+    let call = λ (failed : Bool) (counts : Counts failed first.faults second.faults). read_call most_of_call failed old mid last
+    first second (omega arith)
+    (look_makes state reply lba sectors old mid of) (release_makes state reply lba sectors old mid of plan c.step-2.result
+    last given)
     (look_faults state reply lba sectors old mid of plan planned)
-    (release_faults state reply lba sectors old mid of plan c.step-2.result last given shown.0 shown.1) c.fetch-fetched.ensures.unchanged counts in
-    call_ends_none most_of_call c.from_residual-in_err-fetched.result errors.Eio old last first second c.from_residual-in_err-fetched.ensures.1
+    (release_faults state reply lba sectors old mid of plan c.step-2.result last given shown.0 shown.1)
+    c.fetch-fetched.ensures.unchanged counts in
+    call_ends_none most_of_call c.from_residual-in_err-fetched.result errors.Eio old last first second
+    c.from_residual-in_err-fetched.ensures.1
     (call true c.in_err-fetched.ensures.count)
 
 pub returns-in_err-fetched-clause-idle : goal.returns-in_err-fetched-clause-idle
@@ -222,10 +229,13 @@ returns-clause-call g c =
     let first : StoreState = g.S.Store.state c.args.store.now in
     let second : StoreState = g.S.Store.state c.fetch-fetched.new.store in
     let shown = look_shown state reply lba sectors old mid of plan plain shows planned in
-    let call = λ (failed : Bool) (counts : Counts failed first.faults second.faults). read_call most_of_call failed old mid last first second (omega arith)
-    (look_makes state reply lba sectors old mid of) (release_makes state reply lba sectors old mid of plan c.step-2.result last given)
+    let call = λ (failed : Bool) (counts : Counts failed first.faults second.faults). read_call most_of_call failed old mid last
+    first second (omega arith)
+    (look_makes state reply lba sectors old mid of) (release_makes state reply lba sectors old mid of plan c.step-2.result
+    last given)
     (look_faults state reply lba sectors old mid of plan planned)
-    (release_faults state reply lba sectors old mid of plan c.step-2.result last given shown.0 shown.1) c.fetch-fetched.ensures.unchanged counts in
+    (release_faults state reply lba sectors old mid of plan c.step-2.result last given shown.0 shown.1)
+    c.fetch-fetched.ensures.unchanged counts in
     call false c.in_ok-fetched.ensures.count
 
 pub returns-clause-front : goal.returns-clause-front
@@ -271,4 +281,5 @@ returns-clause-bytes g c =
     let plan : PlanState = c.in_ok-plan.plan in
     let planned = planned_reply reply plan (sym c.plan_of.ensures ∙ c.in_ok-plan.was) in
     let long : length c.fetch-fetched.new.buf ≡ length c.args.buf.now = c.fetch-fetched.auto.buf in
-    looked_sectors state reply lba sectors old mid of plan c.fetch-fetched.new.buf planned (ap (λ n. n / 512) long) c.in_ok-fetched.ensures.one
+    looked_sectors state reply lba sectors old mid of plan c.fetch-fetched.new.buf planned (ap (λ n. n / 512) long)
+    c.in_ok-fetched.ensures.one

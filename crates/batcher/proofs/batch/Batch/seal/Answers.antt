@@ -29,11 +29,19 @@ returns c =
       entries = b.entries.items;
       reserved = min b.plan.changes.spare (deque_capacity b.entries - length b.entries.items);
     } in
-    subst (λ s. IsSealed s c.args.expected.now (record { object = c.in_ok-written.written.object; rows = c.in_ok-written.written.rows; entries = b.plan.entries; rest = record { after = b.plan.entries; plan = c.in_ok-plan.plan } }))
+    subst (λ s. IsSealed s c.args.expected.now
+    (record {
+      object = c.in_ok-written.written.object;
+      rows = c.in_ok-written.written.rows;
+      entries = b.plan.entries;
+      rest = record { after = b.plan.entries; plan = c.in_ok-plan.plan };
+    }))
     c.self.view_is
     (is_sealed batch b.sectors b.plan c.self.invariant (subst (λ s. 0 < length s.entries) (sym c.self.view_is) c.requires.some)
     c.deref.result.now (sym is) (subst (IsShortest place_on) is c.in_ok-extents.ensures.shortest) c.args.expected.now
     (subst (AllFit place_number) is c.in_ok-extents.ensures.fits)
-    (subst (λ s. IsExpectedOf s c.args.expected.now) (sym c.self.view_is) (record { sectors = c.requires.expected.sectors; end_before = c.requires.expected.end_before }))
-    c.in_ok-written.written c.in_ok-written.ensures c.keep_widths.ensures.uuid c.keep_widths.ensures.number c.in_ok-plan.plan c.in_ok-plan.ensures.plan
+    (subst (λ s. IsExpectedOf s c.args.expected.now) (sym c.self.view_is)
+    (record { sectors = c.requires.expected.sectors; end_before = c.requires.expected.end_before }))
+    c.in_ok-written.written c.in_ok-written.ensures c.keep_widths.ensures.uuid c.keep_widths.ensures.number c.in_ok-plan.plan
+    c.in_ok-plan.ensures.plan
     (omega (arith, c.in_ok-plan.ensures.spare, c.spare-spare.ensures)))

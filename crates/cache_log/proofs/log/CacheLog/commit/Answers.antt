@@ -13,7 +13,8 @@ use Rattle.cache_log.specs.Rows.{since}
 use Rattle.cache_log.specs.Log.{LogState, next_seq}
 use Rattle.cache_log.specs.Committed.{body_of, sectors_from}
 use Rattle.cache_log.specs.Invariant.{IsLog}
-use Rattle.cache_log.proofs.CommitLemmas.{body_with, body_is, all_may, HasTried, left_by, released, IsDropped, dropped_after, log_after, release_log, IsCommitTried, commit_tried}
+use Rattle.cache_log.proofs.CommitLemmas.{body_with, body_is, all_may, HasTried, left_by, released, IsDropped, dropped_after}
+use Rattle.cache_log.proofs.CommitLemmas.{log_after, release_log, IsCommitTried, commit_tried}
 use Rattle.cache_log.proofs.CommittedLemmas.{view_of}
 use Rattle.cache_log.proofs.log.CacheLog.commit.Given as given
 use Rattle.cache_log.proofs.log.CacheLog.commit.Goals.{After-drop_below}
@@ -27,24 +28,31 @@ commit-committed-requires-clause-may_stand g c =
     let rows : List Row = drop c.self.inside.dropped c.self.inside.rows.items in
     let old : CommitsState = c.self.inside.commits in
     let log = c.self.invariant.1.is in
-    let is = body_is old.body place mark rows c.body-body.result c.head-head.result c.next_seq.result c.body-body.ensures.body c.head-head.ensures.head (c.next_seq.ensures ∙ ap next_seq (sym c.self.view_is)) in
-    subst (λ b. MayStand b (log_of old.disk.size)) (sym is) (subst (MayStand (body_with old.body place mark rows)) log.sectors (all_may place mark held rows old log))
+    let is = body_is old.body place mark rows c.body-body.result c.head-head.result c.next_seq.result c.body-body.ensures.body
+    c.head-head.ensures.head (c.next_seq.ensures ∙ ap next_seq (sym c.self.view_is)) in
+    subst (λ b. MayStand b (log_of old.disk.size)) (sym is) (subst (MayStand (body_with old.body place mark rows)) log.sectors
+    (all_may place mark held rows old log))
 
 -- what the commit of that body left, and what was taken of the rows
 left : (g : given.Over) (c : After-drop_below g)
-    → HasTried (body_with c.self.inside.commits.body c.self.inside.room c.self.inside.tail (drop c.self.inside.dropped c.self.inside.rows.items)) c.self.inside.commits c.commit-committed.new.self
+    → HasTried (body_with c.self.inside.commits.body c.self.inside.room c.self.inside.tail
+    (drop c.self.inside.dropped c.self.inside.rows.items)) c.self.inside.commits c.commit-committed.new.self
 left g c =
     let rows : List Row = drop c.self.inside.dropped c.self.inside.rows.items in
     let old : CommitsState = c.self.inside.commits in
-    let is = body_is old.body c.self.inside.room c.self.inside.tail rows c.body-body.result c.head-head.result c.next_seq.result c.body-body.ensures.body c.head-head.ensures.head
+    let is = body_is old.body c.self.inside.room c.self.inside.tail rows c.body-body.result c.head-head.result c.next_seq.result
+    c.body-body.ensures.body c.head-head.ensures.head
     (c.next_seq.ensures ∙ ap next_seq (sym c.self.view_is)) in
     let e = c.commit-committed.ensures in
-    left_by c.commit-committed.result _ _ _ _ _ _ _ c.self.invariant.1.is is e.ok e.err e.crash_safe e.log_area e.costs.calls.size e.on_disk
+    left_by c.commit-committed.result _ _ _ _ _ _ _ c.self.invariant.1.is is e.ok e.err e.crash_safe e.log_area
+    e.costs.calls.size e.on_disk
 
 dropped : (g : given.Over) (c : After-drop_below g)
-    → IsDropped c.self.inside.rows.items c.drop_below.new.rows.items c.self.inside.dropped c.drop_below.result c.commit-committed.new.self.body.tail.seq
+    → IsDropped c.self.inside.rows.items c.drop_below.new.rows.items c.self.inside.dropped c.drop_below.result
+    c.commit-committed.new.self.body.tail.seq
 dropped g c =
-    dropped_after _ _ _ _ _ _ _ _ _ c.self.invariant.0 c.self.invariant.1.is (left g c) (ap (λ (b : CommitBody). b.tail.seq) c.body-last.ensures.body) c.drop_below.ensures.rows c.drop_below.ensures.count
+    dropped_after _ _ _ _ _ _ _ _ _ c.self.invariant.0 c.self.invariant.1.is (left g c)
+    (ap (λ (b : CommitBody). b.tail.seq) c.body-last.ensures.body) c.drop_below.ensures.rows c.drop_below.ensures.count
 
 pub overflow_sub-self : goal.overflow_sub-self
 overflow_sub-self g c = (dropped g c).few
@@ -54,7 +62,8 @@ room_is : (g : given.Over) (c : After-drop_below g) (log used : ℕ) (room : Roo
     → log ≡ c.self.inside.room.log
     → used ≡ sectors_from log c.body-last.result.tail.position c.head-head.result c.drop_below.new.rows.items
     → room ≡ room_of log c.head-head.result used
-    → room ≡ released c.self.inside.room c.commit-committed.new.self.body (take c.self.inside.dropped c.self.inside.rows.items) (drop c.self.inside.dropped c.self.inside.rows.items)
+    → room ≡ released c.self.inside.room c.commit-committed.new.self.body (take c.self.inside.dropped c.self.inside.rows.items)
+    (drop c.self.inside.dropped c.self.inside.rows.items)
 room_is g c log used room log_is used_is is =
     let place : Room = c.self.inside.room in
     let last : CommitBody = c.body-last.result in
@@ -63,8 +72,10 @@ room_is g c log used room log_is used_is is =
     ∙ ap (room_of log c.head-head.result) used_is
     ∙ ap (λ l. room_of l c.head-head.result (sectors_from l last.tail.position c.head-head.result items)) log_is
     ∙ ap (λ h. room_of place.log h (sectors_from place.log last.tail.position h items)) c.head-head.ensures.head
-    ∙ ap (λ (b : CommitBody). room_of place.log place.head (sectors_from place.log b.tail.position place.head items)) c.body-last.ensures.body
-    ∙ ap (λ r. room_of place.log place.head (sectors_from place.log c.commit-committed.new.self.body.tail.position place.head r)) (dropped g c).whole
+    ∙ ap (λ (b : CommitBody). room_of place.log place.head (sectors_from place.log b.tail.position place.head items))
+    c.body-last.ensures.body
+    ∙ ap (λ r. room_of place.log place.head (sectors_from place.log c.commit-committed.new.self.body.tail.position place.head r))
+    (dropped g c).whole
 
 pub invariant_of-self : goal.invariant_of-self
 invariant_of-self g c =
@@ -76,15 +87,19 @@ invariant_of-self g c =
     let P : Room → List Row → List Row → Type 0 = λ p h r. IsLog p mark h r new in
     let held : List Row = since new.body.tail.seq (take c.self.inside.dropped c.self.inside.rows.items) in
     let rows : List Row = drop c.self.inside.dropped c.self.inside.rows.items in
-    let room = room_is g before _ _ _ c.sectors-log.ensures c.sectors_from-used.ensures.sectors c.at-self-inside.ensures in
-    (is.within, subst₂ (λ h r. P c.at-self-inside.result h r) (sym is.held) (sym is.rows) (subst (λ p. P p held rows) (sym room) log))
+    let room = room_is g before _ _ _ c.sectors-log.ensures c.sectors_from-used.ensures.sectors c.at-self-inside.ensures in (
+      is.within,
+      subst₂ (λ h r. P c.at-self-inside.result h r) (sym is.held) (sym is.rows)
+          (subst (λ p. P p held rows) (sym room) log),
+    )
 
 promised : (g : given.Over) (c : After-drop_below g) (log used after : ℕ) (room : Room)
     → log ≡ c.self.inside.room.log
     → used ≡ sectors_from log c.body-last.result.tail.position c.head-head.result c.drop_below.new.rows.items
     → room ≡ room_of log c.head-head.result used
     → IsCommitTried c.commit-committed.result c.args.self.now
-    (view_of room c.self.inside.tail (take (c.self.inside.dropped - c.drop_below.result) c.drop_below.new.rows.items) (drop (c.self.inside.dropped - c.drop_below.result) c.drop_below.new.rows.items)
+    (view_of room c.self.inside.tail (take (c.self.inside.dropped - c.drop_below.result) c.drop_below.new.rows.items)
+    (drop (c.self.inside.dropped - c.drop_below.result) c.drop_below.new.rows.items)
     c.commit-committed.new.self after)
 promised g c log used after room log_is used_is room_of_is =
     let place : Room = c.self.inside.room in
@@ -93,35 +108,45 @@ promised g c log used after room log_is used_is room_of_is =
     let rows : List Row = drop c.self.inside.dropped c.self.inside.rows.items in
     let old : CommitsState = c.self.inside.commits in
     let new : CommitsState = c.commit-committed.new.self in
-    let body = body_is old.body place mark rows c.body-body.result c.head-head.result c.next_seq.result c.body-body.ensures.body c.head-head.ensures.head (c.next_seq.ensures ∙ ap next_seq (sym c.self.view_is)) in
+    let body = body_is old.body place mark rows c.body-body.result c.head-head.result c.next_seq.result c.body-body.ensures.body
+    c.head-head.ensures.head (c.next_seq.ensures ∙ ap next_seq (sym c.self.view_is)) in
     let is = dropped g c in
-    let done = commit_tried c.commit-committed.result place mark held rows old new _ after c.args.self.now c.self.view_is c.self.invariant.1.is (left g c)
+    let done = commit_tried c.commit-committed.result place mark held rows old new _ after c.args.self.now c.self.view_is
+    c.self.invariant.1.is (left g c)
     (subst (λ b. OnOk c.commit-committed.result (IsCommitted b old new)) body c.commit-committed.ensures.ok) in
-    let P : Room → List Row → List Row → Type 0 = λ p h r. IsCommitTried c.commit-committed.result c.args.self.now (view_of p mark h r new after) in
-    subst₂ (λ h r. P room h r) (sym is.held) (sym is.rows) (subst (λ p. P p (since new.body.tail.seq held) rows) (sym (room_is g c log used room log_is used_is room_of_is)) done)
+    let P : Room → List Row → List Row → Type 0 = λ p h r. IsCommitTried c.commit-committed.result c.args.self.now
+    (view_of p mark h r new after) in
+    subst₂ (λ h r. P room h r) (sym is.held) (sym is.rows) (subst (λ p. P p (since new.body.tail.seq held) rows)
+    (sym (room_is g c log used room log_is used_is room_of_is)) done)
 
 pub returns-clause-same : goal.returns-clause-same
 returns-clause-same g c =
-    (promised g (goal.at.returns-clause-same g c).After-drop_below _ _ _ _ c.sectors-log.ensures c.sectors_from-used.ensures.sectors c.at-self-inside.ensures).same
+    (promised g (goal.at.returns-clause-same g c).After-drop_below _ _ _ _ c.sectors-log.ensures
+    c.sectors_from-used.ensures.sectors c.at-self-inside.ensures).same
 
 pub returns-clause-released : goal.returns-clause-released
 returns-clause-released g c =
-    (promised g (goal.at.returns-clause-released g c).After-drop_below _ _ _ _ c.sectors-log.ensures c.sectors_from-used.ensures.sectors c.at-self-inside.ensures).released
+    (promised g (goal.at.returns-clause-released g c).After-drop_below _ _ _ _ c.sectors-log.ensures
+    c.sectors_from-used.ensures.sectors c.at-self-inside.ensures).released
 
 pub returns-clause-ok : goal.returns-clause-ok
 returns-clause-ok g c =
-    (promised g (goal.at.returns-clause-ok g c).After-drop_below _ _ _ _ c.sectors-log.ensures c.sectors_from-used.ensures.sectors c.at-self-inside.ensures).ok
+    (promised g (goal.at.returns-clause-ok g c).After-drop_below _ _ _ _ c.sectors-log.ensures c.sectors_from-used.ensures.sectors
+    c.at-self-inside.ensures).ok
 
 pub returns-clause-stands : goal.returns-clause-stands
 returns-clause-stands g c =
-    (promised g (goal.at.returns-clause-stands g c).After-drop_below _ _ 0 _ c.sectors-log.ensures c.sectors_from-used.ensures.sectors c.at-self-inside.ensures).stands
+    (promised g (goal.at.returns-clause-stands g c).After-drop_below _ _ 0 _ c.sectors-log.ensures
+    c.sectors_from-used.ensures.sectors c.at-self-inside.ensures).stands
 
 pub returns-clause-err : goal.returns-clause-err
 returns-clause-err g c =
     let old : CommitsState = c.self.inside.commits in
     let new : CommitsState = c.commit-committed.new.self in
     let rows : List Row = drop c.self.inside.dropped c.self.inside.rows.items in
-    let body = body_is old.body c.self.inside.room c.self.inside.tail rows c.body-body.result c.head-head.result c.next_seq.result c.body-body.ensures.body c.head-head.ensures.head
+    let body = body_is old.body c.self.inside.room c.self.inside.tail rows c.body-body.result c.head-head.result c.next_seq.result
+    c.body-body.ensures.body c.head-head.ensures.head
     (c.next_seq.ensures ∙ ap next_seq (sym c.self.view_is)) in
     let E : LogState → Type 0 = λ l. OnErr c.commit-committed.result (FailsToCommit (body_of l) l.commits new) in
-    subst E c.self.view_is (subst (λ b. OnErr c.commit-committed.result (FailsToCommit b old new)) body c.commit-committed.ensures.err)
+    subst E c.self.view_is (subst (λ b. OnErr c.commit-committed.result (FailsToCommit b old new)) body
+    c.commit-committed.ensures.err)

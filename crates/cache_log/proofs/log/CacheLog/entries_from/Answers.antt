@@ -20,28 +20,39 @@ use Rattle.cache_log.proofs.WriteLemmas.{read_log}
 use Rattle.cache_log.proofs.log.CacheLog.entries_from.Goals as goal
 
 -- whatever was answered, the device was read alone
-still_log : {T : Type 0} (r : Result T ReadError) (most : ℕ) (place : Room) (mark : Mark) (held rows : List Row) (old new : CommitsState) → OnOk r (AreReadOnly most true old new)
-    → IfErr r (λ e. AreReadOnly most (reads_without_fault e) old new) → IsLog place mark held rows old → IsLog place mark held rows new
-still_log (Ok x) most place mark held rows old new only err log = read_log place mark held rows old new log only.same only.moments only.reads.calls.size only.on_disk
-still_log (Err e) most place mark held rows old new only err log = read_log place mark held rows old new log err.same err.moments err.reads.calls.size err.on_disk
+still_log : {T : Type 0} (r : Result T ReadError) (most : ℕ) (place : Room) (mark : Mark) (held rows : List Row)
+    (old new : CommitsState) → OnOk r (AreReadOnly most true old new)
+    → IfErr r (λ e. AreReadOnly most (reads_without_fault e) old new) → IsLog place mark held rows old
+    → IsLog place mark held rows new
+still_log (Ok x) most place mark held rows old new only err log = read_log place mark held rows old new log only.same only.moments
+    only.reads.calls.size only.on_disk
+still_log (Err e) most place mark held rows old new only err log = read_log place mark held rows old new log err.same err.moments
+    err.reads.calls.size err.on_disk
 
 pub invariant_of-self : goal.invariant_of-self
-invariant_of-self g c = (c.self.invariant.0, still_log c.read_entries.result _ _ _ _ _ _ _ c.read_entries.ensures.read c.read_entries.ensures.err c.self.invariant.1)
+invariant_of-self g c = (
+  c.self.invariant.0,
+  still_log c.read_entries.result _ _ _ _ _ _ _ c.read_entries.ensures.read
+      c.read_entries.ensures.err c.self.invariant.1,
+)
 
 pub read_entries-requires-clause-inside : goal.read_entries-requires-clause-inside
 read_entries-requires-clause-inside g c =
     let items : List Row = c.self.inside.rows.items in
     let P : List Row → Type 0 = AllByRecursion (λ row. position_of row + record_size row ≤ c.self.inside.room.log) in
     let inside : P items = subst P (take-append-drop c.self.inside.dropped items) (all_inside _ _ _ _ _ c.self.invariant.1) in
-    log_lies items c.self.inside.room.log c.self.inside.commits.disk c.self.invariant.1.is.room.limit c.self.invariant.1.is.fits inside
+    log_lies items c.self.inside.room.log c.self.inside.commits.disk c.self.invariant.1.is.room.limit
+    c.self.invariant.1.is.fits inside
 
 -- the rows that are not skipped are those from the seq on
-left_from : (count seq d : ℕ) (items : List Row) (log : LogState) (view : LogState) → view.rows ≡ drop d items → view ≡ log → count ≡ min (seq - log.first) (length log.rows)
+left_from : (count seq d : ℕ) (items : List Row) (log : LogState) (view : LogState) → view.rows ≡ drop d items → view ≡ log
+    → count ≡ min (seq - log.first) (length log.rows)
     → drop (d + count) items ≡ drop (seq - view.first) (drop d items)
 left_from count seq d items log view same seen is =
     let k : ℕ = seq - view.first in
     let rows : List Row = drop d items in
-    let counted : count ≡ min k (length rows) = is ∙ ap (λ (l : LogState). min (seq - l.first) (length l.rows)) (sym seen) ∙ ap (λ r. min k (length r)) same in
+    let counted : count ≡ min k (length rows) = is ∙ ap (λ (l : LogState). min (seq - l.first) (length l.rows)) (sym seen)
+    ∙ ap (λ r. min k (length r)) same in
     ap (λ n. drop (d + n) items) counted ∙ sym (drop-drop (min k (length rows)) d items) ∙ drop_min k rows
 
 pub returns-clause-entries : goal.returns-clause-entries
@@ -51,10 +62,14 @@ returns-clause-entries g c =
     let k : ℕ = c.args.seq - c.self.inside.tail.seq in
     let skipped = left_from c.count_below.result c.args.seq d items _ _ refl c.self.view_is c.count_below.ensures.count in
     let moments : List Medium = c.self.inside.commits.disk.moments in
-    let read = subst (λ l. IfOk c.read_entries.result (λ list. HoldsNow (λ now. list.items ≡ map (entry_of now.bytes) l) moments)) skipped c.read_entries.ensures.entries in
-    rw (← c.self.view_is) (entries_on_ok (λ (list : Vec Entry Global). list.items) c.read_entries.result (drop d items) k moments read)
+    let read = subst (λ l. IfOk c.read_entries.result (λ list. HoldsNow (λ now. list.items ≡ map (entry_of now.bytes) l) moments))
+    skipped c.read_entries.ensures.entries in
+    rw (← c.self.view_is) (entries_on_ok (λ (list : Vec Entry Global). list.items) c.read_entries.result (drop d items) k
+    moments read)
 
 pub returns-clause-rows : goal.returns-clause-rows
 returns-clause-rows g c =
-    let skipped = left_from c.count_below.result c.args.seq c.self.inside.dropped c.self.inside.rows.items _ _ refl c.self.view_is c.count_below.ensures.count in
-    rw (← c.self.view_is) (subst (λ l. IfOk c.read_entries.result (λ list. AreRowsOf l list.items)) skipped c.read_entries.ensures.rows)
+    let skipped = left_from c.count_below.result c.args.seq c.self.inside.dropped c.self.inside.rows.items _ _ refl c.self.view_is
+    c.count_below.ensures.count in
+    rw (← c.self.view_is) (subst (λ l. IfOk c.read_entries.result (λ list. AreRowsOf l list.items)) skipped
+    c.read_entries.ensures.rows)

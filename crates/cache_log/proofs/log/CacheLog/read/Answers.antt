@@ -28,13 +28,18 @@ read-requires g c =
     omega (arith, ends, c.self.invariant.1.is.fits, c.byte_of.ensures)
 
 pub invariant_of-self : goal.invariant_of-self
-invariant_of-self g c = (c.self.invariant.0, read_log _ _ _ _ _ _ c.self.invariant.1 c.read.ensures.same c.read.ensures.moments c.read.ensures.costs.size c.read.ensures.on_disk)
+invariant_of-self g c = (
+  c.self.invariant.0,
+  read_log _ _ _ _ _ _ c.self.invariant.1 c.read.ensures.same c.read.ensures.moments
+      c.read.ensures.costs.size c.read.ensures.on_disk,
+)
 
 pub returns-clause-ok : goal.returns-clause-ok
 returns-clause-ok g c =
     let same : length c.args.buf.now ≡ length c.read.new.buf = search rules in
     let log : LogState = c.args.self.now in
     let told : log.entries ≡ entries_in log.rows log.commits.disk.moments = rw (← c.self.view_is) refl in
-    let read : OnOk c.read.result (HoldsNow (λ now. c.read.new.buf ≡ take (length c.args.buf.now) (drop c.byte_of.result now.bytes)) log.commits.disk.moments) =
+    let read : OnOk c.read.result (HoldsNow (λ now. c.read.new.buf ≡ take (length c.args.buf.now)
+    (drop c.byte_of.result now.bytes)) log.commits.disk.moments) =
     rw (← c.self.view_is) c.read.ensures.ok in
     is_read_on_ok c.read.result log c.args.buf.now c.read.new.buf c.args.sector c.byte_of.result c.byte_of.ensures same told read

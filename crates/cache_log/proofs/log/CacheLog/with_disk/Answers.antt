@@ -30,5 +30,10 @@ invariant_of-self g c =
     let old : CommitsState = c.self.inside.commits in
     let budget : Option Budget = c.with_disk.new.self.disk.budget in
     let log : IsLog place mark held rows (with_budget budget old) =
-    read_log place mark held rows old (with_budget budget old) c.self.invariant.1 (record { same_number = refl; same_body = refl; same_unfinished = refl }) refl refl (other_budget old budget c.self.invariant.1.is.on_disk) in
-    (c.self.invariant.0, subst (λ (commits : CommitsState). IsLog place mark held rows commits) (sym c.with_disk.ensures.rest) log)
+    read_log place mark held rows old (with_budget budget old) c.self.invariant.1
+    (record { same_number = refl; same_body = refl; same_unfinished = refl }) refl refl
+    (other_budget old budget c.self.invariant.1.is.on_disk) in (
+      c.self.invariant.0,
+      subst (λ (commits : CommitsState). IsLog place mark held rows commits)
+          (sym c.with_disk.ensures.rest) log,
+    )

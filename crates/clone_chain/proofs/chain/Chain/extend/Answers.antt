@@ -10,4 +10,5 @@ invariant_of-result c =
     let chain = c.self.inside.ancestors.items in
     let none = subst (λ (xs : List Ancestor). IsNoAncestor xs c.args.uuid) (sym c.self.view_is) c.requires in
     subst IsChain (sym (c.in_ok-ancestors.ensures ∙ ap (λ xs. first ∷ xs) c.as_slice.ensures.value))
-    (chain_extended first chain none (omega (arith, c.self.invariant.few, c.len-count.ensures, c.if-count-eq-MAX_ANCESTORS.false)) c.self.invariant)
+    (chain_extended first chain none (omega (arith, c.self.invariant.few, c.len-count.ensures, c.if-count-eq-MAX_ANCESTORS.false))
+    c.self.invariant)

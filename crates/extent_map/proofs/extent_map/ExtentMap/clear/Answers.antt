@@ -12,7 +12,8 @@ invariant_of-self g c =
       subst (IsShortest on) is
           (shortest_without on g.met.P.Place.on_twice rows c.args.lba c.args.sectors c.self.invariant.0 some),
       subst (AllFit g.P.Place.number) is
-          (fit_without on g.met.P.Place.on_twice rows c.args.lba c.args.sectors c.self.invariant.0 g.P.Place.number g.met.P.Place.number_on
+          (fit_without on g.met.P.Place.on_twice rows c.args.lba c.args.sectors c.self.invariant.0 g.P.Place.number
+          g.met.P.Place.number_on
           c.self.invariant.1),
     )
 
@@ -28,4 +29,5 @@ pub returns-then-sectors-ne0-clause-shortest : goal.returns-then-sectors-ne0-cla
 returns-then-sectors-ne0-clause-shortest g c =
     let some : 0 < c.args.sectors = omega (arith, c.if-sectors-ne0.true) in
     subst (IsShortest g.P.Place.on) (sym c.clear_range.ensures.rows)
-    (shortest_without g.P.Place.on g.met.P.Place.on_twice c.self.inside.rows.items c.args.lba c.args.sectors c.self.invariant.0 some)
+    (shortest_without g.P.Place.on g.met.P.Place.on_twice c.self.inside.rows.items c.args.lba c.args.sectors
+    c.self.invariant.0 some)

@@ -14,10 +14,12 @@ returns-clause-places g c =
 pub returns-clause-shortest : goal.returns-clause-shortest
 returns-clause-shortest g c =
     IfOk-weaker c.look_uncounted.result _ _ (λ found is. subst (IsShortest g.P.Place.on) (sym is)
-    (range_shortest g.P.Place.on g.met.P.Place.on_twice c.args.lba c.args.sectors c.self.inside.rows.items c.self.invariant.0)) c.look_uncounted.ensures
+    (range_shortest g.P.Place.on g.met.P.Place.on_twice c.args.lba c.args.sectors c.self.inside.rows.items c.self.invariant.0))
+    c.look_uncounted.ensures
 
 pub returns-clause-fits : goal.returns-clause-fits
 returns-clause-fits g c =
     IfOk-weaker c.look_uncounted.result _ _ (λ found is. subst (AllFit g.P.Place.number) (sym is)
-    (range_fits g.P.Place.on g.met.P.Place.on_twice c.args.lba c.args.sectors c.self.inside.rows.items c.self.invariant.0 g.P.Place.number
+    (range_fits g.P.Place.on g.met.P.Place.on_twice c.args.lba c.args.sectors c.self.inside.rows.items c.self.invariant.0
+    g.P.Place.number
     g.met.P.Place.number_on c.self.invariant.1)) c.look_uncounted.ensures

@@ -13,7 +13,8 @@ returns-in_err-pass-clause-call g c =
     let stays : c.pass.new.left ≡ Some 0 = search rules in
     let counted : CountsOne c.self.inside.failed c.pass.new.failed = search rules in
     let failed : is_ok c.from_residual.result ≡ false = search rules in
-    rw (← c.self.view_is, failed) (fused_stopped (write_cost (length c.args.piece.now)) c.self.inside.left c.pass.new.left c.self.inside.failed c.pass.new.failed disk refl burnt stays counted)
+    rw (← c.self.view_is, failed) (fused_stopped (write_cost (length c.args.piece.now)) c.self.inside.left c.pass.new.left
+    c.self.inside.failed c.pass.new.failed disk refl burnt stays counted)
 
 pub returns-clause-call : goal.returns-clause-call
 returns-clause-call g c =
@@ -23,7 +24,8 @@ returns-clause-call g c =
     let after : c.pass.new.left ≡ fuse_after c.self.inside.left 1 = search rules in
     let same : c.pass.new.failed ≡ c.self.inside.failed = search rules in
     rw (← c.self.view_is)
-    (fused_passed (write_cost (length c.args.piece.now)) (is_ok c.write.result) c.self.inside.left c.pass.new.left c.self.inside.failed c.pass.new.failed old new refl some after same c.write.ensures.call)
+    (fused_passed (write_cost (length c.args.piece.now)) (is_ok c.write.result) c.self.inside.left c.pass.new.left
+    c.self.inside.failed c.pass.new.failed old new refl some after same c.write.ensures.call)
 
 pub returns-clause-blown : goal.returns-clause-blown
 returns-clause-blown g c =
@@ -32,4 +34,5 @@ returns-clause-blown g c =
     let some : c.self.inside.left ≡ Some 0 → ⊥ = search rules in
     let after : c.pass.new.left ≡ fuse_after c.self.inside.left 1 = search rules in
     let same : c.pass.new.failed ≡ c.self.inside.failed = search rules in
-    rw (← c.self.view_is) (fused_blown (is_ok c.write.result) c.self.inside.left c.pass.new.left c.self.inside.failed c.pass.new.failed old new some after same c.write.ensures.blown)
+    rw (← c.self.view_is) (fused_blown (is_ok c.write.result) c.self.inside.left c.pass.new.left c.self.inside.failed
+    c.pass.new.failed old new some after same c.write.ensures.blown)

@@ -14,11 +14,15 @@ returns-clause-bytes c =
     let inside : c.args.at + length c.args.buf.now ≤ size = search rules in
     let all : LieInside size c.deref-2.result.now = rw c.deref-2.ensures.value c.self.invariant.inside in
     let front : IsFrontOf (contents_from (replicate size 0) c.deref-2.result.now c.deref-3.result.now) c.deref.result.now =
-    rw (c.deref.ensures.value, c.deref-2.ensures.value, c.deref-3.ensures.value) (front_kept size c.self.inside.synced changes written c.self.inside.front.items c.self.invariant) in
+    rw (c.deref.ensures.value, c.deref-2.ensures.value, c.deref-3.ensures.value)
+    (front_kept size c.self.inside.synced changes written c.self.inside.front.items c.self.invariant) in
     let read : buf ≡ take (length c.args.buf.now) (drop c.args.at (contents_from (replicate size 0) changes written)) =
     rw (← c.deref-2.ensures.value, ← c.deref-3.ensures.value) (c.read_kept.ensures size inside all front) in
     let same : length c.args.buf.now ≡ length buf = search rules in
-    let holds = holds_contents size changes written buf c.args.at c.self.invariant.now c.self.invariant.past c.self.invariant.moments (read ∙ ap (λ n. take n (drop c.args.at (contents_from (replicate size 0) changes written))) same) in
+    let holds = holds_contents size changes written buf c.args.at c.self.invariant.now c.self.invariant.past
+    c.self.invariant.moments (read ∙ ap (λ n. take n (drop c.args.at (contents_from (replicate size 0) changes written)))
+    same) in
     let was : moments_of size changes written ≡ c.args.self.now.moments = ap (λ (d : DiskState). d.moments) c.self.view_is in
-    let all_of : HoldsNow (λ now. buf ≡ take (length buf) (drop c.args.at now.bytes)) c.args.self.now.moments = subst (HoldsNow (λ now. buf ≡ take (length buf) (drop c.args.at now.bytes))) was holds in
+    let all_of : HoldsNow (λ now. buf ≡ take (length buf) (drop c.args.at now.bytes)) c.args.self.now.moments =
+    subst (HoldsNow (λ now. buf ≡ take (length buf) (drop c.args.at now.bytes))) was holds in
     subst (λ n. HoldsNow (λ now. buf ≡ take n (drop c.args.at now.bytes)) c.args.self.now.moments) (sym same) all_of

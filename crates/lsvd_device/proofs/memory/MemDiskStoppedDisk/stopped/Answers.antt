@@ -9,7 +9,9 @@ pub stop-requires : goal.stop-requires
 stop-requires c =
     let changes : List Change = c.self.inside.changes.items in
     let written : List ℕ = c.self.inside.written.items in
-    let was : moments_of c.self.inside.size changes written ≡ c.args.self.now.moments = ap (λ (d : DiskState). d.moments) c.self.view_is in
+    let was : moments_of c.self.inside.size changes written ≡ c.args.self.now.moments =
+    ap (λ (d : DiskState). d.moments) c.self.view_is in
     let fates : HoldsNow (λ now. length c.args.fates.now ≡ length now.pending) (moments_of c.self.inside.size changes written) =
     subst (HoldsNow (λ now. length c.args.fates.now ≡ length now.pending)) (sym was) c.requires in
-    rw (c.deref.ensures.value, c.deref-2.ensures.value) (may_stop c.self.inside.size c.self.inside.synced changes written c.self.inside.front.items c.args.fates.now c.self.invariant fates)
+    rw (c.deref.ensures.value, c.deref-2.ensures.value) (may_stop c.self.inside.size c.self.inside.synced changes written
+    c.self.inside.front.items c.args.fates.now c.self.invariant fates)

@@ -3,7 +3,8 @@ use Rattle.lsvd_names.proofs.name.ObjName.parse.Goals as goal
 
 pub returns-in_err-uuid-clause-none : goal.returns-in_err-uuid-clause-none
 returns-in_err-uuid-clause-none c =
-    rw c.from_residual.ensures (λ name is e. rw c.in_err-uuid.was at (split_spelling c.args.text.now name c.split_once.result c.split_once.ensures.cases e))
+    rw c.from_residual.ensures (λ name is e. rw c.in_err-uuid.was at (split_spelling c.args.text.now name c.split_once.result
+    c.split_once.ensures.cases e))
 
 pub returns-in_err-kind-clause-none : goal.returns-in_err-kind-clause-none
 returns-in_err-kind-clause-none c =

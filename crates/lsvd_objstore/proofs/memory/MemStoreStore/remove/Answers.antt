@@ -7,5 +7,9 @@ invariant_of-self c = rw c.remove.ensures.entries (HaveNames-remove_entry _ c.se
 
 pub returns-clause-removed : goal.returns-clause-removed
 returns-clause-removed c =
-    rw (← c.self.view_is, ← c.receipt.view_is)
-    (c.remove.new.self.entries, refl, is_removed c.receipt.inside.name c.self.inside.objects c.remove.new.self c.remove.ensures.updates)
+    rw (← c.self.view_is, ← c.receipt.view_is) (
+      c.remove.new.self.entries,
+      refl,
+      is_removed c.receipt.inside.name c.self.inside.objects c.remove.new.self
+          c.remove.ensures.updates,
+    )

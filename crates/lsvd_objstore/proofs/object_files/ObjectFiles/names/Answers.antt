@@ -6,7 +6,8 @@ use Rattle.lsvd_objstore.proofs.object_files.ObjectFiles.names.Goals as goal
 pub loop-entry-preserved-in_ok-insert : goal.loop-entry-preserved-in_ok-insert
 loop-entry-preserved-in_ok-insert c =
     let is : IsName c.in-Some-2.name × (c.in-Some-2.name.uuid ≡ c.args.uuid) = rw c.in-Some-2.is at c.in_ok-name.ensures in
-    rw c.in_ok-insert.ensures.keys (AreOf-insert_key c.args.uuid c.in-Some-2.name c.loop-entry.names.keys is.0 is.1 c.loop-entry.invariant)
+    rw c.in_ok-insert.ensures.keys (AreOf-insert_key c.args.uuid c.in-Some-2.name c.loop-entry.names.keys is.0 is.1
+    c.loop-entry.invariant)
 
 pub returns : goal.returns
 returns c =

@@ -7,8 +7,10 @@ returns-in-Some g c =
     let list = c.self.inside.sealed.items in
     let low : c.args.index < length list = search rules in
     rw (sym c.self.view_is) (
-      λ yes_. lent_has c.args.index list c.in-Some.sealed.now c.args.bytes.now low c.in-Some.ensures.lookup (c.has_bytes.ensures.0 yes_),
-      λ has. c.has_bytes.ensures.1 (bytes_of_lent c.args.index list c.in-Some.sealed.now c.args.bytes.now low c.in-Some.ensures.lookup has),
+      λ yes_. lent_has c.args.index list c.in-Some.sealed.now c.args.bytes.now low c.in-Some.ensures.lookup
+          (c.has_bytes.ensures.0 yes_),
+      λ has. c.has_bytes.ensures.1 (bytes_of_lent c.args.index list c.in-Some.sealed.now c.args.bytes.now low
+          c.in-Some.ensures.lookup has),
     )
 
 pub returns-in-None : goal.returns-in-None

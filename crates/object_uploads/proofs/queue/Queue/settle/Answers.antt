@@ -12,5 +12,8 @@ loop-self-smaller g c =
 
 pub loop-self-preserved : goal.loop-self-preserved
 loop-self-preserved g c =
-    let so_far = c.loop-self.invariant in
-    (so_far.0 + 1, settles_more so_far.0 1 c.args.self.now c.loop-self.self c.settle_first.new.self so_far.1 c.settle_first.ensures)
+    let so_far = c.loop-self.invariant in (
+      so_far.0 + 1,
+      settles_more so_far.0 1 c.args.self.now c.loop-self.self c.settle_first.new.self so_far.1
+          c.settle_first.ensures,
+    )

@@ -14,7 +14,8 @@ returns-in-Some-receipt g c =
     rw (sym c.self.view_is) (
     settles_one _ _ c.in-Some.first c.pop_front.new.self.items (g.R.Receipt.state c.in-Some-receipt.receipt)
     c.in-Some.ensures.items given refl c.into_parts-rows.ensures.end refl
-    (ap (map g.R.Receipt.state) c.push_reserved.ensures.items ∙ map-append g.R.Receipt.state c.self.inside.receipts.items (c.in-Some-receipt.receipt ∷ []))
+    (ap (map g.R.Receipt.state) c.push_reserved.ensures.items ∙ map-append g.R.Receipt.state c.self.inside.receipts.items
+    (c.in-Some-receipt.receipt ∷ []))
     (λ k.
     c.settle.ensures.settled k
     ∙ (ap (λ rows. settled_by (c.self.inside.frontier + 1) c.front_of-front.result rows (settled_at c.self.inside.maps k) k) rows

@@ -17,7 +17,8 @@ pub unwrap-requires-2 : goal.unwrap-requires-2
 unwrap-requires-2 g c =
     let list = c.self.inside.sealed.items in
     let opened = subst (λ (q : QueueState). IsOpenAt c.args.index q.sealed true) (sym c.self.view_is) c.requires in
-    let at = subst (λ r. IfSome r (λ x. x.now ≡ slice_index_or list c.args.index x.now)) c.unwrap.ensures c.get_mut.ensures.value in
+    let at = subst (λ r. IfSome r (λ x. x.now ≡ slice_index_or list c.args.index x.now)) c.unwrap.ensures
+    c.get_mut.ensures.value in
     let there = spare_there c.unwrap.result.now (lent_open c.args.index list c.unwrap.result.now true opened at) in
     rw (c.take_spare.ensures.spare, there) refl
 
@@ -26,14 +27,18 @@ returns-clause-bytes g c =
     let list = c.self.inside.sealed.items in
     let opened = subst (λ (q : QueueState). IsOpenAt c.args.index q.sealed true) (sym c.self.view_is) c.requires in
     let low = inside c.args.index list true opened in
-    let at = subst (λ r. IfSome r (λ x. x.now ≡ slice_index_or list c.args.index x.now)) c.unwrap.ensures c.get_mut.ensures.value in
+    let at = subst (λ r. IfSome r (λ x. x.now ≡ slice_index_or list c.args.index x.now)) c.unwrap.ensures
+    c.get_mut.ensures.value in
     let there = spare_there c.unwrap.result.now (lent_open c.args.index list c.unwrap.result.now true opened at) in
-    let same = some_is c.unwrap-2.result c.unwrap.result.now.bytes (sym c.unwrap-2.ensures ∙ (c.take_spare.ensures.spare ∙ there)) in
+    let same = some_is c.unwrap-2.result c.unwrap.result.now.bytes (sym c.unwrap-2.ensures
+    ∙ (c.take_spare.ensures.spare ∙ there)) in
     rw (sym c.self.view_is) (lent_has c.args.index list c.unwrap.result.now c.unwrap-2.result low at same)
 
 pub returns-clause-taken : goal.returns-clause-taken
 returns-clause-taken g c =
     let list = c.self.inside.sealed.items in
-    let at = subst (λ r. IfSome r (λ x. x.now ≡ slice_index_or list c.args.index x.now)) c.unwrap.ensures c.get_mut.ensures.value in
-    let set = set_with c.args.index (with_spare false) list c.unwrap.result.now c.take_spare.new.self at c.take_spare.ensures.taken in
+    let at = subst (λ r. IfSome r (λ x. x.now ≡ slice_index_or list c.args.index x.now)) c.unwrap.ensures
+    c.get_mut.ensures.value in
+    let set = set_with c.args.index (with_spare false) list c.unwrap.result.now c.take_spare.new.self at
+    c.take_spare.ensures.taken in
     rw (set, sym c.self.view_is) refl

@@ -7,7 +7,8 @@ use Rattle.object_uploads.proofs.uploads.Uploads.job_done.Goals as goal
 
 pub acknowledge-requires : goal.acknowledge-requires
 acknowledge-requires g c =
-    let opened = subst (λ (u : UploadsState). IsOpenAt c.in-Some.index u.queue.sealed false) (sym c.self.view_is) c.in-Some.ensures.there in
+    let opened = subst (λ (u : UploadsState). IsOpenAt c.in-Some.index u.queue.sealed false) (sym c.self.view_is)
+    c.in-Some.ensures.there in
     inside c.in-Some.index c.self.inside.queue.sealed false opened
 
 pub invariant_of-self : goal.invariant_of-self
@@ -15,6 +16,10 @@ invariant_of-self g c =
     let number = c.name.result.now.number in
     let in_ : IsOpenIn c.args.self.now number c.in-Some.index false =
     record { index_is = c.in-Some.ensures.index; past = c.in-Some.ensures.past; opened = c.in-Some.ensures.there } in
-    then_done (record { uuid = c.self.inside.uuid; queue = c.self.inside.queue; window = c.self.inside.window }) c.acknowledge.new.self c.settle.new.self c.ack.new.self number c.in-Some.index
+    then_done (record { uuid = c.self.inside.uuid; queue = c.self.inside.queue; window = c.self.inside.window })
+    c.acknowledge.new.self c.settle.new.self c.ack.new.self number c.in-Some.index
     c.settle.ensures.settled.0 (g.R.Receipt.state c.args.receipt) false
-    c.self.invariant (subst (λ u. IsOpenIn u number c.in-Some.index false) (sym c.self.view_is) in_) c.acknowledge.ensures c.settle.ensures.settled.1 c.settle.ensures.waits (c.ack.ensures.acknowledged (c.ack.ensures.started ∙ subst (λ (u : UploadsState). is_started number u.window.objects ≡ true) (sym c.self.view_is) c.in-Some.ensures.out.started))
+    c.self.invariant (subst (λ u. IsOpenIn u number c.in-Some.index false) (sym c.self.view_is) in_) c.acknowledge.ensures
+    c.settle.ensures.settled.1 c.settle.ensures.waits (c.ack.ensures.acknowledged (c.ack.ensures.started
+    ∙ subst (λ (u : UploadsState). is_started number u.window.objects ≡ true) (sym c.self.view_is)
+    c.in-Some.ensures.out.started))

@@ -9,8 +9,16 @@ pub invariant_of-self : goal.invariant_of-self
 invariant_of-self g c =
     let number = c.in_ok-number.number in
     let in_ : IsOpenIn c.args.self.now number c.in_ok-number.index true =
-    record { index_is = c.in_ok-number.ensures.index; past = c.in_ok-number.ensures.past; opened = c.in_ok-number.ensures.there } in
-    let lowest = subst (λ (u : UploadsState). Some number ≡ lowest_ready u.window.objects) (sym c.self.view_is) c.in_ok-number.ensures.lowest in
-    then_marked (record { uuid = c.self.inside.uuid; queue = c.self.inside.queue; window = c.self.inside.window }) c.take_spare-object.new.self c.take.new.self number c.in_ok-number.index true true
-    c.self.invariant (subst (λ u. IsOpenIn u number c.in_ok-number.index true) (sym c.self.view_is) in_) c.take_spare-object.ensures.taken
-    (subst (λ r. IfSome r (λ n. c.take.new.self ≡ marked n true c.self.inside.window)) (c.take.ensures.lowest ∙ sym lowest) c.take.ensures.started)
+    record {
+      index_is = c.in_ok-number.ensures.index;
+      past = c.in_ok-number.ensures.past;
+      opened = c.in_ok-number.ensures.there;
+    } in
+    let lowest = subst (λ (u : UploadsState). Some number ≡ lowest_ready u.window.objects) (sym c.self.view_is)
+    c.in_ok-number.ensures.lowest in
+    then_marked (record { uuid = c.self.inside.uuid; queue = c.self.inside.queue; window = c.self.inside.window })
+    c.take_spare-object.new.self c.take.new.self number c.in_ok-number.index true true
+    c.self.invariant (subst (λ u. IsOpenIn u number c.in_ok-number.index true) (sym c.self.view_is) in_)
+    c.take_spare-object.ensures.taken
+    (subst (λ r. IfSome r (λ n. c.take.new.self ≡ marked n true c.self.inside.window)) (c.take.ensures.lowest ∙ sym lowest)
+    c.take.ensures.started)

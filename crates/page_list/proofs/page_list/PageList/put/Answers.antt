@@ -9,7 +9,8 @@ overflow_add-self g c =
     let here = page_here pages (length c.self.inside.free.items) c.args.self.now c.self.view_is c.args.at.page c.requires.page in
     let is = length_seen pages (length c.self.inside.free.items) c.args.self.now c.self.view_is c.args.at.page here
     c.index_mut.result.now c.insert.new.self c.index_mut.ensures.value in
-    let long = put_length c.index_mut.result.now c.insert.new.self c.args.at.item c.args.item (omega (arith, is, c.requires.place)) c.insert.ensures.items in
+    let long = put_length c.index_mut.result.now c.insert.new.self c.args.at.item c.args.item
+    (omega (arith, is, c.requires.place)) c.insert.ensures.items in
     let again = is_put pages c.self.inside.free.items c.self.inside.surplus _ _ c.self.invariant c.args.at.page here
     c.index_mut.result.now c.insert.new.self c.index_mut.ensures.value c.index-2.result.now c.index-2.ensures in
     let small = surplus_small pages c.self.inside.free.items c.self.inside.surplus _ _ c.self.invariant in
@@ -23,11 +24,13 @@ invariant_of-self g c =
     c.index_mut.result.now c.insert.new.self c.index_mut.ensures.value in
     let first = length_seen pages (length c.self.inside.free.items) c.args.self.now c.self.view_is c.args.at.page here
     c.index.result.now c.insert.new.self c.index.ensures in
-    let long = put_length c.index_mut.result.now c.insert.new.self c.args.at.item c.args.item (omega (arith, is, c.requires.place)) c.insert.ensures.items in
+    let long = put_length c.index_mut.result.now c.insert.new.self c.args.at.item c.args.item
+    (omega (arith, is, c.requires.place)) c.insert.ensures.items in
     let again = is_put pages c.self.inside.free.items c.self.inside.surplus _ _ c.self.invariant c.args.at.page here
     c.index_mut.result.now c.insert.new.self c.index_mut.ensures.value c.index-2.result.now c.index-2.ensures in
     kept_with pages c.self.inside.free.items c.self.inside.surplus _ _ c.self.invariant c.args.at.page here
-    c.index_mut.result.now c.insert.new.self c.index_mut.ensures.value (omega (arith, long)) (omega (arith, long, is, c.requires.room)) _
+    c.index_mut.result.now c.insert.new.self c.index_mut.ensures.value (omega (arith, long))
+    (omega (arith, long, is, c.requires.room)) _
     (omega (arith, c.surplus.ensures, c.surplus-2.ensures, ap length again, is, first))
 
 pub returns-clause-items : goal.returns-clause-items
@@ -37,7 +40,8 @@ returns-clause-items g c =
     let is = length_seen pages (length c.self.inside.free.items) c.args.self.now c.self.view_is c.args.at.page here
     c.index_mut.result.now c.insert.new.self c.index_mut.ensures.value in
     put_seen pages (length c.self.inside.free.items) c.args.self.now c.self.view_is c.args.at.page here
-    c.index_mut.result.now c.insert.new.self c.index_mut.ensures.value c.args.at.item c.args.item (omega (arith, is, c.requires.place)) c.insert.ensures.items
+    c.index_mut.result.now c.insert.new.self c.index_mut.ensures.value c.args.at.item c.args.item
+    (omega (arith, is, c.requires.place)) c.insert.ensures.items
 
 pub returns-clause-lengths : goal.returns-clause-lengths
 returns-clause-lengths g c =
@@ -45,6 +49,7 @@ returns-clause-lengths g c =
     let here = page_here pages (length c.self.inside.free.items) c.args.self.now c.self.view_is c.args.at.page c.requires.page in
     let is = length_seen pages (length c.self.inside.free.items) c.args.self.now c.self.view_is c.args.at.page here
     c.index_mut.result.now c.insert.new.self c.index_mut.ensures.value in
-    let long = put_length c.index_mut.result.now c.insert.new.self c.args.at.item c.args.item (omega (arith, is, c.requires.place)) c.insert.ensures.items in
+    let long = put_length c.index_mut.result.now c.insert.new.self c.args.at.item c.args.item
+    (omega (arith, is, c.requires.place)) c.insert.ensures.items in
     lengths_seen pages (length c.self.inside.free.items) c.args.self.now c.self.view_is c.args.at.page here
     c.index_mut.result.now c.insert.new.self c.index_mut.ensures.value _ (omega (arith, long, is))

@@ -15,37 +15,59 @@ returns-then-from-to-clause-room g c =
     let inside : c.args.from.page < length c.args.self.now.lengths =
     omega (arith, bound, c.if-from-len.false, c.len.ensures, c.self.inside.pages.ok.0, long, shown) in
     room_kept c.args.self.now c.trim.new.self (omega (arith, c.trim.ensures.free))
-    (halves_trim c.args.self.now c.trim.new.self c.args.from.page _ inside (omega arith) c.trim.ensures.lengths c.trim.ensures.free)
+    (halves_trim c.args.self.now c.trim.new.self c.args.from.page _ inside (omega arith) c.trim.ensures.lengths
+    c.trim.ensures.free)
 
 pub cut_back-first-requires : goal.cut_back-first-requires
 cut_back-first-requires g c =
-    let at = stands_before c.args.self.now.lengths c.args.from c.args.to c.requires.from c.requires.to c.requires.order c.if-from-to.false in
-    omega (arith, at.1, length_front c.cut_front.new.self.lengths c.args.self.now.lengths c.args.from.page c.args.to.page at.0 c.cut_front.ensures.front)
+    let at = stands_before c.args.self.now.lengths c.args.from c.args.to c.requires.from c.requires.to c.requires.order
+    c.if-from-to.false in
+    omega (
+      arith,
+      at.1,
+      length_front c.cut_front.new.self.lengths c.args.self.now.lengths c.args.from.page c.args.to.page at.0
+          c.cut_front.ensures.front,
+    )
 
 pub take_out-requires-clause-order : goal.take_out-requires-clause-order
 take_out-requires-clause-order g c =
-    let at = stands_before c.args.self.now.lengths c.args.from c.args.to c.requires.from c.requires.to c.requires.order c.if-from-to.false in
+    let at = stands_before c.args.self.now.lengths c.args.from c.args.to c.requires.from c.requires.to c.requires.order
+    c.if-from-to.false in
     omega (arith, at.0, c.cut_back-first.ensures.first)
 
 pub take_out-requires-clause-inside : goal.take_out-requires-clause-inside
 take_out-requires-clause-inside g c =
-    omega (arith, page_bound c.args.self.now.lengths c.args.to c.requires.to, c.cut_front.ensures.count, c.cut_back-first.ensures.count)
+    omega (
+      arith,
+      page_bound c.args.self.now.lengths c.args.to c.requires.to,
+      c.cut_front.ensures.count,
+      c.cut_back-first.ensures.count,
+    )
 
 pub start_at-requires : goal.start_at-requires
 start_at-requires g c =
-    let at = stands_before c.args.self.now.lengths c.args.from c.args.to c.requires.from c.requires.to c.requires.order c.if-from-to.false in
+    let at = stands_before c.args.self.now.lengths c.args.from c.args.to c.requires.from c.requires.to c.requires.order
+    c.if-from-to.false in
     let bound = page_bound c.args.self.now.lengths c.args.to c.requires.to in
     let first = c.cut_back-first.result in
     let ns = c.cut_back-first.new.self.lengths in
     let inside : c.cut_back-first.result ≤ length c.cut_back-first.new.self.lengths =
     omega (arith, at.0, bound, c.cut_back-first.ensures.first, c.cut_front.ensures.count, c.cut_back-first.ensures.count) in
-    omega (arith, ap length c.take_out.ensures.lengths, length-append (take first ns) (drop c.args.to.page ns), length-take-le first ns inside)
+    omega (
+      arith,
+      ap length c.take_out.ensures.lengths,
+      length-append (take first ns) (drop c.args.to.page ns),
+      length-take-le
+          first ns inside,
+    )
 
 pub returns-clause-items : goal.returns-clause-items
 returns-clause-items g c =
-    let at = stands_before c.args.self.now.lengths c.args.from c.args.to c.requires.from c.requires.to c.requires.order c.if-from-to.false in
+    let at = stands_before c.args.self.now.lengths c.args.from c.args.to c.requires.from c.requires.to c.requires.order
+    c.if-from-to.false in
     let count = count_is c.self.inside.pages.items (length c.self.inside.free.items) c.args.self.now c.self.view_is in
-    removed c.args.self.now.lengths c.cut_front.new.self.lengths c.cut_back-first.new.self.lengths c.args.from c.args.to c.cut_back-first.result
+    removed c.args.self.now.lengths c.cut_front.new.self.lengths c.cut_back-first.new.self.lengths c.args.from c.args.to
+    c.cut_back-first.result
     c.cut_front.ensures.front c.cut_back-first.ensures.start c.cut_back-first.ensures.rest c.cut_back-first.ensures.order
     (omega (arith, at.0, c.cut_back-first.ensures.first)) at.0
     c.args.self.now.items c.cut_front.new.self.items c.cut_back-first.new.self.items c.take_out.new.self.items
@@ -54,7 +76,8 @@ returns-clause-items g c =
 
 pub returns-clause-index : goal.returns-clause-index
 returns-clause-index g c =
-    let at = stands_before c.args.self.now.lengths c.args.from c.args.to c.requires.from c.requires.to c.requires.order c.if-from-to.false in
+    let at = stands_before c.args.self.now.lengths c.args.from c.args.to c.requires.from c.requires.to c.requires.order
+    c.if-from-to.false in
     let bound = page_bound c.args.self.now.lengths c.args.to c.requires.to in
     let inside : c.cut_back-first.result ≤ length c.cut_back-first.new.self.lengths =
     omega (arith, at.0, bound, c.cut_back-first.ensures.first, c.cut_front.ensures.count, c.cut_back-first.ensures.count) in
@@ -62,13 +85,15 @@ returns-clause-index g c =
     ∙ ap (λ ns. page_start ns c.cut_back-first.result) c.take_out.ensures.lengths
     ∙ front_start c.cut_back-first.new.self.lengths c.cut_back-first.result c.args.to.page inside
     ∙ c.cut_back-first.ensures.start
-    ∙ from_same c.args.self.now.lengths c.cut_front.new.self.lengths c.cut_back-first.new.self.lengths c.args.from c.args.to c.cut_back-first.result
+    ∙ from_same c.args.self.now.lengths c.cut_front.new.self.lengths c.cut_back-first.new.self.lengths c.args.from c.args.to
+    c.cut_back-first.result
     c.cut_front.ensures.front c.cut_back-first.ensures.start c.cut_back-first.ensures.rest c.cut_back-first.ensures.order
     (omega (arith, at.0, c.cut_back-first.ensures.first)) at.0
 
 pub returns-clause-room : goal.returns-clause-room
 returns-clause-room g c =
-    let at = stands_before c.args.self.now.lengths c.args.from c.args.to c.requires.from c.requires.to c.requires.order c.if-from-to.false in
+    let at = stands_before c.args.self.now.lengths c.args.from c.args.to c.requires.from c.requires.to c.requires.order
+    c.if-from-to.false in
     let gone = halves_gone c.cut_back-first.new.self c.take_out.new.self c.cut_back-first.result c.args.to.page
     (omega (arith, at.0, c.cut_back-first.ensures.first)) c.take_out.ensures.lengths c.take_out.ensures.free in
     room_kept c.args.self.now c.take_out.new.self
@@ -77,15 +102,19 @@ returns-clause-room g c =
 
 pub returns-clause-steps : goal.returns-clause-steps
 returns-clause-steps g c =
-    let at = stands_before c.args.self.now.lengths c.args.from c.args.to c.requires.from c.requires.to c.requires.order c.if-from-to.false in
+    let at = stands_before c.args.self.now.lengths c.args.from c.args.to c.requires.from c.requires.to c.requires.order
+    c.if-from-to.false in
     let first = c.cut_back-first.result in
-    let last = last_at c.args.self.now.lengths c.cut_front.new.self.lengths c.cut_back-first.new.self.lengths c.args.from c.args.to first
+    let last = last_at c.args.self.now.lengths c.cut_front.new.self.lengths c.cut_back-first.new.self.lengths c.args.from
+    c.args.to first
     c.cut_front.ensures.front c.cut_back-first.ensures.start c.cut_back-first.ensures.rest c.cut_back-first.ensures.order
     (omega (arith, at.0, c.cut_back-first.ensures.first)) at.0 in
-    let same = from_same c.args.self.now.lengths c.cut_front.new.self.lengths c.cut_back-first.new.self.lengths c.args.from c.args.to first
+    let same = from_same c.args.self.now.lengths c.cut_front.new.self.lengths c.cut_back-first.new.self.lengths c.args.from
+    c.args.to first
     c.cut_front.ensures.front c.cut_back-first.ensures.start c.cut_back-first.ensures.rest c.cut_back-first.ensures.order
     (omega (arith, at.0, c.cut_back-first.ensures.first)) at.0 in
-    let mid = mid_order c.args.self.now.lengths c.cut_front.new.self.lengths c.cut_back-first.new.self.lengths c.args.from c.args.to first
+    let mid = mid_order c.args.self.now.lengths c.cut_front.new.self.lengths c.cut_back-first.new.self.lengths c.args.from
+    c.args.to first
     c.cut_front.ensures.front c.cut_back-first.ensures.start c.cut_back-first.ensures.rest c.cut_back-first.ensures.order
     (omega (arith, at.0, c.cut_back-first.ensures.first)) at.0 in
     omega (
@@ -102,6 +131,15 @@ returns-clause-steps g c =
 
 pub returns-clause-rises : goal.returns-clause-rises
 returns-clause-rises g c =
-    let at = stands_before c.args.self.now.lengths c.args.from c.args.to c.requires.from c.requires.to c.requires.order c.if-from-to.false in
-    let rises = start_rises c.cut_back-first.new.self.lengths c.cut_back-first.result c.args.to.page (omega (arith, at.0, c.cut_back-first.ensures.first)) in
-    omega (arith, c.cut_front.ensures.rises, c.cut_back-first.ensures.steps, c.cut_back-first.ensures.order, c.take_out.ensures.steps, rises)
+    let at = stands_before c.args.self.now.lengths c.args.from c.args.to c.requires.from c.requires.to c.requires.order
+    c.if-from-to.false in
+    let rises = start_rises c.cut_back-first.new.self.lengths c.cut_back-first.result c.args.to.page
+    (omega (arith, at.0, c.cut_back-first.ensures.first)) in
+    omega (
+      arith,
+      c.cut_front.ensures.rises,
+      c.cut_back-first.ensures.steps,
+      c.cut_back-first.ensures.order,
+      c.take_out.ensures.steps,
+      rises,
+    )

@@ -8,29 +8,42 @@ use Rattle.page_list.proofs.page_list.PageList.take_out.Goals as goal
 pub surplus_in-requires : goal.surplus_in-requires
 surplus_in-requires g c =
     let pages = c.self.inside.pages.items in
-    let is = ap (λ xs. surplus_of (lengths_of (take (c.args.last - c.args.first) (drop c.args.first xs)))) c.deref.ensures.value in
+    let is = ap (λ xs. surplus_of (lengths_of (take (c.args.last - c.args.first) (drop c.args.first xs))))
+    c.deref.ensures.value in
     let small = surplus_small pages c.self.inside.free.items c.self.inside.surplus _ _ c.self.invariant in
     omega (arith, is, small, c.self.invariant.surplus_is, mid_surplus pages c.args.first c.args.last c.requires.order)
 
 pub overflow_sub-self : goal.overflow_sub-self
 overflow_sub-self g c =
     let pages = c.self.inside.pages.items in
-    let is = ap (λ xs. surplus_of (lengths_of (take (c.args.last - c.args.first) (drop c.args.first xs)))) c.deref.ensures.value in
-    omega (arith, is, c.surplus_in.ensures, c.self.invariant.surplus_is, mid_surplus pages c.args.first c.args.last c.requires.order)
+    let is = ap (λ xs. surplus_of (lengths_of (take (c.args.last - c.args.first) (drop c.args.first xs))))
+    c.deref.ensures.value in
+    omega (
+      arith,
+      is,
+      c.surplus_in.ensures,
+      c.self.invariant.surplus_is,
+      mid_surplus pages c.args.first c.args.last
+          c.requires.order,
+    )
 
 pub invariant_of-self : goal.invariant_of-self
 invariant_of-self g c =
     let pages = c.self.inside.pages.items in
-    let inside = pages_bound pages (length c.self.inside.free.items) c.args.self.now c.self.view_is c.args.last c.requires.inside in
-    let is = ap (λ xs. surplus_of (lengths_of (take (c.args.last - c.args.first) (drop c.args.first xs)))) c.deref.ensures.value in
+    let inside = pages_bound pages (length c.self.inside.free.items) c.args.self.now c.self.view_is c.args.last
+    c.requires.inside in
+    let is = ap (λ xs. surplus_of (lengths_of (take (c.args.last - c.args.first) (drop c.args.first xs))))
+    c.deref.ensures.value in
     gone_kept pages c.args.first c.args.last c.requires.order inside c.release.new.pages.items c.release.ensures.pages
-    c.self.inside.free.items c.release.new.free.items c.self.inside.surplus _ _ _ _ _ c.self.invariant c.release.ensures.free c.release.ensures.empty
+    c.self.inside.free.items c.release.new.free.items c.self.inside.surplus _ _ _ _ _ c.self.invariant c.release.ensures.free
+    c.release.ensures.empty
     (ap (λ n. c.self.inside.surplus - n) (c.surplus_in.ensures ∙ is)) c.release.ensures.capacity c.release.ensures.free_capacity
 
 pub returns-clause-items : goal.returns-clause-items
 returns-clause-items g c =
     let pages = c.self.inside.pages.items in
-    let inside = pages_bound pages (length c.self.inside.free.items) c.args.self.now c.self.view_is c.args.last c.requires.inside in
+    let inside = pages_bound pages (length c.self.inside.free.items) c.args.self.now c.self.view_is c.args.last
+    c.requires.inside in
     let shown = gone_seen pages c.args.first c.args.last c.requires.order inside c.release.new.pages.items c.release.ensures.pages
     (length c.self.inside.free.items) c.args.self.now c.self.view_is in
     shown.0
@@ -38,7 +51,8 @@ returns-clause-items g c =
 pub returns-clause-lengths : goal.returns-clause-lengths
 returns-clause-lengths g c =
     let pages = c.self.inside.pages.items in
-    let inside = pages_bound pages (length c.self.inside.free.items) c.args.self.now c.self.view_is c.args.last c.requires.inside in
+    let inside = pages_bound pages (length c.self.inside.free.items) c.args.self.now c.self.view_is c.args.last
+    c.requires.inside in
     let shown = gone_seen pages c.args.first c.args.last c.requires.order inside c.release.new.pages.items c.release.ensures.pages
     (length c.self.inside.free.items) c.args.self.now c.self.view_is in
     shown.1
@@ -48,5 +62,6 @@ returns-clause-steps g c =
     omega (
       arith,
       c.release.ensures.steps,
-      mid_seen c.self.inside.pages.items c.args.first c.args.last c.requires.order (length c.self.inside.free.items) c.args.self.now c.self.view_is,
+      mid_seen c.self.inside.pages.items c.args.first c.args.last c.requires.order (length c.self.inside.free.items)
+          c.args.self.now c.self.view_is,
     )

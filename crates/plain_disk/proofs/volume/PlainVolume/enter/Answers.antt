@@ -14,7 +14,8 @@ returns-in-Some-refusal-clause-reply c =
     let state : PlainState = the_view c.self.inside in
     let none : batch_refusal_of c.self.inside.geometry c.unsealed.result.now c.args.entry ≡ None = search rules in
     let is : IsWritten state c.args.entry c.in_ok-refusal.refusal c.write_record.new.cache =
-    written_is state c.args.self.now c.args.entry c.unsealed.result.now c.in_ok-cache.cache c.write_record.new.cache c.frontier_end-end.result
+    written_is state c.args.self.now c.args.entry c.unsealed.result.now c.in_ok-cache.cache c.write_record.new.cache
+    c.frontier_end-end.result
     c.in_ok-refusal.refusal c.self.view_is c.unsealed.ensures none c.in_ok-cache.ensures c.frontier_end-end.ensures.end
     c.in_ok-refusal.ensures.refusal c.in_ok-refusal.ensures.cache in
     enter_refused state c.args.entry c.in-Some-refusal.reply is.none (sym is.refused ∙ c.in-Some-refusal.is)
@@ -25,7 +26,8 @@ returns-in-Some-refusal-clause-volume c =
     let state : PlainState = the_view c.self.inside in
     let none : batch_refusal_of c.self.inside.geometry c.unsealed.result.now c.args.entry ≡ None = search rules in
     let is : IsWritten state c.args.entry c.in_ok-refusal.refusal c.write_record.new.cache =
-    written_is state c.args.self.now c.args.entry c.unsealed.result.now c.in_ok-cache.cache c.write_record.new.cache c.frontier_end-end.result
+    written_is state c.args.self.now c.args.entry c.unsealed.result.now c.in_ok-cache.cache c.write_record.new.cache
+    c.frontier_end-end.result
     c.in_ok-refusal.refusal c.self.view_is c.unsealed.ensures none c.in_ok-cache.ensures c.frontier_end-end.ensures.end
     c.in_ok-refusal.ensures.refusal c.in_ok-refusal.ensures.cache in
     refused_leaves state c.args.entry c.in-Some-refusal.reply c.write_record.new.cache c.reserve.new.self.items is.none
@@ -40,7 +42,8 @@ invariant_of-self-2 c =
     let is = c.self.invariant in
     record {
       limits = is.limits;
-      in_range = entered_fields c.self.inside.geometry c.self.inside.stream.entries.items c.push_reserved.new.self.items c.args.entry is.in_range
+      in_range = entered_fields c.self.inside.geometry c.self.inside.stream.entries.items c.push_reserved.new.self.items
+          c.args.entry is.in_range
           (taken_in_range c.self.inside.geometry c.unsealed.result.now c.args.entry none) longer;
       number = is.number;
       end = is.end;
@@ -53,13 +56,15 @@ returns-clause-reply c =
     let state : PlainState = the_view c.self.inside in
     let none : batch_refusal_of c.self.inside.geometry c.unsealed.result.now c.args.entry ≡ None = search rules in
     let is : IsWritten state c.args.entry c.in_ok-refusal.refusal c.write_record.new.cache =
-    written_is state c.args.self.now c.args.entry c.unsealed.result.now c.in_ok-cache.cache c.write_record.new.cache c.frontier_end-end.result
+    written_is state c.args.self.now c.args.entry c.unsealed.result.now c.in_ok-cache.cache c.write_record.new.cache
+    c.frontier_end-end.result
     c.in_ok-refusal.refusal c.self.view_is c.unsealed.ensures none c.in_ok-cache.ensures c.frontier_end-end.ensures.end
     c.in_ok-refusal.ensures.refusal c.in_ok-refusal.ensures.cache in
     let taken : c.in_ok-refusal.refusal ≡ None = search rules in
     let longer : c.push_reserved.new.self.items ≡ c.self.inside.stream.entries.items ++ c.args.entry ∷ [] =
     c.push_reserved.ensures.items ∙ ap (λ (xs : List Entry). xs ++ c.args.entry ∷ []) c.reserve.ensures.items in
-    let counted : c.history_length.result ≡ c.self.inside.stream.end + length c.push_reserved.new.self.items = c.history_length.ensures in
+    let counted : c.history_length.result ≡ c.self.inside.stream.end + length c.push_reserved.new.self.items =
+    c.history_length.ensures in
     let count : c.history_length.result ≡ history_length state + 1 =
     omega (arith, counted, ap length longer, length-append c.self.inside.stream.entries.items (c.args.entry ∷ [])) in
     ap Entered count
@@ -71,11 +76,13 @@ returns-clause-volume c =
     let state : PlainState = the_view c.self.inside in
     let none : batch_refusal_of c.self.inside.geometry c.unsealed.result.now c.args.entry ≡ None = search rules in
     let is : IsWritten state c.args.entry c.in_ok-refusal.refusal c.write_record.new.cache =
-    written_is state c.args.self.now c.args.entry c.unsealed.result.now c.in_ok-cache.cache c.write_record.new.cache c.frontier_end-end.result
+    written_is state c.args.self.now c.args.entry c.unsealed.result.now c.in_ok-cache.cache c.write_record.new.cache
+    c.frontier_end-end.result
     c.in_ok-refusal.refusal c.self.view_is c.unsealed.ensures none c.in_ok-cache.ensures c.frontier_end-end.ensures.end
     c.in_ok-refusal.ensures.refusal c.in_ok-refusal.ensures.cache in
     let taken : c.in_ok-refusal.refusal ≡ None = search rules in
     let longer : c.push_reserved.new.self.items ≡ c.self.inside.stream.entries.items ++ c.args.entry ∷ [] =
     c.push_reserved.ensures.items ∙ ap (λ (xs : List Entry). xs ++ c.args.entry ∷ []) c.reserve.ensures.items in
-    taken_leaves state c.args.entry c.write_record.new.cache c.push_reserved.new.self.items is.none (sym is.refused ∙ taken) is.written longer
+    taken_leaves state c.args.entry c.write_record.new.cache c.push_reserved.new.self.items is.none (sym is.refused ∙ taken)
+    is.written longer
     ∙ ap (λ (s : PlainState). after_entering c.args.entry s) c.self.view_is

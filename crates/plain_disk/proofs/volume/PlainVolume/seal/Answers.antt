@@ -34,7 +34,8 @@ invariant_of-self-2 c =
     c.push_reserved.ensures.items ∙ ap (λ (xs : List StreamObject). xs ++ object ∷ []) c.reserve.ensures.items in
     let fits = end_fits (goal.at.invariant_of-self-2 c).After-end_at in
     let is = c.self.invariant in
-    let sealed = sealed_fields c.self.inside.geometry c.self.inside.stream c.self.inside.last c.push_reserved.new.self.items object is longer fits in
+    let sealed = sealed_fields c.self.inside.geometry c.self.inside.stream c.self.inside.last c.push_reserved.new.self.items
+    object is longer fits in
     record {
       limits = is.limits;
       in_range = is.in_range;

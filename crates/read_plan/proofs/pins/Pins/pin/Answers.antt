@@ -11,4 +11,5 @@ pub returns-clause-pinned : goal.returns-clause-pinned
 returns-clause-pinned c =
     rw (← c.self.view_is)
     (times_of_both c.self.inside.numbers.items c.args.numbers.now c.sort_unstable.new.self.items
-    (subst (λ items. IsPermutation items c.sort_unstable.new.self.items) c.in_ok-extend_from_slice.ensures.items c.sort_unstable.ensures.permutation))
+    (subst (λ items. IsPermutation items c.sort_unstable.new.self.items) c.in_ok-extend_from_slice.ensures.items
+    c.sort_unstable.ensures.permutation))

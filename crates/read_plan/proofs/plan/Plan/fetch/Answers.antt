@@ -15,7 +15,8 @@ loop-piece-preserved g c =
       size = search rules;
       gives = λ bytes given.
           c.loop-piece.invariant.gives bytes
-          (gives_next pieces index c.piece-item.result c.loop-piece.buf c.fetch.new.buf bytes inside is c.in_ok-fetch.ensures.bytes
+          (gives_next pieces index c.piece-item.result c.loop-piece.buf c.fetch.new.buf bytes inside is
+          c.in_ok-fetch.ensures.bytes
           (subst (λ n. GivesOver (drop n pieces) c.fetch.new.buf bytes) next given));
       told = λ tells.
           subst (λ n. AllByRecursion IsToldPiece (take n pieces)) (sym next)

@@ -8,7 +8,9 @@ use Rattle.read_plan.proofs.plan.Plan.fetch.Given as goal
 abbrev pub invariant-loop-piece : goal.invariant-loop-piece
 invariant-loop-piece g l = record {
   size : length l.buf ≡ length l.self.bytes;
-  gives : (bytes : List ℕ) → GivesOver (drop l.piece-index l.self.pieces) l.buf bytes → GivesOver l.self.pieces l.self.bytes bytes;
-  told : ((receipt : _) → IsSome (g.R.Receipt.state receipt).told) → AllByRecursion IsToldPiece (take l.piece-index l.self.pieces);
+  gives : (bytes : List ℕ) → GivesOver (drop l.piece-index l.self.pieces) l.buf bytes
+      → GivesOver l.self.pieces l.self.bytes bytes;
+  told : ((receipt : _) → IsSome (g.R.Receipt.state receipt).told)
+      → AllByRecursion IsToldPiece (take l.piece-index l.self.pieces);
   unchanged : g.S.Store.state l.store ≡ g.S.Store.state l.fn.store;
 }

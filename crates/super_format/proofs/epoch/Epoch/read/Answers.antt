@@ -5,7 +5,8 @@ use Rattle.super_format.proofs.epoch.Epoch.read.Goals as goal
 
 pub returns-then-not-has_fields-clause-none : goal.returns-then-not-has_fields-clause-none
 returns-then-not-has_fields-clause-none c epoch is =
-    both_ways _ c.if-not-has_fields.true (c.has_fields.ensures.1 (fields_of_epoch c.args.bytes.now c.args.uuid c.args.number epoch is))
+    both_ways _ c.if-not-has_fields.true (c.has_fields.ensures.1
+    (fields_of_epoch c.args.bytes.now c.args.uuid c.args.number epoch is))
 
 pub returns-clause-ok : goal.returns-clause-ok
 returns-clause-ok c =

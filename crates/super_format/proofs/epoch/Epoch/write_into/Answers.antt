@@ -17,7 +17,8 @@ returns c =
     let to_magic : take 8 (c.copy_from_slice.new.self ++ drop 8 c.args.bytes.now) ≡ magic =
     take_at c.copy_from_slice.new.self (drop 8 c.args.bytes.now) 8 (ap length is_magic) ∙ is_magic in
     let to_uuid =
-    written_front 8 16 magic _ _ _ to_magic refl known c.write_16_bytes.ensures ∙ ap (λ xs. magic ++ xs) c.into_bytes-uuid.ensures in
+    written_front 8 16 magic _ _ _ to_magic refl known c.write_16_bytes.ensures
+    ∙ ap (λ xs. magic ++ xs) c.into_bytes-uuid.ensures in
     let front : length (magic ++ epoch.uuid) ≡ 24 = length-append magic epoch.uuid ∙ ap (λ n. 8 + n) width in
     let to_number = written_front 24 8 (magic ++ epoch.uuid) number _ _ to_uuid front refl c.write_u64.ensures in
     let size : length c.write_u64.new.bytes ≡ 32 = search rules in

@@ -27,7 +27,8 @@ pub returns-in_default-clause-refused : goal.returns-in_default-clause-refused
 returns-in_default-clause-refused c =
     let has = has_read (goal.at.returns-in_default-clause-refused c).In_ok-ancestors in
     subst (IsReasonOf c.args.bytes.now c.args.uuid) (sym c.into.ensures)
-    (refused_as_no_chain c.args.bytes.now c.args.uuid c.read_u32.result c.in_ok-ancestors.ancestors.items has c.in_default.ensures.none)
+    (refused_as_no_chain c.args.bytes.now c.args.uuid c.read_u32.result c.in_ok-ancestors.ancestors.items has
+    c.in_default.ensures.none)
 
 -- and once they are a chain
 has_chain : (c : In-Some) → HasRead c.args.bytes.now c.args.uuid c.read_u32.result c.in-Some.chain

@@ -31,7 +31,8 @@ returns-clause-bytes c =
     take_at c.copy_from_slice.new.self (drop 8 c.args.head.now) 8 (ap length is_magic) ∙ is_magic in
     let has_version = written_front 8 4 magic version _ _ has_magic refl refl c.write_u32.ensures in
     let has_uuid =
-    written_front 12 16 to_12 _ _ _ has_version refl known c.write_16_bytes.ensures ∙ ap (λ xs. to_12 ++ xs) c.into_bytes-uuid.ensures in
+    written_front 12 16 to_12 _ _ _ has_version refl known c.write_16_bytes.ensures
+    ∙ ap (λ xs. to_12 ++ xs) c.into_bytes-uuid.ensures in
     let has_sectors = written_front 28 8 to_28 sectors _ _ has_uuid size_28 refl c.write_u64.ensures in
     let has_max_write = written_front 36 4 to_36 max_write _ _ has_sectors size_36 refl c.write_u32-2.ensures in
     let has_batch = written_front 40 4 to_40 batch _ _ has_max_write size_40 refl c.write_u32-3.ensures in

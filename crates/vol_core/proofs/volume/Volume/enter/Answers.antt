@@ -26,7 +26,8 @@ invariant_of-self g c =
     let is = c.self.invariant in
     steps_keep_volume g.R.Receipt.state (event_of c.args.entry) reply volume (with_both objects log volume) inside.steps is ready
     (enter_steps g.R.Receipt.state c.args.entry reply volume objects log c.ordered.ensures c.on_disk.ensures c.enter.ensures)
-    (enter_grow g.R.Receipt.state c.args.entry reply volume objects log is.plain c.ordered.ensures c.on_disk.ensures c.enter.ensures is.shows)
+    (enter_grow g.R.Receipt.state c.args.entry reply volume objects log is.plain c.ordered.ensures c.on_disk.ensures
+    c.enter.ensures is.shows)
 
 pub returns-clause-step : goal.returns-clause-step
 returns-clause-step g c =
@@ -36,7 +37,8 @@ returns-clause-step g c =
     let log = c.enter.new.log in
     subst (λ (s : SteppedVolume). StepsAsPlain g.R.Receipt.state (event_of c.args.entry) c.enter.result s.volume
     (with_both objects log volume)) c.self.view_is
-    (enter_steps g.R.Receipt.state c.args.entry c.enter.result volume objects log c.ordered.ensures c.on_disk.ensures c.enter.ensures)
+    (enter_steps g.R.Receipt.state c.args.entry c.enter.result volume objects log c.ordered.ensures c.on_disk.ensures
+    c.enter.ensures)
 
 pub returns-clause-stops : goal.returns-clause-stops
 returns-clause-stops g c =
@@ -55,7 +57,8 @@ returns-clause-numbers g c =
     let log = c.enter.new.log in
     let is = c.self.invariant in
     numbers_seen (with_both objects log volume) _ _ c.self.view_is
-    (enter_grow g.R.Receipt.state c.args.entry c.enter.result volume objects log is.plain c.ordered.ensures c.on_disk.ensures c.enter.ensures is.shows)
+    (enter_grow g.R.Receipt.state c.args.entry c.enter.result volume objects log is.plain c.ordered.ensures c.on_disk.ensures
+    c.enter.ensures is.shows)
 
 pub returns-clause-bytes : goal.returns-clause-bytes
 returns-clause-bytes g c =

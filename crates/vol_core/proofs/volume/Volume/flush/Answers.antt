@@ -14,7 +14,8 @@ invariant_of-self g c =
     let inside = c.self.inside in
     let volume : VolumeState = volume_of inside.objects inside.log inside.pins inside.checkpoint in
     let ready = subst HasRoomForStep (sym c.self.view_is) c.requires in
-    flush_keeps_volume volume c.commit.new.log _ c.end.result inside.steps c.ordered.ensures c.end.ensures c.commit.ensures ready c.self.invariant
+    flush_keeps_volume volume c.commit.new.log _ c.end.result inside.steps c.ordered.ensures c.end.ensures c.commit.ensures ready
+    c.self.invariant
 
 pub returns-clause-step : goal.returns-clause-step
 returns-clause-step g c =
@@ -32,7 +33,8 @@ returns-clause-step g c =
           flush_steps state volume log w.batch.result.now true end w.next_seq.result reply c.ordered.ensures c.on_disk.ensures
           c.end.ensures w.in-Ok.ensures
           w.batch.ensures w.next_seq.ensures w.result-is
-      | in-Err w ↦ flush_steps state volume log batch false end count reply c.ordered.ensures c.on_disk.ensures c.end.ensures w.in-Err.ensures
+      | in-Err w ↦ flush_steps state volume log batch false end count reply c.ordered.ensures c.on_disk.ensures c.end.ensures
+          w.in-Err.ensures
           refl refl w.result-is
     ])
 

@@ -18,7 +18,8 @@ invariant_of-self g c =
     let job = c.args.job in
     let receipt = c.args.receipt in
     let ready = subst HasRoomForStep (sym c.self.view_is) c.requires.ready in
-    steps_keep_volume state (events.JobDone job receipt) reply volume (with_objects objects volume) inside.steps c.self.invariant ready
+    steps_keep_volume state (events.JobDone job receipt) reply volume (with_objects objects volume) inside.steps
+    c.self.invariant ready
     (done_steps state volume objects job receipt reply c.ordered.ensures c.requires.receipt c.job_done-reply.ensures)
     (done_grow volume objects state job receipt reply c.job_done-reply.ensures)
 
@@ -39,19 +40,22 @@ returns-clause-stops g c =
     let inside = c.self.inside in
     let volume : VolumeState = volume_of inside.objects inside.log inside.pins inside.checkpoint in
     let objects = c.job_done-reply.new.objects in
-    keeps_seen (with_objects objects volume) _ _ c.self.view_is (finishing_keeps volume objects g.R.Receipt.state c.args.job c.args.receipt c.job_done-reply.result c.job_done-reply.ensures)
+    keeps_seen (with_objects objects volume) _ _ c.self.view_is (finishing_keeps volume objects g.R.Receipt.state c.args.job
+    c.args.receipt c.job_done-reply.result c.job_done-reply.ensures)
 
 pub returns-clause-numbers : goal.returns-clause-numbers
 returns-clause-numbers g c =
     let inside = c.self.inside in
     let volume : VolumeState = volume_of inside.objects inside.log inside.pins inside.checkpoint in
     let objects = c.job_done-reply.new.objects in
-    numbers_seen (with_objects objects volume) _ _ c.self.view_is (done_grow volume objects g.R.Receipt.state c.args.job c.args.receipt c.job_done-reply.result c.job_done-reply.ensures)
+    numbers_seen (with_objects objects volume) _ _ c.self.view_is (done_grow volume objects g.R.Receipt.state c.args.job
+    c.args.receipt c.job_done-reply.result c.job_done-reply.ensures)
 
 pub returns-clause-bytes : goal.returns-clause-bytes
 returns-clause-bytes g c =
     let inside = c.self.inside in
     let volume : VolumeState = volume_of inside.objects inside.log inside.pins inside.checkpoint in
     let objects = c.job_done-reply.new.objects in
-    bytes_seen (with_objects objects volume) _ _ c.self.view_is (finishing_keeps_bytes volume objects g.R.Receipt.state c.args.job c.args.receipt c.job_done-reply.result c.job_done-reply.ensures
+    bytes_seen (with_objects objects volume) _ _ c.self.view_is (finishing_keeps_bytes volume objects g.R.Receipt.state c.args.job
+    c.args.receipt c.job_done-reply.result c.job_done-reply.ensures
     c.ordered-2.ensures)

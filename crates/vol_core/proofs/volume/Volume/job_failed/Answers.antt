@@ -37,18 +37,21 @@ returns-clause-stops g c =
     let inside = c.self.inside in
     let volume : VolumeState = volume_of inside.objects inside.log inside.pins inside.checkpoint in
     let objects = c.job_failed.new.objects in
-    keeps_seen (with_objects objects volume) _ _ c.self.view_is (returning_keeps volume objects c.args.job c.job_failed.result c.job_failed.ensures)
+    keeps_seen (with_objects objects volume) _ _ c.self.view_is (returning_keeps volume objects c.args.job c.job_failed.result
+    c.job_failed.ensures)
 
 pub returns-clause-numbers : goal.returns-clause-numbers
 returns-clause-numbers g c =
     let inside = c.self.inside in
     let volume : VolumeState = volume_of inside.objects inside.log inside.pins inside.checkpoint in
     let objects = c.job_failed.new.objects in
-    numbers_seen (with_objects objects volume) _ _ c.self.view_is (returned_grow volume objects c.args.job c.job_failed.result c.job_failed.ensures)
+    numbers_seen (with_objects objects volume) _ _ c.self.view_is (returned_grow volume objects c.args.job c.job_failed.result
+    c.job_failed.ensures)
 
 pub returns-clause-bytes : goal.returns-clause-bytes
 returns-clause-bytes g c =
     let inside = c.self.inside in
     let volume : VolumeState = volume_of inside.objects inside.log inside.pins inside.checkpoint in
     let objects = c.job_failed.new.objects in
-    bytes_seen (with_objects objects volume) _ _ c.self.view_is (returning_keeps_bytes volume objects c.args.job c.job_failed.result c.job_failed.ensures)
+    bytes_seen (with_objects objects volume) _ _ c.self.view_is
+    (returning_keeps_bytes volume objects c.args.job c.job_failed.result c.job_failed.ensures)

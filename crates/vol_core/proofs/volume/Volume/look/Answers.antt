@@ -21,9 +21,11 @@ returns-then-not-may_transfer-clause-step g c =
     let volume : VolumeState = volume_of inside.objects inside.log inside.pins inside.checkpoint in
     let lba = c.args.lba in
     let sectors = c.args.sectors in
-    subst (λ (s : SteppedVolume). StepsAsPlain g.R.Receipt.state (events.Look lba sectors) replies.Range s.volume s.volume) c.self.view_is
+    subst (λ (s : SteppedVolume). StepsAsPlain g.R.Receipt.state (events.Look lba sectors) replies.Range s.volume s.volume)
+    c.self.view_is
     (range_steps g.R.Receipt.state volume lba sectors
-    (may_of_own volume inside.steps c.args.self.now c.geometry.result lba sectors c.may_transfer.result false c.self.view_is c.geometry.ensures
+    (may_of_own volume inside.steps c.args.self.now c.geometry.result lba sectors c.may_transfer.result false c.self.view_is
+    c.geometry.ensures
     c.may_transfer.ensures c.if-not-may_transfer.true))
 
 pub look-requires-clause-log : goal.look-requires-clause-log
@@ -33,7 +35,8 @@ look-requires-clause-log g c =
     let lba = c.args.lba in
     let sectors = c.args.sectors in
     log_has_read volume c.self.invariant.plain c.self.invariant.shows c.ordered.ensures lba sectors
-    (may_of_own volume inside.steps c.args.self.now c.geometry.result lba sectors c.may_transfer.result true c.self.view_is c.geometry.ensures
+    (may_of_own volume inside.steps c.args.self.now c.geometry.result lba sectors c.may_transfer.result true c.self.view_is
+    c.geometry.ensures
     c.may_transfer.ensures c.if-not-may_transfer.false)
 
 pub look-requires-clause-objects : goal.look-requires-clause-objects
@@ -43,7 +46,8 @@ look-requires-clause-objects g c =
     let lba = c.args.lba in
     let sectors = c.args.sectors in
     objects_have_read volume c.self.invariant.plain c.self.invariant.shows c.ordered.ensures lba sectors
-    (may_of_own volume inside.steps c.args.self.now c.geometry.result lba sectors c.may_transfer.result true c.self.view_is c.geometry.ensures
+    (may_of_own volume inside.steps c.args.self.now c.geometry.result lba sectors c.may_transfer.result true c.self.view_is
+    c.geometry.ensures
     c.may_transfer.ensures c.if-not-may_transfer.false)
 
 steps : (g : given.Over) (c : Joined-look g)
@@ -59,22 +63,26 @@ steps g c =
     let pins = c.look.new.pins in
     let state = g.R.Receipt.state in
     let may =
-    may_of_own volume inside.steps c.args.self.now c.geometry.result lba sectors c.may_transfer.result true c.self.view_is c.geometry.ensures
+    may_of_own volume inside.steps c.args.self.now c.geometry.result lba sectors c.may_transfer.result true c.self.view_is
+    c.geometry.ensures
     c.may_transfer.ensures c.if-not-may_transfer.false in
     elim c.match-look.branch [
       | in-Ok w ↦
           let says = w.in-Ok.ensures in
-          subst (λ reply. StepsAsPlain state (events.Look lba sectors) reply volume (with_reads log pins volume)) (sym w.result-is)
+          subst (λ reply. StepsAsPlain state (events.Look lba sectors) reply volume (with_reads log pins volume))
+          (sym w.result-is)
           (planned_steps state volume lba sectors w.in-Ok.plan log pins c.ordered.ensures may says.plan says.whole says.pinned
           (says.reads (λ e. cc)))
       | in-Err-Fault w ↦
           let says = w.in-Err-Fault.ensures in
           let fault = w.in-Err-Fault.field-0-is in
-          subst (λ reply. StepsAsPlain state (events.Look lba sectors) reply volume (with_reads log pins volume)) (sym w.result-is)
+          subst (λ reply. StepsAsPlain state (events.Look lba sectors) reply volume (with_reads log pins volume))
+          (sym w.result-is)
           (fault_steps state volume lba sectors log pins c.ordered.ensures may says.same_pins (says.reads (λ e. cc)))
       | in-Err-OutOfMemory w ↦
           let says = w.in-Err-OutOfMemory.ensures in
-          subst (λ reply. StepsAsPlain state (events.Look lba sectors) reply volume (with_reads log pins volume)) (sym w.result-is)
+          subst (λ reply. StepsAsPlain state (events.Look lba sectors) reply volume (with_reads log pins volume))
+          (sym w.result-is)
           (memory_steps state volume lba sectors log pins (says.memory (ap Err w.in-Err-OutOfMemory.field-0-is)) says.same_pins)
     ]
 
@@ -94,7 +102,8 @@ grow g c =
           let fault = w.in-Err-Fault.field-0-is in
           reads_grow volume log pins lba sectors false (w.in-Err-Fault.ensures.reads (λ e. cc))
       | in-Err-OutOfMemory w ↦
-          numbers_stay volume (with_reads log pins volume) (w.in-Err-OutOfMemory.ensures.memory (ap Err w.in-Err-OutOfMemory.field-0-is)) refl
+          numbers_stay volume (with_reads log pins volume)
+          (w.in-Err-OutOfMemory.ensures.memory (ap Err w.in-Err-OutOfMemory.field-0-is)) refl
     ]
 
 pub invariant_of-self : goal.invariant_of-self
@@ -134,7 +143,8 @@ returns-clause-stops g c =
     let inside = c.self.inside in
     let volume : VolumeState = volume_of inside.objects inside.log inside.pins inside.checkpoint in
     let log : LogState = c.look.new.log in
-    keeps_seen (record volume { log = log; pins = c.look.new.pins }) _ _ c.self.view_is (look_keeps volume log c.look.new.pins (is_still g c))
+    keeps_seen (record volume { log = log; pins = c.look.new.pins }) _ _ c.self.view_is
+    (look_keeps volume log c.look.new.pins (is_still g c))
 
 pub returns-clause-numbers : goal.returns-clause-numbers
 returns-clause-numbers g c =
@@ -156,7 +166,8 @@ returns-clause-bytes g c =
 pub returns-clause-plan : goal.returns-clause-plan
 returns-clause-plan g c =
     elim c.match-look.branch [
-      | in-Ok w ↦ subst (λ reply. HasItsBytes (events.Look c.args.lba c.args.sectors) reply) (sym w.result-is) w.in-Ok.ensures.plan.size
+      | in-Ok w ↦ subst (λ reply. HasItsBytes (events.Look c.args.lba c.args.sectors) reply) (sym w.result-is)
+          w.in-Ok.ensures.plan.size
       | in-Err-Fault w ↦ subst (λ reply. HasItsBytes (events.Look c.args.lba c.args.sectors) reply) (sym w.result-is) tt
       | in-Err-OutOfMemory w ↦ subst (λ reply. HasItsBytes (events.Look c.args.lba c.args.sectors) reply) (sym w.result-is) tt
     ]

@@ -16,8 +16,10 @@ returns-then-not-has_all-clause-step g c =
     let inside = c.self.inside in
     let volume : VolumeState = volume_of inside.objects inside.log inside.pins inside.checkpoint in
     let plan = c.args.plan in
-    subst (λ (s : SteppedVolume). StepsAsPlain g.R.Receipt.state (events.Release plan) (replies.NotReleased plan) s.volume s.volume) c.self.view_is
-    (not_released_steps g.R.Receipt.state plan volume c.objects.result.now c.has_all.result c.objects.ensures.objects c.has_all.ensures
+    subst (λ (s : SteppedVolume). StepsAsPlain g.R.Receipt.state (events.Release plan) (replies.NotReleased plan) s.volume
+    s.volume) c.self.view_is
+    (not_released_steps g.R.Receipt.state plan volume c.objects.result.now c.has_all.result c.objects.ensures.objects
+    c.has_all.ensures
     c.if-not-has_all.true)
 
 pub invariant_of-self : goal.invariant_of-self
@@ -27,8 +29,10 @@ invariant_of-self g c =
     let plan = c.args.plan in
     let pins = c.unpin.new.self in
     let ready = subst HasRoomForStep (sym c.self.view_is) c.requires in
-    steps_keep_volume g.R.Receipt.state (events.Release plan) replies.Released volume (with_pins pins volume) inside.steps c.self.invariant ready
-    (released_steps g.R.Receipt.state plan volume pins c.objects.result.now c.objects-2.result.now c.has_all.result c.objects.ensures.ascending
+    steps_keep_volume g.R.Receipt.state (events.Release plan) replies.Released volume (with_pins pins volume) inside.steps
+    c.self.invariant ready
+    (released_steps g.R.Receipt.state plan volume pins c.objects.result.now c.objects-2.result.now c.has_all.result
+    c.objects.ensures.ascending
     c.objects.ensures.objects c.objects-2.ensures.objects c.has_all.ensures c.if-not-has_all.false c.unpin.ensures)
     (numbers_stay volume (with_pins pins volume) refl refl)
 
@@ -38,9 +42,11 @@ returns-clause-step g c =
     let volume : VolumeState = volume_of inside.objects inside.log inside.pins inside.checkpoint in
     let plan = c.args.plan in
     let pins = c.unpin.new.self in
-    subst (λ (s : SteppedVolume). StepsAsPlain g.R.Receipt.state (events.Release plan) replies.Released s.volume (with_pins pins volume))
+    subst (λ (s : SteppedVolume). StepsAsPlain g.R.Receipt.state (events.Release plan) replies.Released s.volume
+    (with_pins pins volume))
     c.self.view_is
-    (released_steps g.R.Receipt.state plan volume pins c.objects.result.now c.objects-2.result.now c.has_all.result c.objects.ensures.ascending
+    (released_steps g.R.Receipt.state plan volume pins c.objects.result.now c.objects-2.result.now c.has_all.result
+    c.objects.ensures.ascending
     c.objects.ensures.objects c.objects-2.ensures.objects c.has_all.ensures c.if-not-has_all.false c.unpin.ensures)
 
 pub returns-then-not-has_all-clause-stops : goal.returns-then-not-has_all-clause-stops

@@ -15,7 +15,8 @@ returns-clause-step g c =
     let sealed = c.last.result in
     let frontier = c.frontier.result in
     let steps =
-    status_steps state volume c.batch.result.now writes sealed frontier c.ordered.ensures c.batch.ensures c.next_seq.ensures c.last.ensures
+    status_steps state volume c.batch.result.now writes sealed frontier c.ordered.ensures c.batch.ensures c.next_seq.ensures
+    c.last.ensures
     c.frontier.ensures.is in
     let reply = replies.Told writes sealed frontier inside.checkpoint in
     subst (λ (s : SteppedVolume). StepsAsPlain state events.Status reply s.volume s.volume) c.self.view_is steps

@@ -49,4 +49,5 @@ returns-clause-bytes g c =
     let inside = c.self.inside in
     let volume : VolumeState = volume_of inside.objects inside.log inside.pins inside.checkpoint in
     let objects = c.take_job.new.objects in
-    bytes_seen (with_objects objects volume) _ _ c.self.view_is (taking_keeps_bytes volume objects c.take_job.result c.take_job.ensures)
+    bytes_seen (with_objects objects volume) _ _ c.self.view_is
+    (taking_keeps_bytes volume objects c.take_job.result c.take_job.ensures)

@@ -23,7 +23,8 @@ loop-row-preserved c =
     let split = ap (λ n. take n rows) next ∙ take-suc rows i none c.loop-row-test.true in (
       λ k.
           step.settled k ∙ (ap (λ p. settled_by_row number c.args.front row p k) (kept.0 k)
-          ∙ (sym (settled_push number c.args.front (take i rows) row (settled k) k) ∙ sym (ap (λ xs. settled_by number c.args.front xs (settled k) k) split))),
+          ∙ (sym (settled_push number c.args.front (take i rows) row (settled k) k)
+          ∙ sym (ap (λ xs. settled_by number c.args.front xs (settled k) k) split))),
       λ k.
           step.log k ∙ (ap (λ p. logged_by_row end row p k) (kept.1 k)
           ∙ (sym (logged_push end (take i rows) row (log k) k) ∙ sym (ap (λ xs. logged_by end xs (log k) k) split))),

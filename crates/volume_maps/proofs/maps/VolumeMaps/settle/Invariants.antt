@@ -6,7 +6,9 @@ use Rattle.volume_maps.proofs.maps.VolumeMaps.settle.Given as goal
 
 abbrev pub invariant-loop-row : goal.invariant-loop-row
 invariant-loop-row l =
-    ((k : ℕ) → place_at object_on l.self.settled.rows k ≡ settled_by l.number l.front (take l.row-index l.rows) (place_at object_on l.fn.self.settled.rows k) k)
-    × ((k : ℕ) → place_at log_on l.self.log.rows k ≡ logged_by l.end (take l.row-index l.rows) (place_at log_on l.fn.self.log.rows k) k)
+    ((k : ℕ) → place_at object_on l.self.settled.rows k ≡ settled_by l.number l.front (take l.row-index l.rows)
+    (place_at object_on l.fn.self.settled.rows k) k)
+    × ((k : ℕ) → place_at log_on l.self.log.rows k ≡ logged_by l.end (take l.row-index l.rows)
+    (place_at log_on l.fn.self.log.rows k) k)
     × (l.fn.self.settled.spare ≤ l.self.settled.spare + l.row-index)
     × (l.fn.self.log.spare ≤ l.self.log.spare + l.row-index)
