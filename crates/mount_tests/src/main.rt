@@ -1,0 +1,44 @@
+//! Mounts that no script of the program can make, and what is found: stores with bad, missing and foreign
+//! objects, caches of another volume or of another epoch, and stores and devices that fail, or stop, in the
+//! midst of a mount.
+//!
+//! What stands in the stores and on the devices is written here byte by byte, as docs/FORMATS.md has it.
+//! Nothing is claimed of it by a contract; what it prints is compared with the file `stdout`. It stands on
+//! `vol_recover` and the crates below it.
+#![tactic(auto)]
+
+mod answer;
+mod bytes;
+mod cache;
+mod calls;
+mod error;
+mod faults;
+mod names;
+mod rows;
+mod scene;
+mod stops;
+mod store;
+mod texts;
+
+use error::TestError;
+
+fn main(rt: HostRuntime) -> Result<(), TestError> {
+    println!(rt; "# A store's objects, mounted without the cache")?;
+    rows::tell_all(&rt, &rows::OBJECTS)?;
+    println!(rt; "# Its super object and its epochs")?;
+    rows::tell_all(&rt, &rows::VOLUMES)?;
+    println!(rt; "# A device, mounted as the cache")?;
+    rows::tell_all(&rt, &rows::CACHES)?;
+    println!(rt; "# Calls one after the other, on one store and one device")?;
+    calls::tell_calls(&rt)?;
+    println!(rt;
+        "# A creation in which a call of the store fails, then a mount, and a creation again"
+    )?;
+    calls::tell_broken_creations(&rt)?;
+    println!(rt; "# Calls that fail in a mount, one at a time, and the mount after it")?;
+    faults::tell_all(&rt)?;
+    println!(rt; "# Mounts with the cache whose device stops twice, and the one after them")?;
+    stops::tell_all(&rt)?;
+    println!(rt; "# Texts of errors")?;
+    texts::tell_all(&rt)
+}

@@ -1,0 +1,61 @@
+// Mounts with the cache whose device stops in the midst.
+use crate::answer::{Answer, kept};
+use crate::cache::{LEFT, SIZE, device};
+use crate::error::TestError;
+use crate::store::put_volume;
+use lsvd_device::{Disk, Fate, FuseDisk, MemDisk, StoppedDisk};
+use lsvd_objstore::MemStore;
+use std::alloc::{AllocError, Global};
+
+// The calls that a mount makes of its device, and one more, after which it is done.
+const CALLS: u64 = 17;
+
+// What the stops leave of each write that was not synced.
+const FATES: [Fate; 4] = [Fate::Kept, Fate::Old, Fate::Zeros, Fate::Torn];
+
+/// Tells how many mounts were made after two that were stopped, and what each of them answers.
+pub fn tell_all(rt: &HostRuntime) -> Result<(), TestError> {
+    for fate in FATES {
+        let (count, answer) = stopped_mounts(rt.alloc(), fate)?;
+        println!(rt; "{fate:?}: {count} mounts, {answer:?}")?;
+    }
+    Ok(())
+}
+
+// The first answer, and how many mounts have the same. The first one stops after each number of calls, and so
+// does the second.
+fn stopped_mounts(alloc: Global, fate: Fate) -> Result<(u64, Answer), TestError> {
+    let wanted = stopped_twice(alloc, fate, 0, 0)?;
+    let mut count = 0;
+    for calls in 0..CALLS {
+        if stopped_twice(alloc, fate, calls, 5 * calls % CALLS)? == wanted {
+            count += 1;
+        }
+    }
+    Ok((count, wanted))
+}
+
+// What a mount answers after two whose device stopped after so many calls.
+fn stopped_twice(alloc: Global, fate: Fate, first: u64, second: u64) -> Result<Answer, TestError> {
+    let mut store = MemStore::new(alloc);
+    put_volume(alloc, &mut store)?;
+    let disk = device(alloc, SIZE, Some(LEFT))?;
+    let disk = stopped_mount(alloc, fate, first, disk, &mut store)?;
+    let disk = stopped_mount(alloc, fate, second, disk, &mut store)?;
+    let (_disk, answer) = kept(alloc, disk, &mut store);
+    Ok(answer)
+}
+
+// What a stop leaves of the device after a mount on it that is to stop after so many calls.
+fn stopped_mount(
+    alloc: Global,
+    fate: Fate,
+    calls: u64,
+    disk: MemDisk,
+    store: &mut MemStore,
+) -> Result<MemDisk, AllocError> {
+    let _is_disk = disk.len();
+    let (disk, _answer) = kept(alloc, FuseDisk::new(disk, Some(calls)), store);
+    let fates = vec![in alloc; fate; disk.pending()]?;
+    disk.stopped(alloc, fates.as_slice())
+}

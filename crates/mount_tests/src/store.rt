@@ -1,0 +1,161 @@
+// Stores that are not as the program leaves them.
+ghost use Rattle.lsvd_names.specs.Spelling.{IsName};
+
+use crate::bytes::{CLONE, OTHER, Object, SUPER, UUID, add_epoch, add_object};
+use crate::error::TestError;
+use crate::names::{epoch_name, object_name, other_super_name, super_name};
+use lsvd_base::ObjectBytes;
+use lsvd_names::ObjName;
+use lsvd_objstore::{MemStore, Store};
+use std::alloc::{AllocError, Global};
+
+/// What stands under the number of an object.
+#[derive(Clone, Copy)]
+pub enum Stored {
+    /// A checkpoint without rows, with this end.
+    Checkpoint(u64),
+    /// A data object with the entries from the first seq to the second.
+    Data(u64, u64),
+    /// A copy without rows, with this end.
+    Copy(u64),
+    /// A data object that says half its number.
+    Misnamed,
+    /// A data object that says another volume.
+    Foreign,
+    /// The first 63 bytes of a data object.
+    Cut,
+}
+
+/// A change of a store.
+#[derive(Clone, Copy)]
+pub enum Change {
+    /// Puts the super object of a clone, of which the byte at this place is this one.
+    Clone(usize, u8),
+    NoSuper,
+    /// Puts an epoch under a number, whose bytes say the second one.
+    Epoch(u64, u64),
+    NoEpoch(u64),
+    Object(u64, Stored),
+    NoObject(u64),
+    /// Puts a super object for another volume, which is bad for that one.
+    OtherVolume,
+}
+
+// The volume: epoch 0, and two entries in object 2, after the first checkpoint.
+const VOLUME: &[Change] = &[
+    Change::Epoch(0, 0),
+    Change::Object(1, Stored::Checkpoint(0)),
+    Change::Object(2, Stored::Data(0, 2)),
+];
+
+/// Puts the volume into a store.
+pub fn put_volume(alloc: Global, store: &mut MemStore) -> Result<(), TestError> {
+    let bytes = SUPER.to_vec(alloc)?;
+    put(alloc, store, &super_name(), bytes)?;
+    change_all(alloc, store, VOLUME)
+}
+
+/// Makes these changes.
+pub fn change_all(
+    alloc: Global,
+    store: &mut MemStore,
+    changes: &[Change],
+) -> Result<(), TestError> {
+    for change in changes {
+        make(alloc, store, *change)?;
+    }
+    Ok(())
+}
+
+fn make(alloc: Global, store: &mut MemStore, change: Change) -> Result<(), TestError> {
+    match change {
+        Change::Clone(at, byte) => put(alloc, store, &super_name(), clone_with(alloc, at, byte)?),
+        Change::NoSuper => remove(alloc, store, &super_name()),
+        Change::Epoch(number, said) => put(alloc, store, &epoch_name(number), epoch(alloc, said)?),
+        Change::NoEpoch(number) => remove(alloc, store, &epoch_name(number)),
+        Change::Object(number, stored) => {
+            put(
+                alloc,
+                store,
+                &object_name(number),
+                object(alloc, number, stored)?,
+            )
+        }
+        Change::NoObject(number) => remove(alloc, store, &object_name(number)),
+        Change::OtherVolume => put(alloc, store, &other_super_name(), CLONE.to_vec(alloc)?),
+    }
+}
+
+fn put(alloc: Global, store: &mut MemStore, name: &ObjName, bytes: Vec<u8>) -> Result<(), TestError>
+    requires { IsName name.now }
+{
+    let bytes = ObjectBytes::from_bytes(bytes)?;
+    store.put(alloc, name, &bytes)?;
+    Ok(())
+}
+
+fn remove(alloc: Global, store: &mut MemStore, name: &ObjName) -> Result<(), TestError>
+    requires { IsName name.now }
+{
+    if let Some(receipt) = store.find(alloc, name)? {
+        store.remove(&receipt)?;
+    }
+    Ok(())
+}
+
+fn clone_with(alloc: Global, at: usize, byte: u8) -> Result<Vec<u8>, AllocError> {
+    let mut bytes = CLONE.to_vec(alloc)?;
+    if let Some(place) = bytes.get_mut(at) {
+        *place = byte;
+    }
+    Ok(bytes)
+}
+
+fn epoch(alloc: Global, number: u64) -> Result<Vec<u8>, AllocError> {
+    let mut bytes = Vec::new(alloc);
+    add_epoch(&mut bytes, number)?;
+    Ok(bytes)
+}
+
+fn object(alloc: Global, number: u64, stored: Stored) -> Result<Vec<u8>, AllocError> {
+    let mut bytes = Vec::new(alloc);
+    add_object(&mut bytes, &said_by(number, stored))?;
+    if matches!(stored, Stored::Cut) {
+        bytes.truncate(63);
+    }
+    Ok(bytes)
+}
+
+// What the header of an object says.
+fn said_by(number: u64, stored: Stored) -> Object {
+    match stored {
+        Stored::Checkpoint(end) => without_row(3, number, end),
+        Stored::Copy(end) => without_row(2, number, end),
+        Stored::Data(first, end) => data(UUID, number, first, end),
+        Stored::Misnamed => data(UUID, number / 2, 0, 1),
+        Stored::Foreign => data(OTHER, number, 0, 1),
+        Stored::Cut => data(UUID, number, 0, 1),
+    }
+}
+
+fn without_row(kind: u32, number: u64, end: u64) -> Object {
+    Object {
+        kind,
+        uuid: UUID,
+        number,
+        first: end,
+        end,
+        has_row: false,
+    }
+}
+
+fn data(uuid: [u8; 16], number: u64, first: u64, end: u64) -> Object {
+    Object {
+        kind: 1,
+        uuid,
+        number,
+        first,
+        end,
+        has_row: true,
+    }
+}

@@ -1,0 +1,108 @@
+// The texts of errors.
+use crate::bytes::OTHER;
+use crate::error::TestError;
+use log_record::Reason as RecordReason;
+use object_format::BadObject;
+use object_recovery::RecoverError;
+use super_format::Reason as SuperReason;
+use super_recovery::{BadSuper, SuperError};
+use uuid::Uuid;
+use vol_recover::{CreateError, MountError};
+
+const MOUNTS: [MountError; 15] = [
+    MountError::NoVolume,
+    MountError::BadSuper {
+        reason: BadSuper::BadEpoch { number: 4 },
+    },
+    MountError::BadSuper {
+        reason: BadSuper::NoEpoch,
+    },
+    MountError::BadSuper {
+        reason: BadSuper::Super(SuperReason::Magic),
+    },
+    MountError::HasAncestors { count: 2 },
+    MountError::NoCheckpoint,
+    MountError::BadObject {
+        number: 3,
+        reason: BadObject::Seqs,
+    },
+    MountError::NotData { number: 4 },
+    MountError::NoSlot { log: 9 },
+    MountError::StaleCache { cache: 1, store: 3 },
+    MountError::BadRecord {
+        seq: 5,
+        reason: RecordReason::Seq,
+    },
+    MountError::Worn { value: 1 << 60 },
+    MountError::StoreFault,
+    MountError::DeviceFault,
+    MountError::OutOfMemory,
+];
+
+const CREATIONS: &[CreateError] = &[
+    CreateError::Exists,
+    CreateError::StoreFault,
+    CreateError::DeviceFault,
+    CreateError::OutOfMemory,
+];
+
+const VOLUMES: &[SuperError] = &[
+    SuperError::NoVolume,
+    SuperError::BadSuper {
+        reason: BadSuper::Super(SuperReason::Magic),
+    },
+    SuperError::BadSuper {
+        reason: BadSuper::BadEpoch { number: 3 },
+    },
+    SuperError::StoreFault,
+    SuperError::OutOfMemory,
+];
+
+const RECOVERIES: &[RecoverError] = &[
+    RecoverError::NoCheckpoint,
+    RecoverError::BadObject {
+        number: 3,
+        reason: BadObject::Seqs,
+    },
+    RecoverError::NotData { number: 4 },
+    RecoverError::StoreFault,
+    RecoverError::OutOfMemory,
+];
+
+/// Tells each text.
+pub fn tell_all(rt: &HostRuntime) -> Result<(), TestError> {
+    tell_mounts(rt)?;
+    tell_creations(rt)?;
+    tell_volumes(rt)?;
+    tell_recoveries(rt)
+}
+
+fn tell_mounts(rt: &HostRuntime) -> Result<(), TestError> {
+    for error in MOUNTS {
+        println!(rt; "{error}")?;
+    }
+    let found = Uuid::from_bytes(OTHER);
+    println!(rt; "{}", MountError::WrongVolume { found })?;
+    Ok(())
+}
+
+fn tell_creations(rt: &HostRuntime) -> Result<(), TestError> {
+    for error in CREATIONS {
+        println!(rt; "{error}")?;
+    }
+    Ok(())
+}
+
+fn tell_volumes(rt: &HostRuntime) -> Result<(), TestError> {
+    for error in VOLUMES {
+        println!(rt; "{error}")?;
+    }
+    Ok(())
+}
+
+fn tell_recoveries(rt: &HostRuntime) -> Result<(), TestError> {
+    for error in RECOVERIES {
+        println!(rt; "{error}")?;
+    }
+    Ok(())
+}

@@ -1,0 +1,57 @@
+use crate::error::TestError;
+use lsvd_base::Geometry;
+use lsvd_device::{Disk, FuseDisk, MemDisk};
+use lsvd_fault::{MemLink, MemSink, MemSource};
+use lsvd_objstore::{MemReceipt, MemStore};
+use nbd_session::{SessionEnd, serve_session};
+use std::alloc::{AllocError, Global};
+use uuid::Uuid;
+use vol_core::create;
+use volume_owner::{Owner, a_new_volume_is_idle};
+
+// The volume, of 32,768 bytes, whose requests have at most 4,096.
+const GEOMETRY: Geometry = Geometry {
+    sectors: 64,
+    max_write: 8,
+    batch: 16,
+    log: 64,
+};
+
+const UUID: [u8; 16] = [0, 0, 0, 0, 0, 0, 0x40, 0, 0x80, 0, 0, 0, 0, 0, 0, 1];
+
+// The bytes of its device.
+const SIZE: u64 = 4_096 + 512 * 64;
+
+/// Who makes requests of the volume.
+pub type TestOwner = Owner<FuseDisk<MemDisk>, MemReceipt>;
+
+/// The owner of a new volume, on a disk that passes so many calls, or all.
+pub fn owner_of(alloc: Global, fuse: Option<u64>) -> Result<TestOwner, TestError> {
+    let disk = MemDisk::new(alloc, SIZE)?;
+    let _is_disk = disk.len();
+    let disk = FuseDisk::new(disk, fuse);
+    match create(alloc, disk, Uuid::from_bytes(UUID), GEOMETRY) {
+        Ok(volume) => {
+            a_new_volume_is_idle();
+            Ok(Owner::new(volume))
+        }
+        Err((_disk, failed)) => Err(failed.into()),
+    }
+}
+
+/// Serves a new volume on the link.
+pub fn serve(
+    alloc: Global,
+    link: &mut MemLink,
+    fuse: Option<u64>,
+) -> Result<SessionEnd, TestError> {
+    let mut owner = owner_of(alloc, fuse)?;
+    let mut store = MemStore::new(alloc);
+    Ok(serve_session(alloc, &mut owner, link, &mut store))
+}
+
+/// A link on which a client sends these bytes.
+pub fn link_of(alloc: Global, input: &[u8]) -> Result<MemLink, AllocError> {
+    let source = MemSource::new(input.to_vec(alloc)?);
+    Ok(MemLink::new(source, MemSink::new(alloc)))
+}
