@@ -16,8 +16,6 @@ mod memory;
 mod owner_only;
 mod socket_link;
 mod socket_listener;
-#[cfg(test)]
-mod tests;
 
 pub use connection::Connection;
 pub use listener::Listener;

@@ -13,8 +13,6 @@ mod info;
 mod laws;
 mod negotiation;
 mod replies;
-#[cfg(test)]
-mod tests;
 
 pub use answer::{Answer, answer_of, answer_unread};
 pub use export::Export;

@@ -13,8 +13,6 @@ mod content;
 mod laws;
 mod outcome;
 mod session;
-#[cfg(test)]
-mod tests;
 
 pub use asking::{Asked, RequestError, asked_of};
 pub use command::Command;

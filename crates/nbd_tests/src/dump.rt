@@ -17,6 +17,10 @@ struct Run {
 
 /// Tells bytes in lines, one for each reply.
 pub fn tell_bytes(rt: &HostRuntime, bytes: &[u8]) -> Result<(), TestError> {
+    if bytes.is_empty() {
+        println!(rt; "  no bytes")?;
+        return Ok(());
+    }
     let mut run = Run { byte: 0, count: 0 };
     print!(rt; "  ")?;
     for (at, byte) in bytes.iter().enumerate() {
@@ -48,7 +52,7 @@ fn begins_reply(bytes: &[u8], at: usize) -> bool {
 fn tell_run(rt: &HostRuntime, run: Run) -> Result<(), TestError> {
     let Run { byte, count } = run;
     if FEW < count {
-        print!(rt; " {byte:02x}*{count} ")?;
+        print!(rt; "[{byte:02x}*{count}]")?;
         return Ok(());
     }
     for _ in 0..count {

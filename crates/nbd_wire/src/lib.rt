@@ -12,8 +12,6 @@ mod filling;
 mod laws;
 mod message;
 mod reading;
-#[cfg(test)]
-mod tests;
 mod wire_end;
 mod writing;
 

@@ -17,8 +17,6 @@ mod reading;
 mod recovered;
 mod recovery;
 mod removal;
-#[cfg(test)]
-mod tests;
 
 pub use error::RecoverError;
 pub use laws::{a_list_has_some_image, a_recovery_may_be_made_again, no_object_is_good_and_bad};

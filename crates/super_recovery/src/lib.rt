@@ -12,8 +12,6 @@ mod laws;
 mod naming;
 mod putting;
 mod reading;
-#[cfg(test)]
-mod tests;
 
 pub use error::{BadSuper, SuperError};
 pub use finding::{FoundVolume, find_volume, has_super};

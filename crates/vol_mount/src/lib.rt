@@ -16,8 +16,6 @@ mod lost;
 mod mounted;
 mod opening;
 mod recovery;
-#[cfg(test)]
-mod tests;
 mod worn;
 
 pub use error::MountError;

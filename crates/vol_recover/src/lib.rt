@@ -11,8 +11,6 @@
 mod creating;
 mod describing;
 mod mounting;
-#[cfg(test)]
-mod tests;
 
 pub use creating::{CreateError, create};
 pub use mounting::{mount_kept, mount_lost};

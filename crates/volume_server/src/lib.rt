@@ -8,8 +8,6 @@
 mod laws;
 mod next;
 mod serving;
-#[cfg(test)]
-mod tests;
 
 pub use laws::clients_add_to_one_history;
 pub use next::{Next, serve_next};

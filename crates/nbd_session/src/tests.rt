@@ -1,2 +1,0 @@
-mod asking;
-mod sessions;
