@@ -12,15 +12,20 @@ const PATH: &str = "socket_of_links";
 /// Tells what links over a socket do.
 pub fn tell_all(rt: &HostRuntime) -> Result<(), TestError> {
     let mut listener = SocketListener::bind(rt, PATH)?;
-    let mut client = UnixStream::connect(rt, PATH)?;
-    let mut link = next_of(&mut listener)?;
-    tell_echoes(rt, &mut client, &mut link)?;
-    tell_held(rt, &mut client, &mut link)?;
-    drop(client);
-    tell_gone(rt, &mut link)?;
+    tell_first(rt, &mut listener)?;
     tell_cut(rt, &mut listener)?;
     fs::remove_file(rt, PATH)?;
     Ok(())
+}
+
+// A client that goes when it has read all that was sent to it.
+fn tell_first(rt: &HostRuntime, listener: &mut SocketListener) -> Result<(), TestError> {
+    let mut client = UnixStream::connect(rt, PATH)?;
+    let mut link = next_of(listener)?;
+    tell_echoes(rt, &mut client, &mut link)?;
+    tell_held(rt, &mut client, &mut link)?;
+    drop(client);
+    tell_gone(rt, &mut link)
 }
 
 fn next_of(listener: &mut SocketListener) -> Result<SocketLink, TestError> {
