@@ -29,12 +29,13 @@ const GEOMETRY: Geometry = Geometry {
 
 /// Creates the volume. The device is given back.
 pub fn created<D: Disk + Drop, S: Store>(alloc: Global, disk: D, store: &mut S) -> (D, Answer) {
-    if disk.len() != SIZE || !GEOMETRY.is_within_limits() {
-        return (disk, Answer::NotAsked);
-    }
-    match create(alloc, disk, store, Uuid::from_bytes(UUID), GEOMETRY) {
-        Ok(volume) => (volume.into_disk(), Answer::Created),
-        Err((disk, error)) => (disk, Answer::NotCreated(error)),
+    if disk.len() == SIZE && GEOMETRY.is_within_limits() {
+        match create(alloc, disk, store, Uuid::from_bytes(UUID), GEOMETRY) {
+            Ok(volume) => (volume.into_disk(), Answer::Created),
+            Err((disk, error)) => (disk, Answer::NotCreated(error)),
+        }
+    } else {
+        (disk, Answer::NotAsked)
     }
 }
 

@@ -4,7 +4,7 @@ use crate::cache::{LEFT, SIZE, device};
 use crate::error::TestError;
 use crate::scene::{Mount, mounted};
 use crate::store::{Change, Stored, change_all, put_volume};
-use lsvd_device::{FuseDisk, MemDisk};
+use lsvd_device::{Disk, FuseDisk, MemDisk};
 use lsvd_objstore::{FaultStore, MemStore, PlannedFault};
 use std::alloc::Global;
 use vol_recover::MountError;
@@ -78,7 +78,7 @@ fn failing_calls(
             return Ok((count, same(after, first)));
         }
         after = Some(same(after, second));
-        count = call + 1;
+        count = call.saturating_add(1);
     }
     Ok((count, Answer::NotAsked))
 }
@@ -111,7 +111,7 @@ fn mounted_twice(
     let disk = device_for(alloc, mount)?;
     match failing {
         Failing::Store { lands } => {
-            let call = call + 1;
+            let call = call.saturating_add(1);
             store_fails(alloc, mount, PlannedFault { call, lands }, disk, store)
         }
         Failing::Device => Ok(device_fails(alloc, mount, call, disk, &mut store)),
@@ -145,6 +145,7 @@ fn device_fails(
     disk: MemDisk,
     store: &mut MemStore,
 ) -> (Answer, Answer) {
+    let _is_disk = disk.len();
     let (disk, first) = mounted(alloc, mount, FuseDisk::new(disk, Some(call)), store);
     let (_disk, second) = mounted(alloc, mount, disk.into_disk(), store);
     (first, second)

@@ -26,10 +26,10 @@ pub fn tell_all(rt: &HostRuntime) -> Result<(), TestError> {
 // does the second.
 fn stopped_mounts(alloc: Global, fate: Fate) -> Result<(u64, Answer), TestError> {
     let wanted = stopped_twice(alloc, fate, 0, 0)?;
-    let mut count = 0;
+    let mut count: u64 = 0;
     for calls in 0..CALLS {
-        if stopped_twice(alloc, fate, calls, 5 * calls % CALLS)? == wanted {
-            count += 1;
+        if stopped_twice(alloc, fate, calls, calls.wrapping_mul(5) % CALLS)? == wanted {
+            count = count.saturating_add(1);
         }
     }
     Ok((count, wanted))

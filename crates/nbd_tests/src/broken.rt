@@ -45,10 +45,10 @@ fn ended_by_link(
     output: &[u8],
     is_read: bool,
 ) -> Result<u64, TestError> {
-    let mut count = 0;
+    let mut count: u64 = 0;
     for call in 0..CALLS {
         if ends_by_link(alloc, failing_link(alloc, input, call, is_read)?, output)? {
-            count += 1;
+            count = count.saturating_add(1);
         }
     }
     Ok(count)
