@@ -16,7 +16,7 @@ pub fn help_of(alloc: Global, words: &[String]) -> Result<Option<String>, AllocE
         return Ok(None);
     };
     match error.kind() {
-        // No clause of clap says what the text is: the tests read it.
+        // No clause of clap says what the text is: the gate reads it (scripts/check_command_line).
         ErrorKind::DisplayHelp | ErrorKind::DisplayVersion => Ok(Some(error.to_string(alloc)?)),
         ErrorKind::OutOfMemory => Err(AllocError),
         _ => Ok(None),

@@ -13,8 +13,6 @@ mod options;
 mod program;
 mod request;
 mod serve;
-#[cfg(test)]
-mod tests;
 mod values;
 
 pub use create::CreateRequest;

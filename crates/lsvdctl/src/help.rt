@@ -38,33 +38,3 @@ fn write_text<O: Sink>(out: &mut O, text: &[u8]) -> Report
         Err(Failed) => Report::Fault,
     }
 }
-
-#[cfg(test)]
-mod tests {
-    use super::*;
-    use lsvd_fault::MemSink;
-    use std::test::Fail;
-
-    #[test]
-    fn a_text_is_written_where_one_is_asked_for(rt: HostRuntime) -> Result<(), Fail> {
-        let alloc = rt.alloc();
-        for (word, fails_at, report, text) in [
-            ("replay", 9, None, b"".as_slice()),
-            ("serve", 9, None, b"".as_slice()),
-            (
-                "--version",
-                9,
-                Some(Report::Done),
-                b"lsvdctl 0.1.0\n".as_slice(),
-            ),
-            ("--version", 1, Some(Report::Fault), b"lsvd".as_slice()),
-        ] {
-            let mut words = Vec::new(alloc);
-            words.push(String::from_str(alloc, word)?)?;
-            let mut out = MemSink::new(alloc).in_pieces(4).failing_at(fails_at);
-            assert_eq!(rt; answer_help(alloc, words.as_slice(), &mut out), report);
-            assert_eq!(rt; out.bytes(), text);
-        }
-        Ok(())
-    }
-}

@@ -16,8 +16,6 @@ mod refusal;
 mod report;
 mod serving;
 mod shared;
-#[cfg(test)]
-mod tests;
 mod world;
 
 use help::answer_help;

@@ -75,37 +75,3 @@ fn hexadecimal_digit(value: u8) -> u8
 pub fn a_run_text_is_determined()
     ensures { (bytes a b : List ℕ) → IsRunText bytes a → IsRunText bytes b → a ≡ b }
 {}
-
-#[cfg(test)]
-mod tests {
-    use super::*;
-    use std::test::Fail;
-
-    #[test]
-    fn writes_each_run(rt: HostRuntime) -> Result<(), Fail> {
-        let cases: [(&[u8], &[u8]); 7] = [
-            (&[], b""),
-            (&[0], b"00x1"),
-            (&[0xab; 512], b"abx512"),
-            (&[1, 0xf0, 1, 0xf0], b"01x1 f0x1 01x1 f0x1"),
-            (&[0x0a, 0x0a, 0xff], b"0ax2 ffx1"),
-            (&[7, 7, 7, 8, 8], b"07x3 08x2"),
-            (&[9; 10], b"09x10"),
-        ];
-        for (bytes, text) in cases {
-            let mut out = Vec::new(rt.alloc());
-            push_run_text(&mut out, bytes)?;
-            assert_eq!(rt; out.as_slice(), text);
-        }
-        Ok(())
-    }
-
-    #[test]
-    fn appends_to_what_is_there(rt: HostRuntime) -> Result<(), Fail> {
-        let mut out = Vec::from_slice(rt.alloc(), b"ok ")?;
-        push_run_text(&mut out, &[0, 0])?;
-        push_decimal(&mut out, u64::MAX)?;
-        assert_eq!(rt; out.as_slice(), b"ok 00x218446744073709551615".as_slice());
-        Ok(())
-    }
-}

@@ -15,8 +15,6 @@ mod outcome;
 mod puts;
 mod rig;
 mod run;
-#[cfg(test)]
-mod tests;
 
 pub use outcome::Outcome;
 pub use rig::Rig;
