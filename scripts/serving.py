@@ -1,0 +1,92 @@
+"""What the gate's scripts serve a volume with: a small client of NBD, the server as a process, and a count of what holds."""
+import os
+import signal
+import socket
+import struct
+import subprocess
+
+UUID = "00000000-0000-4000-8000-000000000001"
+READ, WRITE, DISCONNECT, FLUSH, TRIM, ZEROES = 0, 1, 2, 3, 4, 6
+FUA = 1
+
+checks = [0, 0]
+
+
+def check(name, holds, *what):
+    checks[0 if holds else 1] += 1
+    if not holds:
+        print(f"{name}: no", *what)
+
+
+class Client:
+    """A client of NBD on a Unix socket, which enters the export and makes one request after the other."""
+
+    def __init__(self, path, sectors, max_write):
+        self.link = socket.socket(socket.AF_UNIX)
+        self.link.connect(path)
+        greeting = self.take(18)
+        check("the greeting", greeting == b"NBDMAGICIHAVEOPT\0\3", greeting)
+        self.link.sendall(struct.pack(">I", 3))
+        # the option to enter the default export, which asks for its blocks
+        self.option(7, struct.pack(">IHH", 0, 1, 3))
+        infos = []
+        while True:
+            kind, content = self.reply_to(7)
+            if kind == 1:
+                break
+            infos.append(content)
+        check("the export", infos[0] == struct.pack(">HQH", 0, 512 * sectors, 0x6D), infos)
+        check("the blocks", infos[1:] == [struct.pack(">HIII", 3, 512, 4096, 512 * max_write)], infos)
+        self.cookie = 0
+
+    def take(self, count):
+        parts = []
+        while count:
+            part = self.link.recv(count)
+            if not part:
+                raise ConnectionError("the server is gone")
+            parts.append(part)
+            count -= len(part)
+        return b"".join(parts)
+
+    def option(self, number, content):
+        self.link.sendall(b"IHAVEOPT" + struct.pack(">II", number, len(content)) + content)
+
+    def reply_to(self, number):
+        magic, option, kind, length = struct.unpack(">QIII", self.take(20))
+        check("a reply to an option", (magic, option) == (0x3E889045565A9, number))
+        return kind, self.take(length)
+
+    def request(self, kind, offset, length, content=b"", flags=0):
+        """Makes a request, and gives its error and its data."""
+        self.cookie += 1
+        self.link.sendall(struct.pack(">IHHQQI", 0x25609513, flags, kind, self.cookie, offset, length) + content)
+        magic, error, cookie = struct.unpack(">IIQ", self.take(16))
+        check("a reply", (magic, cookie) == (0x67446698, self.cookie))
+        return error, self.take(length) if kind == READ and error == 0 else b""
+
+    def leave(self):
+        self.link.sendall(struct.pack(">IHHQQI", 0x25609513, 0, DISCONNECT, 0, 0, 0))
+        check("nothing after the request to disconnect", self.link.recv(1) == b"")
+        self.link.close()
+
+
+class Server:
+    """A server of the volume, of whose output the first line was read: so clients can connect."""
+
+    def __init__(self, program, folder, cache, *more, store="store", volume=UUID, before=None):
+        self.path = os.path.join(folder, "socket")
+        words = ["serve", "--store", os.path.join(folder, store), "--volume", volume, "--cache", os.path.join(folder, cache)]
+        self.process = subprocess.Popen(
+            [program, *words, "--socket", self.path, *more],
+            stdout=subprocess.PIPE, stderr=subprocess.PIPE, text=True, preexec_fn=before,
+        )
+        self.mounted = self.process.stdout.readline()
+
+    def kill(self):
+        self.process.send_signal(signal.SIGKILL)
+        self.process.wait()
+
+    def end(self):
+        out, err = self.process.communicate(timeout=60)
+        return self.process.returncode, out, err
