@@ -27,7 +27,8 @@ impl Model for Buffer {
 
     ghost view = { λ b. record { waiting = bytes_between b.bytes.items b.from b.to; room = 65536 - b.to } };
 
-    ghost invariant = { λ b. (b.from ≤ b.to) × (b.to ≤ 65536) × (length b.bytes.items ≡ 65536) × (b.from ≡ b.to → b.to ≡ 0) };
+    ghost invariant = { λ b. (b.from ≤ b.to) × (b.to ≤ 65536) × (length b.bytes.items ≡ 65536)
+        × (b.from ≡ b.to → b.to ≡ 0) };
 }
 
 impl Buffer {
@@ -93,7 +94,8 @@ impl Buffer {
         count
     }
 
-    // Waits for some bytes where none waits here, and keeps as many as came with one call of the system; none are the end.
+    // Waits for some bytes where none waits here, and keeps as many as came with one call of the system; none
+    // are the end.
     pub(crate) fn fill(&mut self, stream: &UnixStream) -> io::Result<()>
         requires { self.old.waiting ≡ [] }
         ensures { OnErr result (self.new ≡ self.old) }
@@ -108,7 +110,8 @@ impl Buffer {
 // Puts a piece into the bytes at a place.
 fn put_at(bytes: &mut [u8], at: usize, piece: &[u8])
     requires { at + length piece.now ≤ length bytes.old }
-    ensures { (from : ℕ) → from ≤ at → bytes_between bytes.new from (at + length piece.now) ≡ bytes_between bytes.old from at ++ piece.now }
+    ensures { (from : ℕ) → from ≤ at → bytes_between bytes.new from (at + length piece.now)
+        ≡ bytes_between bytes.old from at ++ piece.now }
 {
     bytes[at..at + piece.len()].copy_from_slice(piece);
 }

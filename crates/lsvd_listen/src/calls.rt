@@ -21,8 +21,8 @@ pub(crate) fn next_stream(listener: &UnixListener) -> io::Result<UnixStream> {
     Err(ErrorKind::Interrupted.into())
 }
 
-// The same stream, under a number that no standard stream has: where one was closed, what is meant for it must not reach
-// the client.
+// The same stream, under a number that no standard stream has: where one was closed, what is meant for it
+// must not reach the client.
 fn above_standard_streams(stream: UnixStream) -> io::Result<UnixStream> {
     if stream.as_raw_fd() <= 2 {
         return stream.try_clone();
@@ -30,8 +30,8 @@ fn above_standard_streams(stream: UnixStream) -> io::Result<UnixStream> {
     Ok(stream)
 }
 
-// Waits for some bytes, and puts them to the front of `buf`. No byte for a `buf` that has room is the end, and so is a
-// connection that its peer has cut.
+// Waits for some bytes, and puts them to the front of `buf`. No byte for a `buf` that has room is the end,
+// and so is a connection that its peer has cut.
 pub(crate) fn receive(mut stream: &UnixStream, buf: &mut [u8]) -> io::Result<usize>
     ensures { ReadsAtMost result buf.new }
 {
@@ -48,8 +48,8 @@ pub(crate) fn receive(mut stream: &UnixStream, buf: &mut [u8]) -> io::Result<usi
     Err(ErrorKind::Interrupted.into())
 }
 
-// Sends some bytes of the two pieces, the first of them first, and answers how many: at least one. Where nobody reads it
-// fails, and raises no signal.
+// Sends some bytes of the two pieces, the first of them first, and answers how many: at least one. Where
+// nobody reads it fails, and raises no signal.
 pub(crate) fn send(stream: &UnixStream, first: &[u8], second: &[u8]) -> io::Result<usize>
     ensures bound { IfOk result (λ n. n ≤ length first.now + length second.now) }
     ensures some { IfOk result (λ n. 0 < n) }

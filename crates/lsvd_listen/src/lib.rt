@@ -1,10 +1,10 @@
-//! Where a server gets its connections from: listeners, which give links one after another, and what sends what a link
-//! holds back.
+//! Where a server gets its connections from: listeners, which give links one after another, and what sends
+//! what a link holds back.
 //!
-//! Its contract is that of the traits `Listener` and `Connection`: a call fails only where the count of faults rose in it,
-//! the links that were given are counted, and None is a listener that is closed. `MemListener` gives links in memory, in
-//! order. `SocketListener` and `SocketLink` are those of a Unix socket: they count alike, and tell no bytes.
-//! It stands on `lsvd_fault` and the kit's `thiserror`.
+//! Its contract is that of the traits `Listener` and `Connection`: a call fails only where the count of
+//! faults rose in it, the links that were given are counted, and None is a listener that is closed.
+//! `MemListener` gives links in memory, in order. `SocketListener` and `SocketLink` are those of a Unix
+//! socket: they count alike, and tell no bytes. It stands on `lsvd_fault` and the kit's `thiserror`.
 #![tactic(auto)]
 
 mod buffer;

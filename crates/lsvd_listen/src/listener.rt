@@ -20,9 +20,9 @@ pub trait Listener {
     /// How often a call has failed. At the greatest number of its type the count stands.
     ghost faults: { Self → ℕ };
 
-    /// Waits for the next client, and answers the link to it. None means that the listener is closed: no client comes any
-    /// more, and each later call answers None or fails. `Failed` comes where the outside gave no link: the call was counted
-    /// once, no link was given, and it may be made again.
+    /// Waits for the next client, and answers the link to it. None means that the listener is closed: no
+    /// client comes any more, and each later call answers None or fails. `Failed` comes where the outside
+    /// gave no link: the call was counted once, no link was given, and it may be made again.
     fn accept(&mut self) -> Result<Option<Self::Link>, Failed>
         ensures links { given self.new ≡ given_after result (given self.old) }
         ensures end { closed self.new ≡ closed_after result (closed self.old) }

@@ -9,8 +9,8 @@ use lsvd_fault::{Failed, MemLink};
 use std::collections::VecDeque;
 use std::marker::Model;
 
-/// A listener over links in memory, which it gives in their order; after the last one it is closed. It fails only where
-/// `failing_at` says so.
+/// A listener over links in memory, which it gives in their order; after the last one it is closed. It fails
+/// only where `failing_at` says so.
 #[derive(Debug, Drop)]
 pub struct MemListener {
     links: VecDeque<MemLink>,
@@ -27,7 +27,12 @@ impl Model for MemListener {
 
     ghost Value = { MemListenerState };
 
-    ghost view = { λ l. record { left = l.links.items; given = l.given; closed = l.closed; faults = l.faults } };
+    ghost view = { λ l. record {
+      left = l.links.items;
+      given = l.given;
+      closed = l.closed;
+      faults = l.faults;
+    } };
 
     ghost invariant = { λ l. IsTrue l.closed → l.links.items ≡ [] };
 }
@@ -49,8 +54,8 @@ impl MemListener {
         }
     }
 
-    /// The same listener, where the accept of this number from now on fails; 0 is the next one. That accept takes no link
-    /// and is counted, and the one after it goes on. A later call replaces the number.
+    /// The same listener, where the accept of this number from now on fails; 0 is the next one. That accept
+    /// takes no link and is counted, and the one after it goes on. A later call replaces the number.
     pub fn failing_at(mut self, call: u64) -> MemListener
         ensures { result ≡ self }
     {

@@ -9,8 +9,9 @@ use std::{fs, io};
 // Who may connect: the owner of the file, who may read and write it.
 const OWNER_ALONE: u32 = 0o600;
 
-// A runtime whose socket files are their owner's alone. `UnixListener::bind` gives its socket a name and then listens; here
-// the file gets its mode in between, while each connection is still refused. So at no moment can anyone else connect.
+// A runtime whose socket files are their owner's alone. `UnixListener::bind` gives its socket a name and then
+// listens; here the file gets its mode in between, while each connection is still refused. So at no moment
+// can anyone else connect.
 #[derive(Drop)]
 pub(crate) struct OwnerOnly<'a, R> {
     rt: &'a R,

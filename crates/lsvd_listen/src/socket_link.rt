@@ -15,12 +15,13 @@ use std::os::unix::net::UnixStream;
 
 /// A link to a client of a Unix socket. It tells its count of faults, and no bytes.
 ///
-/// So that a server makes few calls of the system, it reads ahead up to 64 KiB of what has come, and holds back up to 64 KiB
-/// of what was written. Before a read waits for the client, what is held back is sent; so no reply waits while its client
-/// does. What is held back when the link is dropped is lost: `send` first.
+/// So that a server makes few calls of the system, it reads ahead up to 64 KiB of what has come, and holds
+/// back up to 64 KiB of what was written. Before a read waits for the client, what is held back is sent; so
+/// no reply waits while its client does. What is held back when the link is dropped is lost: `send` first.
 ///
-/// A client that is gone is an end of the input, and a fault of what is sent. A call that a signal interrupts is made again;
-/// any other error is a fault. A read fails too where what was held back could not be sent before it.
+/// A client that is gone is an end of the input, and a fault of what is sent. A call that a signal interrupts
+/// is made again; any other error is a fault. A read fails too where what was held back could not be sent
+/// before it.
 #[derive(Drop)]
 pub struct SocketLink {
     stream: UnixStream,
@@ -84,8 +85,8 @@ fn read_some(
     Ok(input.take(buf))
 }
 
-// Holds a piece back; where there is no room for it, what was held back before is sent first. One that would fill a buffer
-// is sent at once. It answers how many bytes of the piece were taken.
+// Holds a piece back; where there is no room for it, what was held back before is sent first. One that would
+// fill a buffer is sent at once. It answers how many bytes of the piece were taken.
 fn write_some(stream: &UnixStream, output: &mut Buffer, piece: &[u8]) -> io::Result<usize>
     ensures bound { WritesAtMost result piece.now }
     ensures some { IfOk result (λ n. 0 < length piece.now → 0 < n) }
@@ -101,8 +102,8 @@ fn write_some(stream: &UnixStream, output: &mut Buffer, piece: &[u8]) -> io::Res
     Ok(piece.len())
 }
 
-// Sends all that is held back and then some bytes of the piece, and answers how many of these: at least one, where there is
-// one.
+// Sends all that is held back and then some bytes of the piece, and answers how many of these: at least one,
+// where there is one.
 fn send_all(stream: &UnixStream, output: &mut Buffer, piece: &[u8]) -> io::Result<usize>
     ensures sent { OnOk result (output.new ≡ empty_buffer) }
     ensures bound { WritesAtMost result piece.now }

@@ -50,11 +50,11 @@ impl From<io::Error> for ListenError {
     }
 }
 
-/// A listener over a Unix socket: a file of the operating system, by whose path clients connect, and its owner's alone. It
-/// is never closed, and never answers None.
+/// A listener over a Unix socket: a file of the operating system, by whose path clients connect, and its
+/// owner's alone. It is never closed, and never answers None.
 ///
-/// A wait that a signal interrupts goes on, and a client that is gone before it was taken is passed over. Any other error is
-/// a fault, and so is want of memory for the buffers of a link, whose client is then let go.
+/// A wait that a signal interrupts goes on, and a client that is gone before it was taken is passed over. Any
+/// other error is a fault, and so is want of memory for the buffers of a link, whose client is then let go.
 #[derive(Drop)]
 pub struct SocketListener {
     listener: UnixListener,
@@ -72,11 +72,11 @@ impl Model for SocketListener {
 }
 
 impl SocketListener {
-    /// Listens at this path, where clients may connect from now on. A socket file that a stopped server left there is
-    /// replaced. The file stays when the listener is dropped.
+    /// Listens at this path, where clients may connect from now on. A socket file that a stopped server left
+    /// there is replaced. The file stays when the listener is dropped.
     ///
-    /// Only its owner can connect, at every moment. Of two servers that begin at the same time, over a file that was left,
-    /// the later one may take the path from the other.
+    /// Only its owner can connect, at every moment. Of two servers that begin at the same time, over a file
+    /// that was left, the later one may take the path from the other.
     pub fn bind<R: Files + Net + AllocGlobal>(
         rt: &R,
         path: &str,

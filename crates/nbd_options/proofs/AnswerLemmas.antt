@@ -1,12 +1,14 @@
 -- An option has one answer.
-use Rattle.std.proofs.Common.{◌≡◌, ℕ, ◌+◌, ◌<◌, Bool, true, false, List, ◌++◌, length, take, drop, refl, sym, ◌∙◌, ap, subst, inl, inr, append_assoc, arith}
+use Rattle.std.proofs.Common.{◌≡◌, ℕ, ◌+◌, ◌<◌, Bool, true, false, List, ◌++◌, length, take, drop, refl, sym, ◌∙◌, ap, subst, inl}
+use Rattle.std.proofs.Common.{inr, append_assoc, arith}
 use Rattle.std.specs.Prelude.{IsTrue, ◌↔◌}
 use Rattle.std.specs.Int.{w16, w32, to_be_bytes}
 use Rattle.std.proofs.lemmas.List.{take_at, drop_at, length-append}
 use Rattle.lsvd_bytes.specs.Places.{number_at}
 use Rattle.nbd_options.specs.declared.export.Export.{Export}
 use Rattle.nbd_options.specs.declared.answer.Answer.{Answer}
-use Rattle.nbd_options.specs.declared.answer.Answer.TheVariants.{Exported, Closed, Aborted, Listed, Described, Unknown, Invalid, Unsupported, TooBig}
+use Rattle.nbd_options.specs.declared.answer.Answer.TheVariants.{Exported, Closed, Aborted, Listed, Described, Unknown, Invalid}
+use Rattle.nbd_options.specs.declared.answer.Answer.TheVariants.{Unsupported, TooBig}
 use Rattle.nbd_options.specs.Export.{IsNameOf}
 use Rattle.nbd_options.specs.Info.{AsksFor, HasType}
 use Rattle.nbd_options.specs.Answers.{info_option, IsInfoOption, IsAnswer, IsAnswerUnread, IsAnswerTo}
@@ -40,12 +42,14 @@ same_name : (content name types name' types' : List ℕ) → AsksFor content nam
 same_name content name types name' types' asks asks' =
     (are_parts content name types asks).name_at ∙ sym (are_parts content name' types' asks').name_at
 
-same_types : (content name types name' types' : List ℕ) → AsksFor content name types → AsksFor content name' types' → types ≡ types'
+same_types : (content name types name' types' : List ℕ) → AsksFor content name types → AsksFor content name' types'
+    → types ≡ types'
 same_types content name types name' types' asks asks' =
     (are_parts content name types asks).types_at ∙ sym (are_parts content name' types' asks').types_at
 
 -- a name is one of the export for both or for none
-name_again : (export : Export) (content name types name' types' : List ℕ) → AsksFor content name types → AsksFor content name' types'
+name_again : (export : Export) (content name types name' types' : List ℕ) → AsksFor content name types
+    → AsksFor content name' types'
     → IsNameOf export name → IsNameOf export name'
 name_again export content name types name' types' asks asks' is =
     subst (λ (xs : List ℕ). IsNameOf export xs) (same_name content name types name' types' asks asks') is

@@ -1,5 +1,6 @@
 -- Input has one end of a negotiation.
-use Rattle.std.proofs.Common.{◌≡◌, ℕ, ◌+◌, ◌<◌, ◌≤◌, List, [], ◌∷◌, ◌++◌, length, take, drop, get_or, refl, sym, ◌∙◌, ap, subst, inl, inr, append_assoc, append-nil, arith}
+use Rattle.std.proofs.Common.{◌≡◌, ℕ, ◌+◌, ◌<◌, ◌≤◌, List, [], ◌∷◌, ◌++◌, length, take, drop, get_or, refl, sym, ◌∙◌, ap, subst}
+use Rattle.std.proofs.Common.{inl, inr, append_assoc, append-nil, arith}
 use Rattle.std.specs.Prelude.{Some, None, flat_map, All, ◌⊎◌}
 use Rattle.std.specs.Int.{w32, to_be_bytes}
 use Rattle.std.proofs.lemmas.List.{take_at, drop_at, length-append, flat_map_more, get_or_append_left, get_or_at}
@@ -12,7 +13,9 @@ use Rattle.nbd_options.specs.declared.answer.Answer.TheVariants.{Aborted}
 use Rattle.nbd_options.specs.declared.negotiation.NegotiationEnd.{NegotiationEnd}
 use Rattle.nbd_options.specs.declared.negotiation.NegotiationEnd.TheVariants.{Entered, Ended, Closed, LinkFault, OutOfMemory}
 use Rattle.nbd_options.specs.Answers.{IsAnswerTo}
-use Rattle.nbd_options.specs.Negotiation.{ClientOption, client_option_bytes, Exchange, IsExchange, reply_bytes, end_of, Stage, Greeted, Answering, has_zeroes, server_bytes, LeavesOpen, HasCome, EndsByAnswer, AreOutOfForm, IsNegotiation, max_options}
+use Rattle.nbd_options.specs.Negotiation.{ClientOption, client_option_bytes, Exchange, IsExchange, reply_bytes, end_of, Stage}
+use Rattle.nbd_options.specs.Negotiation.{Greeted, Answering, has_zeroes, server_bytes, LeavesOpen, HasCome, EndsByAnswer}
+use Rattle.nbd_options.specs.Negotiation.{AreOutOfForm, IsNegotiation, max_options}
 use Rattle.nbd_options.specs.Laws.{IsOfInput}
 use Rattle.nbd_options.proofs.AnswerLemmas.{one_answer}
 use Rattle.nbd_options.proofs.OptionLemmas.{same_number}
@@ -33,7 +36,8 @@ same_exchange export x y r s is is' same =
     let number : x.option.number ≡ y.option.number =
     same_number x.option.number y.option.number is.number_fits is'.number_fits (ap (λ xs. take 4 (drop 8 xs)) same) in
     let size : length x.option.content ≡ length y.option.content =
-    same_number (length x.option.content) (length y.option.content) is.size_fits is'.size_fits (ap (λ xs. take 4 (drop 12 xs)) same) in
+    same_number (length x.option.content) (length y.option.content) is.size_fits is'.size_fits
+    (ap (λ xs. take 4 (drop 12 xs)) same) in
     let after : x.option.content ++ r ≡ y.option.content ++ s = ap (drop 16) same in
     let content = same_front x.option.content y.option.content r s size after in
     let option : x.option ≡ y.option =
@@ -58,7 +62,8 @@ record GoesOn (xs ys : List Exchange) (next next' : List ℕ) : Type 0 where
   longer : ys ≡ xs ++ more
   between : next ≡ options_bytes more ++ next'
 
-compare : (export : Export) (xs ys : List Exchange) (next next' : List ℕ) → All (IsExchange export) xs → All (IsExchange export) ys
+compare : (export : Export) (xs ys : List Exchange) (next next' : List ℕ) → All (IsExchange export) xs
+    → All (IsExchange export) ys
     → options_bytes xs ++ next ≡ options_bytes ys ++ next' → GoesOn xs ys next next' ⊎ GoesOn ys xs next' next
 compare export [] ys next next' are are' same = inl (record { more = ys; longer = refl; between = same })
 compare export (x ∷ xs) [] next next' are are' same = inr (record { more = x ∷ xs; longer = refl; between = sym same })
@@ -68,7 +73,8 @@ compare export (x ∷ xs) (y ∷ ys) next next' are are' same =
     (All-head (IsExchange export) y ys are')
     (sym (append_assoc (client_option_bytes x.option) (options_bytes xs) next) ∙ same
     ∙ append_assoc (client_option_bytes y.option) (options_bytes ys) next') in
-    elim (compare export xs ys next next' (All-tail (IsExchange export) x xs are) (All-tail (IsExchange export) y ys are') first.1) [
+    elim (compare export xs ys next next' (All-tail (IsExchange export) x xs are)
+    (All-tail (IsExchange export) y ys are') first.1) [
       | inl g ↦
           inl (record {
             more = g.more;
@@ -112,7 +118,8 @@ not_both : (answer : Answer) (a : NegotiationEnd) → end_of answer ≡ Some a �
 not_both answer a is is' = let same : Some a ≡ None = sym is ∙ is' in cc
 
 -- what is out of form is something
-not_nothing : (flags : ℕ) (exchanges : List Exchange) (next : List ℕ) → next ≡ [] → AreOutOfForm (Answering flags exchanges) next → ⊥
+not_nothing : (flags : ℕ) (exchanges : List Exchange) (next : List ℕ) → next ≡ []
+    → AreOutOfForm (Answering flags exchanges) next → ⊥
 not_nothing flags exchanges next nil (inl none) = absurd (omega (arith, none.0, ap length nil))
 not_nothing flags exchanges next nil (inr all) = absurd (omega (arith, all.0, ap length nil))
 
@@ -138,13 +145,15 @@ same_end a b flags exchanges next (inr is) (inr is') = both is.either is'.either
 -- ---- a list that goes on
 
 -- an answer before the last one leaves the negotiation open
-open_before : (end : NegotiationEnd) (flags : ℕ) (exchanges : List Exchange) (next : List ℕ) → IsEnd end flags exchanges next → (k : ℕ)
+open_before : (end : NegotiationEnd) (flags : ℕ) (exchanges : List Exchange) (next : List ℕ)
+    → IsEnd end flags exchanges next → (k : ℕ)
     → k + 1 < length exchanges → end_of (get_or exchanges k any).answer ≡ None
 open_before end flags exchanges next (inl is) k before = is.first_open k any (omega (arith, is.counted, before))
 open_before end flags exchanges next (inr is) k before = is.all_open k any (omega (arith, before))
 
 -- no negotiation ends where another one, with the same input, goes on by an option
-goes_no_further : (export : Export) (a b : NegotiationEnd) (flags : ℕ) (xs ys zs : List Exchange) (z : Exchange) (next next' : List ℕ)
+goes_no_further : (export : Export) (a b : NegotiationEnd) (flags : ℕ) (xs ys zs : List Exchange) (z : Exchange)
+    (next next' : List ℕ)
     → IsEnd a flags xs next → IsEnd b flags ys next' → length ys ≤ max_options → All (IsExchange export) ys → ys ≡ xs ++ z ∷ zs
     → next ≡ options_bytes (z ∷ zs) ++ next' → ⊥
 goes_no_further export a b flags xs ys zs z next next' (inl is) is' few are longer between =
@@ -167,7 +176,8 @@ goes_no_further export a b flags xs ys zs z next next' (inr is) is' few are long
     after_end (inl nil) = absurd (omega (arith, ap length (sym nil.0 ∙ between)))
     after_end (inr faulty) =
         let long : length ys ≡ length xs + length (z ∷ zs) = ap length longer ∙ length-append xs (z ∷ zs) in
-        let at : get_or ys (length xs) any ≡ z = ap (λ es. get_or es (length xs) any) longer ∙ get_or_at xs z zs any (length xs) refl in
+        let at : get_or ys (length xs) any ≡ z = ap (λ es. get_or es (length xs) any) longer
+        ∙ get_or_at xs z zs any (length xs) refl in
         begins_one next (options_bytes zs ++ next') z (subst (IsExchange export) at (are (length xs) any (omega (arith, long))))
         (between ∙ append_assoc (client_option_bytes z.option) (options_bytes zs) next') faulty.0
         (λ all. omega (arith, all, few, long))
@@ -175,7 +185,8 @@ goes_no_further export a b flags xs ys zs z next next' (inr is) is' few are long
 -- ---- the end of a negotiation
 
 -- a negotiation after the client's flags, which neither a fault nor want of memory broke off
-record IsWhole (export : Export) (end : NegotiationEnd) (flags : ℕ) (exchanges : List Exchange) (input next sent : List ℕ) : Type 0 where
+record IsWhole (export : Export) (end : NegotiationEnd) (flags : ℕ) (exchanges : List Exchange) (input next sent : List ℕ) :
+    Type 0 where
   known : flags < 4
   heard : input ≡ to_be_bytes w32 flags ++ (options_bytes exchanges ++ next)
   said : sent ≡ server_bytes export (Answering flags exchanges)
@@ -195,7 +206,8 @@ IsOutcome export end input left sent =
     ⊎ ((flags : ℕ) × (exchanges : List Exchange) × (next : List ℕ) × IsWhole export end flags exchanges input next sent
     × (end ≡ Entered → left ≡ next))
 
-are_exchanges : (export : Export) (exchanges : List Exchange) → All (LeavesOpen export) exchanges → All (IsExchange export) exchanges
+are_exchanges : (export : Export) (exchanges : List Exchange) → All (LeavesOpen export) exchanges
+    → All (IsExchange export) exchanges
 are_exchanges export exchanges are k d inside = (are k d inside).is_exchange
 
 by_answer : (export : Export) (end : NegotiationEnd) (input left sent : List ℕ) → EndsByAnswer export end input left sent
@@ -223,7 +235,8 @@ by_answer export end input left sent by =
               counted = sym (length-append before (last ∷ []));
               ends = λ d. ap (λ (e : Exchange). end_of e.answer) (get_or_at before last [] d (length before) refl) ∙ by.ends;
               first_open = λ k d first.
-                  ap (λ (e : Exchange). end_of e.answer) (get_or_append_left before (last ∷ []) d k first) ∙ (is_open.2 k d first).goes_on;
+                  ap (λ (e : Exchange). end_of e.answer) (get_or_append_left before (last ∷ []) d k first)
+                  ∙ (is_open.2 k d first).goes_on;
             });
       },
       λ entered. refl,
@@ -309,7 +322,8 @@ no_further : (export : Export) (a b : NegotiationEnd) (flags : ℕ) (xs ys : Lis
 no_further export a b flags xs ys input next next' sent sent' is is' [] longer between =
     let same : ys ≡ xs = longer ∙ append-nil xs in
     let end : IsEnd b flags xs next =
-    subst (λ (zs : List ℕ). IsEnd b flags xs zs) (sym between) (subst (λ (es : List Exchange). IsEnd b flags es next') same is'.is_end) in (
+    subst (λ (zs : List ℕ). IsEnd b flags xs zs) (sym between) (subst (λ (es : List Exchange). IsEnd b flags es next') same
+    is'.is_end) in (
       same_end a b flags xs next is.is_end end,
       is.said ∙ ap (λ es. server_bytes export (Answering flags es)) (sym same) ∙ sym is'.said,
       between,
@@ -328,7 +342,8 @@ both_whole export a b flags xs ys input next next' sent sent' is is' =
           (sym same.0, sym same.1, sym same.2))
     ]
 
-same_flags : (export : Export) (a b : NegotiationEnd) (flags flags' : ℕ) (xs ys : List Exchange) (input next next' sent sent' : List ℕ)
+same_flags : (export : Export) (a b : NegotiationEnd) (flags flags' : ℕ) (xs ys : List Exchange)
+    (input next next' sent sent' : List ℕ)
     → IsWhole export a flags xs input next sent → IsWhole export b flags' ys input next' sent' → flags' ≡ flags
 same_flags export a b flags flags' xs ys input next next' sent sent' is is' =
     same_number flags' flags (omega (arith, is'.known)) (omega (arith, is.known)) (ap (take 4) (sym is'.heard ∙ is.heard))

@@ -1,5 +1,6 @@
 -- The parts of the data of an option that asks for information.
-use Rattle.std.proofs.Common.{◌≡◌, ℕ, ◌+◌, ◌-◌, ◌*◌, ◌/◌, ◌<◌, ◌≤◌, List, ◌++◌, length, take, drop, sym, ◌∙◌, ap, append_assoc, arith}
+use Rattle.std.proofs.Common.{◌≡◌, ℕ, ◌+◌, ◌-◌, ◌*◌, ◌/◌, ◌<◌, ◌≤◌, List, ◌++◌, length, take, drop, sym, ◌∙◌, ap, append_assoc}
+use Rattle.std.proofs.Common.{arith}
 use Rattle.std.proofs.lemmas.List.{length-append, length-take-le, length-drop, drop_at, take-append-drop}
 use Rattle.std.proofs.lemmas.Nat.{from_be_bytes-to_be_bytes_2, from_be_bytes-to_be_bytes_4}
 use Rattle.std.specs.Int.{w16, w32, to_be_bytes, from_be_bytes}
@@ -43,15 +44,25 @@ pub have_parts : (content name types : List ℕ) (asks : AsksFor content name ty
 have_parts content name types asks =
     let head = to_be_bytes w32 (length name) in
     let rest = to_be_bytes w16 asks.count ++ types in
-    let parts : content ≡ (head ++ name) ++ rest = asks.spelled ∙ append_assoc (head ++ name) (to_be_bytes w16 asks.count) types in
+    let parts : content ≡ (head ++ name) ++ rest = asks.spelled
+    ∙ append_assoc (head ++ name) (to_be_bytes w16 asks.count) types in
     let front : length (head ++ name) ≡ 4 + length name = length-append head name in
     record {
       size = ap (number_at w32 0) asks.spelled ∙ from_be_bytes-to_be_bytes_4 (length name) asks.name_fits;
       counted =
-          ap (λ xs. from_be_bytes w16 (take 2 xs)) (ap (drop (4 + length name)) parts ∙ drop_at (head ++ name) rest (4 + length name) front)
+          ap (λ xs. from_be_bytes w16 (take 2 xs)) (ap (drop (4 + length name)) parts
+          ∙ drop_at (head ++ name) rest (4 + length name) front)
           ∙ from_be_bytes-to_be_bytes_2 asks.count asks.count_fits;
       whole =
-          omega (arith, ap length parts, length-append (head ++ name) rest, front, length-append (to_be_bytes w16 asks.count) types, asks.two_each);
+          omega (
+            arith,
+            ap length parts,
+            length-append (head ++ name) rest,
+            front,
+            length-append (to_be_bytes w16 asks.count)
+                types,
+            asks.two_each,
+          );
     }
 
 -- data that are too short, also for their name, or have another length than they say, ask for nothing
@@ -59,7 +70,8 @@ pub too_short : (content : List ℕ) → length content < 6 → AsksForNothing c
 too_short content short name types asks =
     let parts = have_parts content name types asks in absurd (omega (arith, short, parts.whole))
 
-pub name_too_long : (content : List ℕ) (size : ℕ) → size ≡ number_at w32 0 content → length content - 6 < size → AsksForNothing content
+pub name_too_long : (content : List ℕ) (size : ℕ) → size ≡ number_at w32 0 content → length content - 6 < size
+    → AsksForNothing content
 name_too_long content size is_size short name types asks =
     let parts = have_parts content name types asks in absurd (omega (arith, short, is_size, parts.size, parts.whole))
 

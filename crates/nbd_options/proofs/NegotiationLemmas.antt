@@ -1,5 +1,6 @@
 -- How the steps of a negotiation add up.
-use Rattle.std.proofs.Common.{◌≡◌, ℕ, ◌+◌, ◌<◌, Bool, true, false, List, [], ◌∷◌, ◌++◌, length, refl, sym, ◌∙◌, ap, subst, inl, inr, append_assoc, arith}
+use Rattle.std.proofs.Common.{◌≡◌, ℕ, ◌+◌, ◌<◌, Bool, true, false, List, [], ◌∷◌, ◌++◌, length, refl, sym, ◌∙◌, ap, subst, inl}
+use Rattle.std.proofs.Common.{inr, append_assoc, arith}
 use Rattle.std.proofs.lemmas.List.{length-append, flat_map_more}
 use Rattle.std.proofs.lemmas.List.Elements.{All-nil, All-push}
 use Rattle.std.specs.Int.{w32, to_be_bytes}
@@ -17,7 +18,10 @@ use Rattle.nbd_options.specs.declared.answer.Answer.{Answer}
 use Rattle.nbd_options.specs.declared.answer.Answer.TheVariants as answers
 use Rattle.nbd_options.specs.declared.negotiation.NegotiationEnd.{NegotiationEnd}
 use Rattle.nbd_options.specs.declared.negotiation.NegotiationEnd.TheVariants as ends
-use Rattle.nbd_options.specs.Negotiation.{ClientOption, client_option_bytes, IsClientOption, Exchange, IsExchange, reply_bytes, end_of, Stage, Greeted, Answering, has_zeroes, client_bytes, LeavesOpen, HasCome, HasLast, EndsByAnswer, AreOutOfForm, BreaksInMessage, IsNegotiation, OnInput, Negotiates, end_from, max_options}
+use Rattle.nbd_options.specs.Negotiation.{ClientOption, client_option_bytes, IsClientOption, Exchange, IsExchange, reply_bytes}
+use Rattle.nbd_options.specs.Negotiation.{end_of, Stage, Greeted, Answering, has_zeroes, client_bytes, LeavesOpen, HasCome}
+use Rattle.nbd_options.specs.Negotiation.{HasLast, EndsByAnswer, AreOutOfForm, BreaksInMessage, IsNegotiation, OnInput}
+use Rattle.nbd_options.specs.Negotiation.{Negotiates, end_from, max_options}
 use Rattle.nbd_options.specs.Steps.{Reads, AnswersOption, IsUnderWay, Greets}
 
 -- ---- the greeting and the client's flags
@@ -147,13 +151,16 @@ pub one_more : (export : Export) (flags : ℕ) (exchanges : List Exchange) (opti
     → IsUnderWay export (Answering flags exchanges) first old first_out old_out
     → IsExchange export (record { option = option; answer = answer }) → Consumes old new (client_option_bytes option)
     → Appends old_out new_out (reply_bytes export (has_zeroes flags) (record { option = option; answer = answer }))
-    → IsUnderWay export (Answering flags (exchanges ++ record { option = option; answer = answer } ∷ [])) first new first_out new_out
+    → IsUnderWay export (Answering flags (exchanges ++ record { option = option; answer = answer } ∷ [])) first new
+    first_out new_out
 one_more export flags exchanges option answer None old new first_out old_out new_out few goes_on come is read sent = tt
 one_more export flags exchanges option answer (Some input) None new first_out old_out new_out few goes_on come is read sent =
     absurd come
-one_more export flags exchanges option answer (Some input) (Some next) None first_out old_out new_out few goes_on come is read sent =
+one_more export flags exchanges option answer (Some input) (Some next) None first_out old_out new_out few goes_on come is
+    read sent =
     absurd read
-one_more export flags exchanges option answer (Some input) (Some next) (Some left) first_out old_out new_out few goes_on come is read sent =
+one_more export flags exchanges option answer (Some input) (Some next) (Some left) first_out old_out new_out few goes_on come is
+    read sent =
     let last : Exchange = record { option = option; answer = answer } in
     let reply = reply_bytes export (has_zeroes flags) last in
     let before = come.2 in (
@@ -225,7 +232,8 @@ by_answer export answer ends.OutOfMemory is by = absurd (no_want answer is)
     no_want answers.TooBig is = cc
 
 -- its answer ended the negotiation
-pub ended : (export : Export) (flags : ℕ) (exchanges : List Exchange) (option : ClientOption) (answer : Answer) (end : NegotiationEnd)
+pub ended : (export : Export) (flags : ℕ) (exchanges : List Exchange) (option : ClientOption) (answer : Answer)
+    (end : NegotiationEnd)
     (first old new first_out old_out new_out : Option (List ℕ)) → length exchanges < max_options
     → end_of answer ≡ Some end → IsUnderWay export (Answering flags exchanges) first old first_out old_out
     → IsExchange export (record { option = option; answer = answer }) → Consumes old new (client_option_bytes option)
@@ -235,9 +243,11 @@ unfolding has_last
 ended export flags exchanges option answer end None old new first_out old_out new_out few ends come is read sent = tt
 ended export flags exchanges option answer end (Some input) None new first_out old_out new_out few ends come is read sent =
     absurd come
-ended export flags exchanges option answer end (Some input) (Some next) None first_out old_out new_out few ends come is read sent =
+ended export flags exchanges option answer end (Some input) (Some next) None first_out old_out new_out few ends come is
+    read sent =
     absurd read
-ended export flags exchanges option answer end (Some input) (Some next) (Some left) first_out old_out new_out few ends come is read sent =
+ended export flags exchanges option answer end (Some input) (Some next) (Some left) first_out old_out new_out few ends come is
+    read sent =
     let last : Exchange = record { option = option; answer = answer } in
     let reply = reply_bytes export (has_zeroes flags) last in (
       come.0 ++ reply,
@@ -262,7 +272,8 @@ option_broken export zeroes flags exchanges first old new first_out old_out new_
     (at_end export (Answering flags exchanges) first old new first_out old_out come broken.0 broken.1)
 option_broken export zeroes flags exchanges first old new first_out old_out new_out Closed few is come broken =
     subst (λ (w : Option (List ℕ)). Negotiates export ends.Closed first new first_out w) (sym broken.2)
-    (out_of_form export (Answering flags exchanges) first old new first_out old_out come (faulty flags exchanges old broken.0) broken.1)
+    (out_of_form export (Answering flags exchanges) first old new first_out old_out come
+    (faulty flags exchanges old broken.0) broken.1)
   where
     faulty : (flags : ℕ) (exchanges : List Exchange) (known : Option (List ℕ)) → BeginsNoMessage IsClientOption known
         → AreFaulty (Answering flags exchanges) known
@@ -283,19 +294,22 @@ option_broken export zeroes flags exchanges first old new first_out old_out new_
         → WritesFront (reply_bytes export (has_zeroes flags) last) old_out new_out
         → Negotiates export ends.LinkFault first new first_out new_out
     breaks_in_answer export flags exchanges last None old new first_out old_out new_out few come is read sent = tt
-    breaks_in_answer export flags exchanges last (Some input) None new first_out old_out new_out few come is read sent = absurd come
-    breaks_in_answer export flags exchanges last (Some input) (Some next) None first_out old_out new_out few come is read sent = absurd read
-    breaks_in_answer export flags exchanges last (Some input) (Some next) (Some left) first_out old_out new_out few come is read sent = (
-      come.0 ++ sent.0,
-      appends_more first_out old_out new_out come.0 sent.0 come.1 sent.3,
-      inr (inr (record {
-        options = has_last export flags exchanges last input next left come.0 few come.2 is read;
-        front = sent.0;
-        rest = sent.1;
-        reply = sent.2;
-        said = ap (λ xs. xs ++ sent.0) come.2.said;
-      })),
-    )
+    breaks_in_answer export flags exchanges last (Some input) None new first_out old_out new_out few come is read sent =
+        absurd come
+    breaks_in_answer export flags exchanges last (Some input) (Some next) None first_out old_out new_out few come is read sent =
+        absurd read
+    breaks_in_answer export flags exchanges last (Some input) (Some next) (Some left) first_out old_out new_out few come is
+        read sent = (
+          come.0 ++ sent.0,
+          appends_more first_out old_out new_out come.0 sent.0 come.1 sent.3,
+          inr (inr (record {
+            options = has_last export flags exchanges last input next left come.0 few come.2 is read;
+            front = sent.0;
+            rest = sent.1;
+            reply = sent.2;
+            said = ap (λ xs. xs ++ sent.0) come.2.said;
+          })),
+        )
 option_broken export zeroes flags exchanges first old new first_out old_out new_out OutOfMemory few is come broken =
     subst (λ (w : Option (List ℕ)). Negotiates export ends.OutOfMemory first new first_out w) (sym broken.1)
     (breaks_off export (Answering flags exchanges) first old new first_out old_out come broken.0)
@@ -313,8 +327,10 @@ all_taken : (flags : ℕ) (exchanges : List Exchange) (known : Option (List ℕ)
 all_taken flags exchanges None all more = tt
 all_taken flags exchanges (Some next) all more = inr (more, all)
 
-pub too_many : (export : Export) (flags : ℕ) (exchanges : List Exchange) (first old new first_out old_out new_out : Option (List ℕ))
-    (head : OptionHead) → length exchanges ≡ max_options → IsUnderWay export (Answering flags exchanges) first old first_out old_out
+pub too_many : (export : Export) (flags : ℕ) (exchanges : List Exchange)
+    (first old new first_out old_out new_out : Option (List ℕ))
+    (head : OptionHead) → length exchanges ≡ max_options
+    → IsUnderWay export (Answering flags exchanges) first old first_out old_out
     → ReadsMessage 16 IsOptionHead old new (Ok head) → new_out ≡ old_out
     → Negotiates export ends.Closed first new first_out new_out
 too_many export flags exchanges first old new first_out old_out new_out head all come read same =
@@ -322,13 +338,15 @@ too_many export flags exchanges first old new first_out old_out new_out head all
     (out_of_form export (Answering flags exchanges) first old new first_out old_out come
     (all_taken flags exchanges old all (has_more old new read.0 head read.1.spelled read.2)) (read.0, read.2))
   where
-    has_more : (old new : Option (List ℕ)) (bytes : List ℕ) (head : OptionHead) → bytes ≡ option_head_bytes head → Consumes old new bytes
+    has_more : (old new : Option (List ℕ)) (bytes : List ℕ) (head : OptionHead) → bytes ≡ option_head_bytes head
+        → Consumes old new bytes
         → HasMore old
     has_more None new bytes head is read = tt
     has_more (Some next) None bytes head is read = absurd read
     has_more (Some next) (Some left) bytes head is read = omega (arith, ap length read, ap length is, length-append bytes left)
 
-pub all_broken : (export : Export) (flags : ℕ) (exchanges : List Exchange) (first old new first_out old_out new_out : Option (List ℕ))
+pub all_broken : (export : Export) (flags : ℕ) (exchanges : List Exchange)
+    (first old new first_out old_out new_out : Option (List ℕ))
     (e : WireEnd) → length exchanges ≡ max_options → IsUnderWay export (Answering flags exchanges) first old first_out old_out
     → ReadsMessage {T = OptionHead} 16 IsOptionHead old new (Err e) → new_out ≡ old_out
     → Negotiates export (end_from e) first new first_out new_out
@@ -352,7 +370,8 @@ all_broken export flags exchanges first old new first_out old_out new_out OutOfM
 -- ---- all of the options
 
 -- this many options were answered, each with zeros after an export or without as the flags say, and the next one comes
-pub record HaveBeenAnswered (export : Export) (zeroes : Bool) (count : ℕ) (old new old_out new_out : Option (List ℕ)) : Type 0 where
+pub record HaveBeenAnswered (export : Export) (zeroes : Bool) (count : ℕ) (old new old_out new_out : Option (List ℕ)) :
+    Type 0 where
   pub flags : ℕ
   pub exchanges : List Exchange
   pub said : zeroes ≡ has_zeroes flags
@@ -390,7 +409,8 @@ pub last_answered : (export : Export) (zeroes : Bool) (count : ℕ) (answer : An
 last_answered export zeroes count answer end first old new first_out old_out new_out few before ends answers =
     ended export before.flags before.exchanges answers.0 answer end first old new first_out old_out new_out
     (omega (arith, few, before.counted)) ends before.come answers.1 answers.2
-    (subst (λ (b : Bool). Appends old_out new_out (reply_bytes export b (record { option = answers.0; answer = answer }))) before.said
+    (subst (λ (b : Bool). Appends old_out new_out (reply_bytes export b (record { option = answers.0; answer = answer })))
+    before.said
     answers.3)
 
 pub none_more : (export : Export) (zeroes : Bool) (count : ℕ) (first old new first_out old_out new_out : Option (List ℕ))

@@ -1,5 +1,6 @@
 -- A head and the data that come next are an option of a client.
-use Rattle.std.proofs.Common.{◌≡◌, ℕ, ◌^◌, ◌<◌, Bool, List, ◌++◌, length, take, drop, refl, sym, ◌∙◌, ap, subst, inl, inr, append_assoc, arith}
+use Rattle.std.proofs.Common.{◌≡◌, ℕ, ◌^◌, ◌<◌, Bool, List, ◌++◌, length, take, drop, refl, sym, ◌∙◌, ap, subst, inl, inr}
+use Rattle.std.proofs.Common.{append_assoc, arith}
 use Rattle.std.proofs.lemmas.List.{length-append}
 use Rattle.std.proofs.lemmas.Nat.{from_be_bytes-to_be_bytes_4}
 use Rattle.std.specs.Int.{w32, to_be_bytes, from_be_bytes}
@@ -35,7 +36,8 @@ no_option (Some left) none =
         → left ≡ client_option_bytes option ++ rest → IsClientOption bytes option → ⊥
     begins_one left rest option none split is =
         let head : OptionHead = record { option = option.number; length = length option.content } in
-        none (option_head_bytes head) (option.content ++ rest) head (split ∙ append_assoc (option_head_bytes head) option.content rest)
+        none (option_head_bytes head) (option.content ++ rest) head (split
+        ∙ append_assoc (option_head_bytes head) option.content rest)
         (record { spelled = refl; option = is.number_fits; length = is.size_fits })
 
 -- the head of an option
@@ -54,7 +56,8 @@ cut_off bytes head (Some left) (Some next) is read few =
           (sym split ∙ again ∙ ap (λ xs. xs ++ rest) other.spelled ∙ append_assoc (head_of option) option.content rest),
     )
   where
-    too_few : (head : OptionHead) (option : ClientOption) (next rest : List ℕ) → head.length < 2 ^ 32 → length option.content < 2 ^ 32
+    too_few : (head : OptionHead) (option : ClientOption) (next rest : List ℕ) → head.length < 2 ^ 32
+        → length option.content < 2 ^ 32
         → length next < head.length
         → option_head_bytes head ++ next ≡ head_of option ++ (option.content ++ rest)
         → ⊥
@@ -104,8 +107,10 @@ has_read export old mid last new head answer before after kept =
       content = content;
       is = record { number_fits = before.1.option; size_fits = omega (arith, after.1, before.1.length); answered = after.2 };
       read =
-          subst (λ (r : Option (List ℕ)). Consumes old r (client_option_bytes (record { number = head.option; content = content })))
-          (sym kept) (subst (λ (xs : List ℕ). Consumes old last xs) whole (consumes_more old mid last bytes content before.2 after.3));
+          subst (λ (r : Option (List ℕ)). Consumes old r
+          (client_option_bytes (record { number = head.option; content = content })))
+          (sym kept) (subst (λ (xs : List ℕ). Consumes old last xs) whole
+          (consumes_more old mid last bytes content before.2 after.3));
     }
 
 -- the answer was not sent whole

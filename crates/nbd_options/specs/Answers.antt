@@ -2,7 +2,8 @@
 use Rattle.std.specs.Prelude.{ℕ, ◌≡◌, ◌⊎◌, ◌↔◌, ◌<◌, ◌≤◌, IsTrue, Bool, true, false, List, [], length}
 use Rattle.nbd_options.specs.declared.export.Export.{Export}
 use Rattle.nbd_options.specs.declared.answer.Answer.{Answer}
-use Rattle.nbd_options.specs.declared.answer.Answer.TheVariants.{Exported, Closed, Aborted, Listed, Described, Unknown, Invalid, Unsupported, TooBig}
+use Rattle.nbd_options.specs.declared.answer.Answer.TheVariants.{Exported, Closed, Aborted, Listed, Described, Unknown, Invalid}
+use Rattle.nbd_options.specs.declared.answer.Answer.TheVariants.{Unsupported, TooBig}
 use Rattle.nbd_options.specs.Export.{IsNameOf}
 use Rattle.nbd_options.specs.Info.{AsksFor, AsksForNothing, HasType}
 

@@ -21,8 +21,8 @@ IsOfInput Closed = ⊤
 IsOfInput LinkFault = ⊥
 IsOfInput OutOfMemory = ⊥
 
--- two negotiations with one input, which neither a fault nor want of memory broke off, end in the same way, and the same was sent;
--- where they entered the export, the same is left
+-- two negotiations with one input, which neither a fault nor want of memory broke off, end in the same way, and the same was
+-- sent; where they entered the export, the same is left
 abbrev pub HasOneEnd : Type 0
 HasOneEnd =
     (export : Export) (input left left' sent sent' : List ℕ) (a b : NegotiationEnd) → IsOfInput a → IsOfInput b

@@ -1,5 +1,6 @@
 -- Contract: a negotiation as a whole: what a client sends, what the server sends to it, and how it ends.
-use Rattle.std.specs.Prelude.{ℕ, ◌≡◌, ◌^◌, ◌<◌, ◌≤◌, ◌==◌, ◌⊎◌, Bool, true, false, List, [], ◌++◌, length, flat_map, All, bit_and, ⊤, Option, None, Some}
+use Rattle.std.specs.Prelude.{ℕ, ◌≡◌, ◌^◌, ◌<◌, ◌≤◌, ◌==◌, ◌⊎◌, Bool, true, false, List, [], ◌++◌, length, flat_map, All, bit_and}
+use Rattle.std.specs.Prelude.{⊤, Option, None, Some}
 use Rattle.std.specs.Int.{w32, to_be_bytes}
 use Rattle.std.specs.Io.KnownBytes.{Appends}
 use Rattle.nbd_wire.specs.declared.wire_end.WireEnd.{WireEnd}
@@ -27,7 +28,8 @@ pub record ClientOption : Type 0 where
 
 -- its bytes: a head, which says how many data there are, and the data
 abbrev pub client_option_bytes : ClientOption → List ℕ
-client_option_bytes option = option_head_bytes (record { option = option.number; length = length option.content }) ++ option.content
+client_option_bytes option = option_head_bytes (record { option = option.number; length = length option.content })
+    ++ option.content
 
 pub record IsClientOption (bytes : List ℕ) (option : ClientOption) : Type 0 where
   pub spelled : bytes ≡ client_option_bytes option
@@ -147,7 +149,8 @@ pub record BreaksInGreeting (input left sent : List ℕ) : Type 0 where
 
 -- inside a message of the client, of which some may have been taken
 abbrev pub BreaksInMessage : Export → (input left sent : List ℕ) → Type 0
-BreaksInMessage export input left sent = (stage : Stage) × (next : List ℕ) × HasCome export stage input next sent × IsRestOf next left
+BreaksInMessage export input left sent = (stage : Stage) × (next : List ℕ) × HasCome export stage input next sent
+    × IsRestOf next left
 
 -- inside an answer, of which a front was sent
 pub record BreaksInAnswer (export : Export) (input left sent : List ℕ) : Type 0 where
@@ -177,7 +180,8 @@ OnInput (Some input) (Some left) P = P input left
 -- a negotiation ended so, on a link that tells what is left to read and what was written, before and after it
 abbrev pub Negotiates : Export → NegotiationEnd → (old new written_old written_new : Option (List ℕ)) → Type 0
 Negotiates export end old new written_old written_new =
-    OnInput old new (λ input left. (sent : List ℕ) × Appends written_old written_new sent × IsNegotiation export end input left sent)
+    OnInput old new (λ input left. (sent : List ℕ) × Appends written_old written_new sent
+    × IsNegotiation export end input left sent)
 
 -- a call of the link failed
 abbrev pub is_fault : NegotiationEnd → Bool

@@ -4,7 +4,8 @@ use Rattle.std.specs.Int.{w16, w32, w64, to_be_bytes}
 use Rattle.nbd_wire.specs.Messages.{option_reply_bytes, export_bytes}
 use Rattle.nbd_options.specs.declared.export.Export.{Export}
 use Rattle.nbd_options.specs.declared.answer.Answer.{Answer}
-use Rattle.nbd_options.specs.declared.answer.Answer.TheVariants.{Exported, Closed, Aborted, Listed, Described, Unknown, Invalid, Unsupported, TooBig}
+use Rattle.nbd_options.specs.declared.answer.Answer.TheVariants.{Exported, Closed, Aborted, Listed, Described, Unknown, Invalid}
+use Rattle.nbd_options.specs.declared.answer.Answer.TheVariants.{Unsupported, TooBig}
 use Rattle.nbd_options.specs.Export.{uuid_text}
 
 -- the flags of transmission: that there are flags (bit 0), and flushes (2), the flag to flush (3), trims (5) and writes of

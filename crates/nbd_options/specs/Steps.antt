@@ -8,7 +8,8 @@ use Rattle.nbd_wire.specs.Writing.{WritesFront}
 use Rattle.nbd_options.specs.declared.export.Export.{Export}
 use Rattle.nbd_options.specs.declared.answer.Answer.{Answer}
 use Rattle.nbd_options.specs.declared.negotiation.NegotiationEnd.{NegotiationEnd}
-use Rattle.nbd_options.specs.Negotiation.{ClientOption, client_option_bytes, IsClientOption, Exchange, IsExchange, reply_bytes, Stage, Answering, has_zeroes, HasCome, OnInput, Negotiates, end_from}
+use Rattle.nbd_options.specs.Negotiation.{ClientOption, client_option_bytes, IsClientOption, Exchange, IsExchange, reply_bytes}
+use Rattle.nbd_options.specs.Negotiation.{Stage, Answering, has_zeroes, HasCome, OnInput, Negotiates, end_from}
 
 -- how a negotiation ended, by its own end or by one of a message
 abbrev pub end_in : Result NegotiationEnd WireEnd → NegotiationEnd
@@ -25,7 +26,8 @@ AnswersOption export zeroes old new written_old written_new (Ok answer) =
     (option : ClientOption) × IsExchange export (record { option = option; answer = answer })
     × Consumes old new (client_option_bytes option)
     × Appends written_old written_new (reply_bytes export zeroes (record { option = option; answer = answer }))
-AnswersOption export zeroes old new written_old written_new (Err wire.Ended) = IsAtEnd old × Keeps old new × (written_new ≡ written_old)
+AnswersOption export zeroes old new written_old written_new (Err wire.Ended) = IsAtEnd old × Keeps old new
+    × (written_new ≡ written_old)
 AnswersOption export zeroes old new written_old written_new (Err wire.Closed) =
     BeginsNoMessage IsClientOption old × Reads old new × (written_new ≡ written_old)
 AnswersOption export zeroes old new written_old written_new (Err wire.LinkFault) =

@@ -8,7 +8,8 @@ use uuid::Uuid;
 // The bytes of the text of a uuid.
 const TEXT_BYTES: u32 = 36;
 
-/// What a server exports: one volume. Its names are the empty text, and the text of its uuid in lower case with hyphens.
+/// What a server exports: one volume. Its names are the empty text, and the text of its uuid in lower case
+/// with hyphens.
 #[derive(Clone, Copy, Debug, PartialEq, Eq)]
 pub struct Export {
     /// The uuid of the volume.

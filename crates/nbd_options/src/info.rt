@@ -3,8 +3,8 @@ ghost use Rattle.nbd_options.specs.Info.{AsksFor, AsksForNothing, HasType};
 
 use lsvd_bytes::{read_u16, read_u32};
 
-// The name, and the bytes of the types of information, for which the data of an option ask. None is for data that do not
-// ask so.
+// The name, and the bytes of the types of information, for which the data of an option ask. None is for data
+// that do not ask so.
 pub(crate) fn parts_of(content: &[u8]) -> Option<(&[u8], &[u8])>
     ensures found { IfSome result (λ parts. AsksFor content.now parts.0.now parts.1.now) }
     ensures none { IfNone result (AsksForNothing content.now) }

@@ -16,7 +16,8 @@ use nbd_wire::{
 };
 use std::alloc::Global;
 
-/// The most options that one negotiation answers, refused ones included. The one after them closes the connection.
+/// The most options that one negotiation answers, refused ones included. The one after them closes the
+/// connection.
 pub const MAX_OPTIONS: u32 = 1_024;
 
 // The flag of a client that wants no zeros after an export.
@@ -25,16 +26,19 @@ const NO_ZEROES: u32 = 2;
 /// How a negotiation ends.
 #[derive(Clone, Copy, Debug, PartialEq, Eq)]
 pub enum NegotiationEnd {
-    /// The client has entered the export, and its requests come next. The flags of the client have no more meaning.
+    /// The client has entered the export, and its requests come next. The flags of the client have no more
+    /// meaning.
     Entered,
     /// The client has ended it, by the option to abort, or by the end of its input between two messages.
     Ended,
-    /// The connection is to be closed: the input ends inside a message, or a magic is another, or the client's flags have
-    /// another bit, or an option came after `MAX_OPTIONS`, or the option that enters an export at once named no export.
+    /// The connection is to be closed: the input ends inside a message, or a magic is another, or the
+    /// client's flags have another bit, or an option came after `MAX_OPTIONS`, or the option that enters an
+    /// export at once named no export.
     Closed,
     /// A read or a write of the link failed, and was counted there.
     LinkFault,
-    /// Memory ran out for the data of an option. Nothing of these data was read, and nothing was answered to it.
+    /// Memory ran out for the data of an option. Nothing of these data was read, and nothing was answered to
+    /// it.
     OutOfMemory,
 }
 
@@ -54,12 +58,13 @@ impl From<WireEnd> for NegotiationEnd {
     }
 }
 
-/// Negotiates with a client, as the server of this export: the greeting is sent, the client's flags are read, and then each
-/// option is read and answered, until one enters the export or ends the negotiation, or the connection is to be closed.
+/// Negotiates with a client, as the server of this export: the greeting is sent, the client's flags are read,
+/// and then each option is read and answered, until one enters the export or ends the negotiation, or the
+/// connection is to be closed.
 ///
 /// Nothing past the last option is read where the client has entered. Data of an option that are longer than
-/// `nbd_wire::MAX_OPTION_DATA` bytes are read in pieces and dropped, so memory is bounded whatever the client sends. After a fault and
-/// after want of memory what was sent is a front of the negotiation's bytes.
+/// `nbd_wire::MAX_OPTION_DATA` bytes are read in pieces and dropped, so memory is bounded whatever the client
+/// sends. After a fault and after want of memory what was sent is a front of the negotiation's bytes.
 pub fn negotiate<K: Link>(alloc: Global, link: &mut K, export: &Export) -> NegotiationEnd
     ensures bytes { Negotiates export.now result (K.remaining link.old) (K.remaining link.new)
         (K.contents link.old) (K.contents link.new) }
@@ -127,7 +132,8 @@ fn read_to_answer<K: Source>(
     export: &Export,
     head: OptionHead,
 ) -> Result<Answer, WireEnd>
-    ensures bytes { ReadsData head.length (IsAnswerTo export.now head.option) (K.remaining link.old) (K.remaining link.new) result }
+    ensures bytes { ReadsData head.length (IsAnswerTo export.now head.option) (K.remaining link.old)
+        (K.remaining link.new) result }
     ensures other { K.written link.new ≡ K.written link.old }
     ensures count { Counts (is_link_fault result) (K.faults link.old) (K.faults link.new) }
 {

@@ -3,7 +3,8 @@ ghost use Rattle.lsvd_fault.specs.Faults.{Counts};
 ghost use Rattle.nbd_wire.specs.Messages.{option_reply_bytes};
 ghost use Rattle.nbd_wire.specs.Reading.{is_link_fault};
 ghost use Rattle.nbd_wire.specs.Writing.{WritesMessage};
-ghost use Rattle.nbd_options.specs.Replies.{export_info, block_info, block_reply, acknowledgement, answer_bytes};
+ghost use Rattle.nbd_options.specs.Replies.{export_info, block_info, block_reply, acknowledgement};
+ghost use Rattle.nbd_options.specs.Replies.{answer_bytes};
 
 use crate::answer::{Answer, BLOCK_SIZE};
 use crate::export::{Export, named_export};
@@ -34,8 +35,8 @@ const LEAST_BLOCK: u32 = 512;
 
 const BEST_BLOCK: u32 = 4_096;
 
-/// Writes an answer to the option with this number: its replies, or the export where it is entered at once, with zeros
-/// after it or none. The one error is `LinkFault`; a front of the bytes was written then.
+/// Writes an answer to the option with this number: its replies, or the export where it is entered at once,
+/// with zeros after it or none. The one error is `LinkFault`; a front of the bytes was written then.
 pub fn write_answer<K: Sink>(
     link: &mut K,
     export: &Export,
@@ -43,7 +44,8 @@ pub fn write_answer<K: Sink>(
     zeroes: bool,
     answer: Answer,
 ) -> Result<(), WireEnd>
-    ensures bytes { WritesMessage (answer_bytes export.now option zeroes answer) (K.contents link.old) (K.contents link.new) result }
+    ensures bytes { WritesMessage (answer_bytes export.now option zeroes answer) (K.contents link.old)
+        (K.contents link.new) result }
     ensures other { K.unread link.new ≡ K.unread link.old }
     ensures count { Counts (is_link_fault result) (K.faults link.old) (K.faults link.new) }
 {
@@ -62,7 +64,8 @@ pub fn write_answer<K: Sink>(
 
 // Writes the name of the export, and the acknowledgement.
 fn write_listed<K: Sink>(link: &mut K, export: &Export, option: u32) -> Result<(), WireEnd>
-    ensures bytes { WritesMessage (answer_bytes export.now option true Answer.Listed) (K.contents link.old) (K.contents link.new) result }
+    ensures bytes { WritesMessage (answer_bytes export.now option true Answer.Listed) (K.contents link.old)
+        (K.contents link.new) result }
     ensures other { K.unread link.new ≡ K.unread link.old }
     ensures count { Counts (is_link_fault result) (K.faults link.old) (K.faults link.new) }
 {
@@ -77,7 +80,8 @@ fn write_described<K: Sink>(
     option: u32,
     blocks: bool,
 ) -> Result<(), WireEnd>
-    ensures bytes { WritesMessage (option_reply_bytes option 3 (export_info export.now) ++ block_reply export.now option blocks
+    ensures bytes { WritesMessage (option_reply_bytes option 3 (export_info export.now) ++ block_reply
+        export.now option blocks
         ++ acknowledgement option) (K.contents link.old) (K.contents link.new) result }
     ensures other { K.unread link.new ≡ K.unread link.old }
     ensures count { Counts (is_link_fault result) (K.faults link.old) (K.faults link.new) }
@@ -94,7 +98,8 @@ fn write_blocks<K: Sink>(
     option: u32,
     blocks: bool,
 ) -> Result<(), WireEnd>
-    ensures bytes { WritesMessage (block_reply export.now option blocks) (K.contents link.old) (K.contents link.new) result }
+    ensures bytes { WritesMessage (block_reply export.now option blocks) (K.contents link.old)
+        (K.contents link.new) result }
     ensures other { K.unread link.new ≡ K.unread link.old }
     ensures count { Counts (is_link_fault result) (K.faults link.old) (K.faults link.new) }
 {

@@ -1,5 +1,6 @@
 -- What a session adds to the history of its volume.
-use Rattle.std.proofs.Common.{◌≡◌, ℕ, ◌+◌, ◌^◌, ◌≤◌, Bool, true, false, List, [], ◌∷◌, ◌++◌, length, append-nil, append_assoc, refl, sym, ◌∙◌, ap, subst, inl, inr, arith}
+use Rattle.std.proofs.Common.{◌≡◌, ℕ, ◌+◌, ◌^◌, ◌≤◌, Bool, true, false, List, [], ◌∷◌, ◌++◌, length, append-nil, append_assoc}
+use Rattle.std.proofs.Common.{refl, sym, ◌∙◌, ap, subst, inl, inr, arith}
 use Rattle.std.specs.Prelude.{Option, Some, None, Ok, Err}
 use Rattle.lsvd_base.specs.declared.entry.Entry.{Entry}
 use Rattle.lsvd_objstore.specs.Store.{StoreState, ReceiptState, Becomes}
@@ -16,18 +17,33 @@ use Rattle.nbd_session.specs.declared.asking.Asked.TheVariants.{Read, Write, Zer
 use Rattle.nbd_session.specs.declared.outcome.ReplyError.TheVariants as errors
 use Rattle.nbd_session.specs.declared.session.SessionEnd.{SessionEnd}
 use Rattle.nbd_session.specs.declared.session.SessionEnd.TheVariants as ends
-use Rattle.nbd_session.specs.Exchanges.{Outcome, Moment, Calls, Flushes, ReadsSectors, as_list, EntersIt, FlushesIf, EntersEntry, FlushesAll, CarriesOut, write_of, zero_of, asked_at, RequestExchange, IsRequestExchange, AreRequestExchanges}
+use Rattle.nbd_session.specs.Exchanges.{Outcome, Moment, Calls, Flushes, ReadsSectors, as_list, EntersIt, FlushesIf, EntersEntry}
+use Rattle.nbd_session.specs.Exchanges.{FlushesAll, CarriesOut, write_of, zero_of, asked_at, RequestExchange, IsRequestExchange}
+use Rattle.nbd_session.specs.Exchanges.{AreRequestExchanges}
 use Rattle.nbd_session.specs.Session.{LinkBytes, EndsSession, Transmits}
 use Rattle.nbd_session.specs.History.{Grows, LeavesRoom, MayAdd, entered_in}
 
 -- ---- one after the other
 
-goes_on_more : (xs ys : List Entry) (plain mid after : PlainState) → GoesOn xs plain mid → GoesOn ys mid after → GoesOn (xs ++ ys) plain after
+goes_on_more : (xs ys : List Entry) (plain mid after : PlainState) → GoesOn xs plain mid → GoesOn ys mid after
+    → GoesOn (xs ++ ys) plain after
 goes_on_more xs ys plain mid after first second = record {
   opens =
       second.opens
-      ∙ ap (λ (m : PlainState). record m { entries = m.entries ++ ys; objects = after.objects; window = after.window; pins = after.pins; cache = after.cache }) first.opens
-      ∙ ap (λ (es : List Entry). record plain { entries = es; objects = after.objects; window = after.window; pins = after.pins; cache = after.cache })
+      ∙ ap (λ (m : PlainState). record m {
+        entries = m.entries ++ ys;
+        objects = after.objects;
+        window = after.window;
+        pins = after.pins;
+        cache = after.cache;
+      }) first.opens
+      ∙ ap (λ (es : List Entry). record plain {
+        entries = es;
+        objects = after.objects;
+        window = after.window;
+        pins = after.pins;
+        cache = after.cache;
+      })
       (append_assoc plain.entries xs ys);
   objects = (
     first.objects.0 ++ second.objects.0,
@@ -65,7 +81,12 @@ grows_more xs ys old mid new first second = record {
 -- ---- calls of the owner
 
 called : (added : List Entry) (failed : Bool) (old new : Moment) → Calls added failed old new → Grows added old new
-called added failed old new call = record { adds = call.steps.adds; sizes = call.steps.sizes; own = call.steps.own; store = call.store }
+called added failed old new call = record {
+  adds = call.steps.adds;
+  sizes = call.steps.sizes;
+  own = call.steps.own;
+  store = call.store;
+}
 
 flushed : (failed : Bool) (old new : Moment) → Flushes failed old new → Grows [] old new
 flushed failed old new flushes = record {
@@ -73,7 +94,8 @@ flushed failed old new flushes = record {
   sizes = flushes.steps.sizes;
   own = flushes.steps.own;
   store =
-      subst (λ (s : StoreState). Becomes (KeepsOtherNames old.volume.volume.objects.uploads.uuid) old.store.objects s.objects) (sym flushes.store)
+      subst (λ (s : StoreState). Becomes (KeepsOtherNames old.volume.volume.objects.uploads.uuid) old.store.objects s.objects)
+      (sym flushes.store)
       (becomes_same old.volume.volume.objects.uploads.uuid old.store.objects);
 }
 
@@ -95,7 +117,8 @@ record GrowsByOne (added : List Entry) (old new : Moment) : Type 0 where
 none_more : (added : List Entry) (old new : Moment) → added ≡ [] → Grows [] old new → GrowsByOne added old new
 none_more added old new none grows = subst (λ a. GrowsByOne a old new) (sym none) (record { few = omega arith; grows = grows })
 
-one_more : (entry : Option Entry) (added : List Entry) (old mid new : Moment) → added ≡ as_list entry → EntersIt entry old mid → Grows [] mid new
+one_more : (entry : Option Entry) (added : List Entry) (old mid new : Moment) → added ≡ as_list entry → EntersIt entry old mid
+    → Grows [] mid new
     → GrowsByOne added old new
 one_more entry added old mid new is enters grows =
     subst (λ a. GrowsByOne a old new) (sym is) (record {
@@ -109,7 +132,8 @@ one_more entry added old mid new is enters grows =
     few None = omega arith
     few (Some entry) = omega arith
 
-read_grows : {R : Type 0} (state : R → ReceiptState) (lba sectors : ℕ) (outcome : Outcome) (old new : Moment) → ReadsSectors state lba sectors outcome old new
+read_grows : {R : Type 0} (state : R → ReceiptState) (lba sectors : ℕ) (outcome : Outcome) (old new : Moment)
+    → ReadsSectors state lba sectors outcome old new
     → Grows [] old new
 read_grows state lba sectors (Ok content) old new reads = called [] false old new reads.2
 read_grows state lba sectors (Err (errors.Refused why)) old new reads = absurd reads
@@ -121,12 +145,15 @@ entry_grows : (entry : Option Entry) (durable : Bool) (outcome : Outcome) (added
 entry_grows entry durable (Ok content) added old new enters =
     one_more entry added old enters.2 new enters.1 enters.3 (flushed_if durable enters.2 new enters.4)
 entry_grows entry durable (Err (errors.Refused why)) added old new enters = absurd enters
-entry_grows entry durable (Err errors.Io) added old new (inl failed) = none_more added old new failed.1 (called [] true old new failed.2)
+entry_grows entry durable (Err errors.Io) added old new (inl failed) =
+    none_more added old new failed.1 (called [] true old new failed.2)
 entry_grows entry durable (Err errors.Io) added old new (inr failed) =
     one_more entry added old failed.2 new failed.1 failed.3 (flushed true failed.2 new failed.4)
-entry_grows entry durable (Err errors.NoMemory) added old new enters = none_more added old new enters.0 (called [] false old new enters.1)
+entry_grows entry durable (Err errors.NoMemory) added old new enters =
+    none_more added old new enters.0 (called [] false old new enters.1)
 
-flush_grows : (outcome : Outcome) (added : List Entry) (old new : Moment) → FlushesAll outcome added old new → GrowsByOne added old new
+flush_grows : (outcome : Outcome) (added : List Entry) (old new : Moment) → FlushesAll outcome added old new
+    → GrowsByOne added old new
 flush_grows (Ok content) added old new flushes = none_more added old new flushes.1 (flushed false old new flushes.2)
 flush_grows (Err (errors.Refused why)) added old new flushes = absurd flushes
 flush_grows (Err errors.Io) added old new flushes = none_more added old new flushes.0 (flushed true old new flushes.1)
@@ -138,20 +165,25 @@ stays old new same = subst (Grows [] old) (sym same) (grows_nothing old)
 unchanged : (added : List Entry) (old new : Moment) → added ≡ [] → new ≡ old → GrowsByOne added old new
 unchanged added old new none same = none_more added old new none (stays old new same)
 
-request_grows : {R : Type 0} (state : R → ReceiptState) (asked : Asked) (content : List ℕ) (outcome : Outcome) (added : List Entry) (old new : Moment)
+request_grows : {R : Type 0} (state : R → ReceiptState) (asked : Asked) (content : List ℕ) (outcome : Outcome)
+    (added : List Entry) (old new : Moment)
     → CarriesOut state asked content outcome added old new → GrowsByOne added old new
 request_grows state (Read lba sectors) content outcome added old new done =
     none_more added old new done.0 (read_grows state lba sectors outcome old new done.1)
-request_grows state (Write lba sectors durable) content outcome added old new done = entry_grows (write_of lba content) durable outcome added old new done
-request_grows state (Zero lba sectors durable) content outcome added old new done = entry_grows (zero_of lba sectors) durable outcome added old new done
+request_grows state (Write lba sectors durable) content outcome added old new done =
+    entry_grows (write_of lba content) durable outcome added old new done
+request_grows state (Zero lba sectors durable) content outcome added old new done =
+    entry_grows (zero_of lba sectors) durable outcome added old new done
 request_grows state Flush content outcome added old new done = flush_grows outcome added old new done
 request_grows state Disconnect content outcome added old new done = unchanged added old new done.1 done.2
 request_grows state (Refused why) content outcome added old new done = unchanged added old new done.1 done.2
 
-exchange_grows : {R : Type 0} (state : R → ReceiptState) (exchange : RequestExchange) (old new : Moment) → IsRequestExchange state exchange old new
+exchange_grows : {R : Type 0} (state : R → ReceiptState) (exchange : RequestExchange) (old new : Moment)
+    → IsRequestExchange state exchange old new
     → GrowsByOne exchange.entered old new
 exchange_grows state exchange old new is =
-    request_grows state (asked_at old exchange.message.request) exchange.message.content exchange.outcome exchange.entered old new is.done
+    request_grows state (asked_at old exchange.message.request) exchange.message.content exchange.outcome exchange.entered old
+    new is.done
 
 -- ---- its steps
 
@@ -193,20 +225,25 @@ flush_steps (Err (errors.Refused why)) added old new flushes = absurd flushes
 flush_steps (Err errors.Io) added old new flushes = omega (arith, flushes.1.steps.steps)
 flush_steps (Err errors.NoMemory) added old new flushes = absurd flushes
 
-request_steps : {R : Type 0} (state : R → ReceiptState) (asked : Asked) (content : List ℕ) (outcome : Outcome) (added : List Entry) (old new : Moment)
+request_steps : {R : Type 0} (state : R → ReceiptState) (asked : Asked) (content : List ℕ) (outcome : Outcome)
+    (added : List Entry) (old new : Moment)
     → CarriesOut state asked content outcome added old new → TakesFew old new
 request_steps state (Read lba sectors) content outcome added old new done = read_steps state lba sectors outcome old new done.1
-request_steps state (Write lba sectors durable) content outcome added old new done = entry_steps (write_of lba content) durable outcome added old new done
-request_steps state (Zero lba sectors durable) content outcome added old new done = entry_steps (zero_of lba sectors) durable outcome added old new done
+request_steps state (Write lba sectors durable) content outcome added old new done =
+    entry_steps (write_of lba content) durable outcome added old new done
+request_steps state (Zero lba sectors durable) content outcome added old new done =
+    entry_steps (zero_of lba sectors) durable outcome added old new done
 request_steps state Flush content outcome added old new done = flush_steps outcome added old new done
 request_steps state Disconnect content outcome added old new done = same_steps old new done.2
 request_steps state (Refused why) content outcome added old new done = same_steps old new done.2
 
 -- a request leaves room for calls, since it is made only where there is some
-exchange_leaves : {R : Type 0} (state : R → ReceiptState) (exchange : RequestExchange) (old new : Moment) → IsRequestExchange state exchange old new
+exchange_leaves : {R : Type 0} (state : R → ReceiptState) (exchange : RequestExchange) (old new : Moment)
+    → IsRequestExchange state exchange old new
     → LeavesRoom old new
 exchange_leaves state exchange old new is small =
-    let few = request_steps state (asked_at old exchange.message.request) exchange.message.content exchange.outcome exchange.entered old new is.done in
+    let few = request_steps state (asked_at old exchange.message.request) exchange.message.content exchange.outcome
+    exchange.entered old new is.done in
     omega (arith, few, is.room)
 
 pub stays_leaves : (old new : Moment) → new ≡ old → LeavesRoom old new
@@ -220,7 +257,8 @@ requests_leave state [] old new same small = stays_leaves old new same small
 requests_leave state (exchange ∷ rest) old new done small =
     requests_leave state rest done.0 new done.2 (exchange_leaves state exchange old done.0 done.1 small)
 
-requests_add : {R : Type 0} (state : R → ReceiptState) (exchanges : List RequestExchange) (old new : Moment) → AreRequestExchanges state exchanges old new
+requests_add : {R : Type 0} (state : R → ReceiptState) (exchanges : List RequestExchange) (old new : Moment)
+    → AreRequestExchanges state exchanges old new
     → Grows (entered_in exchanges) old new
 requests_add state [] old new same = subst (Grows [] old) (sym same) (grows_nothing old)
 requests_add state (exchange ∷ rest) old new done =
@@ -229,7 +267,8 @@ requests_add state (exchange ∷ rest) old new done =
 
 pub requests_grow : {R : Type 0} (state : R → ReceiptState) (exchanges : List RequestExchange) (old new : Moment)
     → AreRequestExchanges state exchanges old new → Grows (entered_in exchanges) old new × LeavesRoom old new
-requests_grow state exchanges old new done = (requests_add state exchanges old new done, requests_leave state exchanges old new done)
+requests_grow state exchanges old new done =
+    (requests_add state exchanges old new done, requests_leave state exchanges old new done)
 
 -- how it ends adds an entry at most, and only where a reply was broken off
 record GrowsAtEnd (end : SessionEnd) (more : List Entry) (old new : Moment) : Type 0 where

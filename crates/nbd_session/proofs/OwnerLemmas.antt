@@ -1,5 +1,6 @@
 -- What calls of the owner tell of a request that is carried out.
-use Rattle.std.proofs.Common.{◌≡◌, ℕ, zero, suc, ◌*◌, ◌/◌, ◌<◌, ◌≤◌, ◌↔◌, nat_lt, nat_le, Bool, true, false, ◌&&◌, if◌then◌else◌, IsTrue, List, [], ◌∷◌, length, refl, sym, ◌∙◌, ap, subst, inl, inr, arith}
+use Rattle.std.proofs.Common.{◌≡◌, ℕ, zero, suc, ◌*◌, ◌/◌, ◌<◌, ◌≤◌, ◌↔◌, nat_lt, nat_le, Bool, true, false, ◌&&◌, if◌then◌else◌}
+use Rattle.std.proofs.Common.{IsTrue, List, [], ◌∷◌, length, refl, sym, ◌∙◌, ap, subst, inl, inr, arith}
 use Rattle.std.proofs.lemmas.Bool.{and_from, lt-ltb, le-leb, ne_eqb}
 use Rattle.std.specs.Prelude.{Option, Some, None, IsErrOf, Result, Ok, Err}
 use Rattle.lsvd_base.specs.declared.geometry.Geometry.{Geometry}
@@ -20,7 +21,8 @@ use Rattle.nbd_session.specs.declared.asking.Asked.{Asked}
 use Rattle.nbd_session.specs.declared.asking.Asked.TheVariants.{Flush}
 use Rattle.nbd_session.specs.declared.outcome.ReplyError.{ReplyError}
 use Rattle.nbd_session.specs.declared.outcome.ReplyError.TheVariants as errors
-use Rattle.nbd_session.specs.Exchanges.{Outcome, Moment, Calls, FlushesAll, CarriesOut, write_of, zero_of, as_list, EntersIt, EntersEntry, of_owner}
+use Rattle.nbd_session.specs.Exchanges.{Outcome, Moment, Calls, FlushesAll, CarriesOut, write_of, zero_of, as_list, EntersIt}
+use Rattle.nbd_session.specs.Exchanges.{EntersEntry, of_owner}
 use Rattle.nbd_session.specs.Steps.{IsContent, WriteFits, FlushesOrNot, done_by}
 
 -- ---- nothing was called
@@ -34,22 +36,27 @@ makes_nothing most stepped = record {
 }
 
 pub calls_nothing : (moment : Moment) → Calls [] false moment moment
-calls_nothing moment = quiet_call most_of_call [] moment.volume moment.volume moment.store (makes_nothing most_of_call moment.volume) refl
+calls_nothing moment = quiet_call most_of_call [] moment.volume moment.volume moment.store
+    (makes_nothing most_of_call moment.volume) refl
 
 -- ---- ranges
 
-pub may_be_transferred : (geometry : Geometry) (lba sectors : ℕ) → 0 < sectors → sectors ≤ geometry.max_write → IsTrue (covers geometry lba sectors)
+pub may_be_transferred : (geometry : Geometry) (lba sectors : ℕ) → 0 < sectors → sectors ≤ geometry.max_write
+    → IsTrue (covers geometry lba sectors)
     → may_transfer geometry lba sectors ≡ true
 may_be_transferred geometry lba sectors some short covered =
     and_from (nat_lt 0 sectors && nat_le sectors geometry.max_write) (covers geometry lba sectors)
-    (and_from (nat_lt 0 sectors) (nat_le sectors geometry.max_write) (lt-ltb 0 sectors some) (le-leb sectors geometry.max_write short)) covered
+    (and_from (nat_lt 0 sectors) (nat_le sectors geometry.max_write) (lt-ltb 0 sectors some)
+    (le-leb sectors geometry.max_write short)) covered
 
 pub may_be_zeroed : (geometry : Geometry) (lba sectors : ℕ) → 0 < sectors → IsTrue (covers geometry lba sectors)
     → is_in_range geometry (entries.Zero lba sectors) ≡ true
-may_be_zeroed geometry lba sectors some covered = and_from (nat_lt 0 sectors) (covers geometry lba sectors) (lt-ltb 0 sectors some) covered
+may_be_zeroed geometry lba sectors some covered =
+    and_from (nat_lt 0 sectors) (covers geometry lba sectors) (lt-ltb 0 sectors some) covered
 
 -- what is in range is not refused for it
-not_refused : (passes : Bool) → passes ≡ true → (IsErrOf {T = ℕ} (Err owner_errors.Range) owner_errors.Range ↔ (passes ≡ false)) → ⊥
+not_refused : (passes : Bool) → passes ≡ true → (IsErrOf {T = ℕ} (Err owner_errors.Range) owner_errors.Range ↔ (passes ≡ false))
+    → ⊥
 not_refused true is refused = let bad : true ≡ false = refused.0 refl in cc
 not_refused false is refused = cc
 
@@ -80,7 +87,8 @@ pub entered_and_flushed : (entry : Option Entry) (durable : Bool) (result : Resu
     → (entered : List Entry) × EntersEntry entry durable (done_by result) entered old new
 entered_and_flushed entry durable (Ok done) old mid new enters flushes = (as_list entry, (refl, refl, mid, enters, flushes))
 entered_and_flushed entry durable (Err (errors.Refused why)) old mid new enters flushes = absurd flushes
-entered_and_flushed entry durable (Err errors.Io) old mid new enters flushes = (as_list entry, inr (flushes.0, refl, mid, enters, flushes.1))
+entered_and_flushed entry durable (Err errors.Io) old mid new enters flushes =
+    (as_list entry, inr (flushes.0, refl, mid, enters, flushes.1))
 entered_and_flushed entry durable (Err errors.NoMemory) old mid new enters flushes = absurd flushes
 
 -- ---- a write
@@ -90,19 +98,22 @@ pub record IsKept (content : List ℕ) (bytes : List ℕ) (sectors : ℕ) : Type
   pub same : bytes ≡ content
   pub size : 512 * sectors ≡ length bytes
 
-pub is_kept : (content : List ℕ) (body : Option (List ℕ)) (bytes : List ℕ) (sectors : ℕ) → body ≡ Some bytes → IsContent content body
+pub is_kept : (content : List ℕ) (body : Option (List ℕ)) (bytes : List ℕ) (sectors : ℕ) → body ≡ Some bytes
+    → IsContent content body
     → 512 * sectors ≡ length bytes → IsKept content bytes sectors
 is_kept content body bytes sectors some is size = record { same = subst (IsContent content) some is; size = size }
 
 -- there are none
-pub nothing_written : (lba : ℕ) (content bytes : List ℕ) (sectors : ℕ) (moment : Moment) → IsKept content bytes sectors → sectors ≡ 0
+pub nothing_written : (lba : ℕ) (content bytes : List ℕ) (sectors : ℕ) (moment : Moment) → IsKept content bytes sectors
+    → sectors ≡ 0
     → EntersIt (write_of lba content) moment moment
 nothing_written lba content bytes sectors moment kept none =
     let empty : length content ≡ 0 = omega (arith, kept.size, ap length kept.same, none) in
     subst (λ (e : Option Entry). EntersIt e moment moment) (sym (write_is_none lba content empty)) refl
 
 -- they were written
-pub written : (lba : ℕ) (content bytes : List ℕ) (sectors : ℕ) (old new : Moment) → IsKept content bytes sectors → (sectors ≡ 0 → ⊥)
+pub written : (lba : ℕ) (content bytes : List ℕ) (sectors : ℕ) (old new : Moment) → IsKept content bytes sectors
+    → (sectors ≡ 0 → ⊥)
     → Calls (entries.Write lba bytes ∷ []) false old new → EntersIt (write_of lba content) old new
 written lba content bytes sectors old new kept some call =
     let size = ap length kept.same in
@@ -117,7 +128,8 @@ written lba content bytes sectors old new kept some call =
     some_data (suc count) is = omega arith
 
 -- they were not
-pub not_written : (geometry : Geometry) (lba : ℕ) (content bytes : List ℕ) (sectors : ℕ) (durable : Bool) (error : OwnerError) (old new : Moment)
+pub not_written : (geometry : Geometry) (lba : ℕ) (content bytes : List ℕ) (sectors : ℕ) (durable : Bool) (error : OwnerError)
+    (old new : Moment)
     → IsKept content bytes sectors → (sectors ≡ 0 → ⊥) → WriteFits geometry lba bytes
     → (IsErrOf {T = ℕ} (Err error) owner_errors.Range ↔ (is_in_range geometry (entries.Write lba bytes) ≡ false))
     → Calls [] (is_eio {T = ℕ} (Err error)) old new
@@ -127,7 +139,8 @@ not_written geometry lba content bytes sectors durable error old new kept some f
     let more : 0 < length content = some_data (length content) size in
     let passes = may_be_transferred geometry lba (length bytes / 512) (sectors_of (length bytes) kept.size) fits.0 fits.1 in
     subst (λ (e : Option Entry). EntersEntry e durable (Err (of_owner error)) [] old new) (sym (write_is lba content more))
-    (not_entered (entries.Write lba content) durable error (is_in_range geometry (entries.Write lba bytes)) old new passes refused call)
+    (not_entered (entries.Write lba content) durable error (is_in_range geometry (entries.Write lba bytes)) old new passes
+    refused call)
   where
     some_data : (count : ℕ) → 512 * sectors ≡ count → 0 < count
     some_data zero is = absurd (some (omega (arith, is)))
@@ -146,7 +159,8 @@ pub zeroed : (lba sectors : ℕ) (old new : Moment) → (sectors ≡ 0 → ⊥) 
     → EntersIt (zero_of lba sectors) old new
 zeroed lba sectors old new some call = subst (λ (e : Option Entry). EntersIt e old new) (sym (zero_is lba sectors some)) call
 
-pub not_zeroed : (geometry : Geometry) (lba sectors : ℕ) (durable : Bool) (error : OwnerError) (old new : Moment) → (sectors ≡ 0 → ⊥)
+pub not_zeroed : (geometry : Geometry) (lba sectors : ℕ) (durable : Bool) (error : OwnerError) (old new : Moment)
+    → (sectors ≡ 0 → ⊥)
     → IsTrue (covers geometry lba sectors)
     → (IsErrOf {T = ℕ} (Err error) owner_errors.Range ↔ (is_in_range geometry (entries.Zero lba sectors) ≡ false))
     → Calls [] (is_eio {T = ℕ} (Err error)) old new
@@ -154,7 +168,8 @@ pub not_zeroed : (geometry : Geometry) (lba sectors : ℕ) (durable : Bool) (err
 not_zeroed geometry lba sectors durable error old new some covered refused call =
     let passes = may_be_zeroed geometry lba sectors (one_or_more sectors some) covered in
     subst (λ (e : Option Entry). EntersEntry e durable (Err (of_owner error)) [] old new) (sym (zero_is lba sectors some))
-    (not_entered (entries.Zero lba sectors) durable error (is_in_range geometry (entries.Zero lba sectors)) old new passes refused call)
+    (not_entered (entries.Zero lba sectors) durable error (is_in_range geometry (entries.Zero lba sectors)) old new passes
+    refused call)
   where
     one_or_more : (n : ℕ) → (n ≡ 0 → ⊥) → 0 < n
     one_or_more zero some = absurd (some refl)
@@ -169,7 +184,8 @@ flushed_or_not (Err (errors.Refused why)) old new flushes = absurd flushes
 flushed_or_not (Err errors.Io) old new flushes = ([], (refl, flushes.1))
 flushed_or_not (Err errors.NoMemory) old new flushes = absurd flushes
 
-pub all_flushed : {R : Type 0} (state : R → ReceiptState) (asked : Asked) (content : List ℕ) (result : Result (Unit {0}) ReplyError) (outcome : Outcome)
+pub all_flushed : {R : Type 0} (state : R → ReceiptState) (asked : Asked) (content : List ℕ)
+    (result : Result (Unit {0}) ReplyError) (outcome : Outcome)
     (old new : Moment) → asked ≡ Flush → outcome ≡ done_by result → FlushesOrNot true result old new
     → (entered : List Entry) × CarriesOut state asked content outcome entered old new
 all_flushed state asked content result outcome old new is comes flushes =

@@ -1,5 +1,6 @@
 -- What is asked by a request that is not refused.
-use Rattle.std.proofs.Common.{◌≡◌, ◌*◌, ◌/◌, ◌%◌, ◌==◌, Bool, true, false, not, if◌then◌else◌, IsTrue, refl, sym, ap, subst, arith}
+use Rattle.std.proofs.Common.{◌≡◌, ◌*◌, ◌/◌, ◌%◌, ◌==◌, Bool, true, false, not, if◌then◌else◌, IsTrue, refl, sym, ap, subst}
+use Rattle.std.proofs.Common.{arith}
 use Rattle.std.proofs.lemmas.Bool.{or_parts, ltb-false, eqb-true}
 use Rattle.std.specs.Prelude.{Option, Some, None}
 use Rattle.lsvd_base.specs.declared.geometry.Geometry.{Geometry}
@@ -11,7 +12,8 @@ use Rattle.nbd_session.specs.declared.asking.Asked.{Asked}
 use Rattle.nbd_session.specs.declared.asking.Asked.TheVariants as asked
 use Rattle.nbd_session.specs.declared.asking.RequestError.{RequestError}
 use Rattle.nbd_session.specs.declared.asking.RequestError.TheVariants.{Invalid}
-use Rattle.nbd_session.specs.Requests.{command_at, has_known_flags, is_unaligned, is_past_end, is_too_long, past_end, range_refusal, first_refusal, taken_as, judged_as, asked_by, asked_of}
+use Rattle.nbd_session.specs.Requests.{command_at, has_known_flags, is_unaligned, is_past_end, is_too_long, past_end}
+use Rattle.nbd_session.specs.Requests.{range_refusal, first_refusal, taken_as, judged_as, asked_by, asked_of}
 use Rattle.nbd_session.specs.Exchanges.{content_size, data_size}
 use Rattle.nbd_session.specs.Steps.{MayBeTaken, IsWholeSectors}
 
@@ -32,7 +34,8 @@ none_of : {E : Type 0} (first : Bool) (error : E) (rest : Option E) → (if firs
 none_of true error rest is = let bad : ⊥ = cc in absurd bad
 none_of false error rest is = (refl, is)
 
-unknown_flags : {E : Type 0} (known : Bool) (rest : Option E) (error : E) → (if known then rest else Some error) ≡ None → rest ≡ None
+unknown_flags : {E : Type 0} (known : Bool) (rest : Option E) (error : E) → (if known then rest else Some error) ≡ None
+    → rest ≡ None
 unknown_flags true rest error is = is
 unknown_flags false rest error is = let bad : ⊥ = cc in absurd bad
 
@@ -45,7 +48,8 @@ record IsInside (geometry : Geometry) (request : Request) : Type 0 where
   whole : request.length % 512 ≡ 0
   covered : IsTrue (covers geometry (request.offset / 512) (request.length / 512))
 
-is_inside : (geometry : Geometry) (request : Request) → is_unaligned request ≡ false → is_past_end geometry request ≡ false → IsInside geometry request
+is_inside : (geometry : Geometry) (request : Request) → is_unaligned request ≡ false → is_past_end geometry request ≡ false
+    → IsInside geometry request
 is_inside geometry request aligned inside =
     let parts = or_parts (not (request.offset % 512 == 0)) (not (request.length % 512 == 0)) aligned in
     record {
@@ -93,10 +97,12 @@ taken geometry request WriteZeroes at none =
 refused : (geometry : Geometry) (request : Request) (error : RequestError) → IsTaken geometry request (asked.Refused error)
 refused geometry request error = record { fits = tt; whole = tt; size = tt }
 
-judged : (geometry : Geometry) (request : Request) (command : Command) → command_at request.kind ≡ Some command → (refusal : Option RequestError)
+judged : (geometry : Geometry) (request : Request) (command : Command) → command_at request.kind ≡ Some command
+    → (refusal : Option RequestError)
     → first_refusal geometry request command ≡ refusal → IsTaken geometry request (judged_as request command refusal)
 judged geometry request command at None none =
-    taken geometry request command at (unknown_flags (has_known_flags request) (range_refusal geometry request command) Invalid none)
+    taken geometry request command at (unknown_flags (has_known_flags request) (range_refusal geometry request command)
+    Invalid none)
 judged geometry request command at (Some error) is = refused geometry request error
 
 by_command : (geometry : Geometry) (request : Request) (command : Option Command) → command_at request.kind ≡ command
@@ -107,9 +113,11 @@ by_command geometry request (Some Write) at = judged geometry request Write at (
 by_command geometry request (Some Disconnect) at = record { fits = tt; whole = tt; size = tt }
 by_command geometry request (Some Flush) at = judged geometry request Flush at (first_refusal geometry request Flush) refl
 by_command geometry request (Some Trim) at = judged geometry request Trim at (first_refusal geometry request Trim) refl
-by_command geometry request (Some WriteZeroes) at = judged geometry request WriteZeroes at (first_refusal geometry request WriteZeroes) refl
+by_command geometry request (Some WriteZeroes) at =
+    judged geometry request WriteZeroes at (first_refusal geometry request WriteZeroes) refl
 
 -- of each request
-pub is_taken : (geometry : Geometry) (request : Request) (asked : Asked) → asked ≡ asked_of geometry request → IsTaken geometry request asked
+pub is_taken : (geometry : Geometry) (request : Request) (asked : Asked) → asked ≡ asked_of geometry request
+    → IsTaken geometry request asked
 is_taken geometry request asked is =
     subst (IsTaken geometry request) (sym is) (by_command geometry request (command_at request.kind) refl)

@@ -1,5 +1,6 @@
 -- A request and the data that come next are a request of a client.
-use Rattle.std.proofs.Common.{◌≡◌, ℕ, ◌<◌, true, false, List, [], ◌++◌, length, refl, sym, ◌∙◌, ap, subst, inl, inr, append_assoc, arith}
+use Rattle.std.proofs.Common.{◌≡◌, ℕ, ◌<◌, true, false, List, [], ◌++◌, length, refl, sym, ◌∙◌, ap, subst, inl, inr, append_assoc}
+use Rattle.std.proofs.Common.{arith}
 use Rattle.std.proofs.lemmas.List.{length-append}
 use Rattle.std.specs.Prelude.{Option, Some, None, Result, Ok, Err}
 use Rattle.std.specs.Io.KnownBytes.{Appends, Consumes}
@@ -18,7 +19,9 @@ use Rattle.nbd_session.specs.declared.asking.Asked.{Asked}
 use Rattle.nbd_session.specs.declared.asking.Asked.TheVariants as askings
 use Rattle.nbd_session.specs.declared.outcome.ReplyError.{ReplyError}
 use Rattle.nbd_session.specs.Requests.{asked_of, is_to_disconnect}
-use Rattle.nbd_session.specs.Exchanges.{ClientRequest, client_request_bytes, IsClientRequest, content_size, reply_number, request_reply_bytes, Outcome, Moment, CarriesOut, asked_at, RequestExchange, IsRequestExchange, max_session_steps}
+use Rattle.nbd_session.specs.Exchanges.{ClientRequest, client_request_bytes, IsClientRequest, content_size, reply_number}
+use Rattle.nbd_session.specs.Exchanges.{request_reply_bytes, Outcome, Moment, CarriesOut, asked_at, RequestExchange}
+use Rattle.nbd_session.specs.Exchanges.{IsRequestExchange, max_session_steps}
 use Rattle.nbd_session.specs.Session.{LinkBytes, asked_bytes, answered_bytes}
 use Rattle.nbd_session.specs.Steps.{IsContent, ServesRequest}
 
@@ -44,7 +47,8 @@ cut_off one_way bytes request (Some left) (Some next) is read few = (
   omega (arith, ap length (read ∙ ap (λ xs. xs ++ next) is.spelled)),
   λ all rest message again other. too_few message rest other.size
       (one_way bytes (request_bytes message.request) next (message.content ++ rest) request message.request is other.is_request
-      (sym read ∙ again ∙ ap (λ xs. xs ++ rest) other.spelled ∙ append_assoc (request_bytes message.request) message.content rest)),
+      (sym read ∙ again ∙ ap (λ xs. xs ++ rest) other.spelled
+      ∙ append_assoc (request_bytes message.request) message.content rest)),
 )
   where
     too_few : (message : ClientRequest) (rest : List ℕ) → length message.content ≡ content_size message.request
@@ -62,7 +66,8 @@ head_broken state first last moment LinkFault read same = inl (refl, (read.0, re
 head_broken state first last moment OutOfMemory read same = absurd read
 
 -- it was read, but its data were not
-pub data_broken : {R : Type 0} (state : R → ReceiptState) (first last : LinkBytes) (moment : Moment) (mid : Option (List ℕ)) (request : Request)
+pub data_broken : {R : Type 0} (state : R → ReceiptState) (first last : LinkBytes) (moment : Moment) (mid : Option (List ℕ))
+    (request : Request)
     (end : WireEnd) → IsReadOneWay IsRequest → ReadsMessage 28 IsRequest first.left mid (Ok request)
     → ReadsData {T = Option (List ℕ)} (content_size request) IsContent mid last.left (Err end)
     → HasMemory {T = Option (List ℕ)} (Err end) → last.sent ≡ first.sent → ServesRequest state (Err end) first last moment moment
@@ -79,7 +84,8 @@ data_broken state first last moment mid request OutOfMemory one_way head more me
 -- a request that was read with its data
 pub record HasRead (old new : Option (List ℕ)) (request : Request) (body : Option (List ℕ)) : Type 0 where
   pub content : List ℕ
-  pub is : IsClientRequest (client_request_bytes (record { request = request; content = content })) (record { request = request; content = content })
+  pub is : IsClientRequest (client_request_bytes (record { request = request; content = content }))
+      (record { request = request; content = content })
   pub read : Consumes old new (client_request_bytes (record { request = request; content = content }))
   pub kept : IsContent content body
 
@@ -93,7 +99,8 @@ has_read old mid new request body before after =
     record {
       content = content;
       is = record { spelled = refl; is_request = subst (λ xs. IsRequest xs request) spelled before.1; size = after.1 };
-      read = subst (λ (xs : List ℕ). Consumes old new xs) (ap (λ xs. xs ++ content) spelled) (consumes_more old mid new bytes content before.2 after.3);
+      read = subst (λ (xs : List ℕ). Consumes old new xs) (ap (λ xs. xs ++ content) spelled)
+          (consumes_more old mid new bytes content before.2 after.3);
       kept = after.2;
     }
 
@@ -103,7 +110,8 @@ has_read old mid new request body before after =
 pub record IsAskedAt (moment : Moment) (request : Request) (asked : Asked) : Type 0 where
   pub is : asked_at moment request ≡ asked
 
-pub is_asked_at : (moment : Moment) (request : Request) (asked : Asked) (geometry : Geometry) → geometry ≡ moment.volume.volume.objects.batch.geometry
+pub is_asked_at : (moment : Moment) (request : Request) (asked : Asked) (geometry : Geometry)
+    → geometry ≡ moment.volume.volume.objects.batch.geometry
     → asked ≡ asked_of geometry request → IsAskedAt moment request asked
 is_asked_at moment request asked geometry same is = record { is = sym (is ∙ ap (λ g. asked_of g request) same) }
 
@@ -120,8 +128,10 @@ it_is_not : (asked : Asked) → is_to_disconnect asked ≡ false → asked ≡ a
 it_is_not asked is disconnect = let same : true ≡ false = ap is_to_disconnect (sym disconnect) ∙ is in cc
 
 -- the client disconnects
-pub disconnects : {R : Type 0} (state : R → ReceiptState) (first last : LinkBytes) (moment : Moment) (request : Request) (asked : Asked)
-    → IsAskedAt moment request asked → is_to_disconnect asked ≡ true → ReadsMessage 28 IsRequest first.left last.left (Ok request) → last.sent ≡ first.sent
+pub disconnects : {R : Type 0} (state : R → ReceiptState) (first last : LinkBytes) (moment : Moment) (request : Request)
+    (asked : Asked)
+    → IsAskedAt moment request asked → is_to_disconnect asked ≡ true → ReadsMessage 28 IsRequest first.left last.left (Ok request)
+    → last.sent ≡ first.sent
     → ServesRequest state (Ok false) first last moment moment
 disconnects state first last moment request asked at is read same = (
   refl,
@@ -135,17 +145,21 @@ disconnects state first last moment request asked at is read same = (
 )
 
 -- it was carried out
-pub record IsCarriedOut {R : Type 0} (state : R → ReceiptState) (left right : Option (List ℕ)) (request : Request) (outcome : Outcome) (old new : Moment) : Type 0 where
+pub record IsCarriedOut {R : Type 0} (state : R → ReceiptState) (left right : Option (List ℕ)) (request : Request)
+    (outcome : Outcome) (old new : Moment) : Type 0 where
   pub exchange : RequestExchange
   pub request_is : exchange.message.request ≡ request
   pub outcome_is : exchange.outcome ≡ outcome
   pub is : IsRequestExchange state exchange old new
   pub read : Consumes left right (asked_bytes exchange)
 
-pub is_carried_out : {R : Type 0} (state : R → ReceiptState) (left right : Option (List ℕ)) (request : Request) (body : Option (List ℕ)) (asked : Asked)
-    (outcome : Outcome) (old new : Moment) → HasRead left right request body → IsAskedAt old request asked → is_to_disconnect asked ≡ false
+pub is_carried_out : {R : Type 0} (state : R → ReceiptState) (left right : Option (List ℕ)) (request : Request)
+    (body : Option (List ℕ)) (asked : Asked)
+    (outcome : Outcome) (old new : Moment) → HasRead left right request body → IsAskedAt old request asked
+    → is_to_disconnect asked ≡ false
     → old.volume.steps < max_session_steps
-    → ((content : List ℕ) → IsContent content body → (entered : List Entry) × CarriesOut state asked content outcome entered old new)
+    → ((content : List ℕ) → IsContent content body → (entered : List Entry)
+    × CarriesOut state asked content outcome entered old new)
     → IsCarriedOut state left right request outcome old new
 is_carried_out state left right request body asked outcome old new has at stays room done =
     let carried = done has.content has.kept in
@@ -164,15 +178,18 @@ is_carried_out state left right request body asked outcome old new has at stays 
 
 -- ---- its reply
 
-reply_is : (exchange : RequestExchange) (request : Request) (outcome : Outcome) → exchange.message.request ≡ request → exchange.outcome ≡ outcome
+reply_is : (exchange : RequestExchange) (request : Request) (outcome : Outcome) → exchange.message.request ≡ request
+    → exchange.outcome ≡ outcome
     → request_reply_bytes request.cookie outcome ≡ answered_bytes exchange
 reply_is exchange request outcome request_is outcome_is =
     ap (λ (r : Request). request_reply_bytes r.cookie outcome) (sym request_is)
     ∙ ap (λ (o : Outcome). request_reply_bytes exchange.message.request.cookie o) (sym outcome_is)
 
 -- it was written
-pub replied : {R : Type 0} (state : R → ReceiptState) (first last : LinkBytes) (mid_left mid_sent : Option (List ℕ)) (request : Request) (outcome : Outcome)
-    (old new : Moment) → IsCarriedOut state first.left mid_left request outcome old new → last.left ≡ mid_left → mid_sent ≡ first.sent
+pub replied : {R : Type 0} (state : R → ReceiptState) (first last : LinkBytes) (mid_left mid_sent : Option (List ℕ))
+    (request : Request) (outcome : Outcome)
+    (old new : Moment) → IsCarriedOut state first.left mid_left request outcome old new → last.left ≡ mid_left
+    → mid_sent ≡ first.sent
     → Appends mid_sent last.sent (request_reply_bytes request.cookie outcome)
     → ServesRequest state (Ok true) first last old new
 replied state first last mid_left mid_sent request outcome old new carried same_left same_sent sent =
@@ -182,13 +199,16 @@ replied state first last mid_left mid_sent request outcome old new carried same_
       (
         subst (λ (r : Option (List ℕ)). Consumes first.left r (asked_bytes x)) (sym same_left) carried.read,
         subst (λ (w : Option (List ℕ)). Appends w last.sent (answered_bytes x)) same_sent
-            (subst (λ (xs : List ℕ). Appends mid_sent last.sent xs) (reply_is x request outcome carried.request_is carried.outcome_is) sent),
+            (subst (λ (xs : List ℕ). Appends mid_sent last.sent xs)
+            (reply_is x request outcome carried.request_is carried.outcome_is) sent),
       ),
     )
 
 -- it was not written whole
-pub reply_broken : {R : Type 0} (state : R → ReceiptState) (first last : LinkBytes) (mid_left mid_sent : Option (List ℕ)) (request : Request) (outcome : Outcome)
-    (old new : Moment) (end : WireEnd) → IsCarriedOut state first.left mid_left request outcome old new → last.left ≡ mid_left → mid_sent ≡ first.sent
+pub reply_broken : {R : Type 0} (state : R → ReceiptState) (first last : LinkBytes) (mid_left mid_sent : Option (List ℕ))
+    (request : Request) (outcome : Outcome)
+    (old new : Moment) (end : WireEnd) → IsCarriedOut state first.left mid_left request outcome old new → last.left ≡ mid_left
+    → mid_sent ≡ first.sent
     → WritesMessage {T = Unit {0}} (request_reply_bytes request.cookie outcome) mid_sent last.sent (Err end)
     → ServesRequest state (Err end) first last old new
 reply_broken state first last mid_left mid_sent request outcome old new Ended carried same_left same_sent sent = absurd sent
@@ -201,14 +221,16 @@ reply_broken state first last mid_left mid_sent request outcome old new LinkFaul
       read = subst (λ (r : Option (List ℕ)). Consumes first.left r (asked_bytes x)) (sym same_left) carried.read;
       sent =
           subst (λ (w : Option (List ℕ)). WritesFront (answered_bytes x) w last.sent) same_sent
-          (subst (λ (xs : List ℕ). WritesFront xs mid_sent last.sent) (reply_is x request outcome carried.request_is carried.outcome_is) sent);
+          (subst (λ (xs : List ℕ). WritesFront xs mid_sent last.sent)
+          (reply_is x request outcome carried.request_is carried.outcome_is) sent);
     })
 reply_broken state first last mid_left mid_sent request outcome old new OutOfMemory carried same_left same_sent sent = absurd sent
 
 -- ---- the bytes of a reply
 
 -- a reply with data
-pub writes_data : (cookie : ℕ) (outcome : Outcome) (content bytes : List ℕ) (old new : Option (List ℕ)) (result : Result (Unit {0}) WireEnd)
+pub writes_data : (cookie : ℕ) (outcome : Outcome) (content bytes : List ℕ) (old new : Option (List ℕ))
+    (result : Result (Unit {0}) WireEnd)
     → outcome ≡ Ok content → bytes ≡ content → WritesMessage (simple_reply_bytes 0 cookie bytes) old new result
     → WritesMessage (request_reply_bytes cookie outcome) old new result
 writes_data cookie outcome content bytes old new result is same writes =
@@ -216,7 +238,8 @@ writes_data cookie outcome content bytes old new result is same writes =
     (subst (λ b. WritesMessage (simple_reply_bytes 0 cookie b) old new result) same writes)
 
 -- a reply with an error
-pub writes_error : (cookie : ℕ) (outcome : Outcome) (error : ReplyError) (number : ℕ) (old new : Option (List ℕ)) (result : Result (Unit {0}) WireEnd)
+pub writes_error : (cookie : ℕ) (outcome : Outcome) (error : ReplyError) (number : ℕ) (old new : Option (List ℕ))
+    (result : Result (Unit {0}) WireEnd)
     → outcome ≡ Err error → number ≡ reply_number error → WritesMessage (simple_reply_bytes number cookie []) old new result
     → WritesMessage (request_reply_bytes cookie outcome) old new result
 writes_error cookie outcome error number old new result is same writes =

@@ -1,5 +1,7 @@
--- Contract: one request of a client, what is answered to it, and what becomes of the volume. It is told by the calls of the volume's owner.
-use Rattle.std.specs.Prelude.{ℕ, ◌≡◌, ◌*◌, ◌^◌, ◌<◌, ◌==◌, ◌⊎◌, Bool, true, false, List, [], ◌∷◌, ◌++◌, length, Option, None, Some, IsSome, Result, Ok, Err, if◌then◌else◌}
+-- Contract: one request of a client, what is answered to it, and what becomes of the volume. It is told by the calls of the
+-- volume's owner.
+use Rattle.std.specs.Prelude.{ℕ, ◌≡◌, ◌*◌, ◌^◌, ◌<◌, ◌==◌, ◌⊎◌, Bool, true, false, List, [], ◌∷◌, ◌++◌, length, Option, None}
+use Rattle.std.specs.Prelude.{Some, IsSome, Result, Ok, Err, if◌then◌else◌}
 use Rattle.lsvd_base.specs.declared.entry.Entry.{Entry}
 use Rattle.lsvd_base.specs.declared.entry.Entry.TheVariants as entries
 use Rattle.lsvd_fault.specs.Faults.{Counts}
@@ -113,7 +115,8 @@ abbrev pub FlushesIf : (durable : Bool) → Moment → Moment → Type 0
 FlushesIf false old new = new ≡ old
 FlushesIf true old new = Flushes false old new
 
--- the entry was entered, if there is one, and then it was flushed, if it was to be; or it was not entered; or it was, and the flush failed
+-- the entry was entered, if there is one, and then it was flushed, if it was to be; or it was not entered; or it was, and the
+-- flush failed
 abbrev pub EntersEntry : Option Entry → (durable : Bool) → Outcome → (entered : List Entry) → Moment → Moment → Type 0
 EntersEntry entry durable (Ok content) entered old new =
     (content ≡ []) × (entered ≡ as_list entry) × (mid : Moment) × EntersIt entry old mid × FlushesIf durable mid new
@@ -131,13 +134,18 @@ FlushesAll (Err errors.Io) entered old new = (entered ≡ []) × Flushes true ol
 FlushesAll (Err errors.NoMemory) entered old new = ⊥
 
 -- what was asked, with these data, has this outcome, and these entries were entered
-abbrev pub CarriesOut : {R : Type 0} → (R → ReceiptState) → Asked → (content : List ℕ) → Outcome → (entered : List Entry) → Moment → Moment → Type 0
-CarriesOut state (Read lba sectors) content outcome entered old new = (entered ≡ []) × ReadsSectors state lba sectors outcome old new
-CarriesOut state (Write lba sectors durable) content outcome entered old new = EntersEntry (write_of lba content) durable outcome entered old new
-CarriesOut state (Zero lba sectors durable) content outcome entered old new = EntersEntry (zero_of lba sectors) durable outcome entered old new
+abbrev pub CarriesOut : {R : Type 0} → (R → ReceiptState) → Asked → (content : List ℕ) → Outcome → (entered : List Entry) → Moment
+    → Moment → Type 0
+CarriesOut state (Read lba sectors) content outcome entered old new = (entered ≡ [])
+    × ReadsSectors state lba sectors outcome old new
+CarriesOut state (Write lba sectors durable) content outcome entered old new =
+    EntersEntry (write_of lba content) durable outcome entered old new
+CarriesOut state (Zero lba sectors durable) content outcome entered old new =
+    EntersEntry (zero_of lba sectors) durable outcome entered old new
 CarriesOut state Flush content outcome entered old new = FlushesAll outcome entered old new
 CarriesOut state Disconnect content outcome entered old new = (outcome ≡ Ok []) × (entered ≡ []) × (new ≡ old)
-CarriesOut state (Refused why) content outcome entered old new = (outcome ≡ Err (errors.Refused why)) × (entered ≡ []) × (new ≡ old)
+CarriesOut state (Refused why) content outcome entered old new = (outcome ≡ Err (errors.Refused why)) × (entered ≡ [])
+    × (new ≡ old)
 
 -- ---- an exchange
 
@@ -156,13 +164,16 @@ abbrev pub asked_at : Moment → Request → Asked
 asked_at moment request = asked_of moment.volume.volume.objects.batch.geometry request
 
 -- a request that was answered, between two moments; one to disconnect is not
-pub record IsRequestExchange {R : Type 0} (state : R → ReceiptState) (exchange : RequestExchange) (old new : Moment) : Type 0 where
+pub record IsRequestExchange {R : Type 0} (state : R → ReceiptState) (exchange : RequestExchange) (old new : Moment) :
+    Type 0 where
   pub message : IsClientRequest (client_request_bytes exchange.message) exchange.message
   pub room : old.volume.steps < max_session_steps
   pub stays : asked_at old exchange.message.request ≡ Disconnect → ⊥
-  pub done : CarriesOut state (asked_at old exchange.message.request) exchange.message.content exchange.outcome exchange.entered old new
+  pub done : CarriesOut state (asked_at old exchange.message.request) exchange.message.content exchange.outcome
+      exchange.entered old new
 
 -- requests that were answered one after the other
 abbrev pub AreRequestExchanges : {R : Type 0} → (R → ReceiptState) → List RequestExchange → Moment → Moment → Type 0
 AreRequestExchanges state [] old new = new ≡ old
-AreRequestExchanges state (exchange ∷ rest) old new = (mid : Moment) × IsRequestExchange state exchange old mid × AreRequestExchanges state rest mid new
+AreRequestExchanges state (exchange ∷ rest) old new = (mid : Moment) × IsRequestExchange state exchange old mid
+    × AreRequestExchanges state rest mid new

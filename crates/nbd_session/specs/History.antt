@@ -10,16 +10,16 @@ use Rattle.nbd_session.specs.declared.session.SessionEnd.TheVariants.{Ended, Clo
 use Rattle.nbd_session.specs.Exchanges.{Moment, RequestExchange, AreRequestExchanges, max_session_steps}
 use Rattle.nbd_session.specs.Session.{LinkBytes, Transmits}
 
--- A volume's history has these entries more. Its sizes stay, the commits stay its own, and the store has changed under the names of the
--- volume's own numbered objects alone.
+-- A volume's history has these entries more. Its sizes stay, the commits stay its own, and the store has changed under the names
+-- of the volume's own numbered objects alone.
 pub record Grows (added : List Entry) (old new : Moment) : Type 0 where
   pub adds : Adds added old.volume.volume new.volume.volume
   pub sizes : HasSameSizes old.volume.volume new.volume.volume
   pub own : (epoch : ℕ) → HasOwnCommits epoch old.volume.volume → HasOwnCommits epoch new.volume.volume
   pub store : Becomes (KeepsOtherNames old.volume.volume.objects.uploads.uuid) old.store.objects new.store.objects
 
--- Each request is made where the volume has made fewer than the most steps of a session, and takes few itself. So a volume that had
--- room for calls of its owner before a session has room after it.
+-- Each request is made where the volume has made fewer than the most steps of a session, and takes few itself. So a volume that
+-- had room for calls of its owner before a session has room after it.
 abbrev pub most_steps : ℕ
 most_steps = max_session_steps + 2 ^ 41
 

@@ -1,5 +1,6 @@
--- Contract: what a request of a client asks of a volume, and when it is refused. Commands, flags and errors have the numbers of the NBD
--- protocol document; which requests are refused, and in which order that is judged, is this project's own where the document leaves it.
+-- Contract: what a request of a client asks of a volume, and when it is refused. Commands, flags and errors have the numbers of
+-- the NBD protocol document; which requests are refused, and in which order that is judged, is this project's own where the
+-- document leaves it.
 use Rattle.std.specs.Prelude.{ℕ, ◌/◌, ◌%◌, ◌==◌, Bool, true, false, not, ◌||◌, bit_and, nat_lt, Option, Some, None, if◌then◌else◌}
 use Rattle.lsvd_base.specs.declared.geometry.Geometry.{Geometry}
 use Rattle.lsvd_base.specs.Limits.{covers}

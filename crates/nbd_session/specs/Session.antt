@@ -15,7 +15,8 @@ use Rattle.vol_core.specs.Volume.{SteppedVolume}
 use Rattle.nbd_session.specs.declared.asking.Asked.TheVariants.{Disconnect}
 use Rattle.nbd_session.specs.declared.session.SessionEnd.{SessionEnd}
 use Rattle.nbd_session.specs.declared.session.SessionEnd.TheVariants.{Ended, Closed, Spent, LinkFault, OutOfMemory}
-use Rattle.nbd_session.specs.Exchanges.{IsClientRequest, client_request_bytes, request_reply_bytes, Moment, asked_at, RequestExchange, IsRequestExchange, AreRequestExchanges, max_session_steps}
+use Rattle.nbd_session.specs.Exchanges.{IsClientRequest, client_request_bytes, request_reply_bytes, Moment, asked_at}
+use Rattle.nbd_session.specs.Exchanges.{RequestExchange, IsRequestExchange, AreRequestExchanges, max_session_steps}
 
 -- ---- a link
 
@@ -46,7 +47,8 @@ abbrev pub answered_bytes : RequestExchange → List ℕ
 answered_bytes exchange = request_reply_bytes exchange.message.request.cookie exchange.outcome
 
 -- requests were read and answered, one after the other
-pub record HasServed {R : Type 0} (state : R → ReceiptState) (exchanges : List RequestExchange) (first now : LinkBytes) (old new : Moment) : Type 0 where
+pub record HasServed {R : Type 0} (state : R → ReceiptState) (exchanges : List RequestExchange) (first now : LinkBytes)
+    (old new : Moment) : Type 0 where
   pub few : length exchanges ≤ max_requests
   pub passed : Passes (flat_map asked_bytes exchanges) (flat_map answered_bytes exchanges) first now
   pub done : AreRequestExchanges state exchanges old new
@@ -68,20 +70,23 @@ pub record BreaksInReply {R : Type 0} (state : R → ReceiptState) (now last : L
   pub read : Consumes now.left last.left (asked_bytes exchange)
   pub sent : WritesFront (answered_bytes exchange) now.sent last.sent
 
--- The requests so far, of which there are this many, were answered, and the session ends: by a request to disconnect, or by the end of the
--- input between two requests; by bytes that begin with no request, whole with its data; before a request that would be one too many;
--- or by a call of the link that failed, inside a request, or inside a reply.
-abbrev pub EndsSession : {R : Type 0} → (R → ReceiptState) → SessionEnd → (count : ℕ) → (now last : LinkBytes) → (old new : Moment) → Type 0
+-- The requests so far, of which there are this many, were answered, and the session ends: by a request to disconnect, or by the
+-- end of the input between two requests; by bytes that begin with no request, whole with its data; before a request that would be
+-- one too many; or by a call of the link that failed, inside a request, or inside a reply.
+abbrev pub EndsSession : {R : Type 0} → (R → ReceiptState) → SessionEnd → (count : ℕ) → (now last : LinkBytes)
+    → (old new : Moment) → Type 0
 EndsSession state Ended count now last old new =
     (new ≡ old) × (Disconnects old now last
     ⊎ (IsAtEnd now.left × Keeps now.left last.left × (last.sent ≡ now.sent)))
 EndsSession state Closed count now last old new = (new ≡ old) × BeginsNoMessage IsClientRequest now.left × ReadsSome now last
-EndsSession state Spent count now last old new = (new ≡ old) × (last ≡ now) × ((count ≡ max_requests) ⊎ (max_session_steps ≤ old.volume.steps))
+EndsSession state Spent count now last old new = (new ≡ old) × (last ≡ now)
+    × ((count ≡ max_requests) ⊎ (max_session_steps ≤ old.volume.steps))
 EndsSession state LinkFault count now last old new = ((new ≡ old) × ReadsSome now last) ⊎ BreaksInReply state now last old new
 EndsSession state OutOfMemory count now last old new = ⊥
 
 -- the transmission of a session, which ended so
-pub record Transmits {R : Type 0} (state : R → ReceiptState) (end : SessionEnd) (first last : LinkBytes) (old new : Moment) : Type 0 where
+pub record Transmits {R : Type 0} (state : R → ReceiptState) (end : SessionEnd) (first last : LinkBytes) (old new : Moment) :
+    Type 0 where
   pub exchanges : List RequestExchange
   pub now : LinkBytes
   pub then : Moment
@@ -99,9 +104,11 @@ ended_in negotiations.LinkFault = Some LinkFault
 ended_in negotiations.OutOfMemory = Some OutOfMemory
 
 -- a session negotiates, and where the client has entered the export, it goes on with its requests
-abbrev pub IsSession : {R : Type 0} → (R → ReceiptState) → Export → SessionEnd → (first last : LinkBytes) → (old new : Moment) → Type 0
+abbrev pub IsSession : {R : Type 0} → (R → ReceiptState) → Export → SessionEnd → (first last : LinkBytes)
+    → (old new : Moment) → Type 0
 IsSession state export end first last old new =
-    ((how : NegotiationEnd) × Negotiates export how first.left last.left first.sent last.sent × (ended_in how ≡ Some end) × (new ≡ old))
+    ((how : NegotiationEnd) × Negotiates export how first.left last.left first.sent last.sent × (ended_in how ≡ Some end)
+    × (new ≡ old))
     ⊎ ((entered : LinkBytes) × Negotiates export negotiations.Entered first.left entered.left first.sent entered.sent
     × Transmits state end entered last old new)
 

@@ -1,5 +1,6 @@
 -- For this crate's own clauses: the steps of a session.
-use Rattle.std.specs.Prelude.{ℕ, ◌≡◌, ◌*◌, ◌/◌, ◌%◌, ◌≤◌, IsTrue, Bool, true, false, List, [], length, Option, IfSome, Result, Ok, Err}
+use Rattle.std.specs.Prelude.{ℕ, ◌≡◌, ◌*◌, ◌/◌, ◌%◌, ◌≤◌, IsTrue, Bool, true, false, List, [], length, Option, IfSome, Result, Ok}
+use Rattle.std.specs.Prelude.{Err}
 use Rattle.lsvd_base.specs.declared.geometry.Geometry.{Geometry}
 use Rattle.lsvd_base.specs.Limits.{covers}
 use Rattle.lsvd_objstore.specs.Store.{ReceiptState}
@@ -66,8 +67,10 @@ of_wire wire.LinkFault = ends.LinkFault
 of_wire wire.OutOfMemory = ends.OutOfMemory
 
 -- a request was read and answered, and the session goes on; or it is one to disconnect; or the session ends by the link
-abbrev pub ServesRequest : {R : Type 0} → (R → ReceiptState) → Result Bool WireEnd → (first last : LinkBytes) → (old new : Moment) → Type 0
+abbrev pub ServesRequest : {R : Type 0} → (R → ReceiptState) → Result Bool WireEnd → (first last : LinkBytes)
+    → (old new : Moment) → Type 0
 ServesRequest state (Ok true) first last old new =
-    (exchange : RequestExchange) × IsRequestExchange state exchange old new × Passes (asked_bytes exchange) (answered_bytes exchange) first last
+    (exchange : RequestExchange) × IsRequestExchange state exchange old new
+    × Passes (asked_bytes exchange) (answered_bytes exchange) first last
 ServesRequest state (Ok false) first last old new = (new ≡ old) × Disconnects old first last
 ServesRequest state (Err end) first last old new = EndsSession state (of_wire end) 0 first last old new

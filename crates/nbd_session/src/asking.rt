@@ -1,12 +1,14 @@
 ghost use Rattle.std.specs.Prelude.{◌≡◌, ◌/◌};
-ghost use Rattle.nbd_session.specs.Requests.{asked_of, is_to_disconnect, error_code, past_end, first_refusal, taken_as};
+ghost use Rattle.nbd_session.specs.Requests.{asked_of, is_to_disconnect, error_code, past_end, first_refusal};
+ghost use Rattle.nbd_session.specs.Requests.{taken_as};
 
 use crate::command::Command;
 use lsvd_base::{Geometry, SECTOR_BYTES};
 use nbd_wire::Request;
 use thiserror::Error;
 
-// The command flag for data that are durable before the reply. The other known one forbids holes, of which there are none.
+// The command flag for data that are durable before the reply. The other known one forbids holes, of which
+// there are none.
 const FUA: u16 = 1;
 
 // The known command flags are those below this bit.
@@ -15,8 +17,8 @@ const FIRST_UNKNOWN_FLAG: u16 = 4;
 /// Why a request is refused.
 #[derive(Clone, Copy, Debug, PartialEq, Eq, Error)]
 pub enum RequestError {
-    /// It is out of form: an unknown command or flag, bytes that are no whole sectors, a read or a trim past the end, or a read or a
-    /// write that is too long.
+    /// It is out of form: an unknown command or flag, bytes that are no whole sectors, a read or a trim past
+    /// the end, or a read or a write that is too long.
     #[error("the request is out of form")]
     Invalid,
     /// It writes past the end.
@@ -44,14 +46,15 @@ pub enum Asked {
         lba: u64,
         sectors: u64,
     },
-    /// To write the data that come after the request, so many sectors from one on, or none; and to flush then, where they are to be
-    /// durable.
+    /// To write the data that come after the request, so many sectors from one on, or none; and to flush
+    /// then, where they are to be durable.
     Write {
         lba: u64,
         sectors: u64,
         is_durable: bool,
     },
-    /// To put zeros at so many sectors from one on, or at none; and to flush then, where they are to be durable.
+    /// To put zeros at so many sectors from one on, or at none; and to flush then, where they are to be
+    /// durable.
     Zero {
         lba: u64,
         sectors: u64,
@@ -74,9 +77,10 @@ impl Asked {
     }
 }
 
-/// What a request asks of a volume of these sizes, or the first reason to refuse it, in this order: another command, another flag,
-/// bytes that are no whole sectors, the end of the volume, and more sectors than one read or write may have. A flush has neither
-/// bytes nor sectors that are judged, and whoever disconnects is not judged at all.
+/// What a request asks of a volume of these sizes, or the first reason to refuse it, in this order: another
+/// command, another flag, bytes that are no whole sectors, the end of the volume, and more sectors than one
+/// read or write may have. A flush has neither bytes nor sectors that are judged, and whoever disconnects is
+/// not judged at all.
 pub fn asked_of(geometry: &Geometry, request: &Request) -> Asked
     ensures { result ≡ asked_of geometry.now request.now }
 {

@@ -3,8 +3,10 @@ ghost use Rattle.lsvd_base.specs.declared.entry.Entry.{Entry};
 ghost use Rattle.lsvd_base.specs.Limits.{is_within_limits};
 ghost use Rattle.lsvd_objstore.specs.Store.{StoreState};
 ghost use Rattle.volume_owner.specs.Owner.{max_steps};
-ghost use Rattle.nbd_session.specs.Exchanges.{ReadsSectors, EntersEntry, CarriesOut, write_of, zero_of, max_session_steps};
-ghost use Rattle.nbd_session.specs.Steps.{IsContent, HasItsContent, MayBeTaken, WriteFits, FlushesOrNot, done_by};
+ghost use Rattle.nbd_session.specs.Exchanges.{ReadsSectors, EntersEntry, CarriesOut, write_of, zero_of};
+ghost use Rattle.nbd_session.specs.Exchanges.{max_session_steps};
+ghost use Rattle.nbd_session.specs.Steps.{IsContent, HasItsContent, MayBeTaken, WriteFits, FlushesOrNot};
+ghost use Rattle.nbd_session.specs.Steps.{done_by};
 
 use crate::asking::Asked;
 use crate::content::zeros;
@@ -15,8 +17,8 @@ use lsvd_objstore::{Receipt, Store};
 use std::alloc::Global;
 use volume_owner::Owner;
 
-/// Does what was asked, which the volume takes (a condition). The data of a write come with it, unless there was no memory for them.
-/// Those that are answered are a read's, and else none.
+/// Does what was asked, which the volume takes (a condition). The data of a write come with it, unless there
+/// was no memory for them. Those that are answered are a read's, and else none.
 pub(crate) fn carry_out<D: Disk, R: Receipt, S: Store<Receipt = R>>(
     alloc: Global,
     owner: &mut Owner<D, R>,
@@ -30,7 +32,8 @@ pub(crate) fn carry_out<D: Disk, R: Receipt, S: Store<Receipt = R>>(
     requires whole { IfSome body (HasItsContent asked) }
     ensures { (content : List ℕ) → IsContent content body
         → (entered : List Entry) × CarriesOut R.state asked content result entered
-        (record { volume = owner.old; store = S.state store.old }) (record { volume = owner.new; store = S.state store.new }) }
+        (record { volume = owner.old; store = S.state store.old })
+        (record { volume = owner.new; store = S.state store.new }) }
 {
     match asked {
         Asked::Read { lba, sectors } => read(alloc, owner, store, lba, sectors),
@@ -70,7 +73,8 @@ fn read<D: Disk, R: Receipt, S: Store<Receipt = R>>(
     requires limits { IsTrue (is_within_limits owner.old.volume.objects.batch.geometry) }
     requires fits { MayBeTaken owner.old.volume.objects.batch.geometry (Asked.Read lba sectors) }
     ensures { ReadsSectors R.state lba sectors result
-        (record { volume = owner.old; store = S.state store.old }) (record { volume = owner.new; store = S.state store.new }) }
+        (record { volume = owner.old; store = S.state store.old })
+        (record { volume = owner.new; store = S.state store.new }) }
 {
     let mut bytes = zeros(alloc, (sectors * SECTOR_BYTES) as usize)?;
     if sectors == 0 {
@@ -93,7 +97,8 @@ fn write<D: Disk, R: Receipt, S: Store<Receipt = R>>(
     requires fits { IfSome body (WriteFits owner.old.volume.objects.batch.geometry lba) }
     ensures { (content : List ℕ) → IsContent content body
         → (entered : List Entry) × EntersEntry (write_of lba content) is_durable (done_by result) entered
-        (record { volume = owner.old; store = S.state store.old }) (record { volume = owner.new; store = S.state store.new }) }
+        (record { volume = owner.old; store = S.state store.old })
+        (record { volume = owner.new; store = S.state store.new }) }
 {
     let Some(body) = body else {
         return Err(ReplyError::NoMemory);
@@ -117,7 +122,8 @@ fn zero<D: Disk, R: Receipt, S: Store<Receipt = R>>(
     requires room { owner.old.steps < max_session_steps }
     requires fits { MayBeTaken owner.old.volume.objects.batch.geometry (Asked.Zero lba sectors is_durable) }
     ensures { (entered : List Entry) × EntersEntry (zero_of lba sectors) is_durable (done_by result) entered
-        (record { volume = owner.old; store = S.state store.old }) (record { volume = owner.new; store = S.state store.new }) }
+        (record { volume = owner.old; store = S.state store.old })
+        (record { volume = owner.new; store = S.state store.new }) }
 {
     if sectors == 0 {
         return flush_if(owner, is_durable);

@@ -19,7 +19,8 @@ pub enum Command {
 }
 
 impl Command {
-    /// The command whose type this is, by the protocol's numbers. None is for a type that the server does not take.
+    /// The command whose type this is, by the protocol's numbers. None is for a type that the server does not
+    /// take.
     pub fn from_kind(kind: u16) -> Option<Command>
         ensures { result ≡ command_at kind }
     {

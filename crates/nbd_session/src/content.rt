@@ -11,8 +11,9 @@ use lsvd_fault::Source;
 use nbd_wire::{Request, WireEnd, drop_data, read_data};
 use std::alloc::{AllocError, Global};
 
-/// Reads the data that come after a request: those of a write that is taken, which are whole sectors (a condition), where there is memory
-/// for them. Those of any other write are dropped, and no other request has any.
+/// Reads the data that come after a request: those of a write that is taken, which are whole sectors (a
+/// condition), where there is memory for them. Those of any other write are dropped, and no other request has
+/// any.
 pub(crate) fn read_content<K: Source>(
     alloc: Global,
     link: &mut K,
@@ -20,7 +21,8 @@ pub(crate) fn read_content<K: Source>(
     asked: Asked,
 ) -> Result<Option<Body>, WireEnd>
     requires { IsWholeSectors asked request.now }
-    ensures bytes { ReadsData (content_size request.now) IsContent (K.remaining link.old) (K.remaining link.new) result }
+    ensures bytes { ReadsData (content_size request.now) IsContent (K.remaining link.old)
+        (K.remaining link.new) result }
     ensures memory { HasMemory result }
     ensures other { K.written link.new ≡ K.written link.old }
     ensures count { Counts (is_link_fault result) (K.faults link.old) (K.faults link.new) }
@@ -35,7 +37,8 @@ pub(crate) fn read_content<K: Source>(
     }
 }
 
-// Reads the data of a write, which are whole sectors (a condition). Where there is no memory for them, they are dropped.
+// Reads the data of a write, which are whole sectors (a condition). Where there is no memory for them, they
+// are dropped.
 fn read_body<K: Source>(alloc: Global, link: &mut K, size: u32) -> Result<Option<Body>, WireEnd>
     requires { size % 512 ≡ 0 }
     ensures bytes { ReadsData size IsContent (K.remaining link.old) (K.remaining link.new) result }

@@ -51,7 +51,8 @@ impl From<Failed> for ReplyError {
     }
 }
 
-// A range that the owner refuses is one that was asked for past the limits, which no request is that was not refused before.
+// A range that the owner refuses is one that was asked for past the limits, which no request is that was not
+// refused before.
 impl From<OwnerError> for ReplyError {
     ghost from_gives = { λ error e. e ≡ of_owner error };
 

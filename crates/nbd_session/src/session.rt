@@ -22,17 +22,21 @@ use volume_owner::Owner;
 /// The most requests of one session. The session ends before one more is read.
 pub const MAX_REQUESTS: u64 = 1 << 40;
 
-/// The most steps that the volume may have made since it was mounted before a request. Where it has made more, the session ends.
+/// The most steps that the volume may have made since it was mounted before a request. Where it has made
+/// more, the session ends.
 pub const MAX_STEPS: u64 = 1 << 58;
 
 /// How a session ends.
 #[derive(Clone, Copy, Debug, PartialEq, Eq)]
 pub enum SessionEnd {
-    /// The client has ended it: by the request to disconnect, by the option to abort, or by the end of its input between two messages.
+    /// The client has ended it: by the request to disconnect, by the option to abort, or by the end of its
+    /// input between two messages.
     Ended,
-    /// The connection is to be closed: the input ends inside a message, or a message is out of form, or the negotiation closed it.
+    /// The connection is to be closed: the input ends inside a message, or a message is out of form, or the
+    /// negotiation closed it.
     Closed,
-    /// It has answered `MAX_REQUESTS` requests, or the volume has made `MAX_STEPS` steps. A new session may go on with the first alone.
+    /// It has answered `MAX_REQUESTS` requests, or the volume has made `MAX_STEPS` steps. A new session may
+    /// go on with the first alone.
     Spent,
     /// A read or a write of the link failed, and was counted there.
     LinkFault,
@@ -58,10 +62,11 @@ impl From<WireEnd> for SessionEnd {
 
 /// Serves a volume to a client, from the greeting to the end of the session.
 ///
-/// Requests are answered in order, each before the next one is read. A write or a zeroing that is answered without an error is an entry
-/// of the volume's history, and no other is; a flush that is answered so, and a request that asks to be durable, has made durable all
-/// entries so far; a read gives the sectors of the history. A request that is out of form is refused, and the data of a refused write are
-/// read and dropped. Memory is bounded whatever the client sends, since lengths are judged before data are read.
+/// Requests are answered in order, each before the next one is read. A write or a zeroing that is answered
+/// without an error is an entry of the volume's history, and no other is; a flush that is answered so, and a
+/// request that asks to be durable, has made durable all entries so far; a read gives the sectors of the
+/// history. A request that is out of form is refused, and the data of a refused write are read and dropped.
+/// Memory is bounded whatever the client sends, since lengths are judged before data are read.
 ///
 /// The session's end says nothing of the volume, which stays with its owner, as all that was answered does.
 pub fn serve_session<D: Disk, R: Receipt, S: Store<Receipt = R>, K: Link>(
@@ -71,8 +76,10 @@ pub fn serve_session<D: Disk, R: Receipt, S: Store<Receipt = R>, K: Link>(
     store: &mut S,
 ) -> SessionEnd
     ensures session { IsSession R.state (export_of owner.old) result
-        (record { left = K.remaining link.old; sent = K.contents link.old }) (record { left = K.remaining link.new; sent = K.contents link.new })
-        (record { volume = owner.old; store = S.state store.old }) (record { volume = owner.new; store = S.state store.new }) }
+        (record { left = K.remaining link.old; sent = K.contents link.old })
+        (record { left = K.remaining link.new; sent = K.contents link.new })
+        (record { volume = owner.old; store = S.state store.old })
+        (record { volume = owner.new; store = S.state store.new }) }
     ensures count { Counts (ended_by_link result) (K.Source.faults link.old) (K.Source.faults link.new) }
 {
     let geometry = owner.geometry();
@@ -98,8 +105,10 @@ fn transmit<D: Disk, R: Receipt, S: Store<Receipt = R>, K: Link>(
     store: &mut S,
 ) -> SessionEnd
     ensures transmits { Transmits R.state result
-        (record { left = K.remaining link.old; sent = K.contents link.old }) (record { left = K.remaining link.new; sent = K.contents link.new })
-        (record { volume = owner.old; store = S.state store.old }) (record { volume = owner.new; store = S.state store.new }) }
+        (record { left = K.remaining link.old; sent = K.contents link.old })
+        (record { left = K.remaining link.new; sent = K.contents link.new })
+        (record { volume = owner.old; store = S.state store.old })
+        (record { volume = owner.new; store = S.state store.new }) }
     ensures count { Counts (ended_by_link result) (K.Source.faults link.old) (K.Source.faults link.new) }
 {
     for _ in 0..MAX_REQUESTS {
@@ -115,7 +124,8 @@ fn transmit<D: Disk, R: Receipt, S: Store<Receipt = R>, K: Link>(
     SessionEnd::Spent
 }
 
-// Reads the next request and answers it, and says whether the session goes on: it does not where the client disconnects.
+// Reads the next request and answers it, and says whether the session goes on: it does not where the client
+// disconnects.
 fn serve_request<D: Disk, R: Receipt, S: Store<Receipt = R>, K: Link>(
     alloc: Global,
     owner: &mut Owner<D, R>,
@@ -124,8 +134,10 @@ fn serve_request<D: Disk, R: Receipt, S: Store<Receipt = R>, K: Link>(
 ) -> Result<bool, WireEnd>
     requires { owner.old.steps < max_session_steps }
     ensures serves { ServesRequest R.state result
-        (record { left = K.remaining link.old; sent = K.contents link.old }) (record { left = K.remaining link.new; sent = K.contents link.new })
-        (record { volume = owner.old; store = S.state store.old }) (record { volume = owner.new; store = S.state store.new }) }
+        (record { left = K.remaining link.old; sent = K.contents link.old })
+        (record { left = K.remaining link.new; sent = K.contents link.new })
+        (record { volume = owner.old; store = S.state store.old })
+        (record { volume = owner.new; store = S.state store.new }) }
     ensures count { Counts (is_link_fault result) (K.Source.faults link.old) (K.Source.faults link.new) }
 {
     a_message_has_one_reading();
@@ -146,7 +158,8 @@ fn reply<K: Sink>(
     cookie: u64,
     outcome: &Result<Body, ReplyError>,
 ) -> Result<(), WireEnd>
-    ensures bytes { WritesMessage (request_reply_bytes cookie outcome.now) (K.contents link.old) (K.contents link.new) result }
+    ensures bytes { WritesMessage (request_reply_bytes cookie outcome.now) (K.contents link.old)
+        (K.contents link.new) result }
     ensures other { K.unread link.new ≡ K.unread link.old }
     ensures count { Counts (is_link_fault result) (K.faults link.old) (K.faults link.new) }
 {

@@ -1,5 +1,6 @@
 -- The fields that are read in the bytes of a message make those bytes.
-use Rattle.std.proofs.Common.{◌≡◌, ℕ, ◌+◌, ◌^◌, ◌<◌, ◌≤◌, List, ◌++◌, length, take, drop, get_or, codes, sym, ◌∙◌, ap, inl, inr, arith}
+use Rattle.std.proofs.Common.{◌≡◌, ℕ, ◌+◌, ◌^◌, ◌<◌, ◌≤◌, List, ◌++◌, length, take, drop, get_or, codes, sym, ◌∙◌, ap, inl, inr}
+use Rattle.std.proofs.Common.{arith}
 use Rattle.std.proofs.lemmas.Bool.{cases_lt}
 use Rattle.std.proofs.lemmas.List.{length-take, length-take-le, length-drop, take_all, get_or-take, get_or-drop, get_or_past}
 use Rattle.std.proofs.Math.Seq.{take-add}
@@ -17,7 +18,8 @@ bytes_of_part : (at count : ℕ) (bytes : List ℕ) → AreBytes bytes → AreBy
 bytes_of_part at count bytes fits i =
     elim (cases_lt i count) [
       | inl inside ↦ rw (get_or-take count (drop at bytes) i 0 inside, get_or-drop at bytes i 0) (fits (at + i))
-      | inr past ↦ rw (get_or_past (bytes_at at count bytes) i 0 (omega (arith, length-take count (drop at bytes), past))) (omega arith)
+      | inr past ↦ rw (get_or_past (bytes_at at count bytes) i 0 (omega (arith, length-take count (drop at bytes), past)))
+          (omega arith)
     ]
 
 -- a number is written as the bytes that it was read in

@@ -1,9 +1,11 @@
-//! The messages of NBD, the network block device, to and from the bytes of a link: the fixed newstyle handshake,
-//! options and their replies, requests and simple replies. They are those of the NBD protocol document.
+//! The messages of NBD, the network block device, to and from the bytes of a link: the fixed newstyle
+//! handshake, options and their replies, requests and simple replies. They are those of the NBD protocol
+//! document.
 //!
-//! Its contract: what is read is the next message of the input, whole, and nothing past it, in whatever pieces it
-//! comes; input that ends inside a message, or is none, is refused. What is written is the message's bytes.
-//! It stands on `lsvd_fault` for links, on `lsvd_bytes` for numbers, and on the kit's `thiserror`.
+//! Its contract: what is read is the next message of the input, whole, and nothing past it, in whatever
+//! pieces it comes; input that ends inside a message, or is none, is refused. What is written is the
+//! message's bytes. It stands on `lsvd_fault` for links, on `lsvd_bytes` for numbers, and on the kit's
+//! `thiserror`.
 #![tactic(auto)]
 
 mod decoding;

@@ -18,8 +18,9 @@ pub const MAX_OPTION_DATA: u32 = 65_536;
 // The most bytes that one read of data to be dropped asks for.
 const PIECE: usize = 4096;
 
-/// Reads the flags of a client, which are its answer to the greeting. `Closed` comes where the input ends inside them, or
-/// where a bit is set but bit 0, for the fixed newstyle, and bit 1, for no zeros after an export.
+/// Reads the flags of a client, which are its answer to the greeting. `Closed` comes where the input ends
+/// inside them, or where a bit is set but bit 0, for the fixed newstyle, and bit 1, for no zeros after an
+/// export.
 pub fn read_flags<K: Source>(link: &mut K) -> Result<u32, WireEnd>
     ensures bytes { ReadsMessage 4 IsClientFlags (K.remaining link.old) (K.remaining link.new) result }
     ensures other { K.written link.new ≡ K.written link.old }
@@ -30,8 +31,8 @@ pub fn read_flags<K: Source>(link: &mut K) -> Result<u32, WireEnd>
     client_flags_of(&bytes).ok_or(WireEnd::Closed)
 }
 
-/// Reads the head of an option. Its data, which come next, are to be read or dropped. `Closed` comes where the input ends
-/// inside the head, or where it has another magic.
+/// Reads the head of an option. Its data, which come next, are to be read or dropped. `Closed` comes where
+/// the input ends inside the head, or where it has another magic.
 pub fn read_option_head<K: Source>(link: &mut K) -> Result<OptionHead, WireEnd>
     ensures bytes { ReadsMessage 16 IsOptionHead (K.remaining link.old) (K.remaining link.new) result }
     ensures other { K.written link.new ≡ K.written link.old }
@@ -42,8 +43,8 @@ pub fn read_option_head<K: Source>(link: &mut K) -> Result<OptionHead, WireEnd>
     option_head_of(&bytes).ok_or(WireEnd::Closed)
 }
 
-/// Reads a request. The data of a write, which come next, are to be read or dropped. `Closed` comes where the input ends
-/// inside the request, or where it has another magic.
+/// Reads a request. The data of a write, which come next, are to be read or dropped. `Closed` comes where the
+/// input ends inside the request, or where it has another magic.
 pub fn read_request<K: Source>(link: &mut K) -> Result<Request, WireEnd>
     ensures bytes { ReadsMessage 28 IsRequest (K.remaining link.old) (K.remaining link.new) result }
     ensures other { K.written link.new ≡ K.written link.old }
@@ -54,15 +55,17 @@ pub fn read_request<K: Source>(link: &mut K) -> Result<Request, WireEnd>
     request_of(&bytes).ok_or(WireEnd::Closed)
 }
 
-/// Reads the data of an option. They have at most `MAX_OPTION_DATA` bytes (a condition), so that no client makes a server
-/// take more memory. `Closed` comes where the input ends before them all, and `OutOfMemory` before anything was read.
+/// Reads the data of an option. They have at most `MAX_OPTION_DATA` bytes (a condition), so that no client
+/// makes a server take more memory. `Closed` comes where the input ends before them all, and `OutOfMemory`
+/// before anything was read.
 pub fn read_option_data<K: Source>(
     alloc: Global,
     link: &mut K,
     size: u32,
 ) -> Result<Vec<u8>, WireEnd>
     requires { size ≤ MAX_OPTION_DATA }
-    ensures bytes { ReadsData size (λ bytes content. content.items ≡ bytes) (K.remaining link.old) (K.remaining link.new) result }
+    ensures bytes { ReadsData size (λ bytes content. content.items ≡ bytes) (K.remaining link.old)
+        (K.remaining link.new) result }
     ensures other { K.written link.new ≡ K.written link.old }
     ensures count { Counts (is_link_fault result) (K.faults link.old) (K.faults link.new) }
 {
@@ -71,10 +74,11 @@ pub fn read_option_data<K: Source>(
     Ok(content)
 }
 
-/// Reads data of a message into the whole of `buf`, as those of a write. `Closed` comes where the input ends before them
-/// all; after it and after a fault any bytes stand in `buf`.
+/// Reads data of a message into the whole of `buf`, as those of a write. `Closed` comes where the input ends
+/// before them all; after it and after a fault any bytes stand in `buf`.
 pub fn read_data<K: Source>(link: &mut K, buf: &mut [u8]) -> Result<(), WireEnd>
-    ensures bytes { ReadsData (length buf.new) (λ bytes _. buf.new ≡ bytes) (K.remaining link.old) (K.remaining link.new) result }
+    ensures bytes { ReadsData (length buf.new) (λ bytes _. buf.new ≡ bytes) (K.remaining link.old)
+        (K.remaining link.new) result }
     ensures memory { HasMemory result }
     ensures other { K.written link.new ≡ K.written link.old }
     ensures count { Counts (is_link_fault result) (K.faults link.old) (K.faults link.new) }
@@ -86,8 +90,9 @@ pub fn read_data<K: Source>(link: &mut K, buf: &mut [u8]) -> Result<(), WireEnd>
     Ok(())
 }
 
-/// Reads data of a message and drops them, as those of an option that is too long, or of a write that is refused. They
-/// are read in pieces of at most 4,096 bytes. `Closed` comes where the input ends before them all.
+/// Reads data of a message and drops them, as those of an option that is too long, or of a write that is
+/// refused. They are read in pieces of at most 4,096 bytes. `Closed` comes where the input ends before them
+/// all.
 pub fn drop_data<K: Source>(link: &mut K, size: u32) -> Result<(), WireEnd>
     ensures bytes { ReadsData size (λ _ _. ⊤) (K.remaining link.old) (K.remaining link.new) result }
     ensures memory { HasMemory result }

@@ -1,6 +1,7 @@
 ghost use Rattle.std.specs.Prelude.{◌≡◌, ◌<◌, ◌^◌, ◌++◌, length};
 ghost use Rattle.lsvd_fault.specs.Faults.{Counts};
-ghost use Rattle.nbd_wire.specs.Messages.{greeting_bytes, option_reply_bytes, export_bytes, simple_reply_bytes};
+ghost use Rattle.nbd_wire.specs.Messages.{greeting_bytes, option_reply_bytes, export_bytes};
+ghost use Rattle.nbd_wire.specs.Messages.{simple_reply_bytes};
 ghost use Rattle.nbd_wire.specs.Reading.{is_link_fault};
 ghost use Rattle.nbd_wire.specs.Writing.{WritesMessage};
 
@@ -12,8 +13,8 @@ use lsvd_fault::{Sink, write_all};
 // The greeting: both magics, and the flags for the fixed newstyle and for no zeros after an export.
 const GREETING: [u8; 18] = *b"NBDMAGICIHAVEOPT\x00\x03";
 
-/// Writes the greeting of a server, which offers the fixed newstyle and to leave out the zeros after an export. The one
-/// error is `LinkFault`; a front of the bytes was written then.
+/// Writes the greeting of a server, which offers the fixed newstyle and to leave out the zeros after an
+/// export. The one error is `LinkFault`; a front of the bytes was written then.
 pub fn write_greeting<K: Sink>(link: &mut K) -> Result<(), WireEnd>
     ensures bytes { WritesMessage greeting_bytes (K.contents link.old) (K.contents link.new) result }
     ensures other { K.unread link.new ≡ K.unread link.old }
@@ -23,8 +24,8 @@ pub fn write_greeting<K: Sink>(link: &mut K) -> Result<(), WireEnd>
     Ok(())
 }
 
-/// Writes a reply to an option: the option's number, the type of the reply, and its data, which are fewer than 2^32 bytes
-/// (a condition). The one error is `LinkFault`; a front of the bytes was written then.
+/// Writes a reply to an option: the option's number, the type of the reply, and its data, which are fewer
+/// than 2^32 bytes (a condition). The one error is `LinkFault`; a front of the bytes was written then.
 pub fn write_option_reply<K: Sink>(
     link: &mut K,
     option: u32,
@@ -32,7 +33,8 @@ pub fn write_option_reply<K: Sink>(
     content: &[u8],
 ) -> Result<(), WireEnd>
     requires { length content.now < 2 ^ 32 }
-    ensures bytes { WritesMessage (option_reply_bytes option kind content.now) (K.contents link.old) (K.contents link.new) result }
+    ensures bytes { WritesMessage (option_reply_bytes option kind content.now) (K.contents link.old)
+        (K.contents link.new) result }
     ensures other { K.unread link.new ≡ K.unread link.old }
     ensures count { Counts (is_link_fault result) (K.faults link.old) (K.faults link.new) }
 {
@@ -40,15 +42,17 @@ pub fn write_option_reply<K: Sink>(
     write_both(link, &head, content)
 }
 
-/// Writes the answer to the option that enters an export at once: the export's size in bytes, its transmission flags, and
-/// 124 zeros, unless both sides said to leave them out. The one error is `LinkFault`; a front of the bytes was written then.
+/// Writes the answer to the option that enters an export at once: the export's size in bytes, its
+/// transmission flags, and 124 zeros, unless both sides said to leave them out. The one error is `LinkFault`;
+/// a front of the bytes was written then.
 pub fn write_export<K: Sink>(
     link: &mut K,
     size: u64,
     flags: u16,
     zeroes: bool,
 ) -> Result<(), WireEnd>
-    ensures bytes { WritesMessage (export_bytes size flags zeroes) (K.contents link.old) (K.contents link.new) result }
+    ensures bytes { WritesMessage (export_bytes size flags zeroes) (K.contents link.old)
+        (K.contents link.new) result }
     ensures other { K.unread link.new ≡ K.unread link.old }
     ensures count { Counts (is_link_fault result) (K.faults link.old) (K.faults link.new) }
 {
@@ -58,15 +62,16 @@ pub fn write_export<K: Sink>(
     Ok(())
 }
 
-/// Writes a simple reply: the error, which is 0 where there is none, the cookie of the request, and the data of a read
-/// that was answered. The one error is `LinkFault`; a front of the bytes was written then.
+/// Writes a simple reply: the error, which is 0 where there is none, the cookie of the request, and the data
+/// of a read that was answered. The one error is `LinkFault`; a front of the bytes was written then.
 pub fn write_simple<K: Sink>(
     link: &mut K,
     error: u32,
     cookie: u64,
     content: &[u8],
 ) -> Result<(), WireEnd>
-    ensures bytes { WritesMessage (simple_reply_bytes error cookie content.now) (K.contents link.old) (K.contents link.new) result }
+    ensures bytes { WritesMessage (simple_reply_bytes error cookie content.now) (K.contents link.old)
+        (K.contents link.new) result }
     ensures other { K.unread link.new ≡ K.unread link.old }
     ensures count { Counts (is_link_fault result) (K.faults link.old) (K.faults link.new) }
 {
@@ -75,7 +80,8 @@ pub fn write_simple<K: Sink>(
 
 // Writes the head of a message and its data, which are not copied for it.
 fn write_both<K: Sink>(link: &mut K, head: &[u8], content: &[u8]) -> Result<(), WireEnd>
-    ensures bytes { WritesMessage (head.now ++ content.now) (K.contents link.old) (K.contents link.new) result }
+    ensures bytes { WritesMessage (head.now ++ content.now) (K.contents link.old)
+        (K.contents link.new) result }
     ensures other { K.unread link.new ≡ K.unread link.old }
     ensures count { Counts (is_link_fault result) (K.faults link.old) (K.faults link.new) }
 {

@@ -1,5 +1,6 @@
 -- An object of the store that is adopted.
-use Rattle.std.proofs.Common.{◌≡◌, ℕ, ◌+◌, ◌-◌, ◌<◌, ◌≤◌, ◌^◌, ◌&&◌, nat_le, Option, Some, None, List, length, refl, sym, subst, arith}
+use Rattle.std.proofs.Common.{◌≡◌, ℕ, ◌+◌, ◌-◌, ◌<◌, ◌≤◌, ◌^◌, ◌&&◌, nat_le, Option, Some, None, List, length, refl, sym, subst}
+use Rattle.std.proofs.Common.{arith}
 use Rattle.std.specs.Prelude.{IsTrue, IfSome}
 use Rattle.std.specs.Option.{IsSome}
 use Rattle.std.specs.Global.{Vec}
@@ -37,7 +38,8 @@ use Rattle.object_recovery.proofs.FindLemmas.{of_told}
 front_short : (rows : ℕ) → rows ≤ 65536 → data_front_sectors rows < 2 ^ 31
 front_short rows most = omega arith
 
-few_rows : (bytes : List ℕ) (size : ℕ) (expected : Expected) (header : Header) (rows : Vec DataRow) → IsObject bytes size expected header (Data rows)
+few_rows : (bytes : List ℕ) (size : ℕ) (expected : Expected) (header : Header) (rows : Vec DataRow)
+    → IsObject bytes size expected header (Data rows)
     → length rows.items ≤ 65536
 few_rows bytes size expected header rows is =
     let limits = subst (λ k. IsTrue (nat_le header.rows (most_rows expected.sectors k) && nat_le header.payload 131071))
@@ -65,7 +67,8 @@ data_fits receipt expected rows end low is =
 -- ---- where the store tells its objects
 
 pub stored_as : (told : Option Objects) (expected : Expected) (receipt : ReceiptState) (rows : List DataRow) (end : ℕ)
-    → Finds (name_of expected.uuid expected.number) told (Some receipt) → IsSome receipt.told → IsReadAsData receipt expected rows end
+    → Finds (name_of expected.uuid expected.number) told (Some receipt) → IsSome receipt.told
+    → IsReadAsData receipt expected rows end
     → IfSome told (λ objects. IsStoredAs objects expected rows end receipt)
 stored_as None expected receipt rows end finds some is = tt
 stored_as (Some objects) expected receipt rows end finds some is = record {
@@ -83,10 +86,12 @@ stored_as (Some objects) expected receipt rows end finds some is = record {
 
 pub left_at : (told : Option Objects) (expected : Expected) (receipt : ReceiptState) (reached : Reached)
     → Finds (name_of expected.uuid expected.number) told (Some receipt) → IsSome receipt.told
-    → IfSome receipt.told (λ bytes. IsLeft bytes receipt.size expected reached) → IfSome told (λ objects. IsLeftAt objects expected reached)
+    → IfSome receipt.told (λ bytes. IsLeft bytes receipt.size expected reached)
+    → IfSome told (λ objects. IsLeftAt objects expected reached)
 left_at None expected receipt reached finds some is = tt
 left_at (Some objects) expected receipt reached finds some is = record {
   bytes = finds.0;
   present = finds.1;
-  left = of_told (λ bytes size. IsLeft bytes size expected reached) (name_of expected.uuid expected.number) finds.0 receipt finds.2 some is;
+  left = of_told (λ bytes size. IsLeft bytes size expected reached) (name_of expected.uuid expected.number) finds.0 receipt
+      finds.2 some is;
 }

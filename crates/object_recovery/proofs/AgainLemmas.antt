@@ -1,5 +1,6 @@
 -- A store keeps its stream while objects past it are removed.
-use Rattle.std.proofs.Common.{◌≡◌, ℕ, suc, ◌+◌, ◌-◌, ◌<◌, ◌≤◌, inl, inr, Option, List, [], ◌∷◌, length, get_or, sym, ◌∙◌, ap, subst, arith}
+use Rattle.std.proofs.Common.{◌≡◌, ℕ, suc, ◌+◌, ◌-◌, ◌<◌, ◌≤◌, inl, inr, Option, List, [], ◌∷◌, length, get_or, sym, ◌∙◌, ap}
+use Rattle.std.proofs.Common.{subst, arith}
 use Rattle.std.specs.Prelude.{is_some}
 use Rattle.std.proofs.lemmas.List.{length-take}
 use Rattle.lsvd_base.specs.declared.entry.Entry.{Entry}
@@ -20,7 +21,8 @@ use Rattle.object_recovery.specs.Recovery.{HasDataUpTo, IsPastOf}
 use Rattle.object_recovery.specs.Laws.{RemovalKeepsStream}
 
 -- what a data object has does not depend on the other objects
-content_kept : (old new : Objects) (uuid_at : ℕ → Option (List ℕ)) (kind : Content) (entries : List Entry) (rows : Rows) (payload : List ℕ)
+content_kept : (old new : Objects) (uuid_at : ℕ → Option (List ℕ)) (kind : Content) (entries : List Entry) (rows : Rows)
+    (payload : List ℕ)
     → kind ≡ content.Data
     → HasContent old uuid_at kind entries rows payload → HasContent new uuid_at kind entries rows payload
 content_kept old new uuid_at kind entries (rows_of.Data list) payload is has =
@@ -40,7 +42,8 @@ module _ (volume : Expected) (uuid_at : ℕ → Option (List ℕ)) (old new : Ob
   landed_at : (at : ℕ) → at ≤ number → landed_in new volume.uuid at ≡ landed_in old volume.uuid at
   landed_at at to = ap is_some (kept_at at to)
 
-  checkpoint_kept : (at end : ℕ) (owned : Owners) → at ≤ number → IsCheckpointOf volume old at end owned → IsCheckpointOf volume new at end owned
+  checkpoint_kept : (at end : ℕ) (owned : Owners) → at ≤ number → IsCheckpointOf volume old at end owned
+      → IsCheckpointOf volume new at end owned
   checkpoint_kept at end owned to is = record {
     bytes = is.bytes;
     present = kept_at at to ∙ is.present;
@@ -83,7 +86,8 @@ module _ (volume : Expected) (uuid_at : ℕ → Option (List ℕ)) (old new : Ob
           ends = is.ends;
           content = content_kept old new uuid_at object.content _ is.rows_of is.payload (hold 0 object (omega arith)) is.content;
         },
-        stored_kept (at + 1) object.end _ more (omega (arith, to)) (λ k d inside. hold (suc k) d (omega (arith, inside))) stored.1,
+        stored_kept (at + 1) object.end _ more (omega (arith, to)) (λ k d inside. hold (suc k) d (omega (arith, inside)))
+            stored.1,
       )
 
   stream_kept : (stream : Stream) → HasDataUpTo volume uuid_at old stream number → HasDataUpTo volume uuid_at new stream number
@@ -109,7 +113,8 @@ module _ (volume : Expected) (uuid_at : ℕ → Option (List ℕ)) (old new : Ob
             newest = record {
               is_checkpoint = missing.newest.is_checkpoint;
               has_landed = landed_at missing.base low ∙ missing.newest.has_landed;
-              newest = λ other is landed. let there = (stored.checkpoints other).0 is in missing.newest.newest other is (ap is_some there.2.present);
+              newest = λ other is landed. let there = (stored.checkpoints other).0 is in
+                  missing.newest.newest other is (ap is_some there.2.present);
             };
             above = missing.above;
             absent =
@@ -126,7 +131,8 @@ module _ (volume : Expected) (uuid_at : ℕ → Option (List ℕ)) (old new : Ob
               subst (λ o. StandsForSector new uuid_at o k sector) (sym none)
               (subst (λ o. StandsForSector old uuid_at o k sector) none (stored.value k sector at));
           last = stored.last;
-          stored = stored_kept stream.number stream.end stream.entries (objects_to stream number) size has.hold_data stored.stored;
+          stored = stored_kept stream.number stream.end stream.entries (objects_to stream number) size has.hold_data
+              stored.stored;
           past = λ other bytes past there.
               elim (removes.removed (name_of volume.uuid other)) [
                 | inl same ↦ stored.past other bytes past (sym same ∙ there)
@@ -138,4 +144,5 @@ module _ (volume : Expected) (uuid_at : ℕ → Option (List ℕ)) (old new : Ob
       }
 
 pub removal_keeps_stream : RemovalKeepsStream
-removal_keeps_stream volume uuid_at old new stream number removes has = stream_kept volume uuid_at old new number removes stream has
+removal_keeps_stream volume uuid_at old new stream number removes has =
+    stream_kept volume uuid_at old new number removes stream has

@@ -1,5 +1,6 @@
 -- The newest checkpoint of a store.
-use Rattle.std.proofs.Common.{◌≡◌, ℕ, ◌+◌, ◌*◌, ◌^◌, ◌<◌, inl, inr, Option, Some, None, List, length, drop, refl, sym, ◌∙◌, ap, subst, arith, rules}
+use Rattle.std.proofs.Common.{◌≡◌, ℕ, ◌+◌, ◌*◌, ◌^◌, ◌<◌, inl, inr, Option, Some, None, List, length, drop, refl, sym, ◌∙◌, ap}
+use Rattle.std.proofs.Common.{subst, arith, rules}
 use Rattle.std.specs.Prelude.{IfSome, slice_index_or}
 use Rattle.std.specs.Option.{IsSome}
 use Rattle.std.specs.List.{Contains}
@@ -33,16 +34,19 @@ use Rattle.stopped_volume.specs.Objects.{expected_alone, IsCheckpointOf}
 use Rattle.object_recovery.specs.declared.error.RecoverError.{RecoverError}
 use Rattle.object_recovery.specs.declared.error.RecoverError.TheVariants as errors
 use Rattle.object_recovery.specs.Read.{AreFirstOf, IsHeaderOf, IsWhyNotRead}
-use Rattle.object_recovery.specs.Checkpoints.{expected_of, IsEndOfCheckpoint, IsNoCheckpoint, IsCheckpointNamed, HasNoneFrom, IsNewestWithEnd}
+use Rattle.object_recovery.specs.Checkpoints.{expected_of, IsEndOfCheckpoint, IsNoCheckpoint, IsCheckpointNamed, HasNoneFrom}
+use Rattle.object_recovery.specs.Checkpoints.{IsNewestWithEnd}
 use Rattle.object_recovery.proofs.ReadLemmas.{header_of_all, refused_is_none}
 use Rattle.object_recovery.proofs.FindLemmas.{of_told, numbered}
 
 -- an object whose header is that of another kind is no checkpoint
-pub other_kind : (receipt : ReceiptState) (expected : Expected) (bytes : List ℕ) (header : Header) → IsHeaderOf receipt expected bytes header
+pub other_kind : (receipt : ReceiptState) (expected : Expected) (bytes : List ℕ) (header : Header)
+    → IsHeaderOf receipt expected bytes header
     → (header.kind ≡ kinds.Checkpoint → ⊥) → IfSome receipt.told (λ told. IsEndOfCheckpoint told receipt.size expected None)
 other_kind receipt expected bytes header is other = told_so receipt.told is.first
   where
-    told_so : (told : Option (List ℕ)) → AreFirstOf told bytes → IfSome told (λ all. IsEndOfCheckpoint all receipt.size expected None)
+    told_so : (told : Option (List ℕ)) → AreFirstOf told bytes
+        → IfSome told (λ all. IsEndOfCheckpoint all receipt.size expected None)
     told_so None first = tt
     told_so (Some all) first = λ another object.
         let same = same_header all receipt.size expected header another
@@ -50,7 +54,8 @@ other_kind receipt expected bytes header is other = told_so receipt.told is.firs
         other (ap (λ (h : Header). h.kind) same ∙ sym object.rows_are.kind)
 
 -- what is refused is none
-pub bad_checkpoint : (receipt : ReceiptState) (expected : Expected) (error : RecoverError) (number : ℕ) (reason : reason_type.BadObject)
+pub bad_checkpoint : (receipt : ReceiptState) (expected : Expected) (error : RecoverError) (number : ℕ)
+    (reason : reason_type.BadObject)
     → error ≡ errors.BadObject number reason → IsWhyNotRead receipt expected error
     → IfSome receipt.told (λ told. IsEndOfCheckpoint told receipt.size expected None)
 bad_checkpoint receipt expected error number reason is why = told_so receipt.told (subst (IsWhyNotRead receipt expected) is why).1
@@ -58,7 +63,8 @@ bad_checkpoint receipt expected error number reason is why = told_so receipt.tol
     told_so : (told : Option (List ℕ)) → IfSome told (λ all. IsRefusedAs all receipt.size expected reason)
         → IfSome told (λ all. IsEndOfCheckpoint all receipt.size expected None)
     told_so None refused = tt
-    told_so (Some all) refused = λ header object. refused_is_none all receipt.size expected reason refused header Checkpoint object
+    told_so (Some all) refused = λ header object. refused_is_none all receipt.size expected reason refused header
+        Checkpoint object
 
 -- ---- by the bytes of an object
 
@@ -70,7 +76,8 @@ end_in_store : (geometry : Geometry) (objects : Objects) (name : ObjName) (bytes
 end_in_store geometry objects name bytes None kind there is = λ same_kind end owned checkpoint.
     let expected = expected_alone (expected_of name.uuid geometry) name.number in
     let same : checkpoint.bytes ≡ bytes = let present = checkpoint.present in cc in
-    is checkpoint.header (subst (λ b. IsObject b (length b) expected checkpoint.header Checkpoint) same checkpoint.parts.is_object)
+    is checkpoint.header (subst (λ b. IsObject b (length b) expected checkpoint.header Checkpoint) same
+    checkpoint.parts.is_object)
 end_in_store geometry objects name bytes (Some end) kind there is = (
   kind,
   record {
@@ -86,7 +93,8 @@ end_in_store geometry objects name bytes (Some end) kind there is = (
 
 pub checkpoint_found : (told : Option Objects) (name : ObjName) (geometry : Geometry) (receipt : ReceiptState) (end : Option ℕ)
     → name.kind ≡ Object → Finds name told (Some receipt) → IsSome receipt.told
-    → IfSome receipt.told (λ bytes. IsEndOfCheckpoint bytes receipt.size (expected_alone (expected_of name.uuid geometry) name.number) end)
+    → IfSome receipt.told (λ bytes. IsEndOfCheckpoint bytes receipt.size
+    (expected_alone (expected_of name.uuid geometry) name.number) end)
     → IfSome told (λ objects. IsCheckpointNamed geometry objects name end)
 checkpoint_found None name geometry receipt end kind finds some is = tt
 checkpoint_found (Some objects) name geometry receipt end kind finds some is =
@@ -126,7 +134,8 @@ module _ (uuid : List ℕ) (geometry : Geometry) (objects : Objects) (names : Li
   volume = expected_of uuid geometry
 
   -- a checkpoint of the store is among the names of its objects
-  is_listed : (number end : ℕ) (owned : Owners) → IsCheckpointOf volume objects number end owned → Contains names (name_of uuid number)
+  is_listed : (number end : ℕ) (owned : Owners) → IsCheckpointOf volume objects number end owned
+      → Contains names (name_of uuid number)
   is_listed number end owned checkpoint =
       let head = checkpoint.parts.is_object.head in
       let fits : number < 2 ^ 64 = omega (arith, head.number, head.widths.number) in
@@ -145,7 +154,8 @@ module _ (uuid : List ℕ) (geometry : Geometry) (objects : Objects) (names : Li
       ]
 
   -- so the checkpoint before them is the newest
-  newest_at : (index : ℕ) (name : ObjName) (end : ℕ) → index < length names → slice_index_or names index name ≡ name → name.kind ≡ Object
+  newest_at : (index : ℕ) (name : ObjName) (end : ℕ) → index < length names → slice_index_or names index name ≡ name
+      → name.kind ≡ Object
       → name.uuid ≡ uuid
       → HasNoneFrom geometry objects names (index + 1) → IsCheckpointOf volume objects name.number end (λ k. None)
       → IsNewestWithEnd volume objects name.number end
@@ -166,7 +176,8 @@ module _ (uuid : List ℕ) (geometry : Geometry) (objects : Objects) (names : Li
           | inr from ↦
               let same : place.0 ≡ index = omega (arith, place.1, from) in
               let one : name_of uuid other ≡ name =
-              sym place.3 ∙ ap (λ k. slice_index_or names k (name_of uuid other)) same ∙ get_or_default names index (name_of uuid other) name inside
+              sym place.3 ∙ ap (λ k. slice_index_or names k (name_of uuid other)) same
+              ∙ get_or_default names index (name_of uuid other) name inside
               ∙ at in
               omega (arith, ap (λ (n : ObjName). n.number) one)
         ];
@@ -178,7 +189,8 @@ pub found_newest : (told : Option Objects) (geometry : Geometry) (names : List O
     → index < length names → slice_index_or names index name ≡ name
     → IfSome told (λ objects. HasNoneFrom geometry objects names (index + 1))
     → IfSome told (λ objects. IsCheckpointNamed geometry objects name (Some end))
-    → IfSome told (λ objects. (uuid : List ℕ) → IsUuid uuid → Lists uuid objects names → IsNewestWithEnd (expected_of uuid geometry) objects name.number end)
+    → IfSome told (λ objects. (uuid : List ℕ) → IsUuid uuid → Lists uuid objects names
+    → IsNewestWithEnd (expected_of uuid geometry) objects name.number end)
 found_newest None geometry names index name end inside at none is = tt
 found_newest (Some objects) geometry names index name end inside at none is = λ uuid is_uuid listed.
     let of_volume = (listed.present name (index, inside, at)).1 in
@@ -203,7 +215,8 @@ none_more (Some objects) geometry names index name inside at none is = λ k othe
 
 pub found_none : (told : Option Objects) (geometry : Geometry) (names : List ObjName)
     → IfSome told (λ objects. HasNoneFrom geometry objects names 0)
-    → IfSome told (λ objects. (uuid : List ℕ) (number : ℕ) → IsUuid uuid → Lists uuid objects names → IsNoCheckpoint (expected_of uuid geometry) objects number)
+    → IfSome told (λ objects. (uuid : List ℕ) (number : ℕ) → IsUuid uuid → Lists uuid objects names
+    → IsNoCheckpoint (expected_of uuid geometry) objects number)
 found_none None geometry names none = tt
 found_none (Some objects) geometry names none = λ uuid number is_uuid listed end owned checkpoint.
     absurd (omega (arith, (before_index uuid geometry objects names is_uuid listed 0 none number end owned checkpoint).1))

@@ -1,5 +1,6 @@
 -- The end before an object, and what is refused for it.
-use Rattle.std.proofs.Common.{◌≡◌, ℕ, ◌+◌, ◌-◌, ◌<◌, ◌≤◌, ◌&&◌, inl, inr, Bool, true, false, Option, Some, None, List, length, take, refl, sym, ◌∙◌, ap, subst, arith}
+use Rattle.std.proofs.Common.{◌≡◌, ℕ, ◌+◌, ◌-◌, ◌<◌, ◌≤◌, ◌&&◌, inl, inr, Bool, true, false, Option, Some, None, List, length}
+use Rattle.std.proofs.Common.{take, refl, sym, ◌∙◌, ap, subst, arith}
 use Rattle.std.specs.Prelude.{IsTrue, IfSome}
 use Rattle.std.specs.Option.{IsSomeAnd}
 use Rattle.std.proofs.lemmas.Bool.{cases_lt}
@@ -42,7 +43,8 @@ alone_header bytes size expected header is = record {
 }
 
 -- what is of the grammar after some end is so by itself
-pub alone_object : (bytes : List ℕ) (size : ℕ) (expected : Expected) (header : Header) (rows : Rows) → IsObject bytes size expected header rows
+pub alone_object : (bytes : List ℕ) (size : ℕ) (expected : Expected) (header : Header) (rows : Rows)
+    → IsObject bytes size expected header rows
     → IsObject bytes size (expected_alone expected expected.number) header rows
 alone_object bytes size expected header rows is = record {
   head = alone_header bytes size expected header is.head;
@@ -53,15 +55,18 @@ alone_object bytes size expected header rows is = record {
 }
 
 -- so its end is that of the bytes
-pub end_of_object : (bytes : List ℕ) (size : ℕ) (expected : Expected) (header : Header) (rows : Rows) → IsObject bytes size expected header rows
+pub end_of_object : (bytes : List ℕ) (size : ℕ) (expected : Expected) (header : Header) (rows : Rows)
+    → IsObject bytes size expected header rows
     → IsEndOf bytes size expected (Some header.end_seq)
 end_of_object bytes size expected header rows is = (header, rows, alone_object bytes size expected header rows is, refl)
 
 -- what is refused for another reason than its seqs is none by itself
-pub refused_alone : (bytes : List ℕ) (size : ℕ) (expected : Expected) (reason : reason_type.BadObject) → (reason ≡ reasons.Seqs → ⊥)
+pub refused_alone : (bytes : List ℕ) (size : ℕ) (expected : Expected) (reason : reason_type.BadObject)
+    → (reason ≡ reasons.Seqs → ⊥)
     → IsRefusedAs bytes size expected reason → IsEndOf bytes size expected None
 refused_alone bytes size expected reasons.Length other refused header rows is =
-    refused.failed (header_passes bytes size (expected_alone expected expected.number) header reasons.Length (omega arith) is.head)
+    refused.failed (header_passes bytes size (expected_alone expected expected.number) header reasons.Length
+    (omega arith) is.head)
 refused_alone bytes size expected reasons.Magic other refused header rows is =
     refused.failed (header_passes bytes size (expected_alone expected expected.number) header reasons.Magic (omega arith) is.head)
 refused_alone bytes size expected reasons.Kind other refused header rows is =
@@ -69,10 +74,12 @@ refused_alone bytes size expected reasons.Kind other refused header rows is =
 refused_alone bytes size expected reasons.Uuid other refused header rows is =
     refused.failed (header_passes bytes size (expected_alone expected expected.number) header reasons.Uuid (omega arith) is.head)
 refused_alone bytes size expected reasons.Number other refused header rows is =
-    refused.failed (header_passes bytes size (expected_alone expected expected.number) header reasons.Number (omega arith) is.head)
+    refused.failed (header_passes bytes size (expected_alone expected expected.number) header reasons.Number
+    (omega arith) is.head)
 refused_alone bytes size expected reasons.Seqs other refused header rows is = other refl
 refused_alone bytes size expected reasons.Counts other refused header rows is =
-    refused.failed (header_passes bytes size (expected_alone expected expected.number) header reasons.Counts (omega arith) is.head)
+    refused.failed (header_passes bytes size (expected_alone expected expected.number) header reasons.Counts
+    (omega arith) is.head)
 refused_alone bytes size expected reasons.Rows other refused header rows is =
     let there = header_in-IsHeader bytes size (expected_alone expected expected.number) header is.head in
     let P : Option Header → Type 0 = λ o. IsSomeAnd o (λ x. IsTrue (has_due_seqs expected x)) in
@@ -106,7 +113,8 @@ refused_none bytes size expected reason refused header rows is =
 -- ---- what the reads say of it
 
 -- what is refused after its header was read is none
-pub front_refused : (receipt : ReceiptState) (expected : Expected) (bytes : List ℕ) (header : Header) (number : ℕ) (reason : reason_type.BadObject)
+pub front_refused : (receipt : ReceiptState) (expected : Expected) (bytes : List ℕ) (header : Header) (number : ℕ)
+    (reason : reason_type.BadObject)
     → IsHeaderOf receipt expected bytes header → IsWhyNotRead receipt expected (errors.BadObject number reason)
     → IsReadOf receipt expected (read.Bad reason None)
 front_refused receipt expected bytes header number reason is why = (why.1, of_told receipt.told is.first why.1)
@@ -135,7 +143,8 @@ head_read receipt bytes others same head = subst (HasHead receipt) same head
 -- where the first bytes have no header, it is none
 pub headless : (receipt : ReceiptState) (expected : Expected) (bytes : List ℕ) → HasHead receipt bytes
     → IfSome receipt.told (λ told. receipt.size ≡ length told)
-    → ((header : Header) → IsHeader bytes receipt.size (expected_alone expected expected.number) header → ⊥) → IsToldEnd receipt expected None
+    → ((header : Header) → IsHeader bytes receipt.size (expected_alone expected expected.number) header → ⊥)
+    → IsToldEnd receipt expected None
 headless receipt expected bytes head whole none = of_told receipt.told head.first whole
   where
     of_told : (told : Option (List ℕ)) → AreFirstOf told bytes → IfSome told (λ all. receipt.size ≡ length all)
@@ -150,7 +159,8 @@ pub end_alone : (receipt : ReceiptState) (expected : Expected) (rows : Rows) (en
     → IsReadOf receipt (expected_alone expected expected.number) (read.Whole rows end) → IsToldEnd receipt expected (Some end)
 end_alone receipt expected rows end is = of_told receipt.told is.1.told
   where
-    of_told : (told : Option (List ℕ)) → IfSome told (λ all. IsObject all receipt.size (expected_alone expected expected.number) is.0 rows)
+    of_told : (told : Option (List ℕ)) → IfSome told
+        (λ all. IsObject all receipt.size (expected_alone expected expected.number) is.0 rows)
         → IfSome told (λ all. IsEndOf all receipt.size expected (Some end))
     of_told None object = tt
     of_told (Some all) object = (is.0, rows, object, is.2)
@@ -159,14 +169,16 @@ pub bad_alone : (receipt : ReceiptState) (expected : Expected) (reason : reason_
     → IsReadOf receipt (expected_alone expected expected.number) (read.Bad reason end) → IsToldEnd receipt expected None
 bad_alone receipt expected reason end is = of_told receipt.told is.0
   where
-    of_told : (told : Option (List ℕ)) → IfSome told (λ all. IsRefusedAs all receipt.size (expected_alone expected expected.number) reason)
+    of_told : (told : Option (List ℕ)) → IfSome told
+        (λ all. IsRefusedAs all receipt.size (expected_alone expected expected.number) reason)
         → IfSome told (λ all. IsEndOf all receipt.size expected None)
     of_told None refused = tt
     of_told (Some all) refused = refused_none all receipt.size expected reason refused
 
 -- ---- one end
 
-pub one_end_of : (bytes : List ℕ) (size : ℕ) (expected : Expected) (a b : Option ℕ) → IsEndOf bytes size expected a → IsEndOf bytes size expected b → a ≡ b
+pub one_end_of : (bytes : List ℕ) (size : ℕ) (expected : Expected) (a b : Option ℕ) → IsEndOf bytes size expected a
+    → IsEndOf bytes size expected b → a ≡ b
 one_end_of bytes size expected None None is_a is_b = refl
 one_end_of bytes size expected None (Some b) is_a is_b = absurd (is_a is_b.0 is_b.1 is_b.2)
 one_end_of bytes size expected (Some a) None is_a is_b = absurd (is_b is_a.0 is_a.1 is_a.2)
@@ -181,7 +193,8 @@ module _ (volume : Expected) (objects : Objects) where
       let there = subst (λ bytes. IsEndOf bytes (length bytes) (expected_alone volume number) b) same has_b.is_end in
       one_end_of has_a.bytes (length has_a.bytes) (expected_alone volume number) a b has_a.is_end there
 
-  pub one_end_before : (last number : ℕ) (a b : Option ℕ) → IsEndBefore volume objects last number a → IsEndBefore volume objects last number b → a ≡ b
+  pub one_end_before : (last number : ℕ) (a b : Option ℕ) → IsEndBefore volume objects last number a
+      → IsEndBefore volume objects last number b → a ≡ b
   one_end_before last number a b is_a is_b =
       elim (cases_lt last number) [
         | inl past ↦ is_a.unknown past ∙ sym (is_b.unknown past)
@@ -189,7 +202,8 @@ module _ (volume : Expected) (objects : Objects) where
       ]
 
   -- the end of an object is that before the next one
-  pub before_next : (number last : ℕ) (end : Option ℕ) → number + 1 ≤ last → HasEnd volume objects number end → IsEndBefore volume objects last (number + 1) end
+  pub before_next : (number last : ℕ) (end : Option ℕ) → number + 1 ≤ last → HasEnd volume objects number end
+      → IsEndBefore volume objects last (number + 1) end
   before_next number last end to has = record {
     known = λ _. let at : number ≡ number + 1 - 1 = omega arith in subst (λ n. HasEnd volume objects n end) at has;
     unknown = λ past. absurd (omega (arith, past, to));

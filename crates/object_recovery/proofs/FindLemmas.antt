@@ -15,7 +15,8 @@ told_bytes None bytes some is = cc
 told_bytes (Some t) bytes some is = ap Some is
 
 -- so what holds of the bytes that a receipt tells, and of how many it says they are, holds of those of its object
-pub of_told : (P : List ℕ → ℕ → Type 0) (name : ObjName) (bytes : List ℕ) (receipt : ReceiptState) → IsReceiptOf name bytes receipt
+pub of_told : (P : List ℕ → ℕ → Type 0) (name : ObjName) (bytes : List ℕ) (receipt : ReceiptState)
+    → IsReceiptOf name bytes receipt
     → IsSome receipt.told
     → IfSome receipt.told (λ told. P told receipt.size) → P bytes (length bytes)
 of_told P name bytes receipt is some holds =
@@ -23,20 +24,23 @@ of_told P name bytes receipt is some holds =
     subst (P bytes) is.size (subst (λ t. IfSome t (λ b. P b receipt.size)) told holds)
 
 -- what follows from what holds of the objects that a store tells
-pub told_so : (P Q : Objects → Type 0) (told : Option Objects) → ((objects : Objects) → P objects → Q objects) → IfSome told P → IfSome told Q
+pub told_so : (P Q : Objects → Type 0) (told : Option Objects) → ((objects : Objects) → P objects → Q objects) → IfSome told P
+    → IfSome told Q
 told_so P Q None so is = tt
 told_so P Q (Some objects) so is = so objects is
 
 -- the name of a numbered object
 pub numbered : (name : ObjName) → name.kind ≡ Object → name ≡ name_of name.uuid name.number
-numbered name kind = ap (λ (k : Kind). let other : ObjName = record { uuid = name.uuid; kind = k; number = name.number } in other) kind
+numbered name kind = ap (λ (k : Kind). let other : ObjName = record { uuid = name.uuid; kind = k; number = name.number } in
+    other) kind
 
 -- a store with the same count of faults is the same
 pub same_store : (old new : StoreState) → OnlyCounts old new → new.faults ≡ old.faults → new ≡ old
 same_store old new only same = only ∙ ap (λ (n : ℕ). let state : StoreState = record old { faults = n } in state) same
 
 -- what an error is, what follows from it is
-pub error_so : {T E : Type 0} (P Q : E → Type 0) (outcome : Result T E) → ((error : E) → P error → Q error) → IfErr outcome P → IfErr outcome Q
+pub error_so : {T E : Type 0} (P Q : E → Type 0) (outcome : Result T E) → ((error : E) → P error → Q error) → IfErr outcome P
+    → IfErr outcome Q
 error_so P Q (Ok value) so is = tt
 error_so P Q (Err error) so is = so error is
 
@@ -45,7 +49,8 @@ ok_so P Q (Ok value) so is = so is
 ok_so P Q (Err error) so is = tt
 
 -- what an error comes to, where one is passed on
-pub passed_on : {T E : Type 0} (P : E → Type 0) (outcome : Result T E) (error : E) → IsErrAnd outcome (λ e. e ≡ error) → P error → IfErr outcome P
+pub passed_on : {T E : Type 0} (P : E → Type 0) (outcome : Result T E) (error : E) → IsErrAnd outcome (λ e. e ≡ error) → P error
+    → IfErr outcome P
 passed_on P (Ok value) error is so = tt
 passed_on P (Err e) error is so = subst P (sym is) so
 

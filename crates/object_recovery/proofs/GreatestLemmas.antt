@@ -9,11 +9,17 @@ use Rattle.object_recovery.specs.State.{IsGreatestNumber}
 
 -- no name has a number
 pub greatest_of_none : (least : ℕ) → IsGreatestNumber [] least least
-greatest_of_none least = record { no_less = omega arith; is = inl refl; none_greater = λ name listed. (let none = listed.1 in absurd (omega (arith, none))) }
+greatest_of_none least = record {
+  no_less = omega arith;
+  is = inl refl;
+  none_greater = λ name listed. (let none = listed.1 in
+      absurd (omega (arith, none)));
+}
 
 module _ (names : List ObjName) (name : ObjName) (least greatest : ℕ) (is : IsGreatestNumber names least greatest) where
   -- what is so of names and of a further one
-  each_with : (top : ℕ) → greatest ≤ top → (name.kind ≡ Object → name.number ≤ top) → (other : ObjName) → Contains (names ++ name ∷ []) other
+  each_with : (top : ℕ) → greatest ≤ top → (name.kind ≡ Object → name.number ≤ top) → (other : ObjName)
+      → Contains (names ++ name ∷ []) other
       → other.kind ≡ Object → other.number ≤ top
   each_with top higher own other listed kind =
       elim (Contains-push_cases names name other listed) [

@@ -1,5 +1,6 @@
 -- Objects that are judged one after the other.
-use Rattle.std.proofs.Common.{◌≡◌, ℕ, ◌+◌, ◌-◌, ◌^◌, ◌<◌, ◌≤◌, inl, inr, Option, Some, None, List, length, refl, sym, ◌∙◌, ap, subst, arith}
+use Rattle.std.proofs.Common.{◌≡◌, ℕ, ◌+◌, ◌-◌, ◌^◌, ◌<◌, ◌≤◌, inl, inr, Option, Some, None, List, length, refl, sym, ◌∙◌, ap}
+use Rattle.std.proofs.Common.{subst, arith}
 use Rattle.std.specs.Prelude.{◌⊎◌, IfSome, IsTrue, is_some}
 use Rattle.std.proofs.lemmas.Bool.{cases_lt}
 use Rattle.lsvd_objstore.specs.Objects.{Objects, found}
@@ -10,9 +11,11 @@ use Rattle.stopped_volume.specs.Objects.{landed_in, expected_alone, IsWhole}
 use Rattle.object_recovery.specs.declared.judging.Reached.{Reached}
 use Rattle.object_recovery.specs.declared.judging.Refusal.{Refusal}
 use Rattle.object_recovery.specs.declared.judging.Refusal.TheVariants as refusals
-use Rattle.object_recovery.specs.Judging.{IsEndOf, HasEnd, IsEndBefore, expected_after, IsGoodObject, IsBadObject, AreGood, IsNotData, HaveLanded}
+use Rattle.object_recovery.specs.Judging.{IsEndOf, HasEnd, IsEndBefore, expected_after, IsGoodObject, IsBadObject, AreGood}
+use Rattle.object_recovery.specs.Judging.{IsNotData, HaveLanded}
 use Rattle.object_recovery.specs.declared.judging.Judged.{Judged}
-use Rattle.object_recovery.specs.Judged.{IsBadFor, IsJudged, IsJudgedNext, IsGap, GoesToGap, refused_with, StaysRefused, IsVerdict, IsReached}
+use Rattle.object_recovery.specs.Judged.{IsBadFor, IsJudged, IsJudgedNext, IsGap, GoesToGap, refused_with, StaysRefused}
+use Rattle.object_recovery.specs.Judged.{IsVerdict, IsReached}
 use Rattle.object_recovery.specs.Adoption.{IsWhyLeft, IsLeft}
 use Rattle.object_recovery.proofs.EndLemmas.{before_next}
 
@@ -20,7 +23,8 @@ module _ (volume : Expected) (objects : Objects) where
   -- ---- verdicts
 
   module _ (last : ℕ) (Such More : ℕ → Type 0) where
-    good_wider : ((number : ℕ) (bytes : List ℕ) → More number → number < 2 ^ 64 → found objects (name_of volume.uuid number) ≡ Some bytes
+    good_wider : ((number : ℕ) (bytes : List ℕ) → More number → number < 2 ^ 64 → found objects (name_of volume.uuid number)
+        ≡ Some bytes
         → Such number ⊎ IsGoodObject volume objects last number)
         → AreGood volume objects last Such → AreGood volume objects last More
     good_wider cover good number bytes more fits there =
@@ -36,7 +40,10 @@ module _ (volume : Expected) (objects : Objects) where
       kept at is.0,
       is.1,
       λ number bytes more fits there.
-          elim (cover number bytes more.0 fits there) [ inl such ↦ is.2 number bytes (such, more.1) fits there | inr good ↦ good ],
+          elim (cover number bytes more.0 fits there) [
+            | inl such ↦ is.2 number bytes (such, more.1) fits there
+            | inr good ↦ good
+          ],
     )
     verdict_wider (Some (refusals.NotData at)) kept cover is = (kept at is.0, is.1, good_wider cover is.2)
 
@@ -47,7 +54,8 @@ module _ (volume : Expected) (objects : Objects) where
       (more, bad, λ number bytes such fits there. let to = most number such.0 in absurd (omega (arith, to, such.1)))
 
   module _ (last : ℕ) (Such More : ℕ → Type 0) (at : ℕ) (bytes : List ℕ) (end : Option ℕ) (named : at < 2 ^ 64)
-      (there : found objects (name_of volume.uuid at) ≡ Some bytes) (is_before : IsEndBefore volume objects last at end) (more : More at)
+      (there : found objects (name_of volume.uuid at) ≡ Some bytes) (is_before : IsEndBefore volume objects last at end)
+      (more : More at)
       (kept : (number : ℕ) → Such number → More number) (cover : (number : ℕ) → More number → Such number ⊎ (number ≡ at))
       (most : (number : ℕ) → More number → number ≤ at) where
     -- one more is judged
@@ -70,7 +78,8 @@ module _ (volume : Expected) (objects : Objects) where
   abbrev UpTo : (base to : ℕ) → ℕ → Type 0
   UpTo base to number = (base < number) × (number ≤ to)
 
-  module _ (base : ℕ) (reached : Reached) (is : IsReached volume objects base reached) (bytes : List ℕ) (named : reached.number + 1 < 2 ^ 64)
+  module _ (base : ℕ) (reached : Reached) (is : IsReached volume objects base reached) (bytes : List ℕ)
+      (named : reached.number + 1 < 2 ^ 64)
       (there : found objects (name_of volume.uuid (reached.number + 1)) ≡ Some bytes) where
     abbrev at : ℕ
     at = reached.number + 1
@@ -97,14 +106,16 @@ module _ (volume : Expected) (objects : Objects) where
     here : UpTo base at at
     here = (omega (arith, is.from), omega arith)
 
-    has_end : (end : Option ℕ) → IsEndOf bytes (length bytes) (expected_after volume at reached.end) end → HasEnd volume objects at end
+    has_end : (end : Option ℕ) → IsEndOf bytes (length bytes) (expected_after volume at reached.end) end
+        → HasEnd volume objects at end
     has_end end is_end = record { bytes = bytes; present = there; is_end = is_end }
 
     before_at : (last : ℕ) → at ≤ last → IsEndBefore volume objects last at reached.end
     before_at last to = before_next volume objects reached.number last reached.end to is.has_end
 
     -- with the next object
-    pub reached_next : (end : Option ℕ) (bad : Option BadObject) → IsEndOf bytes (length bytes) (expected_after volume at reached.end) end
+    pub reached_next : (end : Option ℕ) (bad : Option BadObject)
+        → IsEndOf bytes (length bytes) (expected_after volume at reached.end) end
         → IsBadFor (expected_after volume at reached.end) bytes bad
         → IsReached volume objects base (record { number = at; end = end; refused = refused_with at bad reached.refused })
     reached_next end bad is_end is_bad = record {
@@ -112,26 +123,33 @@ module _ (volume : Expected) (objects : Objects) where
       landed = landed;
       has_end = has_end end is_end;
       verdict = λ last to.
-          verdict_more last (UpTo base reached.number) (UpTo base at) at bytes reached.end named there (before_at last to) here kept cover
+          verdict_more last (UpTo base reached.number) (UpTo base at) at bytes reached.end named there (before_at last to)
+          here kept cover
           (λ number more. more.1) bad reached.refused is_bad (is.verdict last (omega (arith, to)));
     }
 
     -- one that is left, where no object up to there is refused
-    module _ (left : Reached) (none : reached.refused ≡ None) (is_left : IsLeft bytes (length bytes) (expected_after volume at reached.end) left) where
+    module _ (left : Reached) (none : reached.refused ≡ None)
+        (is_left : IsLeft bytes (length bytes) (expected_after volume at reached.end) left) where
       all_good : (last : ℕ) → at ≤ last → AreGood volume objects last (UpTo base reached.number)
-      all_good last to = subst (IsVerdict volume objects last (UpTo base reached.number)) none (is.verdict last (omega (arith, to)))
+      all_good last to = subst (IsVerdict volume objects last (UpTo base reached.number)) none
+          (is.verdict last (omega (arith, to)))
 
-      good_more : (last : ℕ) → at ≤ last → IsWhole (expected_after volume at reached.end) bytes → IsVerdict volume objects last (UpTo base at) None
+      good_more : (last : ℕ) → at ≤ last → IsWhole (expected_after volume at reached.end) bytes
+          → IsVerdict volume objects last (UpTo base at) None
       good_more last to whole =
-          verdict_more last (UpTo base reached.number) (UpTo base at) at bytes reached.end named there (before_at last to) here kept cover
+          verdict_more last (UpTo base reached.number) (UpTo base at) at bytes reached.end named there (before_at last to)
+          here kept cover
           (λ number more. more.1) None None whole (all_good last to)
 
-      of_left : (last : ℕ) → at ≤ last → (refused : Option Refusal) → IsWhyLeft bytes (length bytes) (expected_after volume at reached.end) refused
+      of_left : (last : ℕ) → at ≤ last → (refused : Option Refusal)
+          → IsWhyLeft bytes (length bytes) (expected_after volume at reached.end) refused
           → IsVerdict volume objects last (UpTo base at) refused
       of_left last to None why = good_more last to (why.1, why.2, why.3)
       of_left last to (Some (refusals.Bad number reason)) why =
           subst (λ n. IsVerdict volume objects last (UpTo base at) (Some (refusals.Bad n reason))) (sym why.0)
-          (verdict_more last (UpTo base reached.number) (UpTo base at) at bytes reached.end named there (before_at last to) here kept cover
+          (verdict_more last (UpTo base reached.number) (UpTo base at) at bytes reached.end named there (before_at last to)
+          here kept cover
           (λ other more. more.1) (Some reason) None why.1 (all_good last to))
       of_left last to (Some (refusals.NotData number)) why =
           let no_data : IsNotData volume objects last at =
@@ -165,7 +183,8 @@ module _ (volume : Expected) (objects : Objects) where
 pub told_next : (told : Option Objects) (volume : Expected) (reached : Reached) (judged : Judged) (refused : Option Refusal)
     → reached.number + 1 < 2 ^ 64 → refused ≡ refused_with (reached.number + 1) judged.bad reached.refused
     → IfSome told (λ objects. IsJudged objects (expected_after volume (reached.number + 1) reached.end) judged)
-    → IfSome told (λ objects. IsJudgedNext volume objects reached (Some (record { number = reached.number + 1; end = judged.end; refused = refused })))
+    → IfSome told (λ objects. IsJudgedNext volume objects reached
+    (Some (record { number = reached.number + 1; end = judged.end; refused = refused })))
 told_next None volume reached judged refused named with is = tt
 told_next (Some objects) volume reached judged refused named with is = λ base before.
     let Next : Option Refusal → Reached = λ r. record { number = reached.number + 1; end = judged.end; refused = r } in

@@ -1,5 +1,6 @@
 -- The list while objects are adopted.
-use Rattle.std.proofs.Common.{◌≡◌, ℕ, ◌+◌, ◌^◌, ◌<◌, cond, Bool, true, false, Option, Some, None, List, [], ◌∷◌, length, refl, sym, ◌∙◌, ap, subst, arith}
+use Rattle.std.proofs.Common.{◌≡◌, ℕ, ◌+◌, ◌^◌, ◌<◌, cond, Bool, true, false, Option, Some, None, List, [], ◌∷◌, length, refl}
+use Rattle.std.proofs.Common.{sym, ◌∙◌, ap, subst, arith}
 use Rattle.std.specs.Prelude.{IfSome}
 use Rattle.lsvd_base.specs.declared.geometry.Geometry.{Geometry}
 use Rattle.extent_map.specs.Extents.{is_within}
@@ -35,7 +36,8 @@ none_logged end [] k = refl
 none_logged end (row ∷ rows) k = none_by_test (is_within row.lba row.sectors k) end rows k (none_logged end rows k)
 
 -- a list is one of its own uuid and its own sizes
-pub own_list : (uuid : List ℕ) (geometry : Geometry) (number end : ℕ) (log : ObjLogState) → IsListUpTo uuid geometry number end log
+pub own_list : (uuid : List ℕ) (geometry : Geometry) (number end : ℕ) (log : ObjLogState)
+    → IsListUpTo uuid geometry number end log
     → IsListUpTo log.uploads.uuid log.batch.geometry log.uploads.window.last log.uploads.queue.end log
 own_list uuid geometry number end log is =
     subst (λ u. IsListUpTo u log.batch.geometry log.uploads.window.last log.uploads.queue.end log) (sym is.uuid_is)
@@ -44,7 +46,8 @@ own_list uuid geometry number end log is =
     (subst (λ e. IsListUpTo uuid geometry number e log) (sym is.end_is) is)))
 
 -- and with the next object it is one
-pub list_more : (uuid : List ℕ) (geometry : Geometry) (number before end : ℕ) (rows : List DataRow) (receipt : ReceiptState) (old new : ObjLogState)
+pub list_more : (uuid : List ℕ) (geometry : Geometry) (number before end : ℕ) (rows : List DataRow) (receipt : ReceiptState)
+    (old new : ObjLogState)
     → IsListUpTo uuid geometry number before old → HasAdoptedObject rows end receipt old new
     → IsListUpTo uuid geometry new.uploads.window.last new.uploads.queue.end new
 list_more uuid geometry number before end rows receipt old new is adopted =
@@ -68,7 +71,8 @@ list_more uuid geometry number before end rows receipt old new is adopted =
 keeps_same : (volume : Expected) (objects : Objects) (log : ObjLogState) → KeepsStreams volume objects log log
 keeps_same volume objects log uuid_at stream number has from to list = (omega arith, to, list)
 
-keeps_more : (volume : Expected) (objects : Objects) (a b c : ObjLogState) → KeepsStreams volume objects a b → KeepsStreams volume objects b c
+keeps_more : (volume : Expected) (objects : Objects) (a b c : ObjLogState) → KeepsStreams volume objects a b
+    → KeepsStreams volume objects b c
     → KeepsStreams volume objects a c
 keeps_more volume objects a b c first second uuid_at stream number has from to list =
     let mid = first uuid_at stream number has from to list in
@@ -76,37 +80,46 @@ keeps_more volume objects a b c first second uuid_at stream number has from to l
     (omega (arith, mid.0, last.0), last.1, last.2)
 
 -- an object that is adopted, which the store has
-adopted_keeps : (volume : Expected) (objects : Objects) (Tells : Type 0) (uuid : List ℕ) (geometry : Geometry) (before : ℕ) (old new : ObjLogState)
+adopted_keeps : (volume : Expected) (objects : Objects) (Tells : Type 0) (uuid : List ℕ) (geometry : Geometry) (before : ℕ)
+    (old new : ObjLogState)
     → volume.sectors < 2 ^ 64
-    → expected_of_volume old ≡ volume → IsListUpTo uuid geometry old.uploads.window.last before old → Tells → AdoptsNext Tells (Some objects) old new
+    → expected_of_volume old ≡ volume → IsListUpTo uuid geometry old.uploads.window.last before old → Tells
+    → AdoptsNext Tells (Some objects) old new
     → KeepsStreams volume objects old new
-adopted_keeps volume objects Tells uuid geometry before old new wide same_volume is tells adopts uuid_at stream number has from to list =
+adopted_keeps volume objects Tells uuid geometry before old new wide same_volume is tells adopts uuid_at stream number has
+    from to list =
     let there = adopts.stored tells in
     let at = old.uploads.window.last in
     let last : new.uploads.window.last ≡ at + 1 = ap (λ (w : WindowState). w.last) adopts.adopted.uploads.window in
     let present : found objects (name_of volume.uuid (at + 1)) ≡ Some there.bytes =
     ap (λ (v : Expected). found objects (name_of v.uuid (at + 1))) (sym same_volume) ∙ there.present in
     let below = missing_at volume uuid_at objects stream number wide has at there.bytes to present in
-    let more = one_more volume uuid_at objects stream number wide has at from below old new adopts.rows adopts.end adopts.receipt same_volume refl is.sealed is.entries
+    let more = one_more volume uuid_at objects stream number wide has at from below old new adopts.rows adopts.end adopts.receipt
+    same_volume refl is.sealed is.entries
     adopts.order adopts.adopted list there in
     (omega (arith, last), omega (arith, last, below), subst (λ n. HasStreamTo volume.sectors stream n new) (sym last) more)
 
 -- so it is where the store tells its objects
 pub told_more : (told : Option Objects) (volume : Expected) (Tells : Type 0) (uuid : List ℕ) (geometry : Geometry) (before : ℕ)
     (begun old new : ObjLogState) → volume.sectors < 2 ^ 64
-    → expected_of_volume old ≡ volume → IsListUpTo uuid geometry old.uploads.window.last before old → Tells → AdoptsNext Tells told old new
-    → IfSome told (λ objects. KeepsStreams volume objects begun old) → IfSome told (λ objects. KeepsStreams volume objects begun new)
+    → expected_of_volume old ≡ volume → IsListUpTo uuid geometry old.uploads.window.last before old → Tells
+    → AdoptsNext Tells told old new
+    → IfSome told (λ objects. KeepsStreams volume objects begun old)
+    → IfSome told (λ objects. KeepsStreams volume objects begun new)
 told_more None volume Tells uuid geometry before begun old new wide same_volume is tells adopts keeps = tt
 told_more (Some objects) volume Tells uuid geometry before begun old new wide same_volume is tells adopts keeps =
-    keeps_more volume objects begun old new keeps (adopted_keeps volume objects Tells uuid geometry before old new wide same_volume is tells adopts)
+    keeps_more volume objects begun old new keeps (adopted_keeps volume objects Tells uuid geometry before old new wide
+    same_volume is tells adopts)
 
-pub told_same : (told : Option Objects) (volume : Expected) (log : ObjLogState) → IfSome told (λ objects. KeepsStreams volume objects log log)
+pub told_same : (told : Option Objects) (volume : Expected) (log : ObjLogState)
+    → IfSome told (λ objects. KeepsStreams volume objects log log)
 told_same None volume log = tt
 told_same (Some objects) volume log = keeps_same volume objects log
 
 -- ---- the objects that are good
 
-module _ (volume : Expected) (log : ObjLogState) (uuid : List ℕ) (geometry : Geometry) (same_volume : expected_of_volume log ≡ volume)
+module _ (volume : Expected) (log : ObjLogState) (uuid : List ℕ) (geometry : Geometry)
+    (same_volume : expected_of_volume log ≡ volume)
     (is : IsListUpTo uuid geometry log.uploads.window.last log.uploads.queue.end log) where
   -- what is expected of the next object, by how far those of the list were judged
   next_after : next_of log ≡ expected_after volume (log.uploads.window.last + 1) (Some log.uploads.queue.end)
@@ -124,7 +137,8 @@ module _ (volume : Expected) (log : ObjLogState) (uuid : List ℕ) (geometry : G
   adopted_good : (objects : Objects) (Tells : Type 0) (new : ObjLogState) → Tells → AdoptsNext Tells (Some objects) log new
       → KeepsGood volume objects log new
   adopted_good objects Tells new tells adopts base reached =
-      let last : log.uploads.window.last + 1 ≡ new.uploads.window.last = sym (ap (λ (w : WindowState). w.last) adopts.adopted.uploads.window) in
+      let last : log.uploads.window.last + 1 ≡ new.uploads.window.last =
+      sym (ap (λ (w : WindowState). w.last) adopts.adopted.uploads.window) in
       let end : adopts.end ≡ new.uploads.queue.end = sym adopts.adopted.uploads.settled.ends in
       let there = subst (λ e. IsStoredAs objects e adopts.rows adopts.end adopts.receipt) next_after (adopts.stored tells) in
       let expected = expected_after volume (log.uploads.window.last + 1) (Some log.uploads.queue.end) in
@@ -133,17 +147,21 @@ module _ (volume : Expected) (log : ObjLogState) (uuid : List ℕ) (geometry : G
       let ends = subst (λ e. IsEndOf there.bytes (length there.bytes) expected (Some e)) (there.end_is ∙ end) own in
       let Next : ℕ → Reached = λ n. record { number = n; end = Some new.uploads.queue.end; refused = None } in
       subst (λ n. IsReached volume objects base (Next n)) last
-      (reached_next volume objects base (reached_by log) reached there.bytes adopts.named there.present (Some new.uploads.queue.end) None ends
+      (reached_next volume objects base (reached_by log) reached there.bytes adopts.named there.present
+      (Some new.uploads.queue.end) None ends
       (there.header, Data there.list, whole))
 
 -- so they are where the store tells its objects
-pub told_good : (told : Option Objects) (volume : Expected) (Tells : Type 0) (uuid : List ℕ) (geometry : Geometry) (begun old new : ObjLogState)
-    → expected_of_volume old ≡ volume → IsListUpTo uuid geometry old.uploads.window.last old.uploads.queue.end old → Tells → AdoptsNext Tells told old new
+pub told_good : (told : Option Objects) (volume : Expected) (Tells : Type 0) (uuid : List ℕ) (geometry : Geometry)
+    (begun old new : ObjLogState)
+    → expected_of_volume old ≡ volume → IsListUpTo uuid geometry old.uploads.window.last old.uploads.queue.end old → Tells
+    → AdoptsNext Tells told old new
     → IfSome told (λ objects. KeepsGood volume objects begun old) → IfSome told (λ objects. KeepsGood volume objects begun new)
 told_good None volume Tells uuid geometry begun old new same_volume is tells adopts keeps = tt
 told_good (Some objects) volume Tells uuid geometry begun old new same_volume is tells adopts keeps = λ base reached.
     adopted_good volume old uuid geometry same_volume is objects Tells new tells adopts base (keeps base reached)
 
-pub told_still : (told : Option Objects) (volume : Expected) (log : ObjLogState) → IfSome told (λ objects. KeepsGood volume objects log log)
+pub told_still : (told : Option Objects) (volume : Expected) (log : ObjLogState)
+    → IfSome told (λ objects. KeepsGood volume objects log log)
 told_still None volume log = tt
 told_still (Some objects) volume log = λ base reached. reached

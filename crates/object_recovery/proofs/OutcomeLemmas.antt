@@ -1,5 +1,6 @@
 -- What comes of a recovery, by what was adopted and how the others were judged.
-use Rattle.std.proofs.Common.{◌≡◌, ℕ, ◌+◌, ◌-◌, ◌^◌, ◌<◌, ◌≤◌, inl, inr, false, Option, Some, None, List, length, refl, sym, ◌∙◌, ap, subst, arith}
+use Rattle.std.proofs.Common.{◌≡◌, ℕ, ◌+◌, ◌-◌, ◌^◌, ◌<◌, ◌≤◌, inl, inr, false, Option, Some, None, List, length, refl, sym, ◌∙◌}
+use Rattle.std.proofs.Common.{ap, subst, arith}
 use Rattle.std.specs.Prelude.{IfSome}
 use Rattle.lsvd_base.specs.declared.geometry.Geometry.{Geometry}
 use Rattle.lsvd_names.specs.declared.name.ObjName.{ObjName}
@@ -19,7 +20,8 @@ use Rattle.object_recovery.specs.Checkpoints.{expected_of, IsNewestWithEnd}
 use Rattle.object_recovery.specs.Faults.{of_refusal, is_store_fault, IsNoAnswer}
 use Rattle.object_recovery.specs.Judging.{AreGood, HaveLanded, IsRun}
 use Rattle.object_recovery.specs.Judged.{IsVerdict, IsReached, IsGap, JudgesPast, StaysRefused}
-use Rattle.object_recovery.specs.Adoption.{IsWhyLeft, HasEndedAt, KeepsGood, reached_by, ReachesGap, JudgesRest, RefusesRest, IsBegun, Recovers}
+use Rattle.object_recovery.specs.Adoption.{IsWhyLeft, HasEndedAt, KeepsGood, reached_by, ReachesGap, JudgesRest, RefusesRest}
+use Rattle.object_recovery.specs.Adoption.{IsBegun, Recovers}
 use Rattle.object_recovery.specs.Recovery.{IsListUpTo, KeepsStreams, AreAllGood, AreNamedWholePast, IsWhyRefused, IsRefused}
 use Rattle.object_recovery.proofs.EndLemmas.{alone_object}
 use Rattle.object_recovery.proofs.ListLemmas.{left_good}
@@ -41,7 +43,11 @@ module _ (volume : Expected) (objects : Objects) (base base_end : ℕ) (newest :
       record {
         from = omega arith;
         landed = λ number past to. absurd (omega (arith, past, to));
-        has_end = record { bytes = is.bytes; present = is.present; is_end = (is.header, Checkpoint, is.parts.is_object, is.ends) };
+        has_end = record {
+          bytes = is.bytes;
+          present = is.present;
+          is_end = (is.header, Checkpoint, is.parts.is_object, is.ends);
+        };
         verdict = λ last to number bytes such fits there. absurd (omega (arith, such.0, such.1));
       }
 
@@ -57,7 +63,8 @@ module _ (volume : Expected) (objects : Objects) (base base_end : ℕ) (newest :
 
   module _ (log : ObjLogState) (same_volume : expected_of_volume log ≡ volume) (uuid : List ℕ) (geometry : Geometry)
       (list : IsListUpTo uuid geometry log.uploads.window.last log.uploads.queue.end log)
-      (reached : IsReached volume objects base (reached_by log)) (names : List ObjName) (listed : Lists volume.uuid objects names) where
+      (reached : IsReached volume objects base (reached_by log)) (names : List ObjName)
+      (listed : Lists volume.uuid objects names) where
     is_run : (gap : Reached) → IsReached volume objects base gap → IsGap volume objects gap → IsRun volume objects base gap.number
     is_run gap is missing = record { end = base_end; newest = newest; from = is.from; landed = is.landed; missing = missing }
 
@@ -65,12 +72,16 @@ module _ (volume : Expected) (objects : Objects) (base base_end : ℕ) (newest :
         → IsReached volume objects base gap × IsGap volume objects gap
     gap_reached None gap ended reaches =
         let missing : IsGap volume objects (reached_by log) =
-        subst (λ (v : Expected). log.uploads.window.last + 1 < 2 ^ 64 → found objects (name_of v.uuid (log.uploads.window.last + 1)) ≡ None) same_volume ended in
+        subst (λ (v : Expected). log.uploads.window.last + 1 < 2 ^ 64
+        → found objects (name_of v.uuid (log.uploads.window.last + 1)) ≡ None) same_volume ended in
         (subst (IsReached volume objects base) (sym reaches) reached, subst (IsGap volume objects) (sym reaches) missing)
-    gap_reached (Some left) gap ended reaches =
-        (reaches.reached base (left_good volume log uuid geometry same_volume list objects base left ended reached), reaches.missing)
+    gap_reached (Some left) gap ended reaches = (
+      reaches.reached base (left_good volume log uuid geometry same_volume list objects base left ended reached),
+      reaches.missing,
+    )
 
-    pub are_judged : (left : Option Reached) (refused : Option Refusal) → HasEndedAt objects log left → JudgesRest objects log names left refused
+    pub are_judged : (left : Option Reached) (refused : Option Refusal) → HasEndedAt objects log left
+        → JudgesRest objects log names left refused
         → AreJudged volume objects base refused
     are_judged left refused ended rest =
         let reaches = subst (λ v. ReachesGap v objects log left rest.gap) same_volume rest.reaches in
@@ -85,7 +96,8 @@ module _ (volume : Expected) (objects : Objects) (base base_end : ℕ) (newest :
     pub none_next : (left : Option Reached) → HasEndedAt objects log left → JudgesRest objects log names left None
         → log.uploads.window.last + 1 < 2 ^ 64 - 1 → found objects (name_of volume.uuid (log.uploads.window.last + 1)) ≡ None
     none_next None ended rest low =
-        subst (λ (v : Expected). found objects (name_of v.uuid (log.uploads.window.last + 1)) ≡ None) same_volume (ended (omega (arith, low)))
+        subst (λ (v : Expected). found objects (name_of v.uuid (log.uploads.window.last + 1)) ≡ None) same_volume
+        (ended (omega (arith, low)))
     none_next (Some left) ended rest low =
         let none : left.refused ≡ None = rest.reaches.stays (rest.stays refl) in
         let why = subst (IsWhyLeft ended.bytes (length ended.bytes) (next_of log)) none ended.left.why in
@@ -106,7 +118,8 @@ module _ (volume : Expected) (objects : Objects) (base : ℕ) where
       subst (λ b. IsWhole (expected_alone volume other) b) same
       (whole.0, whole.1, alone_object good.bytes (length good.bytes) expected whole.0 whole.1 whole.2)
 
-  pub why_refused : (refusal : Refusal) → AreJudged volume objects base (Some refusal) → IsWhyRefused volume objects (of_refusal refusal)
+  pub why_refused : (refusal : Refusal) → AreJudged volume objects base (Some refusal)
+      → IsWhyRefused volume objects (of_refusal refusal)
   why_refused (refusals.Bad number reason) is =
       let verdict = is.verdict in (
         base,
@@ -124,10 +137,12 @@ module _ (volume : Expected) (objects : Objects) (base : ℕ) where
 
 -- ---- a recovery
 
-module _ (uuid : List ℕ) (geometry : Geometry) (base end : ℕ) (begun log : ObjLogState) (names : List ObjName) (left : Option Reached)
+module _ (uuid : List ℕ) (geometry : Geometry) (base end : ℕ) (begun log : ObjLogState) (names : List ObjName)
+    (left : Option Reached)
     (wide : geometry.sectors < 2 ^ 64) (new : IsNewList uuid geometry base end begun)
     (list : IsListUpTo uuid geometry log.uploads.window.last log.uploads.queue.end log) (objects : Objects)
-    (streams : KeepsStreams (expected_of_volume begun) objects begun log) (good : KeepsGood (expected_of_volume begun) objects begun log)
+    (streams : KeepsStreams (expected_of_volume begun) objects begun log)
+    (good : KeepsGood (expected_of_volume begun) objects begun log)
     (ended : HasEndedAt objects log left) (from : IsBegun uuid geometry base end names objects) where
   abbrev volume : Expected
   volume = expected_of uuid geometry
@@ -145,12 +160,14 @@ module _ (uuid : List ℕ) (geometry : Geometry) (base end : ℕ) (begun log : O
       (begun_reached volume objects base end from.newest uuid geometry begun new)
 
   judged : (refused : Option Refusal) → JudgesRest objects log names left refused → AreJudged volume objects base refused
-  judged refused rest = are_judged volume objects base end from.newest log log_volume uuid geometry list log_reached names from.listed left refused ended rest
+  judged refused rest = are_judged volume objects base end from.newest log log_volume uuid geometry list log_reached names
+      from.listed left refused ended rest
 
   recovers : JudgesRest objects log names left None → Recovers volume base objects log
   recovers rest = record {
     recovered = λ low.
-        let absent = none_next volume objects base end from.newest log log_volume uuid geometry list log_reached names from.listed left ended rest low in
+        let absent = none_next volume objects base end from.newest log log_volume uuid geometry list log_reached names from.listed
+        left ended rest low in
         is_recovered volume objects base end wide from.newest uuid geometry begun log new
         (subst (λ v. KeepsStreams v objects begun log) begun_volume streams) list log_reached.from log_reached.landed absent;
     no_longer = λ uuid_at stream number has.
@@ -172,21 +189,27 @@ module _ (uuid : List ℕ) (geometry : Geometry) (base end : ℕ) (begun log : O
 
 -- ---- where the store tells its objects
 
-module _ (uuid : List ℕ) (geometry : Geometry) (base end : ℕ) (begun log : ObjLogState) (names : List ObjName) (left : Option Reached)
+module _ (uuid : List ℕ) (geometry : Geometry) (base end : ℕ) (begun log : ObjLogState) (names : List ObjName)
+    (left : Option Reached)
     (wide : geometry.sectors < 2 ^ 64) (new : IsNewList uuid geometry base end begun)
     (list : IsListUpTo uuid geometry log.uploads.window.last log.uploads.queue.end log) where
   pub told_recovers : (told : Option Objects) → IfSome told (λ objects. KeepsStreams (expected_of_volume begun) objects begun log)
-      → IfSome told (λ objects. KeepsGood (expected_of_volume begun) objects begun log) → IfSome told (λ objects. HasEndedAt objects log left)
+      → IfSome told (λ objects. KeepsGood (expected_of_volume begun) objects begun log)
+      → IfSome told (λ objects. HasEndedAt objects log left)
       → IfSome told (λ objects. JudgesRest objects log names left None)
-      → IfSome told (λ objects. IsBegun uuid geometry base end names objects → Recovers (expected_of uuid geometry) base objects log)
+      → IfSome told (λ objects. IsBegun uuid geometry base end names objects
+      → Recovers (expected_of uuid geometry) base objects log)
   told_recovers None streams good ended rest = tt
   told_recovers (Some objects) streams good ended rest = λ from.
       recovers uuid geometry base end begun log names left wide new list objects streams good ended from rest
 
-  pub told_refuses : (told : Option Objects) (error : RecoverError) → IfSome told (λ objects. KeepsStreams (expected_of_volume begun) objects begun log)
-      → IfSome told (λ objects. KeepsGood (expected_of_volume begun) objects begun log) → IfSome told (λ objects. HasEndedAt objects log left)
+  pub told_refuses : (told : Option Objects) (error : RecoverError)
+      → IfSome told (λ objects. KeepsStreams (expected_of_volume begun) objects begun log)
+      → IfSome told (λ objects. KeepsGood (expected_of_volume begun) objects begun log)
+      → IfSome told (λ objects. HasEndedAt objects log left)
       → IfSome told (λ objects. RefusesRest objects log names left error)
-      → IfSome told (λ objects. IsBegun uuid geometry base end names objects → IsRefused (expected_of uuid geometry) objects error)
+      → IfSome told (λ objects. IsBegun uuid geometry base end names objects
+      → IsRefused (expected_of uuid geometry) objects error)
   told_refuses None error streams good ended refused = tt
   told_refuses (Some objects) error streams good ended refused = λ from.
       refuses uuid geometry base end begun log names left wide new list objects streams good ended from error refused
@@ -201,9 +224,11 @@ pub no_fault : (refusal : Refusal) → is_store_fault (of_refusal refusal) ≡ f
 no_fault (refusals.Bad number reason) = refl
 no_fault (refusals.NotData number) = refl
 
-pub told_rest : (told : Option Objects) (log : ObjLogState) (volume : Expected) (names : List ObjName) (left : Option Reached) (gap : Reached)
+pub told_rest : (told : Option Objects) (log : ObjLogState) (volume : Expected) (names : List ObjName) (left : Option Reached)
+    (gap : Reached)
     (refused : Option Refusal) → volume ≡ expected_of_volume log → StaysRefused gap.refused refused
-    → IfSome told (λ objects. ReachesGap volume objects log left gap) → IfSome told (λ objects. JudgesPast volume objects names gap refused)
+    → IfSome told (λ objects. ReachesGap volume objects log left gap)
+    → IfSome told (λ objects. JudgesPast volume objects names gap refused)
     → IfSome told (λ objects. JudgesRest objects log names left refused)
 told_rest None log of_volume names left gap refused same stays reaches past = tt
 told_rest (Some objects) log of_volume names left gap refused same stays reaches past = record {
@@ -213,14 +238,17 @@ told_rest (Some objects) log of_volume names left gap refused same stays reaches
   stays = stays;
 }
 
-pub told_refusal : (told : Option Objects) (log : ObjLogState) (names : List ObjName) (left : Option Reached) (refusal : Refusal) (error : RecoverError)
+pub told_refusal : (told : Option Objects) (log : ObjLogState) (names : List ObjName) (left : Option Reached) (refusal : Refusal)
+    (error : RecoverError)
     → error ≡ of_refusal refusal → IfSome told (λ objects. JudgesRest objects log names left (Some refusal))
     → IfSome told (λ objects. RefusesRest objects log names left error)
 told_refusal None log names left refusal error same rest = tt
 told_refusal (Some objects) log names left refusal error same rest = inr (refusal, same, rest)
 
-pub told_begun : (told : Option Objects) (uuid : List ℕ) (geometry : Geometry) (base end : ℕ) (names : List ObjName) (P : Objects → Type 0)
-    → IfSome told (λ objects. IsNewestWithEnd (expected_of uuid geometry) objects base end) → IfSome told (λ objects. Lists uuid objects names)
+pub told_begun : (told : Option Objects) (uuid : List ℕ) (geometry : Geometry) (base end : ℕ) (names : List ObjName)
+    (P : Objects → Type 0)
+    → IfSome told (λ objects. IsNewestWithEnd (expected_of uuid geometry) objects base end)
+    → IfSome told (λ objects. Lists uuid objects names)
     → IfSome told (λ objects. IsBegun uuid geometry base end names objects → P objects) → IfSome told P
 told_begun None uuid geometry base end names P newest listed so = tt
 told_begun (Some objects) uuid geometry base end names P newest listed so = so (record { newest = newest; listed = listed })

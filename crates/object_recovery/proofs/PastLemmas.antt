@@ -1,5 +1,6 @@
 -- The objects past the first missing number, judged by their names.
-use Rattle.std.proofs.Common.{◌≡◌, ℕ, ◌+◌, ◌^◌, ◌<◌, ◌≤◌, inl, inr, Option, Some, None, List, length, refl, sym, ◌∙◌, ap, subst, arith, rules}
+use Rattle.std.proofs.Common.{◌≡◌, ℕ, ◌+◌, ◌^◌, ◌<◌, ◌≤◌, inl, inr, Option, Some, None, List, length, refl, sym, ◌∙◌, ap, subst}
+use Rattle.std.proofs.Common.{arith, rules}
 use Rattle.std.specs.Prelude.{◌⊎◌, IfSome, slice_index_or}
 use Rattle.std.specs.Option.{IsSome}
 use Rattle.std.proofs.lemmas.Bool.{cases_lt}
@@ -15,7 +16,8 @@ use Rattle.object_stream.specs.Replay.{name_of}
 use Rattle.stopped_volume.specs.Objects.{expected_alone}
 use Rattle.object_recovery.specs.declared.judging.Reached.{Reached}
 use Rattle.object_recovery.specs.declared.judging.Refusal.{Refusal}
-use Rattle.object_recovery.specs.Judged.{IsBadFor, IsVerdict, IsReached, IsAmong, IsJudgedAlone, JudgesPast, StaysRefused, refused_with}
+use Rattle.object_recovery.specs.Judged.{IsBadFor, IsVerdict, IsReached, IsAmong, IsJudgedAlone, JudgesPast, StaysRefused}
+use Rattle.object_recovery.specs.Judged.{refused_with}
 use Rattle.object_recovery.specs.Removal.{IsPast}
 use Rattle.object_recovery.proofs.CheckpointLemmas.{name_order}
 use Rattle.object_recovery.proofs.EndLemmas.{before_past}
@@ -55,7 +57,8 @@ module _ (volume : Expected) (objects : Objects) (names : List ObjName) (base : 
       of_volume = (listed.present name (k, inside, at)).1
 
       -- one more name
-      last_among : (number : ℕ) → IsAmong volume.uuid names (k + 1) number → IsAmong volume.uuid names k number ⊎ (name_of volume.uuid number ≡ name)
+      last_among : (number : ℕ) → IsAmong volume.uuid names (k + 1) number → IsAmong volume.uuid names k number
+          ⊎ (name_of volume.uuid number ≡ name)
       last_among number among =
           elim (cases_lt among.0 k) [
             | inl low ↦ inl (among.0, low, among.2, among.3)
@@ -123,7 +126,10 @@ module _ (volume : Expected) (objects : Objects) (names : List ObjName) (base : 
         cover number more =
             elim more.1 [
               | inl to ↦ inl (more.0, inl to)
-              | inr among ↦ elim (last_among number among) [ inl before ↦ inl (more.0, inr before) | inr same ↦ inr (number_of number same) ]
+              | inr among ↦ elim (last_among number among) [
+                | inl before ↦ inl (more.0, inr before)
+                | inr same ↦ inr (number_of number same)
+              ]
             ]
 
         past_more : (old new : Option Refusal) → IsJudgedAlone volume objects name.number old new
@@ -142,7 +148,8 @@ module _ (volume : Expected) (objects : Objects) (names : List ObjName) (base : 
               | inr some ↦
                   subst (IsVerdict volume objects gap.number (By (k + 1))) (sym some.5)
                   (verdict_more volume objects gap.number (By k) (By (k + 1)) name.number some.0 None some.2 some.3
-                  (before_past volume objects gap.number name.number past.1) among_more more_names cover most some.1 old some.4 is)
+                  (before_past volume objects gap.number name.number past.1) among_more more_names cover most some.1
+                  old some.4 is)
             ]
 
 -- ---- where the store tells its objects
@@ -158,20 +165,24 @@ pub told_begin : (told : Option Objects) (volume : Expected) (names : List ObjNa
 told_begin None volume names gap = tt
 told_begin (Some objects) volume names gap = λ base listed is. past_begin volume objects names base gap is
 
-pub told_end : (told : Option Objects) (volume : Expected) (names : List ObjName) (gap : Reached) (refused : Option Refusal) → IsUuid volume.uuid
-    → IfSome told (IsJudgedBy volume names gap (length names) refused) → IfSome told (λ objects. JudgesPast volume objects names gap refused)
+pub told_end : (told : Option Objects) (volume : Expected) (names : List ObjName) (gap : Reached) (refused : Option Refusal)
+    → IsUuid volume.uuid
+    → IfSome told (IsJudgedBy volume names gap (length names) refused)
+    → IfSome told (λ objects. JudgesPast volume objects names gap refused)
 told_end None volume names gap refused is_uuid judged = tt
 told_end (Some objects) volume names gap refused is_uuid judged = λ base listed is.
     past_end volume objects names base gap listed refused is_uuid (judged base listed is)
 
-pub told_skip : (told : Option Objects) (volume : Expected) (names : List ObjName) (gap : Reached) (refused : Option Refusal) (k : ℕ) (name : ObjName)
+pub told_skip : (told : Option Objects) (volume : Expected) (names : List ObjName) (gap : Reached) (refused : Option Refusal)
+    (k : ℕ) (name : ObjName)
     → k < length names → slice_index_or names k name ≡ name → (IsPast gap.number name → ⊥)
     → IfSome told (IsJudgedBy volume names gap k refused) → IfSome told (IsJudgedBy volume names gap (k + 1) refused)
 told_skip None volume names gap refused k name inside at not judged = tt
 told_skip (Some objects) volume names gap refused k name inside at not judged = λ base listed is.
     past_skip volume objects names base gap listed k name inside at refused not (judged base listed is)
 
-pub told_judged : (told : Option Objects) (volume : Expected) (names : List ObjName) (gap : Reached) (old new : Option Refusal) (k : ℕ) (name : ObjName)
+pub told_judged : (told : Option Objects) (volume : Expected) (names : List ObjName) (gap : Reached) (old new : Option Refusal)
+    (k : ℕ) (name : ObjName)
     → k < length names → slice_index_or names k name ≡ name → IsPast gap.number name
     → IfSome told (λ objects. IsJudgedAlone volume objects name.number old new)
     → IfSome told (IsJudgedBy volume names gap k old) → IfSome told (IsJudgedBy volume names gap (k + 1) new)

@@ -1,5 +1,6 @@
 -- Where the places in the map of a recovered list lie.
-use Rattle.std.proofs.Common.{◌≡◌, ℕ, zero, suc, ◌+◌, ◌-◌, ◌<◌, ◌≤◌, nat_le, cond, Bool, true, false, Option, Some, None, List, [], ◌∷◌, ◌++◌, length, refl, sym, ◌∙◌, ap, subst, arith, length-append}
+use Rattle.std.proofs.Common.{◌≡◌, ℕ, zero, suc, ◌+◌, ◌-◌, ◌<◌, ◌≤◌, nat_le, cond, Bool, true, false, Option, Some, None, List}
+use Rattle.std.proofs.Common.{[], ◌∷◌, ◌++◌, length, refl, sym, ◌∙◌, ap, subst, arith, length-append}
 use Rattle.std.specs.Prelude.{IsTrue, IfSome}
 use Rattle.std.specs.List.{slice_get}
 use Rattle.std.proofs.lemmas.Bool.Decides.{nat_tests}
@@ -29,34 +30,39 @@ some_so P option is x some = subst (λ o. IfSome o P) some is
 -- ---- by rows
 
 module _ (volume payload number front k : ℕ) (Holds : ObjectPlace → Type 0)
-    (own : (at i : ℕ) → k < volume → at + i < payload → Holds (record { level = 0; number = number; sector = front + at + i })) where
-  -- of the place that a row gives a sector which it covers
-  by_place : (stand_at sectors i : ℕ) (place : Option ℕ) → k < volume → i < sectors → IsTrue (is_at stand_at place)
-      → IsTrue (nat_le (stand_at + payload_at sectors place) payload) → IfSome (row_place number front place i) Holds
-  by_place stand_at sectors i None inside low stands within = tt
-  by_place stand_at sectors i (Some at) inside low stands within =
-      let here : at + i < payload = grind (arith, nat_tests) in
-      own at i inside here
+    (own : (at i : ℕ) → k < volume → at + i < payload → Holds (record { level = 0; number = number; sector = front + at + i }))
+  where
+    -- of the place that a row gives a sector which it covers
+    by_place : (stand_at sectors i : ℕ) (place : Option ℕ) → k < volume → i < sectors → IsTrue (is_at stand_at place)
+        → IsTrue (nat_le (stand_at + payload_at sectors place) payload) → IfSome (row_place number front place i) Holds
+    by_place stand_at sectors i None inside low stands within = tt
+    by_place stand_at sectors i (Some at) inside low stands within =
+        let here : at + i < payload = grind (arith, nat_tests) in
+        own at i inside here
 
-  by_test : (test : Bool) (earlier : Option DataRow) (stand_at : ℕ) (row : DataRow) (before : Option ObjectPlace)
-      → is_within row.lba row.sectors k ≡ test → IsTrue (data_may_stand volume payload earlier stand_at row) → IfSome before Holds
-      → IfSome (cond test (row_place number front row.place (k - row.lba)) before) Holds
-  by_test false earlier stand_at row before test stands holds = holds
-  by_test true earlier stand_at row before test stands holds =
-      by_place stand_at row.sectors (k - row.lba) row.place (grind (arith, nat_tests)) (grind (arith, nat_tests))
-      (grind (arith, nat_tests)) (grind (arith, nat_tests))
+    by_test : (test : Bool) (earlier : Option DataRow) (stand_at : ℕ) (row : DataRow) (before : Option ObjectPlace)
+        → is_within row.lba row.sectors k ≡ test → IsTrue (data_may_stand volume payload earlier stand_at row)
+        → IfSome before Holds
+        → IfSome (cond test (row_place number front row.place (k - row.lba)) before) Holds
+    by_test false earlier stand_at row before test stands holds = holds
+    by_test true earlier stand_at row before test stands holds =
+        by_place stand_at row.sectors (k - row.lba) row.place (grind (arith, nat_tests)) (grind (arith, nat_tests))
+        (grind (arith, nat_tests)) (grind (arith, nat_tests))
 
-  pub holds_by_rows : (earlier : Option DataRow) (stand_at : ℕ) (rows : List DataRow) (before : Option ObjectPlace)
-      → IsTrue (data_rows_may_stand volume payload earlier stand_at rows) → IfSome before Holds → IfSome (settled_by number front rows before k) Holds
-  holds_by_rows earlier stand_at [] before stand holds = holds
-  holds_by_rows earlier stand_at (row ∷ rows) before stand holds =
-      let stands : IsTrue (data_may_stand volume payload earlier stand_at row) = grind (arith, nat_tests) in
-      holds_by_rows (Some row) (stand_at + data_payload row) rows (settled_by_row number front row before k) (grind (arith, nat_tests))
-      (by_test (is_within row.lba row.sectors k) earlier stand_at row before refl stands holds)
+    pub holds_by_rows : (earlier : Option DataRow) (stand_at : ℕ) (rows : List DataRow) (before : Option ObjectPlace)
+        → IsTrue (data_rows_may_stand volume payload earlier stand_at rows) → IfSome before Holds
+        → IfSome (settled_by number front rows before k) Holds
+    holds_by_rows earlier stand_at [] before stand holds = holds
+    holds_by_rows earlier stand_at (row ∷ rows) before stand holds =
+        let stands : IsTrue (data_may_stand volume payload earlier stand_at row) = grind (arith, nat_tests) in
+        holds_by_rows (Some row) (stand_at + data_payload row) rows (settled_by_row number front row before k)
+        (grind (arith, nat_tests))
+        (by_test (is_within row.lba row.sectors k) earlier stand_at row before refl stands holds)
 
 -- ---- receipts
 
-inside_among : (list more : List ReceiptState) (i at : ℕ) → IsInsideObject (slice_get list i) at → IsInsideObject (slice_get (list ++ more) i) at
+inside_among : (list more : List ReceiptState) (i at : ℕ) → IsInsideObject (slice_get list i) at
+    → IsInsideObject (slice_get (list ++ more) i) at
 inside_among [] more i at inside = absurd inside
 inside_among (first ∷ list) more zero at inside = inside
 inside_among (first ∷ list) more (suc i) at inside = inside_among list more i at inside
@@ -111,7 +117,8 @@ places_more sectors end rows expected receipt old new within same read next insi
     λ stand_at i low below. (
       low,
       refl,
-      subst (λ r. IsInsideObject r (front_of rows + stand_at + i)) (sym (own_receipt old new receipt within next.frontier next.receipts))
+      subst (λ r. IsInsideObject r (front_of rows + stand_at + i))
+          (sym (own_receipt old new receipt within next.frontier next.receipts))
           (omega (arith, object.head.has_size, front, below)),
     ) in
     let before : IfSome (settled_at old.maps k) Holds =
@@ -120,7 +127,8 @@ places_more sectors end rows expected receipt old new within same read next insi
     (was.0, was.1, still_inside old new receipt within next.frontier next.receipts p.number p.sector was.2)) in
     some_so Holds (settled_at new.maps k)
     (subst (λ o. IfSome o Holds) (sym (next.settled k))
-    (holds_by_rows sectors payload (old.frontier + 1) (front_of rows) k Holds own None 0 rows (settled_at old.maps k) stand before)) place at
+    (holds_by_rows sectors payload (old.frontier + 1) (front_of rows) k Holds own None 0 rows (settled_at old.maps k) stand
+    before)) place at
 
 -- a list without places has them so
 pub no_places : (sectors : ℕ) (queue : QueueState) → queue.maps.settled.rows ≡ [] → HasPlacesInside sectors queue

@@ -1,5 +1,6 @@
 -- What is read in the first bytes of an object is so of the whole.
-use Rattle.std.proofs.Common.{◌≡◌, ℕ, ◌+◌, ◌-◌, ◌*◌, ◌<◌, ◌≤◌, inl, inr, min, Option, Some, None, List, length, take, drop, refl, sym, ◌∙◌, ap, subst, arith}
+use Rattle.std.proofs.Common.{◌≡◌, ℕ, ◌+◌, ◌-◌, ◌*◌, ◌<◌, ◌≤◌, inl, inr, min, Option, Some, None, List, length, take, drop, refl}
+use Rattle.std.proofs.Common.{sym, ◌∙◌, ap, subst, arith}
 use Rattle.std.specs.Prelude.{IsTrue, IfSome}
 use Rattle.std.specs.Int.{w64}
 use Rattle.std.specs.Option.{IsSome, IsSomeAnd}
@@ -66,7 +67,8 @@ moved_header bytes others size expected header same is = record {
 front_long : (header : Header) → 64 ≤ 512 * front_sectors header
 front_long header = omega (arith, rows_end_first header)
 
-module _ (all bytes : List ℕ) (first : AreFirstOf (Some all) bytes) (size : ℕ) (expected : Expected) (header : Header) (rows : Rows)
+module _ (all bytes : List ℕ) (first : AreFirstOf (Some all) bytes) (size : ℕ) (expected : Expected) (header : Header)
+    (rows : Rows)
     (long : 512 * front_sectors header ≤ length bytes) where
   rows_in_all : bytes_at 64 (rows_length header.kind header.rows) bytes ≡ bytes_at 64 (rows_length header.kind header.rows) all
   rows_in_all = part_of_all all bytes first 64 (rows_length header.kind header.rows) (omega (arith, rows_end_first header))
@@ -135,11 +137,13 @@ is_last reasons.Counts from = absurd (omega (arith, from))
 is_last reasons.Rows from = refl
 
 -- what begins with no header is refused for its first bytes
-refused_head : (bytes others : List ℕ) (size : ℕ) (expected : Expected) (reason : reason_type.BadObject) → take 64 bytes ≡ take 64 others
+refused_head : (bytes others : List ℕ) (size : ℕ) (expected : Expected) (reason : reason_type.BadObject)
+    → take 64 bytes ≡ take 64 others
     → ((header : Header) → IsHeader bytes size expected header → ⊥)
     → IsRefusedAs bytes size expected reason → IsRefusedAs others size expected reason
 refused_head bytes others size expected reason same none refused = record {
-  earlier = λ other below. same_test bytes others size expected other (omega (arith, below, last_test reason)) same (refused.earlier other below);
+  earlier = λ other below. same_test bytes others size expected other (omega (arith, below, last_test reason)) same
+      (refused.earlier other below);
   failed = λ passes.
       elim (cases_lt (code_of reason) 8) [
         | inl low ↦ refused.failed (same_test others bytes size expected reason low (sym same) passes)
@@ -151,7 +155,8 @@ refused_head bytes others size expected reason same none refused = record {
 }
 
 -- an object is refused for its rows where its front is
-refused_front : (all bytes : List ℕ) (size : ℕ) (expected : Expected) (header : Header) (reason : reason_type.BadObject) → AreFirstOf (Some all) bytes
+refused_front : (all bytes : List ℕ) (size : ℕ) (expected : Expected) (header : Header) (reason : reason_type.BadObject)
+    → AreFirstOf (Some all) bytes
     → IsHeader bytes size expected header → 512 * front_sectors header ≤ length bytes → reason ≡ reasons.Rows
     → IsRefusedAs bytes size expected reason → IsRefusedAs all size expected reason
 refused_front all bytes size expected header reason first is long rows refused =
@@ -162,7 +167,8 @@ refused_front all bytes size expected header reason first is long rows refused =
     (header, others, front_of_object all bytes first size expected header others long object))))
 
 -- what is refused is no object
-pub refused_is_none : (bytes : List ℕ) (size : ℕ) (expected : Expected) (reason : reason_type.BadObject) → IsRefusedAs bytes size expected reason
+pub refused_is_none : (bytes : List ℕ) (size : ℕ) (expected : Expected) (reason : reason_type.BadObject)
+    → IsRefusedAs bytes size expected reason
     → (header : Header) (rows : Rows) → IsObject bytes size expected header rows → ⊥
 refused_is_none bytes size expected reason refused header rows is =
     elim (cases_lt (code_of reason) 8) [
@@ -173,7 +179,8 @@ refused_is_none bytes size expected reason refused header rows is =
 -- ---- what the reads say of the object
 
 -- the bytes of a header are 64
-header_long : (bytes : List ℕ) (size : ℕ) (expected : Expected) (header : Header) → IsHeader bytes size expected header → 64 ≤ length bytes
+header_long : (bytes : List ℕ) (size : ℕ) (expected : Expected) (header : Header) → IsHeader bytes size expected header
+    → 64 ≤ length bytes
 header_long bytes size expected header is =
     omega (arith, ap length is.head, length-header_bytes header is.widths.uuid, length-take 64 bytes)
 
@@ -196,7 +203,8 @@ same_head all bytes size count first whole =
     ]
 
 -- they are refused as the whole is
-pub why_no_header : (receipt : ReceiptState) (expected : Expected) (bytes : List ℕ) (reason : reason_type.BadObject) → AreFirstOf receipt.told bytes
+pub why_no_header : (receipt : ReceiptState) (expected : Expected) (bytes : List ℕ) (reason : reason_type.BadObject)
+    → AreFirstOf receipt.told bytes
     → length bytes ≡ min receipt.size 64 → IfSome receipt.told (λ told. receipt.size ≡ length told)
     → ((header : Header) → IsHeader bytes receipt.size expected header → ⊥)
     → IsRefusedAs bytes receipt.size expected reason → IsWhyNotRead receipt expected (BadObject expected.number reason)
@@ -205,7 +213,8 @@ why_no_header receipt expected bytes reason first count whole none refused = (re
     of_told : (told : Option (List ℕ)) → AreFirstOf told bytes → IfSome told (λ all. receipt.size ≡ length all)
         → IfSome told (λ all. IsRefusedAs all receipt.size expected reason)
     of_told None first whole = tt
-    of_told (Some all) first whole = refused_head bytes all receipt.size expected reason (same_head all bytes receipt.size count first whole) none refused
+    of_told (Some all) first whole = refused_head bytes all receipt.size expected reason
+        (same_head all bytes receipt.size count first whole) none refused
 
 -- the header of the first bytes is that of the whole
 pub header_of_all : (all bytes : List ℕ) → AreFirstOf (Some all) bytes → (size : ℕ) (expected : Expected) (header : Header)
@@ -214,18 +223,22 @@ header_of_all all bytes first size expected header is =
     moved_header bytes all size expected header (head_of_all all bytes first (header_long bytes size expected header is)) is
 
 -- a checkpoint has no rows
-checkpoint_has_no_rows : (volume : ℕ) (header : Header) (rows : Rows) → header.kind ≡ kinds.Checkpoint → AreRowsOf volume header rows
+checkpoint_has_no_rows : (volume : ℕ) (header : Header) (rows : Rows) → header.kind ≡ kinds.Checkpoint
+    → AreRowsOf volume header rows
     → header.rows ≡ 0
 checkpoint_has_no_rows volume header (rows_of.Data rows) kind are = let other = are.kind in cc
 checkpoint_has_no_rows volume header (rows_of.Copy rows) kind are = let other = are.kind in cc
 checkpoint_has_no_rows volume header rows_of.Checkpoint kind are = sym are.count
 
 -- one with rows is refused for them
-pub why_no_checkpoint : (receipt : ReceiptState) (expected : Expected) (bytes : List ℕ) (header : Header) → IsHeaderOf receipt expected bytes header
-    → header.kind ≡ kinds.Checkpoint → (header.rows ≡ 0 → ⊥) → IsWhyNotRead receipt expected (BadObject expected.number reasons.Rows)
+pub why_no_checkpoint : (receipt : ReceiptState) (expected : Expected) (bytes : List ℕ) (header : Header)
+    → IsHeaderOf receipt expected bytes header
+    → header.kind ≡ kinds.Checkpoint → (header.rows ≡ 0 → ⊥)
+    → IsWhyNotRead receipt expected (BadObject expected.number reasons.Rows)
 why_no_checkpoint receipt expected bytes header is kind some = (refl, of_told receipt.told is.first)
   where
-    of_told : (told : Option (List ℕ)) → AreFirstOf told bytes → IfSome told (λ all. IsRefusedAs all receipt.size expected reasons.Rows)
+    of_told : (told : Option (List ℕ)) → AreFirstOf told bytes
+        → IfSome told (λ all. IsRefusedAs all receipt.size expected reasons.Rows)
     of_told None first = tt
     of_told (Some all) first =
         let same = head_of_all all bytes first (header_long bytes receipt.size expected header is.header_is) in
@@ -233,7 +246,8 @@ why_no_checkpoint receipt expected bytes header is kind some = (refl, of_told re
         (λ rows object. some (checkpoint_has_no_rows expected.sectors header rows kind object.rows_are))
 
 -- what is refused for its rows in the front is so as a whole
-pub why_no_rows : (receipt : ReceiptState) (expected : Expected) (bytes : List ℕ) (header : Header) (reason : reason_type.BadObject)
+pub why_no_rows : (receipt : ReceiptState) (expected : Expected) (bytes : List ℕ) (header : Header)
+    (reason : reason_type.BadObject)
     → AreFirstOf receipt.told bytes
     → IsHeader bytes receipt.size expected header → 512 * front_sectors header ≤ length bytes
     → IsReasonOf bytes receipt.size expected (Bad reason) → IsWhyNotRead receipt expected (BadObject expected.number reason)
@@ -244,10 +258,12 @@ why_no_rows receipt expected bytes header reason first is long refused = (refl, 
     of_told (Some all) first = refused_front all bytes receipt.size expected header reason first is long refused.0 refused.1
 
 -- what is an object in the front is so as a whole
-pub read_as : (receipt : ReceiptState) (expected : Expected) (bytes : List ℕ) (header : Header) (rows : Rows) → AreFirstOf receipt.told bytes
+pub read_as : (receipt : ReceiptState) (expected : Expected) (bytes : List ℕ) (header : Header) (rows : Rows)
+    → AreFirstOf receipt.told bytes
     → IsObject bytes receipt.size expected header rows → IsReadAs receipt expected header rows
 read_as receipt expected bytes header rows first is = record { bytes = bytes; is_object = is; told = of_told receipt.told first }
   where
-    of_told : (told : Option (List ℕ)) → AreFirstOf told bytes → IfSome told (λ all. IsObject all receipt.size expected header rows)
+    of_told : (told : Option (List ℕ)) → AreFirstOf told bytes
+        → IfSome told (λ all. IsObject all receipt.size expected header rows)
     of_told None first = tt
     of_told (Some all) first = whole_object all bytes first receipt.size expected header rows is.whole_front is

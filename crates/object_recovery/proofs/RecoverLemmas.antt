@@ -24,7 +24,8 @@ use Rattle.obj_log.proofs.StreamLemmas.{new_list_begins_stream}
 use Rattle.obj_log.proofs.ImageLemmas.{new_list_has_blank}
 use Rattle.object_recovery.specs.Checkpoints.{IsNewestWithEnd}
 use Rattle.object_recovery.specs.Judging.{HaveLanded}
-use Rattle.object_recovery.specs.Recovery.{up_to_object, HasDataUpTo, IsListUpTo, HasStreamTo, KeepsStreams, IsLastLanded, HasRecovered, IsRecoveredOf}
+use Rattle.object_recovery.specs.Recovery.{up_to_object, HasDataUpTo, IsListUpTo, HasStreamTo, KeepsStreams, IsLastLanded}
+use Rattle.object_recovery.specs.Recovery.{HasRecovered, IsRecoveredOf}
 use Rattle.object_recovery.proofs.StreamLemmas.{reached}
 
 -- ---- where it begins
@@ -37,7 +38,8 @@ pub record IsNewList (uuid : List ℕ) (geometry : Geometry) (number end : ℕ) 
 
 pub new_list : (uuid : List ℕ) (geometry : Geometry) (number end : ℕ) (log : ObjLogState)
     → log.batch ≡ record { geometry = geometry; first = end; entries = []; reserved = 0 } → log.uploads.uuid ≡ uuid
-    → log.uploads.window ≡ record { last = number; objects = [] } → log.uploads.queue.frontier ≡ number → log.uploads.queue.end ≡ end
+    → log.uploads.window ≡ record { last = number; objects = [] } → log.uploads.queue.frontier ≡ number
+    → log.uploads.queue.end ≡ end
     → log.uploads.queue.sealed ≡ [] → log.uploads.queue.maps.settled.rows ≡ [] → log.uploads.queue.maps.log.rows ≡ []
     → IsNewList uuid geometry number end log
 new_list uuid geometry number end log batch uuid_is window frontier end_is sealed settled log_rows = record {
@@ -67,17 +69,35 @@ module _ (stream : Stream) (none : (k : ℕ) → stream.opening k ≡ None) wher
   begin_end = ap (end_after stream.end) no_objects
 
   no_entries : (up_to_object begin stream).entries ≡ []
-  no_entries = let zero_ : end_at stream begin - stream.end ≡ 0 = omega (arith, begin_end) in ap (λ n. take n stream.entries) zero_
+  no_entries = let zero_ : end_at stream begin - stream.end ≡ 0 = omega (arith, begin_end) in
+      ap (λ n. take n stream.entries) zero_
 
   empty_is :
-      (let s : Stream = record { number = begin; end = stream.end; opening = λ k. None; entries = []; objects = [] } in s) ≡ up_to_object begin stream
+      (let s : Stream = record { number = begin; end = stream.end; opening = λ k. None; entries = []; objects = [] } in s)
+      ≡ up_to_object begin stream
   empty_is =
       let no_owners : (λ k. None) ≡ stream.opening = λ j k. sym (none k) j in
-      ap (λ (o : Owners). let s : Stream = record { number = begin; end = stream.end; opening = o; entries = []; objects = [] } in s) no_owners
-      ∙ ap (λ (es : List Entry). let s : Stream = record { number = begin; end = stream.end; opening = stream.opening; entries = es; objects = [] } in s) (sym no_entries)
-      ∙ ap (λ (os : List StreamObject). let s : Stream = record { number = begin; end = stream.end; opening = stream.opening; entries = (up_to_object begin stream).entries; objects = os } in s) (sym no_objects)
+      ap (λ (o : Owners). let s : Stream = record { number = begin; end = stream.end; opening = o; entries = []; objects = [] } in
+      s) no_owners
+      ∙ ap (λ (es : List Entry). let s : Stream = record {
+        number = begin;
+        end = stream.end;
+        opening = stream.opening;
+        entries =
+            es;
+        objects = [];
+      } in s) (sym no_entries)
+      ∙ ap (λ (os : List StreamObject). let s : Stream =
+      record {
+        number = begin;
+        end = stream.end;
+        opening = stream.opening;
+        entries = (up_to_object begin stream).entries;
+        objects = os;
+      } in s) (sym no_objects)
 
-  pub begins : (uuid : List ℕ) (geometry : Geometry) (sectors : ℕ) (log : ObjLogState) → IsNewList uuid geometry begin stream.end log
+  pub begins : (uuid : List ℕ) (geometry : Geometry) (sectors : ℕ) (log : ObjLogState)
+      → IsNewList uuid geometry begin stream.end log
       → HasStreamTo sectors stream begin log
   begins uuid geometry sectors log new =
       let is = new.list in
@@ -85,7 +105,8 @@ module _ (stream : Stream) (none : (k : ℕ) → stream.opening k ≡ None) wher
       record {
         of_stream = λ data_at.
             subst (λ s. IsOfStream data_at s log) empty_is
-            (new_list_begins_stream data_at log begin stream.end is.first is.entries is.window is.frontier is.end_is is.sealed new.settled new.log_rows);
+            (new_list_begins_stream data_at log begin stream.end is.first is.entries is.window is.frontier is.end_is is.sealed
+            new.settled new.log_rows);
         image = subst (λ es. HasImage (after (blank sectors) es) log.uploads.queue) (sym no_entries) has.0;
         receipts = has.1;
       }
@@ -105,57 +126,67 @@ module _ (volume : Expected) (objects : Objects) (base base_end : ℕ) (wide : v
   base_landed : IsTrue (landed_in objects volume.uuid base)
   base_landed = ap is_some newest.is.present
 
-  module _ (uuid_at : ℕ → Option (List ℕ)) (stream : Stream) (number : ℕ) (has : HasDataUpTo volume uuid_at objects stream number) where
-    -- each stream of the store begins with it
-    pub base_is : base ≡ stream.number
-    base_is =
-        let missing = has.stored.missing in
-        let there = (has.stored.checkpoints missing.base).0 missing.newest.is_checkpoint in
-        let up : missing.base ≤ base = newest.newest missing.base there.0 there.1 there.2 in
-        let down : base ≤ missing.base = missing.newest.newest base ((has.stored.checkpoints base).1 (base_end, λ k. None, newest.is)) base_landed in
-        omega (arith, up, down, has.stored.base)
+  module _ (uuid_at : ℕ → Option (List ℕ)) (stream : Stream) (number : ℕ) (has : HasDataUpTo volume uuid_at objects stream number)
+    where
+      -- each stream of the store begins with it
+      pub base_is : base ≡ stream.number
+      base_is =
+          let missing = has.stored.missing in
+          let there = (has.stored.checkpoints missing.base).0 missing.newest.is_checkpoint in
+          let up : missing.base ≤ base = newest.newest missing.base there.0 there.1 there.2 in
+          let down : base ≤ missing.base = missing.newest.newest base
+          ((has.stored.checkpoints base).1 (base_end, λ k. None, newest.is)) base_landed in
+          omega (arith, up, down, has.stored.base)
 
-    end_is : base_end ≡ stream.end
-    end_is =
-        let here : IsCheckpointOf volume objects stream.number base_end (λ k. None) =
-        subst (λ n. IsCheckpointOf volume objects n base_end (λ k. None)) base_is newest.is in
-        one_end volume objects stream.number base_end stream.end (λ k. None) stream.opening wide here has.stored.based
+      end_is : base_end ≡ stream.end
+      end_is =
+          let here : IsCheckpointOf volume objects stream.number base_end (λ k. None) =
+          subst (λ n. IsCheckpointOf volume objects n base_end (λ k. None)) base_is newest.is in
+          one_end volume objects stream.number base_end stream.end (λ k. None) stream.opening wide here has.stored.based
 
-    -- a list that was just made at it has the stream up to there
-    at_base : (uuid : List ℕ) (geometry : Geometry) (log : ObjLogState) → IsNewList uuid geometry base base_end log
-        → HasStreamTo volume.sectors stream log.uploads.window.last log
-    at_base uuid geometry log new =
-        let moved : IsNewList uuid geometry stream.number stream.end log =
-        subst (λ n. IsNewList uuid geometry n stream.end log) base_is (subst (λ e. IsNewList uuid geometry base e log) end_is new) in
-        let last : stream.number ≡ log.uploads.window.last = sym (ap (λ (w : WindowState). w.last) moved.list.window) in
-        subst (λ n. HasStreamTo volume.sectors stream n log) last (begins stream has.stored.based.none uuid geometry volume.sectors log moved)
+      -- a list that was just made at it has the stream up to there
+      at_base : (uuid : List ℕ) (geometry : Geometry) (log : ObjLogState) → IsNewList uuid geometry base base_end log
+          → HasStreamTo volume.sectors stream log.uploads.window.last log
+      at_base uuid geometry log new =
+          let moved : IsNewList uuid geometry stream.number stream.end log =
+          subst (λ n. IsNewList uuid geometry n stream.end log) base_is
+          (subst (λ e. IsNewList uuid geometry base e log) end_is new) in
+          let last : stream.number ≡ log.uploads.window.last = sym (ap (λ (w : WindowState). w.last) moved.list.window) in
+          subst (λ n. HasStreamTo volume.sectors stream n log) last
+          (begins stream has.stored.based.none uuid geometry volume.sectors log moved)
 
-    pub stream_to : (uuid : List ℕ) (geometry : Geometry) (begun log : ObjLogState) → IsNewList uuid geometry base base_end begun
-        → KeepsStreams volume objects begun log
-        → (stream.number ≤ log.uploads.window.last) × (log.uploads.window.last ≤ number) × HasStreamTo volume.sectors stream log.uploads.window.last log
-    stream_to uuid geometry begun log new keeps =
-        let first : begun.uploads.window.last ≡ base = ap (λ (w : WindowState). w.last) new.list.window in
-        let to : begun.uploads.window.last ≤ number = omega (arith, first, base_is, has.stored.missing.above, has.stored.base) in
-        let now = keeps uuid_at stream number has (omega (arith, first, base_is)) to (at_base uuid geometry begun new) in
-        (omega (arith, now.0, first, base_is), now.1, now.2)
+      pub stream_to : (uuid : List ℕ) (geometry : Geometry) (begun log : ObjLogState)
+          → IsNewList uuid geometry base base_end begun
+          → KeepsStreams volume objects begun log
+          → (stream.number ≤ log.uploads.window.last) × (log.uploads.window.last ≤ number)
+          × HasStreamTo volume.sectors stream log.uploads.window.last log
+      stream_to uuid geometry begun log new keeps =
+          let first : begun.uploads.window.last ≡ base = ap (λ (w : WindowState). w.last) new.list.window in
+          let to : begun.uploads.window.last ≤ number =
+          omega (arith, first, base_is, has.stored.missing.above, has.stored.base) in
+          let now = keeps uuid_at stream number has (omega (arith, first, base_is)) to (at_base uuid geometry begun new) in
+          (omega (arith, now.0, first, base_is), now.1, now.2)
 
-    -- where no object is past the last, it is recovered
-    recovered : (uuid : List ℕ) (geometry : Geometry) (begun log : ObjLogState) → IsNewList uuid geometry base base_end begun
-        → KeepsStreams volume objects begun log
-        → IsListUpTo uuid geometry log.uploads.window.last log.uploads.queue.end log
-        → found objects (name_of volume.uuid (log.uploads.window.last + 1)) ≡ None → HasRecovered volume.sectors stream number log
-    recovered uuid geometry begun log new keeps list absent =
-        let now = stream_to uuid geometry begun log new keeps in
-        let last = reached volume uuid_at objects stream number wide has log.uploads.window.last now.0 now.1 absent in
-        let streams = subst (λ n. HasStreamTo volume.sectors stream n log) last now.2 in
-        record {
-          number_is = last;
-          end_is = sym list.first ∙ (streams.of_stream (λ n. 0)).first ∙ ap (end_after stream.end) (all_objects (up_to_object number stream));
-          streams = streams;
-        }
+      -- where no object is past the last, it is recovered
+      recovered : (uuid : List ℕ) (geometry : Geometry) (begun log : ObjLogState) → IsNewList uuid geometry base base_end begun
+          → KeepsStreams volume objects begun log
+          → IsListUpTo uuid geometry log.uploads.window.last log.uploads.queue.end log
+          → found objects (name_of volume.uuid (log.uploads.window.last + 1)) ≡ None
+          → HasRecovered volume.sectors stream number log
+      recovered uuid geometry begun log new keeps list absent =
+          let now = stream_to uuid geometry begun log new keeps in
+          let last = reached volume uuid_at objects stream number wide has log.uploads.window.last now.0 now.1 absent in
+          let streams = subst (λ n. HasStreamTo volume.sectors stream n log) last now.2 in
+          record {
+            number_is = last;
+            end_is = sym list.first ∙ (streams.of_stream (λ n. 0)).first
+                ∙ ap (end_after stream.end) (all_objects (up_to_object number stream));
+            streams = streams;
+          }
 
   -- and it is the last before the first missing number
-  last_landed : (last : ℕ) → base ≤ last → HaveLanded objects volume.uuid base last → found objects (name_of volume.uuid (last + 1)) ≡ None
+  last_landed : (last : ℕ) → base ≤ last → HaveLanded objects volume.uuid base last
+      → found objects (name_of volume.uuid (last + 1)) ≡ None
       → IsLastLanded volume objects last
   last_landed last from landed absent checkpoint are = record {
     base = base;
@@ -179,8 +210,10 @@ module _ (volume : Expected) (objects : Objects) (base base_end : ℕ) (wide : v
     last = last_landed log.uploads.window.last from landed absent;
   }
 
--- For the proofs of callers: where the store tells its objects, the last of a recovered list is that before the first missing number.
-pub told_last : (told : Option Objects) (volume : Expected) (log : ObjLogState) → IfSome told (λ objects. IsRecoveredOf volume objects log)
+-- For the proofs of callers: where the store tells its objects, the last of a recovered list is that before the first missing
+-- number.
+pub told_last : (told : Option Objects) (volume : Expected) (log : ObjLogState)
+    → IfSome told (λ objects. IsRecoveredOf volume objects log)
     → IfSome told (λ objects. IsLastLanded volume objects log.uploads.window.last)
 told_last None volume log is = tt
 told_last (Some objects) volume log is = is.last

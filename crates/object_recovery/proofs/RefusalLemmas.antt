@@ -1,5 +1,6 @@
 -- What a recovery refuses.
-use Rattle.std.proofs.Common.{◌≡◌, ℕ, ◌+◌, ◌-◌, ◌*◌, ◌^◌, ◌<◌, ◌≤◌, inl, inr, Option, Some, None, List, length, drop, refl, sym, ◌∙◌, ap, subst, arith}
+use Rattle.std.proofs.Common.{◌≡◌, ℕ, ◌+◌, ◌-◌, ◌*◌, ◌^◌, ◌<◌, ◌≤◌, inl, inr, Option, Some, None, List, length, drop, refl, sym}
+use Rattle.std.proofs.Common.{◌∙◌, ap, subst, arith}
 use Rattle.std.specs.Prelude.{◌⊎◌, IfSome, is_some}
 use Rattle.std.proofs.lemmas.Bool.{cases_lt}
 use Rattle.lsvd_base.specs.declared.entry.Entry.{Entry}
@@ -38,7 +39,8 @@ use Rattle.object_recovery.proofs.StreamLemmas.{is_stored, is_data, next_end}
 use Rattle.object_recovery.proofs.RecoverLemmas.{IsNewList, base_is, begin_end}
 
 -- where there was no answer, nothing is refused
-no_answer_why : (volume : Expected) (objects : Objects) (error : RecoverError) → IsNoAnswer error → IsWhyRefused volume objects error
+no_answer_why : (volume : Expected) (objects : Objects) (error : RecoverError) → IsNoAnswer error
+    → IsWhyRefused volume objects error
 no_answer_why volume objects errors.NoCheckpoint none = absurd none
 no_answer_why volume objects (errors.BadObject number reason) none = absurd none
 no_answer_why volume objects (errors.NotData number) none = absurd none
@@ -52,7 +54,8 @@ no_answer_refuses (errors.NotData number) none is = none
 no_answer_refuses errors.StoreFault none is = is
 no_answer_refuses errors.OutOfMemory none is = is
 
-pub no_answer_refused : (volume : Expected) (objects : Objects) (error : RecoverError) → IsNoAnswer error → IsRefused volume objects error
+pub no_answer_refused : (volume : Expected) (objects : Objects) (error : RecoverError) → IsNoAnswer error
+    → IsRefused volume objects error
 no_answer_refused volume objects error none = record {
   why = no_answer_why volume objects error none;
   no_stream = λ uuid_at stream number has. no_answer_refuses error none;
@@ -69,16 +72,19 @@ none_refused volume objects none = record {
 -- ---- the objects of a stream
 
 -- rows of a data object are those of its kind
-data_kind : (objects : Objects) (uuid_at : ℕ → Option (List ℕ)) (kind : Content) (entries : List Entry) (rows : Rows) (payload : List ℕ)
+data_kind : (objects : Objects) (uuid_at : ℕ → Option (List ℕ)) (kind : Content) (entries : List Entry) (rows : Rows)
+    (payload : List ℕ)
     (volume : ℕ) (header : Header)
-    → kind ≡ content.Data → HasContent objects uuid_at kind entries rows payload → AreRowsOf volume header rows → header.kind ≡ kinds.Data
+    → kind ≡ content.Data → HasContent objects uuid_at kind entries rows payload → AreRowsOf volume header rows
+    → header.kind ≡ kinds.Data
 data_kind objects uuid_at kind entries (rows_of.Data rows) payload volume header is has are = sym are.kind
 data_kind objects uuid_at kind entries (rows_of.Copy rows) payload volume header is has are =
     absurd (subst (λ c. HasContent objects uuid_at c entries (rows_of.Copy rows) payload) is has)
 data_kind objects uuid_at kind entries rows_of.Checkpoint payload volume header is has are =
     absurd (subst (λ c. HasContent objects uuid_at c entries rows_of.Checkpoint payload) is has)
 
-module _ (volume : Expected) (objects : Objects) (wide : volume.sectors < 2 ^ 64) (uuid_at : ℕ → Option (List ℕ)) (stream : Stream) (number : ℕ)
+module _ (volume : Expected) (objects : Objects) (wide : volume.sectors < 2 ^ 64) (uuid_at : ℕ → Option (List ℕ))
+    (stream : Stream) (number : ℕ)
     (has : HasDataUpTo volume uuid_at objects stream number) where
   -- each object from the checkpoint on has the end that the stream has there
   checkpoint_end : HasEnd volume objects stream.number (Some (end_at stream stream.number))
@@ -150,7 +156,8 @@ module _ (volume : Expected) (objects : Objects) (wide : volume.sectors < 2 ^ 64
               let none = bad.is_before.unknown (omega (arith, beyond, ends)) in
               let whole = has.stored.past at bad.bytes beyond bad.present in
               refused_is_none bad.bytes (length bad.bytes) (expected_alone volume at) reason
-              (subst (λ e. IsRefusedAs bad.bytes (length bad.bytes) (expected_after volume at e) reason) none bad.holds) whole.0 whole.1 whole.2
+              (subst (λ e. IsRefusedAs bad.bytes (length bad.bytes) (expected_after volume at e) reason) none bad.holds) whole.0
+              whole.1 whole.2
           | inr within ↦
               let before = at - 1 in
               let from : stream.number ≤ before = omega (arith, begins, past) in
@@ -161,7 +168,8 @@ module _ (volume : Expected) (objects : Objects) (wide : volume.sectors < 2 ^ 64
               let expected : ℕ → Option ℕ → Expected = λ n e. expected_after volume n e in
               let moved = subst (λ n. IsBadObject volume objects last n reason) (sym more) bad in
               let known = before_next volume objects before last (Some (end_at stream before)) (omega (arith, below, ends)) end in
-              let one = one_end_before volume objects last (before + 1) moved.end_before (Some (end_at stream before)) moved.is_before known in
+              let one = one_end_before volume objects last (before + 1) moved.end_before (Some (end_at stream before))
+              moved.is_before known in
               let same : moved.bytes ≡ stored.bytes = let e = moved.present in let f = stored.present in cc in
               refused_is_none stored.bytes (length stored.bytes) (expected (before + 1) (Some (end_at stream before))) reason
               (subst (λ b. IsRefusedAs b (length b) (expected (before + 1) (Some (end_at stream before))) reason) same
@@ -181,17 +189,23 @@ module _ (volume : Expected) (objects : Objects) (wide : volume.sectors < 2 ^ 64
         let same : is.bytes ≡ stored.bytes = let e = is.present in let f = stored.present in cc in
         let expected = expected_after volume (before + 1) is.end_before in
         let payload = drop (512 * front_sectors is.header) is.bytes in
-        let parts : HasParts expected is.bytes is.header is.rows payload = record { is_object = is.is_object; payload_is = refl } in
-        let one = same_parts expected (expected_at volume (before + 1) (end_at stream before)) is.bytes stored.bytes is.header stored.header
+        let parts : HasParts expected is.bytes is.header is.rows payload =
+        record { is_object = is.is_object; payload_is = refl } in
+        let one = same_parts expected (expected_at volume (before + 1) (end_at stream before)) is.bytes stored.bytes is.header
+        stored.header
         is.rows stored.rows_of payload stored.payload wide wide same parts stored.parts in
         let kind = data_kind objects uuid_at _ _ stored.rows_of stored.payload volume.sectors stored.header
-        (is_data volume uuid_at objects stream number wide has before from below) stored.content stored.parts.is_object.rows_are in
+        (is_data volume uuid_at objects stream number wide has before from below) stored.content
+        stored.parts.is_object.rows_are in
         is.other (ap (λ (h : Header). h.kind) one.headers ∙ kind)
 
 -- so what is refused is no stream
-why_no_stream : (volume : Expected) (objects : Objects) (wide : volume.sectors < 2 ^ 64) (error : RecoverError) → IsWhyRefused volume objects error
-    → (uuid_at : ℕ → Option (List ℕ)) (stream : Stream) (number : ℕ) → HasDataUpTo volume uuid_at objects stream number → IsRefusal error → ⊥
-why_no_stream volume objects wide errors.NoCheckpoint why uuid_at stream number has is = why stream.number stream.end stream.opening has.stored.based
+why_no_stream : (volume : Expected) (objects : Objects) (wide : volume.sectors < 2 ^ 64) (error : RecoverError)
+    → IsWhyRefused volume objects error
+    → (uuid_at : ℕ → Option (List ℕ)) (stream : Stream) (number : ℕ) → HasDataUpTo volume uuid_at objects stream number
+    → IsRefusal error → ⊥
+why_no_stream volume objects wide errors.NoCheckpoint why uuid_at stream number has is =
+    why stream.number stream.end stream.opening has.stored.based
 why_no_stream volume objects wide (errors.BadObject at reason) why uuid_at stream number has is =
     none_bad volume objects wide uuid_at stream number has why.0 why.1 why.2 at reason why.3.after why.3.bad
 why_no_stream volume objects wide (errors.NotData at) why uuid_at stream number has is =
@@ -199,7 +213,8 @@ why_no_stream volume objects wide (errors.NotData at) why uuid_at stream number 
 why_no_stream volume objects wide errors.StoreFault why uuid_at stream number has is = is
 why_no_stream volume objects wide errors.OutOfMemory why uuid_at stream number has is = is
 
-pub is_refused : (volume : Expected) (objects : Objects) (wide : volume.sectors < 2 ^ 64) (error : RecoverError) → IsWhyRefused volume objects error
+pub is_refused : (volume : Expected) (objects : Objects) (wide : volume.sectors < 2 ^ 64) (error : RecoverError)
+    → IsWhyRefused volume objects error
     → IsRefused volume objects error
 is_refused volume objects wide error why = record { why = why; no_stream = why_no_stream volume objects wide error why }
 
@@ -214,7 +229,8 @@ told_no_answer (Some objects) volume error none = no_answer_refused volume objec
 -- what names of objects tell: whichever volume they are of, it has no checkpoint, or this is its newest
 abbrev pub HasNoneAmong : Geometry → List ObjName → Objects → Type 0
 HasNoneAmong geometry names objects =
-    (uuid : List ℕ) (number : ℕ) → IsUuid uuid → Lists uuid objects names → IsNoCheckpoint (expected_of uuid geometry) objects number
+    (uuid : List ℕ) (number : ℕ) → IsUuid uuid → Lists uuid objects names
+    → IsNoCheckpoint (expected_of uuid geometry) objects number
 
 abbrev pub IsNewestAmong : Geometry → List ObjName → (number end : ℕ) → Objects → Type 0
 IsNewestAmong geometry names number end objects =
@@ -248,7 +264,8 @@ newest_with_end None volume number end newest = tt
 newest_with_end (Some objects) volume number end newest = (end, newest)
 
 -- what is expected of the volume of a list
-pub volume_is : (uuid : List ℕ) (geometry : Geometry) (number end : ℕ) (log : ObjLogState) → IsNewList uuid geometry number end log
+pub volume_is : (uuid : List ℕ) (geometry : Geometry) (number end : ℕ) (log : ObjLogState)
+    → IsNewList uuid geometry number end log
     → expected_of_volume log ≡ expected_of uuid geometry
 volume_is uuid geometry number end log new =
     ap (λ (u : List ℕ). expected_of u log.batch.geometry) new.list.uuid_is ∙ ap (expected_of uuid) new.list.geometry_is

@@ -14,12 +14,14 @@ use Rattle.object_recovery.specs.Removal.{Removes, IsPast, IsListedPast, Removes
 
 -- ---- what a store becomes
 
-pub becomes_so : (C D : Objects → Objects → Type 0) (old new : Option Objects) → ((a b : Objects) → C a b → D a b) → Becomes C old new
+pub becomes_so : (C D : Objects → Objects → Type 0) (old new : Option Objects) → ((a b : Objects) → C a b → D a b)
+    → Becomes C old new
     → Becomes D old new
 becomes_so C D None new so is = is
 becomes_so C D (Some a) new so is = (is.0, is.1, so a is.0 is.2)
 
-pub becomes_both : (C D E : Objects → Objects → Type 0) (old mid new : Option Objects) → ((a b c : Objects) → C a b → D b c → E a c)
+pub becomes_both : (C D E : Objects → Objects → Type 0) (old mid new : Option Objects)
+    → ((a b c : Objects) → C a b → D b c → E a c)
     → Becomes C old mid → Becomes D mid new → Becomes E old new
 becomes_both C D E None mid new both first second = subst (λ o. Becomes D o new) first second
 becomes_both C D E (Some a) mid new both first second =
@@ -49,11 +51,16 @@ removes_more Which a b c first second = record {
       ];
 }
 
-removes_such : (Which Those : ObjName → Type 0) (a b : Objects) → ((name : ObjName) → Which name → Those name) → Removes Which a b → Removes Those a b
-removes_such Which Those a b such is = record { others = λ name not. is.others name (λ which. not (such name which)); removed = is.removed }
+removes_such : (Which Those : ObjName → Type 0) (a b : Objects) → ((name : ObjName) → Which name → Those name) → Removes Which a b
+    → Removes Those a b
+removes_such Which Those a b such is = record {
+  others = λ name not. is.others name (λ which. not (such name which));
+  removed = is.removed;
+}
 
 -- what is gone stays so
-stays_gone : (Which : ObjName → Type 0) (a b : Objects) (name : ObjName) → Removes Which a b → found a name ≡ None → found b name ≡ None
+stays_gone : (Which : ObjName → Type 0) (a b : Objects) (name : ObjName) → Removes Which a b → found a name ≡ None
+    → found b name ≡ None
 stays_gone Which a b name is gone = elim (is.removed name) [ inl same ↦ same ∙ gone | inr now ↦ now ]
 
 -- ---- the names one after the other
@@ -75,7 +82,8 @@ first_more names number index name a b c inside at past first removes removed =
             | inr from ↦
                 let same : k ≡ index = omega (arith, below, from) in
                 let one : name ≡ other =
-                sym at ∙ get_or_default names index name other inside ∙ sym (subst (λ i. other ≡ slice_index_or names i other) same (sym there)) in
+                sym at ∙ get_or_default names index name other inside
+                ∙ sym (subst (λ i. other ≡ slice_index_or names i other) same (sym there)) in
                 subst (λ n. found c n ≡ None) one removed.absent
           ];
     }
@@ -92,7 +100,8 @@ first_skip names number index name a b inside at not first = record {
         | inr from ↦
             let same : k ≡ index = omega (arith, below, from) in
             let one : name ≡ other =
-            sym at ∙ get_or_default names index name other inside ∙ sym (subst (λ i. other ≡ slice_index_or names i other) same (sym there)) in
+            sym at ∙ get_or_default names index name other inside
+            ∙ sym (subst (λ i. other ≡ slice_index_or names i other) same (sym there)) in
             absurd (not (subst (IsPast number) (sym one) is_past))
       ];
 }
@@ -100,15 +109,18 @@ first_skip names number index name a b inside at not first = record {
 -- one that may have been removed, or not
 pub some_more : (names : List ObjName) (number index : ℕ) (name : ObjName) (a b c : Objects) → index < length names
     → slice_index_or names index name ≡ name
-    → IsPast number name → RemovesFirst names number index a b → Removes (λ other. other ≡ name) b c → Removes (IsListedPast names number) a c
+    → IsPast number name → RemovesFirst names number index a b → Removes (λ other. other ≡ name) b c
+    → Removes (IsListedPast names number) a c
 some_more names number index name a b c inside at past first removes =
     let such : (other : ObjName) → other ≡ name → IsListedPast names number other =
     λ other is. subst (IsListedPast names number) (sym is) ((index, inside, at), past) in
-    removes_more (IsListedPast names number) a b c first.removes (removes_such (λ other. other ≡ name) (IsListedPast names number) b c such removes)
+    removes_more (IsListedPast names number) a b c first.removes (removes_such (λ other. other ≡ name) (IsListedPast names number)
+    b c such removes)
 
 -- ---- the objects of a volume
 
-of_volume : (uuid : List ℕ) (names : List ObjName) (number : ℕ) → AreNamesOf uuid names → (name : ObjName) → IsListedPast names number name
+of_volume : (uuid : List ℕ) (names : List ObjName) (number : ℕ) → AreNamesOf uuid names → (name : ObjName)
+    → IsListedPast names number name
     → IsPastOf uuid number name
 of_volume uuid names number are name listed = ((are.each name listed.0).1, listed.1)
 
@@ -120,7 +132,8 @@ some_removed uuid names number (Some a) new are is =
 
 -- For the proofs of callers: what a removal leaves, however it ends, where nothing else changed.
 pub may_remove : (Tells : Type 0) (volume : Expected) (number : ℕ) (old new : Option Objects)
-    → (Tells → IfSome old (λ objects. IsLastLanded volume objects number)) → Becomes (Removes (IsPastOf volume.uuid number)) old new
+    → (Tells → IfSome old (λ objects. IsLastLanded volume objects number))
+    → Becomes (Removes (IsPastOf volume.uuid number)) old new
     → Becomes (MayRemovePast Tells volume) old new
 may_remove Tells volume number None new last is = is
 may_remove Tells volume number (Some a) new last is = (is.0, is.1, inr (number, last, is.2))
@@ -134,7 +147,8 @@ none_past uuid names number a b are listed first = record {
   gone = λ name is past. by_found name is past (found a name) refl;
 }
   where
-    by_found : (name : ObjName) → IsName name → IsPastOf uuid number name → (was : Option (List ℕ)) → found a name ≡ was → found b name ≡ None
+    by_found : (name : ObjName) → IsName name → IsPastOf uuid number name → (was : Option (List ℕ)) → found a name ≡ was
+        → found b name ≡ None
     by_found name is past None was = stays_gone (IsListedPast names number) a b name first.removes was
     by_found name is past (Some bytes) was =
         let at = listed.complete name is past.0 (subst (λ o. IsSome o) (sym was) (search rules)) in

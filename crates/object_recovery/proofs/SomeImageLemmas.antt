@@ -35,10 +35,12 @@ gives None at inside = absurd inside
 gives (Some receipt) at inside = (inside, told_is receipt.told at)
 
 holds : (queue : QueueState) (held : Option ObjectPlace)
-    → ((place : ObjectPlace) → held ≡ Some place → (place.level ≡ 0) × IsInsideObject (receipt_of queue place.number) place.sector)
+    → ((place : ObjectPlace) → held ≡ Some place → (place.level ≡ 0)
+    × IsInsideObject (receipt_of queue place.number) place.sector)
     → HoldsSector queue held (sector_held queue held)
 holds queue None inside = refl
-holds queue (Some place) inside = let here = inside place refl in (here.0, gives (receipt_of queue place.number) place.sector here.1)
+holds queue (Some place) inside = let here = inside place refl in
+    (here.0, gives (receipt_of queue place.number) place.sector here.1)
 
 -- so many sectors from one on
 abbrev sectors_from : QueueState → (first count : ℕ) → Image
@@ -52,12 +54,14 @@ count_is queue first (suc count) = ap suc (count_is queue (first + 1) count)
 some_is : {X : Type 0} (a b : X) → Some a ≡ Some b → a ≡ b
 some_is a b same = cc
 
-sector_is : (queue : QueueState) (first count k : ℕ) (sector : List ℕ) → slice_get (sectors_from queue first count) k ≡ Some sector
+sector_is : (queue : QueueState) (first count k : ℕ) (sector : List ℕ) → slice_get (sectors_from queue first count) k
+    ≡ Some sector
     → sector_held queue (settled_at queue.maps (first + k)) ≡ sector
 sector_is queue first zero k sector at = absurd cc
 sector_is queue first (suc count) zero sector at =
     let here : first + 0 ≡ first = omega arith in
-    ap (λ n. sector_held queue (settled_at queue.maps n)) here ∙ some_is (sector_held queue (settled_at queue.maps first)) sector at
+    ap (λ n. sector_held queue (settled_at queue.maps n)) here
+    ∙ some_is (sector_held queue (settled_at queue.maps first)) sector at
 sector_is queue first (suc count) (suc k) sector at =
     let here : first + suc k ≡ first + 1 + k = omega arith in
     ap (λ n. sector_held queue (settled_at queue.maps n)) here ∙ sector_is queue (first + 1) count k sector at

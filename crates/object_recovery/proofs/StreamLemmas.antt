@@ -1,5 +1,6 @@
 -- The list that is recovered is that of the stream whose objects the store has.
-use Rattle.std.proofs.Common.{◌≡◌, ℕ, zero, suc, ◌+◌, ◌-◌, ◌*◌, ◌^◌, ◌<◌, ◌≤◌, inl, inr, Option, Some, None, List, [], ◌∷◌, ◌++◌, length, take, drop, get_or, refl, sym, ◌∙◌, ap, subst, arith, length-drop}
+use Rattle.std.proofs.Common.{◌≡◌, ℕ, zero, suc, ◌+◌, ◌-◌, ◌*◌, ◌^◌, ◌<◌, ◌≤◌, inl, inr, Option, Some, None, List, [], ◌∷◌, ◌++◌}
+use Rattle.std.proofs.Common.{length, take, drop, get_or, refl, sym, ◌∙◌, ap, subst, arith, length-drop}
 use Rattle.std.specs.Prelude.{true, is_some}
 use Rattle.std.specs.List.{All}
 use Rattle.std.specs.Global.{Vec}
@@ -56,15 +57,18 @@ stored_at objects uuid_at volume number end entries [] (suc count) i d below ins
 stored_at objects uuid_at volume number end entries (object ∷ more) (suc count) zero d below inside follow stored =
     let at : number + 1 ≡ number + 0 + 1 = omega arith in
     let none : 0 ≡ end - end = omega arith in
-    subst (λ n. IsStored objects uuid_at (expected_at volume n end) object (take (object.end - end) (drop (end - end) entries))) at
-    (subst (λ k. IsStored objects uuid_at (expected_at volume (number + 1) end) object (take (object.end - end) (drop k entries))) none stored.0)
+    subst (λ n. IsStored objects uuid_at (expected_at volume n end) object (take (object.end - end) (drop (end - end) entries)))
+    at
+    (subst (λ k. IsStored objects uuid_at (expected_at volume (number + 1) end) object (take (object.end - end) (drop k entries)))
+    none stored.0)
 stored_at objects uuid_at volume number end entries (object ∷ more) (suc count) (suc i) d below inside follow stored =
     let last = end_after object.end (take i more) in
     let first : end ≤ object.end = goes_on object.content end object.end follow.0 in
     let then : object.end ≤ last = end_no_earlier object.end (take i more) (follow_first object.end i more follow.1) in
     let skip : object.end - end + (last - object.end) ≡ last - end = omega arith in
     let at : number + 1 + i + 1 ≡ number + suc i + 1 = omega arith in
-    let rest = stored_at objects uuid_at volume (number + 1) object.end (drop (object.end - end) entries) more count i d (omega (arith, below))
+    let rest = stored_at objects uuid_at volume (number + 1) object.end (drop (object.end - end) entries) more count i d
+    (omega (arith, below))
     (omega (arith, inside)) follow.1 stored.1 in
     let part = drop-drop (last - object.end) (object.end - end) entries ∙ ap (λ k. drop k entries) skip in
     subst (λ n. IsStored objects uuid_at (expected_at volume n last) (get_or more i d)
@@ -81,9 +85,11 @@ goes_at end (object ∷ more) (suc i) d inside follow = goes_at object.end more 
 
 end_next : (end : ℕ) (list : List StreamObject) (i : ℕ) (d : StreamObject) → i < length list
     → end_after end (take (i + 1) list) ≡ (get_or list i d).end
-end_next end list i d inside = ap (end_after end) (take_more list i d inside) ∙ end_in_parts end (take i list) (get_or list i d ∷ [])
+end_next end list i d inside = ap (end_after end) (take_more list i d inside)
+    ∙ end_in_parts end (take i list) (get_or list i d ∷ [])
 
-follow_rest : (end n : ℕ) (list : List StreamObject) → EndsFollow end list → EndsFollow (end_after end (take n list)) (drop n list)
+follow_rest : (end n : ℕ) (list : List StreamObject) → EndsFollow end list
+    → EndsFollow (end_after end (take n list)) (drop n list)
 follow_rest end zero list follow = follow
 follow_rest end (suc n) [] follow = tt
 follow_rest end (suc n) (object ∷ more) follow = follow_rest object.end n more follow.1
@@ -97,9 +103,11 @@ end_within end n list follow =
 -- ---- an object of data
 
 -- rows that are the same as those of a data object do what its entries do
-same_changes : (objects : Objects) (uuid_at : ℕ → Option (List ℕ)) (kind : Content) (entries : List Entry) (list : Vec DataRow) (others : Rows)
+same_changes : (objects : Objects) (uuid_at : ℕ → Option (List ℕ)) (kind : Content) (entries : List Entry) (list : Vec DataRow)
+    (others : Rows)
     (payload other : List ℕ)
-    → kind ≡ content.Data → AreSameRows (rows_of.Data list) others → payload ≡ other → HasContent objects uuid_at kind entries others other
+    → kind ≡ content.Data → AreSameRows (rows_of.Data list) others → payload ≡ other
+    → HasContent objects uuid_at kind entries others other
     → (k : ℕ) → change_in list.items payload k ≡ change_at entries k
 same_changes objects uuid_at kind entries list (rows_of.Data rows) payload other is_data same pay has k =
     let is : HasContent objects uuid_at content.Data entries (rows_of.Data rows) other =
@@ -110,7 +118,8 @@ same_changes objects uuid_at kind entries list rows_of.Checkpoint payload other 
 
 -- ---- one step
 
-module _ (volume : Expected) (uuid_at : ℕ → Option (List ℕ)) (objects : Objects) (stream : Stream) (number : ℕ) (wide : volume.sectors < 2 ^ 64)
+module _ (volume : Expected) (uuid_at : ℕ → Option (List ℕ)) (objects : Objects) (stream : Stream) (number : ℕ)
+    (wide : volume.sectors < 2 ^ 64)
     (has : HasDataUpTo volume uuid_at objects stream number) where
   abbrev all : List StreamObject
   all = stream.objects
@@ -119,7 +128,8 @@ module _ (volume : Expected) (uuid_at : ℕ → Option (List ℕ)) (objects : Ob
   enough = has.stored.last
 
   -- the first missing number is that past the last object
-  pub missing_at : (at : ℕ) (bytes : List ℕ) → at ≤ number → found objects (name_of volume.uuid (at + 1)) ≡ Some bytes → at < number
+  pub missing_at : (at : ℕ) (bytes : List ℕ) → at ≤ number → found objects (name_of volume.uuid (at + 1)) ≡ Some bytes
+      → at < number
   missing_at at bytes to there =
       elim (cases_lt at number) [
         | inl low ↦ low
@@ -136,7 +146,8 @@ module _ (volume : Expected) (uuid_at : ℕ → Option (List ℕ)) (objects : Ob
       elim (cases_lt at number) [
         | inl low ↦
             let landed = has.stored.missing.least (at + 1) (omega (arith, has.stored.base)) (omega arith) in
-            absurd (let e = ap is_some absent in let f : is_some (found objects (name_of volume.uuid (at + 1))) ≡ true = landed in cc)
+            absurd (let e = ap is_some absent in let f : is_some (found objects (name_of volume.uuid (at + 1))) ≡ true =
+            landed in cc)
         | inr past ↦ omega arith
       ]
 
@@ -170,7 +181,8 @@ module _ (volume : Expected) (uuid_at : ℕ → Option (List ℕ)) (objects : Ob
     pub is_data : object.content ≡ content.Data
     is_data =
         let count : i < number - stream.number = omega arith in
-        let taken : i < length (take (number - stream.number) all) = omega (arith, length-take (number - stream.number) all, inside) in
+        let taken : i < length (take (number - stream.number) all) =
+        omega (arith, length-take (number - stream.number) all, inside) in
         ap (λ (o : StreamObject). o.content) (sym (get_or-take (number - stream.number) all i d count)) ∙ has.hold_data i d taken
 
     grows : end_before < object.end
@@ -187,7 +199,14 @@ module _ (volume : Expected) (uuid_at : ℕ → Option (List ℕ)) (objects : Ob
     last_end : object.end ≤ stream.end + length stream.entries
     last_end =
         let total = ap (end_after stream.end) (all_objects stream) in
-        omega (arith, end_next stream.end all i d inside, end_within stream.end (i + 1) all has.valid.ends, total, has.valid.within)
+        omega (
+          arith,
+          end_next stream.end all i d inside,
+          end_within stream.end (i + 1) all
+              has.valid.ends,
+          total,
+          has.valid.within,
+        )
 
     part_size : length part ≡ object.end - end_before
     part_size =
@@ -204,21 +223,32 @@ module _ (volume : Expected) (uuid_at : ℕ → Option (List ℕ)) (objects : Ob
     -- the entries of the objects up to the next one
     entries_more : (up_to_object at stream).entries ++ part ≡ (up_to_object (at + 1) stream).entries
     entries_more =
-        let sum : end_before - stream.end + (object.end - end_before) ≡ end_at stream (at + 1) - stream.end = omega (arith, order, grows, next_end) in
+        let sum : end_before - stream.end + (object.end - end_before) ≡ end_at stream (at + 1) - stream.end =
+        omega (arith, order, grows, next_end) in
         sym (take-add (end_before - stream.end) (object.end - end_before) stream.entries) ∙ ap (λ n. take n stream.entries) sum
 
     objects_more : (end : ℕ) → object.end ≡ end
-        → (up_to_object at stream).objects ++ record { content = content.Data; end = end } ∷ [] ≡ (up_to_object (at + 1) stream).objects
+        → (up_to_object at stream).objects ++ record { content = content.Data; end = end } ∷ []
+        ≡ (up_to_object (at + 1) stream).objects
     objects_more end ends =
         let more : i + 1 ≡ at + 1 - stream.number = omega arith in
         let kind = ap (λ (c : Content). let o : StreamObject = record { content = c; end = object.end } in o) is_data in
         let whole = ap (λ (e : ℕ). let o : StreamObject = record { content = content.Data; end = e } in o) ends in
-        ap (λ (o : StreamObject). take i all ++ o ∷ []) (sym whole ∙ sym kind) ∙ sym (take_more all i d inside) ∙ ap (λ n. take n all) more
+        ap (λ (o : StreamObject). take i all ++ o ∷ []) (sym whole ∙ sym kind) ∙ sym (take_more all i d inside)
+        ∙ ap (λ n. take n all) more
 
     grown : (end : ℕ) → object.end ≡ end → with_adopted part end (up_to_object at stream) ≡ up_to_object (at + 1) stream
     grown end ends =
-        ap (λ (es : List Entry). let s : Stream = record stream { entries = es; objects = (up_to_object at stream).objects ++ record { content = content.Data; end = end } ∷ [] } in s) entries_more
-        ∙ ap (λ (os : List StreamObject). let s : Stream = record stream { entries = (up_to_object (at + 1) stream).entries; objects = os } in s)
+        ap (λ (es : List Entry). let s : Stream =
+        record stream {
+          entries = es;
+          objects = (up_to_object at stream).objects ++ record {
+            content = content.Data;
+            end = end;
+          } ∷ [];
+        } in s) entries_more
+        ∙ ap (λ (os : List StreamObject). let s : Stream =
+        record stream { entries = (up_to_object (at + 1) stream).entries; objects = os } in s)
         (objects_more end ends)
 
     -- ---- the object that the store has
@@ -242,7 +272,8 @@ module _ (volume : Expected) (uuid_at : ℕ → Option (List ℕ)) (objects : Ob
       object_end : object.end ≡ end
       object_end = sym is_stored.ends ∙ ap (λ (h : Header). h.end_seq) (sym one.headers) ∙ stored.end_is
 
-      sealed_of : IsSealedOf (expected_at volume (at + 1) end_before) part (record { content = content.Data; end = end }) (just_sealed stored.bytes rows end)
+      sealed_of : IsSealedOf (expected_at volume (at + 1) end_before) part (record { content = content.Data; end = end })
+          (just_sealed stored.bytes rows end)
       sealed_of = record {
         content = refl;
         end = refl;
@@ -254,12 +285,14 @@ module _ (volume : Expected) (uuid_at : ℕ → Option (List ℕ)) (objects : Ob
         ends = stored.end_is;
         changes = λ k.
             ap (λ items. change_in items payload k) (sym stored.items)
-            ∙ same_changes objects uuid_at object.content part stored.list is_stored.rows_of payload is_stored.payload is_data one.same_rows one.payloads is_stored.content k;
+            ∙ same_changes objects uuid_at object.content part stored.list is_stored.rows_of payload is_stored.payload is_data
+            one.same_rows one.payloads is_stored.content k;
       }
 
     -- ---- the list with it
 
-    module _ (old new : ObjLogState) (rows : List DataRow) (end : ℕ) (receipt : ReceiptState) (same_volume : expected_of_volume old ≡ volume)
+    module _ (old new : ObjLogState) (rows : List DataRow) (end : ℕ) (receipt : ReceiptState)
+        (same_volume : expected_of_volume old ≡ volume)
         (last : old.uploads.window.last ≡ at) (sealed_none : old.uploads.queue.sealed ≡ []) (batch_none : old.batch.entries ≡ [])
         (uploads : IsUploads old.uploads.queue old.uploads.window) (adopted : HasAdoptedObject rows end receipt old new)
         (list : HasStreamTo volume.sectors stream at old) (there : IsStoredAs objects (next_of old) rows end receipt) where
@@ -276,7 +309,8 @@ module _ (volume : Expected) (uuid_at : ℕ → Option (List ℕ)) (objects : Ob
 
       sealed : IsSealedOf (next_of old) part (record { content = content.Data; end = end }) (just_sealed stored.bytes rows end)
       sealed =
-          subst (λ e. IsSealedOf e part (record { content = content.Data; end = end }) (just_sealed stored.bytes rows end)) (sym next_is)
+          subst (λ e. IsSealedOf e part (record { content = content.Data; end = end }) (just_sealed stored.bytes rows end))
+          (sym next_is)
           (sealed_of rows end receipt stored)
 
       ends : object.end ≡ end
@@ -296,15 +330,18 @@ module _ (volume : Expected) (uuid_at : ℕ → Option (List ℕ)) (objects : Ob
           (All-take (EndsBy volume.sectors) (object.end - end_before) (drop (end_before - stream.end) stream.entries)
           (All-drop (EndsBy volume.sectors) (end_before - stream.end) stream.entries has.inside))
 
-      image : HasImage (after (blank volume.sectors) (up_to_object (at + 1) stream).entries) new.uploads.queue × HasOwnReceipts new.uploads.queue
+      image : HasImage (after (blank volume.sectors) (up_to_object (at + 1) stream).entries) new.uploads.queue
+          × HasOwnReceipts new.uploads.queue
       image =
           let before = after (blank volume.sectors) (up_to_object at stream).entries in
           let object_is : StreamObject = record { content = content.Data; end = end } in
-          let now = adopting_makes_image (λ n. 0) (up_to_object at stream) old new part object_is stored.bytes rows end receipt before uploads
+          let now = adopting_makes_image (λ n. 0) (up_to_object at stream) old new part object_is stored.bytes rows end receipt
+          before uploads
           (list.of_stream (λ n. 0)) sealed_none sealed adopted
           stored.receipt_is part_inside list.image in
           let joined : after before part ≡ after (blank volume.sectors) (up_to_object (at + 1) stream).entries =
-          sym (applies_in_parts (blank volume.sectors) (up_to_object at stream).entries part) ∙ ap (after (blank volume.sectors)) entries_more in
+          sym (applies_in_parts (blank volume.sectors) (up_to_object at stream).entries part)
+          ∙ ap (after (blank volume.sectors)) entries_more in
           (subst (λ x. HasImage x new.uploads.queue) joined now.0, now.1)
 
       of_stream : (data_at : ℕ → ℕ) → IsOfStream data_at (up_to_object (at + 1) stream) new

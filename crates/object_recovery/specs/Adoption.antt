@@ -45,10 +45,13 @@ pub record IsReadAsData (receipt : ReceiptState) (expected : Expected) (rows : L
 
 -- why the object with these bytes is not adopted: the list takes none of this number, or it is bad, or it holds no entries
 abbrev pub IsWhyLeft : (bytes : List ℕ) (size : ℕ) → Expected → Option Refusal → Type 0
-IsWhyLeft bytes size expected None = (2 ^ 64 - 1 ≤ expected.number) × (header : Header) × (rows : Rows) × IsObject bytes size expected header rows
-IsWhyLeft bytes size expected (Some (refusals.Bad number reason)) = (number ≡ expected.number) × IsRefusedAs bytes size expected reason
+IsWhyLeft bytes size expected None = (2 ^ 64 - 1 ≤ expected.number) × (header : Header) × (rows : Rows)
+    × IsObject bytes size expected header rows
+IsWhyLeft bytes size expected (Some (refusals.Bad number reason)) = (number ≡ expected.number)
+    × IsRefusedAs bytes size expected reason
 IsWhyLeft bytes size expected (Some (refusals.NotData number)) =
-    (number ≡ expected.number) × (header : Header) × (rows : Rows) × IsObject bytes size expected header rows × (header.kind ≡ kinds.Data → ⊥)
+    (number ≡ expected.number) × (header : Header) × (rows : Rows) × IsObject bytes size expected header rows
+    × (header.kind ≡ kinds.Data → ⊥)
 
 -- it is not, and was judged so
 pub record IsLeft (bytes : List ℕ) (size : ℕ) (expected : Expected) (reached : Reached) : Type 0 where
@@ -59,13 +62,15 @@ pub record IsLeft (bytes : List ℕ) (size : ℕ) (expected : Expected) (reached
 
 -- the expected object was read
 abbrev pub IsNextRead : ReceiptState → Expected → NextObject → Type 0
-IsNextRead receipt expected (next_object.Data object) = IsReadAsData receipt expected object.rows.items object.end × (expected.number < 2 ^ 64 - 1)
+IsNextRead receipt expected (next_object.Data object) = IsReadAsData receipt expected object.rows.items object.end
+    × (expected.number < 2 ^ 64 - 1)
 IsNextRead receipt expected (next_object.Left reached) = IfSome receipt.told (λ told. IsLeft told receipt.size expected reached)
 
 -- ---- in the store
 
 -- the store has the expected object, which holds entries, with these rows and this end, and the receipt is for it
-pub record IsStoredAs (objects : Objects) (expected : Expected) (rows : List DataRow) (end : ℕ) (receipt : ReceiptState) : Type 0 where
+pub record IsStoredAs (objects : Objects) (expected : Expected) (rows : List DataRow) (end : ℕ) (receipt : ReceiptState) :
+    Type 0 where
   pub bytes : List ℕ
   pub present : found objects (name_of expected.uuid expected.number) ≡ Some bytes
   pub header : Header
@@ -83,7 +88,8 @@ pub record IsLeftAt (objects : Objects) (expected : Expected) (reached : Reached
 
 -- the store has none of the next number, or it is past all numbers
 abbrev pub HasNoNext : Objects → ObjLogState → Type 0
-HasNoNext objects log = log.uploads.window.last + 1 < 2 ^ 64 → found objects (name_of log.uploads.uuid (log.uploads.window.last + 1)) ≡ None
+HasNoNext objects log = log.uploads.window.last + 1 < 2 ^ 64
+    → found objects (name_of log.uploads.uuid (log.uploads.window.last + 1)) ≡ None
 
 -- the object of the next number was read and adopted; where receipts tell, it is the one that the store has
 pub record AdoptsNext (Tells : Type 0) (objects : Option Objects) (old new : ObjLogState) : Type 0 where
@@ -99,7 +105,8 @@ pub record AdoptsNext (Tells : Type 0) (objects : Option Objects) (old new : Obj
 abbrev pub ComesNext : (Tells : Type 0) → Option Objects → (old new : ObjLogState) → Next → Type 0
 ComesNext Tells objects old new next.Missing = (new ≡ old) × (Tells → IfSome objects (λ objects. HasNoNext objects old))
 ComesNext Tells objects old new next.Adopted = AdoptsNext Tells objects old new
-ComesNext Tells objects old new (next.Left reached) = (new ≡ old) × (Tells → IfSome objects (λ objects. IsLeftAt objects (next_of old) reached))
+ComesNext Tells objects old new (next.Left reached) = (new ≡ old)
+    × (Tells → IfSome objects (λ objects. IsLeftAt objects (next_of old) reached))
 
 -- ---- up to the first missing number
 
@@ -109,7 +116,8 @@ reached_by log = record { number = log.uploads.window.last; end = Some log.uploa
 
 -- where those of one list were judged good, those of the other one are
 abbrev pub KeepsGood : Expected → Objects → (old new : ObjLogState) → Type 0
-KeepsGood volume objects old new = (base : ℕ) → IsReached volume objects base (reached_by old) → IsReached volume objects base (reached_by new)
+KeepsGood volume objects old new = (base : ℕ) → IsReached volume objects base (reached_by old)
+    → IsReached volume objects base (reached_by new)
 
 -- the list ends before the first missing number, or before this object
 abbrev pub HasEndedAt : Objects → ObjLogState → Option Reached → Type 0
@@ -123,7 +131,8 @@ ReachesGap volume objects log None gap = gap ≡ reached_by log
 ReachesGap volume objects log (Some reached) gap = GoesToGap volume objects reached gap
 
 -- All past this one, or where it is none past the list, were judged by the names of the objects that there are.
-pub record JudgesRest (objects : Objects) (log : ObjLogState) (names : List ObjName) (left : Option Reached) (refused : Option Refusal) : Type 0 where
+pub record JudgesRest (objects : Objects) (log : ObjLogState) (names : List ObjName) (left : Option Reached)
+    (refused : Option Refusal) : Type 0 where
   pub gap : Reached
   pub reaches : ReachesGap (expected_of_volume log) objects log left gap
   pub past : JudgesPast (expected_of_volume log) objects names gap refused

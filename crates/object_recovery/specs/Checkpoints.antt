@@ -20,7 +20,8 @@ expected_of uuid geometry = record { uuid = uuid; number = 0; sectors = geometry
 -- the end of the whole checkpoint that bytes are under the expected number; none where they are no such
 abbrev pub IsEndOfCheckpoint : (bytes : List ℕ) (size : ℕ) → Expected → Option ℕ → Type 0
 IsEndOfCheckpoint bytes size expected None = (header : Header) → IsObject bytes size expected header Checkpoint → ⊥
-IsEndOfCheckpoint bytes size expected (Some end) = (header : Header) × IsObject bytes size expected header Checkpoint × (header.end_seq ≡ end)
+IsEndOfCheckpoint bytes size expected (Some end) = (header : Header) × IsObject bytes size expected header Checkpoint
+    × (header.end_seq ≡ end)
 
 -- the store has no whole checkpoint under this number
 abbrev pub IsNoCheckpoint : Expected → Objects → (number : ℕ) → Type 0
@@ -28,14 +29,16 @@ IsNoCheckpoint volume objects number = (end : ℕ) (owned : Owners) → IsCheckp
 
 -- the end of the checkpoint that the store has under this name; none where the name is no checkpoint's
 abbrev pub IsCheckpointNamed : Geometry → Objects → ObjName → Option ℕ → Type 0
-IsCheckpointNamed geometry objects name None = name.kind ≡ Object → IsNoCheckpoint (expected_of name.uuid geometry) objects name.number
+IsCheckpointNamed geometry objects name None = name.kind ≡ Object
+    → IsNoCheckpoint (expected_of name.uuid geometry) objects name.number
 IsCheckpointNamed geometry objects name (Some end) =
     (name.kind ≡ Object) × IsCheckpointOf (expected_of name.uuid geometry) objects name.number end (λ k. None)
 
 -- those of names from an index on are no checkpoints
 abbrev pub HasNoneFrom : Geometry → Objects → List ObjName → (index : ℕ) → Type 0
 HasNoneFrom geometry objects names index =
-    (k : ℕ) (name : ObjName) → index ≤ k → k < length names → slice_index_or names k name ≡ name → IsCheckpointNamed geometry objects name None
+    (k : ℕ) (name : ObjName) → index ≤ k → k < length names → slice_index_or names k name ≡ name
+    → IsCheckpointNamed geometry objects name None
 
 -- each is a name
 abbrev pub AreNames : List ObjName → Type 0

@@ -42,11 +42,13 @@ refused_with number (Some reason) before = Some (refusals.Bad number reason)
 abbrev pub StaysRefused : (old new : Option Refusal) → Type 0
 StaysRefused old new = new ≡ None → old ≡ None
 
--- The objects of the store with such numbers are refused so: for the greatest of them that is bad, or where none is for one without entries.
+-- The objects of the store with such numbers are refused so: for the greatest of them that is bad, or where none is for one
+-- without entries.
 abbrev pub IsVerdict : Expected → Objects → (last : ℕ) → (Such : ℕ → Type 0) → Option Refusal → Type 0
 IsVerdict volume objects last Such None = AreGood volume objects last Such
 IsVerdict volume objects last Such (Some (refusals.Bad number reason)) =
-    Such number × IsBadObject volume objects last number reason × AreGood volume objects last (λ other. Such other × (number < other))
+    Such number × IsBadObject volume objects last number reason
+    × AreGood volume objects last (λ other. Such other × (number < other))
 IsVerdict volume objects last Such (Some (refusals.NotData number)) =
     Such number × IsNotData volume objects last number × AreGood volume objects last Such
 
@@ -65,7 +67,8 @@ IsGap volume objects reached = reached.number + 1 < 2 ^ 64 → found objects (na
 -- the next one was judged too, or there is none
 abbrev pub IsJudgedNext : Expected → Objects → Reached → Option Reached → Type 0
 IsJudgedNext volume objects reached None = found objects (name_of volume.uuid (reached.number + 1)) ≡ None
-IsJudgedNext volume objects reached (Some next) = (base : ℕ) → IsReached volume objects base reached → IsReached volume objects base next
+IsJudgedNext volume objects reached (Some next) = (base : ℕ) → IsReached volume objects base reached
+    → IsReached volume objects base next
 
 -- and all up to the first missing number
 pub record GoesToGap (volume : Expected) (objects : Objects) (from gap : Reached) : Type 0 where

@@ -14,11 +14,14 @@ use Rattle.object_recovery.specs.Checkpoints.{IsNewestWithEnd}
 
 -- ---- the end before an object
 
--- The end that bytes have where they are an object of the grammar under the expected number, wherever it begins; none where they are not.
+-- The end that bytes have where they are an object of the grammar under the expected number, wherever it begins; none where they
+-- are not.
 abbrev pub IsEndOf : (bytes : List ℕ) (size : ℕ) → Expected → Option ℕ → Type 0
-IsEndOf bytes size expected None = (header : Header) (rows : Rows) → IsObject bytes size (expected_alone expected expected.number) header rows → ⊥
+IsEndOf bytes size expected None = (header : Header) (rows : Rows) → IsObject bytes size (expected_alone expected expected.number)
+    header rows → ⊥
 IsEndOf bytes size expected (Some end) =
-    (header : Header) × (rows : Rows) × IsObject bytes size (expected_alone expected expected.number) header rows × (header.end_seq ≡ end)
+    (header : Header) × (rows : Rows) × IsObject bytes size (expected_alone expected expected.number) header rows
+    × (header.end_seq ≡ end)
 
 -- the store has an object of this number, and that is the end of its bytes
 pub record HasEnd (volume : Expected) (objects : Objects) (number : ℕ) (end : Option ℕ) : Type 0 where
@@ -26,8 +29,8 @@ pub record HasEnd (volume : Expected) (objects : Objects) (number : ℕ) (end : 
   pub present : found objects (name_of volume.uuid number) ≡ Some bytes
   pub is_end : IsEndOf bytes (length bytes) (expected_alone volume number) end
 
--- The end before an object, by the last one before the first missing number: up to that one, the end of the object before it; past the
--- first missing number it is not known.
+-- The end before an object, by the last one before the first missing number: up to that one, the end of the object before it;
+-- past the first missing number it is not known.
 pub record IsEndBefore (volume : Expected) (objects : Objects) (last number : ℕ) (end : Option ℕ) : Type 0 where
   pub known : number ≤ last → HasEnd volume objects (number - 1) end
   pub unknown : last < number → end ≡ None
@@ -84,7 +87,8 @@ pub record IsNotData (volume : Expected) (objects : Objects) (last number : ℕ)
 abbrev pub HaveLanded : Objects → (uuid : List ℕ) → (past to : ℕ) → Type 0
 HaveLanded objects uuid past to = (number : ℕ) → past < number → number ≤ to → IsTrue (landed_in objects uuid number)
 
--- this is the newest checkpoint of a store, and this the last object before the first missing number; names have numbers below 2^64
+-- this is the newest checkpoint of a store, and this the last object before the first missing number; names have numbers below
+-- 2^64
 pub record IsRun (volume : Expected) (objects : Objects) (base last : ℕ) : Type 0 where
   pub end : ℕ
   pub newest : IsNewestWithEnd volume objects base end

@@ -11,7 +11,8 @@ abbrev pub IsInsideObject : Option ReceiptState → (at : ℕ) → Type 0
 IsInsideObject None at = ⊥
 IsInsideObject (Some receipt) at = 512 * (at + 1) ≤ receipt.size
 
--- Each sector that the objects' map has is one of the volume's, and stands in an object of the volume's own that was adopted, inside it.
+-- Each sector that the objects' map has is one of the volume's, and stands in an object of the volume's own that was adopted,
+-- inside it.
 abbrev pub HasPlacesInside : (sectors : ℕ) → QueueState → Type 0
 HasPlacesInside sectors queue =
     (k : ℕ) (place : ObjectPlace) → settled_at queue.maps k ≡ Some place

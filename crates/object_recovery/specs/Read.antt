@@ -30,15 +30,15 @@ pub record IsHeaderOf (receipt : ReceiptState) (expected : Expected) (bytes : Li
   pub first : AreFirstOf receipt.told bytes
   pub header_is : IsHeader bytes receipt.size expected header
 
--- Some bytes, with as many as the object has, are an object of the grammar under the expected number, with this header and these rows;
--- where the object's are told, they are.
+-- Some bytes, with as many as the object has, are an object of the grammar under the expected number, with this header and these
+-- rows; where the object's are told, they are.
 pub record IsReadAs (receipt : ReceiptState) (expected : Expected) (header : Header) (rows : Rows) : Type 0 where
   pub bytes : List ℕ
   pub is_object : IsObject bytes receipt.size expected header rows
   pub told : IfSome receipt.told (λ told. IsObject told receipt.size expected header rows)
 
--- an error of a read of an object: where it is that of a bad object, it has the first reason for which the object is none of the grammar
--- under the expected number
+-- an error of a read of an object: where it is that of a bad object, it has the first reason for which the object is none of the
+-- grammar under the expected number
 abbrev pub IsWhyNotRead : ReceiptState → Expected → RecoverError → Type 0
 IsWhyNotRead receipt expected errors.NoCheckpoint = ⊥
 IsWhyNotRead receipt expected (errors.BadObject number reason) =
@@ -47,7 +47,8 @@ IsWhyNotRead receipt expected (errors.NotData number) = ⊥
 IsWhyNotRead receipt expected errors.StoreFault = Unit {0}
 IsWhyNotRead receipt expected errors.OutOfMemory = Unit {0}
 
--- where an object's bytes are told, they are refused for this reason; and this is their end where they are of the grammar by themselves
+-- where an object's bytes are told, they are refused for this reason; and this is their end where they are of the grammar by
+-- themselves
 abbrev pub IsToldRefused : ReceiptState → Expected → BadObject → Type 0
 IsToldRefused receipt expected reason = IfSome receipt.told (λ told. IsRefusedAs told receipt.size expected reason)
 
@@ -56,5 +57,6 @@ IsToldEnd receipt expected end = IfSome receipt.told (λ told. IsEndOf told rece
 
 -- an object was read so under the expected number
 abbrev pub IsReadOf : ReceiptState → Expected → ReadObject → Type 0
-IsReadOf receipt expected (read.Whole rows end) = (header : Header) × IsReadAs receipt expected header rows × (header.end_seq ≡ end)
+IsReadOf receipt expected (read.Whole rows end) = (header : Header) × IsReadAs receipt expected header rows
+    × (header.end_seq ≡ end)
 IsReadOf receipt expected (read.Bad reason end) = IsToldRefused receipt expected reason × IsToldEnd receipt expected end

@@ -35,9 +35,10 @@ up_to_object number stream = record stream {
   objects = objects_to stream number;
 }
 
--- A store has a stream of a volume without clones from its newest checkpoint on, up to the object of a number: that before the first
--- missing one. Each object past the checkpoint up to there holds entries, and the entries lie inside the volume.
-pub record HasDataUpTo (volume : Expected) (uuid_at : ℕ → Option (List ℕ)) (objects : Objects) (stream : Stream) (number : ℕ) : Type 0 where
+-- A store has a stream of a volume without clones from its newest checkpoint on, up to the object of a number: that before the
+-- first missing one. Each object past the checkpoint up to there holds entries, and the entries lie inside the volume.
+pub record HasDataUpTo (volume : Expected) (uuid_at : ℕ → Option (List ℕ)) (objects : Objects) (stream : Stream) (number : ℕ) :
+    Type 0 where
   pub valid : IsStream stream
   pub stored : HasStreamUpTo volume uuid_at objects stream (blank volume.sectors) number
   pub hold_data : All (λ (object : StreamObject). object.content ≡ Data) (objects_to stream number)
@@ -45,8 +46,8 @@ pub record HasDataUpTo (volume : Expected) (uuid_at : ℕ → Option (List ℕ))
 
 -- ---- lists
 
--- The list of a volume all of whose objects, up to this number and this end, are acknowledged. No entry is in the batch, nor in the
--- map of the log.
+-- The list of a volume all of whose objects, up to this number and this end, are acknowledged. No entry is in the batch, nor in
+-- the map of the log.
 pub record IsListUpTo (uuid : List ℕ) (geometry : Geometry) (number end : ℕ) (log : ObjLogState) : Type 0 where
   pub uuid_is : log.uploads.uuid ≡ uuid
   pub geometry_is : log.batch.geometry ≡ geometry
@@ -58,8 +59,8 @@ pub record IsListUpTo (uuid : List ℕ) (geometry : Geometry) (number end : ℕ)
   pub sealed : log.uploads.queue.sealed ≡ []
   pub logged : (k : ℕ) → logged_at log.uploads.queue.maps k ≡ None
 
--- The list is that of a stream up to the object of a number, wherever the data of entries are told, and its objects have the image that
--- the entries in these make of a new volume.
+-- The list is that of a stream up to the object of a number, wherever the data of entries are told, and its objects have the
+-- image that the entries in these make of a new volume.
 pub record HasStreamTo (sectors : ℕ) (stream : Stream) (number : ℕ) (log : ObjLogState) : Type 0 where
   pub of_stream : (data_at : ℕ → ℕ) → IsOfStream data_at (up_to_object number stream) log
   pub image : HasImage (after (blank sectors) (up_to_object number stream).entries) log.uploads.queue
@@ -67,12 +68,13 @@ pub record HasStreamTo (sectors : ℕ) (stream : Stream) (number : ℕ) (log : O
 
 -- ---- all objects up to the first missing number
 
--- Where a list is that of a stream which the store has, up to the object of its frontier, the other one is so too, and its frontier is no
--- earlier, and none past the last object.
+-- Where a list is that of a stream which the store has, up to the object of its frontier, the other one is so too, and its
+-- frontier is no earlier, and none past the last object.
 abbrev pub KeepsStreams : (volume : Expected) → Objects → (old new : ObjLogState) → Type 0
 KeepsStreams volume objects old new =
     (uuid_at : ℕ → Option (List ℕ)) (stream : Stream) (number : ℕ) → HasDataUpTo volume uuid_at objects stream number
-    → stream.number ≤ old.uploads.window.last → old.uploads.window.last ≤ number → HasStreamTo volume.sectors stream old.uploads.window.last old
+    → stream.number ≤ old.uploads.window.last → old.uploads.window.last ≤ number
+    → HasStreamTo volume.sectors stream old.uploads.window.last old
     → (old.uploads.window.last ≤ new.uploads.window.last) × (new.uploads.window.last ≤ number)
     × HasStreamTo volume.sectors stream new.uploads.window.last new
 
@@ -81,7 +83,8 @@ KeepsStreams volume objects old new =
 -- the object of this number is that before the first missing one, whatever the checkpoints of the store are
 abbrev pub IsLastLanded : (volume : Expected) → Objects → (number : ℕ) → Type 0
 IsLastLanded volume objects number =
-    (checkpoint : Numbers) → AreCheckpoints volume objects checkpoint → IsFirstMissing checkpoint (landed_in objects volume.uuid) (number + 1)
+    (checkpoint : Numbers) → AreCheckpoints volume objects checkpoint → IsFirstMissing checkpoint (landed_in objects volume.uuid)
+    (number + 1)
 
 -- whichever stream the store has, the list is that of it up to the object before the first missing number
 pub record HasRecovered (sectors : ℕ) (stream : Stream) (number : ℕ) (log : ObjLogState) : Type 0 where
@@ -102,7 +105,8 @@ pub record IsRecoveredOf (volume : Expected) (objects : Objects) (log : ObjLogSt
 -- no stream that the store has ends before the object of this number
 abbrev pub IsNoLonger : (volume : Expected) → Objects → (last : ℕ) → Type 0
 IsNoLonger volume objects last =
-    (uuid_at : ℕ → Option (List ℕ)) (stream : Stream) (number : ℕ) → HasDataUpTo volume uuid_at objects stream number → last ≤ number
+    (uuid_at : ℕ → Option (List ℕ)) (stream : Stream) (number : ℕ) → HasDataUpTo volume uuid_at objects stream number
+    → last ≤ number
 
 -- an object of a volume past a number
 abbrev pub IsPastOf : (uuid : List ℕ) → (number : ℕ) → ObjName → Type 0
@@ -113,14 +117,16 @@ pub record RemovesAllPast (uuid : List ℕ) (number : ℕ) (old new : Objects) :
   pub removes : Removes (IsPastOf uuid number) old new
   pub gone : (name : ObjName) → IsName name → IsPastOf uuid number name → found new name ≡ None
 
--- what a recovery leaves, however it and the removal after it end: all as it was, or without some of the objects past the first missing number
+-- what a recovery leaves, however it and the removal after it end: all as it was, or without some of the objects past the first
+-- missing number
 abbrev pub MayRemovePast : (Tells : Type 0) → (volume : Expected) → (old new : Objects) → Type 0
 MayRemovePast Tells volume old new =
     (new ≡ old) ⊎ ((number : ℕ) × (Tells → IsLastLanded volume old number) × Removes (IsPastOf volume.uuid number) old new)
 
 -- each object past the newest checkpoint, which has this number, is good
 abbrev pub AreAllGood : (volume : Expected) → Objects → (base : ℕ) → Type 0
-AreAllGood volume objects base = (last : ℕ) × IsRun volume objects base last × AreGood volume objects last (λ number. base < number)
+AreAllGood volume objects base = (last : ℕ) × IsRun volume objects base last
+    × AreGood volume objects last (λ number. base < number)
 
 -- each object past one of a number is of the grammar, wherever it begins; names have numbers below 2^64
 abbrev pub AreNamedWholePast : (volume : Expected) → Objects → (number : ℕ) → Type 0
@@ -158,7 +164,8 @@ IsRefusal errors.OutOfMemory = ⊥
 -- no stream that the store has is refused
 abbrev pub RefusesNoStream : (volume : Expected) → Objects → RecoverError → Type 0
 RefusesNoStream volume objects error =
-    (uuid_at : ℕ → Option (List ℕ)) (stream : Stream) (number : ℕ) → HasDataUpTo volume uuid_at objects stream number → IsRefusal error → ⊥
+    (uuid_at : ℕ → Option (List ℕ)) (stream : Stream) (number : ℕ) → HasDataUpTo volume uuid_at objects stream number
+    → IsRefusal error → ⊥
 
 -- an error with its reason, which refuses no stream that the store has
 pub record IsRefused (volume : Expected) (objects : Objects) (error : RecoverError) : Type 0 where

@@ -21,4 +21,5 @@ IsListedPast names number name = Contains names name × IsPast number name
 -- those that are past a number were removed, of the first so many of these names
 pub record RemovesFirst (names : List ObjName) (number count : ℕ) (old new : Objects) : Type 0 where
   pub removes : Removes (IsListedPast names number) old new
-  pub gone : (k : ℕ) (name : ObjName) → k < count → k < length names → slice_index_or names k name ≡ name → IsPast number name → found new name ≡ None
+  pub gone : (k : ℕ) (name : ObjName) → k < count → k < length names → slice_index_or names k name ≡ name → IsPast number name
+      → found new name ≡ None

@@ -45,26 +45,29 @@ struct DataObject {
     end: u64,
 }
 
-/// Adopts the objects after the last of the list, up to the first missing number, or up to the first object that is not adopted: how that
-/// one was judged is answered. No list takes the object of the greatest number of all. The list has all of its objects acknowledged, and
-/// its places lie inside these (conditions).
+/// Adopts the objects after the last of the list, up to the first missing number, or up to the first object
+/// that is not adopted: how that one was judged is answered. No list takes the object of the greatest number
+/// of all. The list has all of its objects acknowledged, and its places lie inside these (conditions).
 pub(crate) fn adopt_all<S: Store>(
     alloc: Global,
     store: &mut S,
     log: &mut ObjLog<S::Receipt>,
 ) -> Result<Option<Reached>, RecoverError>
-    requires list { IsListUpTo log.old.uploads.uuid log.old.batch.geometry log.old.uploads.window.last log.old.uploads.queue.end log.old }
+    requires list { IsListUpTo log.old.uploads.uuid log.old.batch.geometry log.old.uploads.window.last
+        log.old.uploads.queue.end log.old }
     requires limits { IsTrue (is_within_limits log.old.batch.geometry) }
     requires places { HasPlacesInside log.old.batch.geometry.sectors log.old.uploads.queue }
     ensures list { OnOk result
-        (IsListUpTo log.old.uploads.uuid log.old.batch.geometry log.new.uploads.window.last log.new.uploads.queue.end log.new) }
+        (IsListUpTo log.old.uploads.uuid log.old.batch.geometry log.new.uploads.window.last
+        log.new.uploads.queue.end log.new) }
     ensures places { OnOk result (HasPlacesInside log.old.batch.geometry.sectors log.new.uploads.queue) }
     ensures from { OnOk result (log.old.uploads.window.last ≤ log.new.uploads.window.last) }
     ensures streams { TellsBytes S.Receipt.state → OnOk result (IfSome (S.state store.old).objects (λ objects.
         KeepsStreams (expected_of_volume log.old) objects log.old log.new)) }
     ensures good { TellsBytes S.Receipt.state → OnOk result (IfSome (S.state store.old).objects (λ objects.
         KeepsGood (expected_of_volume log.old) objects log.old log.new)) }
-    ensures ended { TellsBytes S.Receipt.state → IfOk result (λ left. IfSome (S.state store.old).objects (λ objects.
+    ensures ended { TellsBytes S.Receipt.state
+        → IfOk result (λ left. IfSome (S.state store.old).objects (λ objects.
         HasEndedAt objects log.new left)) }
     ensures answer { IfErr result IsNoAnswer }
     ensures unchanged { OnlyCounts (S.state store.old) (S.state store.new) }
@@ -85,9 +88,11 @@ fn adopt_next<S: Store>(
     store: &mut S,
     log: &mut ObjLog<S::Receipt>,
 ) -> Result<Next, RecoverError>
-    requires list { IsListUpTo log.old.uploads.uuid log.old.batch.geometry log.old.uploads.window.last log.old.uploads.queue.end log.old }
+    requires list { IsListUpTo log.old.uploads.uuid log.old.batch.geometry log.old.uploads.window.last
+        log.old.uploads.queue.end log.old }
     requires limits { IsTrue (is_within_limits log.old.batch.geometry) }
-    ensures next { IfOk result (ComesNext (TellsBytes S.Receipt.state) (S.state store.old).objects log.old log.new) }
+    ensures next { IfOk result (ComesNext (TellsBytes S.Receipt.state) (S.state store.old).objects
+        log.old log.new) }
     ensures answer { IfErr result IsNoAnswer }
     ensures unchanged { OnlyCounts (S.state store.old) (S.state store.new) }
     ensures faults { Counts (ends_by_fault result) (S.state store.old).faults (S.state store.new).faults }
@@ -109,8 +114,8 @@ fn adopt_next<S: Store>(
     }
 }
 
-// Reads the expected object, which is to hold entries. It is not adopted where it is refused, where it holds none, and where it has the
-// greatest number of all.
+// Reads the expected object, which is to hold entries. It is not adopted where it is refused, where it holds
+// none, and where it has the greatest number of all.
 fn read_next<S: Store>(
     alloc: Global,
     store: &mut S,

@@ -6,7 +6,8 @@ ghost use Rattle.lsvd_fault.specs.Faults.{Counts};
 ghost use Rattle.stopped_volume.specs.Objects.{expected_alone};
 ghost use Rattle.object_recovery.specs.Faults.{ends_by_fault, IsNoAnswer, TellsBytes};
 ghost use Rattle.object_recovery.specs.Read.{IsWhyNotRead};
-ghost use Rattle.object_recovery.specs.Checkpoints.{expected_of, IsEndOfCheckpoint, IsNoCheckpoint, IsCheckpointNamed, AreNames, IsNewestWithEnd};
+ghost use Rattle.object_recovery.specs.Checkpoints.{expected_of, IsEndOfCheckpoint, IsNoCheckpoint};
+ghost use Rattle.object_recovery.specs.Checkpoints.{IsCheckpointNamed, AreNames, IsNewestWithEnd};
 
 use crate::error::RecoverError;
 use crate::reading::{read_front, read_head};
@@ -26,8 +27,9 @@ pub(crate) struct NewestCheckpoint {
     pub(crate) end: u64,
 }
 
-/// The newest checkpoint among names, which are those of a volume's objects, in ascending order: the first bytes of objects are read from
-/// the last name on, until a checkpoint is found. `NoCheckpoint` comes where none is.
+/// The newest checkpoint among names, which are those of a volume's objects, in ascending order: the first
+/// bytes of objects are read from the last name on, until a checkpoint is found. `NoCheckpoint` comes where
+/// none is.
 pub(crate) fn newest_checkpoint<S: Store>(
     alloc: Global,
     store: &mut S,
@@ -35,11 +37,14 @@ pub(crate) fn newest_checkpoint<S: Store>(
     names: &[ObjName],
 ) -> Result<NewestCheckpoint, RecoverError>
     requires { AreNames names.now }
-    ensures newest { TellsBytes S.Receipt.state → IfOk result (λ newest. IfSome (S.state store.old).objects (λ objects.
+    ensures newest { TellsBytes S.Receipt.state
+        → IfOk result (λ newest. IfSome (S.state store.old).objects (λ objects.
         (uuid : List ℕ) → IsUuid uuid → Lists uuid objects names.now
         → IsNewestWithEnd (expected_of uuid geometry.now) objects newest.number newest.end)) }
-    ensures none { TellsBytes S.Receipt.state → IsErrOf result RecoverError.NoCheckpoint → IfSome (S.state store.old).objects (λ objects.
-        (uuid : List ℕ) (number : ℕ) → IsUuid uuid → Lists uuid objects names.now → IsNoCheckpoint (expected_of uuid geometry.now) objects number) }
+    ensures none { TellsBytes S.Receipt.state → IsErrOf result RecoverError.NoCheckpoint
+        → IfSome (S.state store.old).objects (λ objects.
+        (uuid : List ℕ) (number : ℕ) → IsUuid uuid → Lists uuid objects names.now
+        → IsNoCheckpoint (expected_of uuid geometry.now) objects number) }
     ensures answer { IfErr result (λ error. (error ≡ RecoverError.NoCheckpoint) ⊎ IsNoAnswer error) }
     ensures unchanged { OnlyCounts (S.state store.old) (S.state store.new) }
     ensures faults { Counts (ends_by_fault result) (S.state store.old).faults (S.state store.new).faults }
@@ -56,8 +61,8 @@ pub(crate) fn newest_checkpoint<S: Store>(
     Err(RecoverError::NoCheckpoint)
 }
 
-// The end of the whole checkpoint with this name, which is one (a condition). None is where it is no checkpoint, and where no object has
-// the name.
+// The end of the whole checkpoint with this name, which is one (a condition). None is where it is no
+// checkpoint, and where no object has the name.
 fn checkpoint_end<S: Store>(
     alloc: Global,
     store: &mut S,
@@ -65,7 +70,8 @@ fn checkpoint_end<S: Store>(
     name: &ObjName,
 ) -> Result<Option<u64>, RecoverError>
     requires { IsName name.now }
-    ensures end { TellsBytes S.Receipt.state → IfOk result (λ end. IfSome (S.state store.old).objects (λ objects.
+    ensures end { TellsBytes S.Receipt.state
+        → IfOk result (λ end. IfSome (S.state store.old).objects (λ objects.
         IsCheckpointNamed geometry.now objects name.now end)) }
     ensures answer { IfErr result IsNoAnswer }
     ensures unchanged { OnlyCounts (S.state store.old) (S.state store.new) }
@@ -85,7 +91,8 @@ fn checkpoint_end<S: Store>(
     }
 }
 
-// The end of the object under the expected number, if it is a whole checkpoint. None is where it is of another kind.
+// The end of the object under the expected number, if it is a whole checkpoint. None is where it is of
+// another kind.
 fn end_in_object<S: Store>(
     alloc: Global,
     store: &mut S,

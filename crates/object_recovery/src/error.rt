@@ -15,13 +15,14 @@ pub enum RecoverError {
     /// No object of the volume is a checkpoint.
     #[error("the store has no checkpoint of the volume")]
     NoCheckpoint,
-    /// The object of this number, past the newest checkpoint, is bad, and none with a greater number is. Up to the first missing
-    /// number an object is bad that is not of the grammar, or does not go on where the object before it ends, where that one is of
-    /// the grammar by itself. Past the first missing number the end before is not known.
+    /// The object of this number, past the newest checkpoint, is bad, and none with a greater number is. Up
+    /// to the first missing number an object is bad that is not of the grammar, or does not go on where the
+    /// object before it ends, where that one is of the grammar by itself. Past the first missing number the
+    /// end before is not known.
     #[error("bad object {number}: {reason}")]
     BadObject { number: u64, reason: BadObject },
-    /// No object is bad, and the one of this number, past the newest checkpoint and before the first missing number, holds no entries:
-    /// it is a copy, which is not recovered yet.
+    /// No object is bad, and the one of this number, past the newest checkpoint and before the first missing
+    /// number, holds no entries: it is a copy, which is not recovered yet.
     #[error("object {number} holds no entries")]
     NotData { number: u64 },
     /// A call of the store failed, and was counted by it.

@@ -2,7 +2,8 @@ ghost use Rattle.std.specs.Prelude.{◌≡◌, ◌+◌, ◌^◌, ◌<◌, IfOk, 
 ghost use Rattle.lsvd_objstore.specs.Store.{StoreState, ReceiptState, OnlyCounts};
 ghost use Rattle.lsvd_fault.specs.Faults.{Counts};
 ghost use Rattle.object_recovery.specs.Faults.{ends_by_fault, IsNoAnswer, TellsBytes};
-ghost use Rattle.object_recovery.specs.Judged.{refused_with, StaysRefused, IsJudgement, IsJudgedAlone, IsJudgedNext, GoesToGap, JudgesPast};
+ghost use Rattle.object_recovery.specs.Judged.{refused_with, StaysRefused, IsJudgement, IsJudgedAlone};
+ghost use Rattle.object_recovery.specs.Judged.{IsJudgedNext, GoesToGap, JudgesPast};
 
 use crate::error::RecoverError;
 use crate::naming::{is_uuid, name_of};
@@ -22,14 +23,16 @@ pub(crate) enum Refusal {
     NotData { number: u64 },
 }
 
-/// How far the objects of a volume were judged: each from the newest checkpoint on, up to one, and none of them is missing.
+/// How far the objects of a volume were judged: each from the newest checkpoint on, up to one, and none of
+/// them is missing.
 #[derive(Clone, Copy, Drop)]
 pub(crate) struct Reached {
     /// The number of the last one.
     pub(crate) number: u64,
     /// Its end, where it is of the grammar by itself.
     pub(crate) end: Option<u64>,
-    /// Why they are refused, if they are: for the greatest number that is bad, and else for the first without entries.
+    /// Why they are refused, if they are: for the greatest number that is bad, and else for the first without
+    /// entries.
     pub(crate) refused: Option<Refusal>,
 }
 
@@ -49,7 +52,8 @@ pub(crate) fn judge_to_gap<S: Store>(
     volume: &Expected,
     from: Reached,
 ) -> Result<Reached, RecoverError>
-    ensures gap { TellsBytes S.Receipt.state → IfOk result (λ gap. IfSome (S.state store.old).objects (λ objects.
+    ensures gap { TellsBytes S.Receipt.state
+        → IfOk result (λ gap. IfSome (S.state store.old).objects (λ objects.
         GoesToGap volume.now objects from gap)) }
     ensures answer { IfErr result IsNoAnswer }
     ensures unchanged { OnlyCounts (S.state store.old) (S.state store.new) }
@@ -65,8 +69,8 @@ pub(crate) fn judge_to_gap<S: Store>(
     Ok(reached)
 }
 
-/// Judges the objects past the first missing number, where these are the names of all objects that there are, in ascending order. Why the
-/// objects are refused then is answered.
+/// Judges the objects past the first missing number, where these are the names of all objects that there are,
+/// in ascending order. Why the objects are refused then is answered.
 pub(crate) fn judge_past<S: Store>(
     alloc: Global,
     store: &mut S,
@@ -74,7 +78,8 @@ pub(crate) fn judge_past<S: Store>(
     names: &[ObjName],
     gap: &Reached,
 ) -> Result<Option<Refusal>, RecoverError>
-    ensures judged { TellsBytes S.Receipt.state → IfOk result (λ refused. IfSome (S.state store.old).objects (λ objects.
+    ensures judged { TellsBytes S.Receipt.state
+        → IfOk result (λ refused. IfSome (S.state store.old).objects (λ objects.
         JudgesPast volume.now objects names.now gap.now refused)) }
     ensures stays { IfOk result (StaysRefused gap.now.refused) }
     ensures answer { IfErr result IsNoAnswer }
@@ -100,8 +105,10 @@ fn judge_next<S: Store>(
 ) -> Result<Option<Reached>, RecoverError>
     requires { reached.now.number + 1 < 2 ^ 64 }
     ensures number { IfOk result (λ next. IfSome next (λ next. next.number ≡ reached.now.number + 1)) }
-    ensures stays { IfOk result (λ next. IfSome next (λ next. StaysRefused reached.now.refused next.refused)) }
-    ensures judged { TellsBytes S.Receipt.state → IfOk result (λ next. IfSome (S.state store.old).objects (λ objects.
+    ensures stays { IfOk result (λ next.
+        IfSome next (λ next. StaysRefused reached.now.refused next.refused)) }
+    ensures judged { TellsBytes S.Receipt.state
+        → IfOk result (λ next. IfSome (S.state store.old).objects (λ objects.
         IsJudgedNext volume.now objects reached.now next)) }
     ensures answer { IfErr result IsNoAnswer }
     ensures unchanged { OnlyCounts (S.state store.old) (S.state store.new) }
@@ -131,7 +138,8 @@ fn judge_alone<S: Store>(
     number: u64,
     refused: Option<Refusal>,
 ) -> Result<Option<Refusal>, RecoverError>
-    ensures judged { TellsBytes S.Receipt.state → IfOk result (λ new. IfSome (S.state store.old).objects (λ objects.
+    ensures judged { TellsBytes S.Receipt.state
+        → IfOk result (λ new. IfSome (S.state store.old).objects (λ objects.
         IsJudgedAlone volume.now objects number refused new)) }
     ensures stays { IfOk result (StaysRefused refused) }
     ensures answer { IfErr result IsNoAnswer }
@@ -149,7 +157,8 @@ fn judge_alone<S: Store>(
     }
 }
 
-// Why objects are refused where the one of a number that is greater than theirs is bad for this reason, or is not.
+// Why objects are refused where the one of a number that is greater than theirs is bad for this reason, or is
+// not.
 fn refused_with(number: u64, bad: Option<BadObject>, before: Option<Refusal>) -> Option<Refusal>
     ensures { result ≡ refused_with number bad before }
 {
@@ -165,7 +174,8 @@ fn judge<S: Store>(
     store: &mut S,
     expected: &Expected,
 ) -> Result<Option<Judged>, RecoverError>
-    ensures judged { TellsBytes S.Receipt.state → IfOk result (λ judged. IfSome (S.state store.old).objects (λ objects.
+    ensures judged { TellsBytes S.Receipt.state
+        → IfOk result (λ judged. IfSome (S.state store.old).objects (λ objects.
         IsJudgement objects expected.now judged)) }
     ensures answer { IfErr result IsNoAnswer }
     ensures unchanged { OnlyCounts (S.state store.old) (S.state store.new) }

@@ -1,6 +1,7 @@
 ghost use Rattle.object_recovery.specs.Laws.{RemovalKeepsStream, ListHasSomeImage, NoneIsGoodAndBad};
 
-/// A law: a store keeps its stream while objects past the last one of it are removed, so that a recovery may be stopped and made again.
+/// A law: a store keeps its stream while objects past the last one of it are removed, so that a recovery may
+/// be stopped and made again.
 pub fn a_recovery_may_be_made_again()
     ensures { RemovalKeepsStream }
 {}
@@ -10,7 +11,8 @@ pub fn a_list_has_some_image()
     ensures { ListHasSomeImage }
 {}
 
-/// A law: no object is good and bad, so that the object of the greatest number that is bad is one, and none is where all are good.
+/// A law: no object is good and bad, so that the object of the greatest number that is bad is one, and none
+/// is where all are good.
 pub fn no_object_is_good_and_bad()
     ensures { NoneIsGoodAndBad }
 {}

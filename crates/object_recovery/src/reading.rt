@@ -2,7 +2,8 @@ ghost use Rattle.std.specs.Prelude.{◌≡◌, ◌≤◌, [], length, take, vec_
 ghost use Rattle.lsvd_objstore.specs.Store.{StoreState, ReceiptState, OnlyCounts, has_failed};
 ghost use Rattle.lsvd_fault.specs.Faults.{Counts};
 ghost use Rattle.object_recovery.specs.Faults.{ends_by_fault, IsNoAnswer};
-ghost use Rattle.object_recovery.specs.Read.{AreFirstOf, HasHead, IsHeaderOf, IsReadAs, IsReadOf, IsWhyNotRead, IsToldRefused, IsToldEnd};
+ghost use Rattle.object_recovery.specs.Read.{AreFirstOf, HasHead, IsHeaderOf, IsReadAs, IsReadOf};
+ghost use Rattle.object_recovery.specs.Read.{IsWhyNotRead, IsToldRefused, IsToldEnd};
 
 use crate::error::RecoverError;
 use lsvd_base::SECTOR_BYTES;
@@ -16,9 +17,11 @@ const HEADER_BYTES: u64 = 64;
 /// An object of the store that was read.
 #[derive(Drop)]
 pub(crate) enum ReadObject {
-    /// It is of the grammar, and goes on at the end before it where that is known. These are its rows and its end.
+    /// It is of the grammar, and goes on at the end before it where that is known. These are its rows and its
+    /// end.
     Whole { rows: Rows, end: u64 },
-    /// It is refused for this reason. The end is its own where it is of the grammar by itself, wherever it begins.
+    /// It is refused for this reason. The end is its own where it is of the grammar by itself, wherever it
+    /// begins.
     Bad { reason: BadObject, end: Option<u64> },
 }
 
@@ -71,8 +74,8 @@ fn read_rest<S: Store>(
     }
 }
 
-// The end of an object that is refused for this reason under the expected number, if it is of the grammar by itself: it may be where
-// only the end before stands against it. Its first bytes were read (a condition).
+// The end of an object that is refused for this reason under the expected number, if it is of the grammar by
+// itself: it may be where only the end before stands against it. Its first bytes were read (a condition).
 fn own_end<S: Store>(
     alloc: Global,
     store: &mut S,
@@ -104,8 +107,8 @@ fn own_end<S: Store>(
     }
 }
 
-/// Reads an object's header under the expected number. The first of its bytes, which were read for that, then stand in `bytes`, where
-/// none stood before (a condition).
+/// Reads an object's header under the expected number. The first of its bytes, which were read for that, then
+/// stand in `bytes`, where none stood before (a condition).
 pub(crate) fn read_head<S: Store>(
     alloc: Global,
     store: &mut S,
@@ -127,8 +130,8 @@ pub(crate) fn read_head<S: Store>(
     }
 }
 
-/// Reads the rows of an object whose header was read, with its first bytes (a condition). A checkpoint with rows is refused: these are
-/// not of the grammar yet.
+/// Reads the rows of an object whose header was read, with its first bytes (a condition). A checkpoint with
+/// rows is refused: these are not of the grammar yet.
 pub(crate) fn read_front<S: Store>(
     alloc: Global,
     store: &mut S,
@@ -171,8 +174,8 @@ fn bad_object(expected: &Expected, reason: BadObject) -> RecoverError
     }
 }
 
-// Reads on in an object until `bytes`, which are its first, are the first `count` of it. They are no more yet, and the object has so
-// many (conditions).
+// Reads on in an object until `bytes`, which are its first, are the first `count` of it. They are no more
+// yet, and the object has so many (conditions).
 fn read_up_to<S: Store>(
     alloc: Global,
     store: &mut S,

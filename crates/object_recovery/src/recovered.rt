@@ -44,20 +44,22 @@ impl<R: Receipt> Recovered<R> {
         self.checkpoint
     }
 
-    /// The greatest number of an object that the store had of the volume when it was recovered; that of the list's last where none is
-    /// greater.
+    /// The greatest number of an object that the store had of the volume when it was recovered; that of the
+    /// list's last where none is greater.
     pub fn greatest_number(&self) -> u64
         ensures { IsGreatestNumber self.now.names self.now.log.uploads.window.last result }
     {
         greatest_number(self.names.as_slice(), self.log.last())
     }
 
-    /// Removes the objects of the volume past the list's last. The store has the same objects of the volume as when they were
-    /// recovered (a condition). The two errors are that a call of the store failed, which was counted by it, and that memory ran out.
-    /// Some of the objects may be removed then, and a new recovery finds the same list.
+    /// Removes the objects of the volume past the list's last. The store has the same objects of the volume
+    /// as when they were recovered (a condition). The two errors are that a call of the store failed, which
+    /// was counted by it, and that memory ran out. Some of the objects may be removed then, and a new
+    /// recovery finds the same list.
     pub fn remove_past<S: Store>(&self, alloc: Global, store: &mut S) -> Result<(), RecoverError>
         requires { HasAllNames (S.state store.old).objects self.now }
-        ensures removed { OnOk result (Becomes (RemovesAllPast self.now.log.uploads.uuid self.now.log.uploads.window.last)
+        ensures removed { OnOk result (Becomes
+            (RemovesAllPast self.now.log.uploads.uuid self.now.log.uploads.window.last)
             (S.state store.old).objects (S.state store.new).objects) }
         ensures some { Becomes (Removes (IsPastOf self.now.log.uploads.uuid self.now.log.uploads.window.last))
             (S.state store.old).objects (S.state store.new).objects }

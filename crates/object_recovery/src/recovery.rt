@@ -8,9 +8,11 @@ ghost use Rattle.object_recovery.specs.State.{RecoveredState, HasAllNames};
 ghost use Rattle.object_recovery.specs.Faults.{ends_by_fault, IsNoAnswer, TellsBytes};
 ghost use Rattle.object_recovery.specs.Checkpoints.{expected_of, IsNewestWithEnd};
 ghost use Rattle.object_recovery.specs.Places.{HasPlacesInside};
-ghost use Rattle.object_recovery.specs.Recovery.{IsListUpTo, IsNoLonger, IsRecoveredOf, AreAllGood, AreNamedWholePast, IsRefused};
+ghost use Rattle.object_recovery.specs.Recovery.{IsListUpTo, IsNoLonger, IsRecoveredOf, AreAllGood};
+ghost use Rattle.object_recovery.specs.Recovery.{AreNamedWholePast, IsRefused};
 ghost use Rattle.object_recovery.specs.Judging.{HaveLanded};
-ghost use Rattle.object_recovery.specs.Adoption.{IsBegun, Recovers, reached_by, ReachesGap, JudgesRest, RefusesRest};
+ghost use Rattle.object_recovery.specs.Adoption.{IsBegun, Recovers, reached_by, ReachesGap, JudgesRest};
+ghost use Rattle.object_recovery.specs.Adoption.{RefusesRest};
 
 use crate::adoption::adopt_all;
 use crate::checkpoint::{NewestCheckpoint, newest_checkpoint};
@@ -26,18 +28,20 @@ use object_format::Expected;
 use std::alloc::Global;
 use uuid::Uuid;
 
-/// Recovers the list of a volume with this uuid and these sizes, which are within the limits (a condition), from the objects that the store
-/// has of it: from the newest checkpoint on, each object up to the first missing number is counted as acknowledged. The store is only read:
-/// objects past that number are there until `Recovered::remove_past` removes them. No list takes an object of the number 2^64 - 1: where
-/// one goes on there, the list ends before it, and only then not before the first missing number.
+/// Recovers the list of a volume with this uuid and these sizes, which are within the limits (a condition),
+/// from the objects that the store has of it: from the newest checkpoint on, each object up to the first
+/// missing number is counted as acknowledged. The store is only read: objects past that number are there
+/// until `Recovered::remove_past` removes them. No list takes an object of the number 2^64 - 1: where one
+/// goes on there, the list ends before it, and only then not before the first missing number.
 ///
 /// An error comes where:
 ///
 /// - `NoCheckpoint`: no object of the volume is a checkpoint.
-/// - `BadObject`: an object past the newest checkpoint is bad. That of the greatest number is told, with the first reason for it. Up to the
-///   first missing number an object is to go on at the end of the one before it, where that one is of the grammar by itself; past that
-///   number it is to be of the grammar by itself.
-/// - `NotData`: none is bad, and the object of this number, before the first missing number, holds no entries.
+/// - `BadObject`: an object past the newest checkpoint is bad. That of the greatest number is told, with the
+///   first reason for it. Up to the first missing number an object is to go on at the end of the one before
+///   it, where that one is of the grammar by itself; past that number it is to be of the grammar by itself.
+/// - `NotData`: none is bad, and the object of this number, before the first missing number, holds no
+///   entries.
 /// - `StoreFault`: a call of the store failed, and was counted by it.
 /// - `OutOfMemory`: memory ran out.
 pub fn recover<S: Store>(
@@ -48,23 +52,32 @@ pub fn recover<S: Store>(
 ) -> Result<Recovered<S::Receipt>, RecoverError>
     requires { IsTrue (is_within_limits geometry) }
     ensures list { IfOk result (λ recovered.
-        IsListUpTo uuid geometry recovered.log.uploads.window.last recovered.log.uploads.queue.end recovered.log) }
+        IsListUpTo uuid geometry recovered.log.uploads.window.last recovered.log.uploads.queue.end
+        recovered.log) }
     ensures from { IfOk result (λ recovered. recovered.checkpoint ≤ recovered.log.uploads.window.last) }
     ensures places { IfOk result (λ recovered. HasPlacesInside geometry.sectors recovered.log.uploads.queue) }
     ensures names { IfOk result (HasAllNames (S.state store.old).objects) }
-    ensures checkpoint { TellsBytes S.Receipt.state → IfOk result (λ recovered. IfSome (S.state store.old).objects (λ objects.
+    ensures checkpoint { TellsBytes S.Receipt.state
+        → IfOk result (λ recovered. IfSome (S.state store.old).objects (λ objects.
         (end : ℕ) × IsNewestWithEnd (expected_of uuid geometry) objects recovered.checkpoint end)) }
-    ensures recovered { TellsBytes S.Receipt.state → IfOk result (λ recovered. IfSome (S.state store.old).objects (λ objects.
-        recovered.log.uploads.window.last + 1 < 2 ^ 64 - 1 → IsRecoveredOf (expected_of uuid geometry) objects recovered.log)) }
-    ensures no_longer { TellsBytes S.Receipt.state → IfOk result (λ recovered. IfSome (S.state store.old).objects (λ objects.
+    ensures recovered { TellsBytes S.Receipt.state
+        → IfOk result (λ recovered. IfSome (S.state store.old).objects (λ objects.
+        recovered.log.uploads.window.last + 1 < 2 ^ 64 - 1 → IsRecoveredOf (expected_of uuid geometry) objects
+        recovered.log)) }
+    ensures no_longer { TellsBytes S.Receipt.state
+        → IfOk result (λ recovered. IfSome (S.state store.old).objects (λ objects.
         IsNoLonger (expected_of uuid geometry) objects recovered.log.uploads.window.last)) }
-    ensures landed { TellsBytes S.Receipt.state → IfOk result (λ recovered. IfSome (S.state store.old).objects (λ objects.
+    ensures landed { TellsBytes S.Receipt.state
+        → IfOk result (λ recovered. IfSome (S.state store.old).objects (λ objects.
         HaveLanded objects uuid recovered.checkpoint recovered.log.uploads.window.last)) }
-    ensures good { TellsBytes S.Receipt.state → IfOk result (λ recovered. IfSome (S.state store.old).objects (λ objects.
+    ensures good { TellsBytes S.Receipt.state
+        → IfOk result (λ recovered. IfSome (S.state store.old).objects (λ objects.
         AreAllGood (expected_of uuid geometry) objects recovered.checkpoint)) }
-    ensures past { TellsBytes S.Receipt.state → IfOk result (λ recovered. IfSome (S.state store.old).objects (λ objects.
+    ensures past { TellsBytes S.Receipt.state
+        → IfOk result (λ recovered. IfSome (S.state store.old).objects (λ objects.
         AreNamedWholePast (expected_of uuid geometry) objects recovered.log.uploads.window.last)) }
-    ensures refused { TellsBytes S.Receipt.state → IfErr result (λ error. IfSome (S.state store.old).objects (λ objects.
+    ensures refused { TellsBytes S.Receipt.state
+        → IfErr result (λ error. IfSome (S.state store.old).objects (λ objects.
         IsRefused (expected_of uuid geometry) objects error)) }
     ensures unchanged { OnlyCounts (S.state store.old) (S.state store.new) }
     ensures faults { Counts (ends_by_fault result) (S.state store.old).faults (S.state store.new).faults }
@@ -80,7 +93,8 @@ pub fn recover<S: Store>(
     })
 }
 
-// Recovers the list from this checkpoint on, where it is the newest and these are the names of the objects that there are.
+// Recovers the list from this checkpoint on, where it is the newest and these are the names of the objects
+// that there are.
 fn recover_list<S: Store>(
     alloc: Global,
     store: &mut S,
@@ -90,13 +104,18 @@ fn recover_list<S: Store>(
     names: &[ObjName],
 ) -> Result<ObjLog<S::Receipt>, RecoverError>
     requires { IsTrue (is_within_limits geometry) }
-    ensures list { IfOk result (λ log. IsListUpTo uuid geometry log.uploads.window.last log.uploads.queue.end log) }
+    ensures list { IfOk result (λ log. IsListUpTo uuid geometry log.uploads.window.last
+        log.uploads.queue.end log) }
     ensures from { IfOk result (λ log. base.now.number ≤ log.uploads.window.last) }
     ensures places { IfOk result (λ log. HasPlacesInside geometry.sectors log.uploads.queue) }
-    ensures recovers { TellsBytes S.Receipt.state → IfOk result (λ log. IfSome (S.state store.old).objects (λ objects.
-        IsBegun uuid geometry base.now.number base.now.end names.now objects → Recovers (expected_of uuid geometry) base.now.number objects log)) }
-    ensures refused { TellsBytes S.Receipt.state → IfErr result (λ error. IfSome (S.state store.old).objects (λ objects.
-        IsBegun uuid geometry base.now.number base.now.end names.now objects → IsRefused (expected_of uuid geometry) objects error)) }
+    ensures recovers { TellsBytes S.Receipt.state
+        → IfOk result (λ log. IfSome (S.state store.old).objects (λ objects.
+        IsBegun uuid geometry base.now.number base.now.end names.now objects
+        → Recovers (expected_of uuid geometry) base.now.number objects log)) }
+    ensures refused { TellsBytes S.Receipt.state
+        → IfErr result (λ error. IfSome (S.state store.old).objects (λ objects.
+        IsBegun uuid geometry base.now.number base.now.end names.now objects
+        → IsRefused (expected_of uuid geometry) objects error)) }
     ensures unchanged { OnlyCounts (S.state store.old) (S.state store.new) }
     ensures faults { Counts (ends_by_fault result) (S.state store.old).faults (S.state store.new).faults }
 {
@@ -106,7 +125,8 @@ fn recover_list<S: Store>(
     Ok(log)
 }
 
-// Judges the objects that were not adopted, from this one on or past the first missing number. The error refuses all, or there is no answer.
+// Judges the objects that were not adopted, from this one on or past the first missing number. The error
+// refuses all, or there is no answer.
 fn judge_rest<S: Store>(
     alloc: Global,
     store: &mut S,
@@ -116,7 +136,8 @@ fn judge_rest<S: Store>(
 ) -> Result<(), RecoverError>
     ensures judged { TellsBytes S.Receipt.state → OnOk result (IfSome (S.state store.old).objects (λ objects.
         JudgesRest objects log.now names.now left None)) }
-    ensures refused { TellsBytes S.Receipt.state → IfErr result (λ error. IfSome (S.state store.old).objects (λ objects.
+    ensures refused { TellsBytes S.Receipt.state
+        → IfErr result (λ error. IfSome (S.state store.old).objects (λ objects.
         RefusesRest objects log.now names.now left error)) }
     ensures unchanged { OnlyCounts (S.state store.old) (S.state store.new) }
     ensures faults { Counts (ends_by_fault result) (S.state store.old).faults (S.state store.new).faults }
@@ -137,7 +158,8 @@ fn reach_gap<S: Store>(
     volume: &Expected,
     left: Option<Reached>,
 ) -> Result<Reached, RecoverError>
-    ensures gap { TellsBytes S.Receipt.state → IfOk result (λ gap. IfSome (S.state store.old).objects (λ objects.
+    ensures gap { TellsBytes S.Receipt.state
+        → IfOk result (λ gap. IfSome (S.state store.old).objects (λ objects.
         ReachesGap volume.now objects log.now left gap)) }
     ensures answer { IfErr result IsNoAnswer }
     ensures unchanged { OnlyCounts (S.state store.old) (S.state store.new) }

@@ -21,8 +21,10 @@ pub(crate) fn remove_past<S: Store>(
     names: &[ObjName],
 ) -> Result<(), RecoverError>
     requires { AreNames names.now }
-    ensures all { OnOk result (Becomes (RemovesFirst names.now number (length names.now)) (S.state store.old).objects (S.state store.new).objects) }
-    ensures some { Becomes (Removes (IsListedPast names.now number)) (S.state store.old).objects (S.state store.new).objects }
+    ensures all { OnOk result (Becomes (RemovesFirst names.now number (length names.now))
+        (S.state store.old).objects (S.state store.new).objects) }
+    ensures some { Becomes (Removes (IsListedPast names.now number)) (S.state store.old).objects
+        (S.state store.new).objects }
     ensures answer { IfErr result IsNoAnswer }
     ensures faults { Counts (ends_by_fault result) (S.state store.old).faults (S.state store.new).faults }
 {
@@ -57,8 +59,10 @@ pub(crate) fn is_past(name: &ObjName, number: u64) -> bool
 // Removes the object with this name, which is one (a condition), if there is one.
 fn remove<S: Store>(alloc: Global, store: &mut S, name: &ObjName) -> Result<(), RecoverError>
     requires { IsName name.now }
-    ensures removed { OnOk result (Becomes (IsRemoved name.now) (S.state store.old).objects (S.state store.new).objects) }
-    ensures some { Becomes (Removes (λ other. other ≡ name.now)) (S.state store.old).objects (S.state store.new).objects }
+    ensures removed { OnOk result (Becomes (IsRemoved name.now) (S.state store.old).objects
+        (S.state store.new).objects) }
+    ensures some { Becomes (Removes (λ other. other ≡ name.now)) (S.state store.old).objects
+        (S.state store.new).objects }
     ensures answer { IfErr result IsNoAnswer }
     ensures faults { Counts (ends_by_fault result) (S.state store.old).faults (S.state store.new).faults }
 {

@@ -1,5 +1,6 @@
 -- Which command a line spells is decided, and it is one.
-use Rattle.std.proofs.Common.{◌≡◌, ℕ, ◌+◌, ◌*◌, ◌^◌, ◌<◌, ◌==◌, ◌⊎◌, inl, inr, Option, Bool, true, false, cond, List, [], ◌∷◌, length, take, codes, refl, sym, ◌∙◌, ap, subst, arith}
+use Rattle.std.proofs.Common.{◌≡◌, ℕ, ◌+◌, ◌*◌, ◌^◌, ◌<◌, ◌==◌, ◌⊎◌, inl, inr, Option, Bool, true, false, cond, List, [], ◌∷◌}
+use Rattle.std.proofs.Common.{length, take, codes, refl, sym, ◌∙◌, ap, subst, arith}
 use Rattle.std.specs.Prelude.{IsTrue, nat_le, decimal, ◌&&◌}
 use Rattle.std.specs.Bool.{then_some}
 use Rattle.std.specs.Option.{IfNone}
@@ -10,21 +11,33 @@ use Rattle.std.proofs.lemmas.List.Splits.{length-slice_split}
 use Rattle.std.proofs.lemmas.Slice.Eq.{bytes_eq-Decides}
 use Rattle.lsvd_base.specs.Limits.{is_within_limits}
 use Rattle.lsvd_base.specs.declared.geometry.Geometry.{Geometry}
-use Rattle.replay_script.specs.Grammar.{Spells, spelling, Fits, SizesFit, words_of, name_of, BeginAs, BeginsAs, CountsAs, IsUnknown, HasWrongWordCount, IsMisspelt, Spell, SpellNone, AreRefusedAs}
+use Rattle.replay_script.specs.Grammar.{Spells, spelling, Fits, SizesFit, words_of, name_of, BeginAs, BeginsAs, CountsAs}
+use Rattle.replay_script.specs.Grammar.{IsUnknown, HasWrongWordCount, IsMisspelt, Spell, SpellNone, AreRefusedAs}
 use Rattle.replay_script.specs.declared.command.Command.{Command}
-use Rattle.replay_script.specs.declared.command.Command.TheVariants.{New, Write, Zero, Read, Flush, Seal, TakeJob, JobDone, JobFailed, Status, Stop, CrashKeep, CrashLost}
+use Rattle.replay_script.specs.declared.command.Command.TheVariants.{New, Write, Zero, Read, Flush, Seal, TakeJob, JobDone}
+use Rattle.replay_script.specs.declared.command.Command.TheVariants.{JobFailed, Status, Stop, CrashKeep, CrashLost}
 use Rattle.replay_script.specs.declared.error.LineError.TheVariants.{UnknownCommand, WordCount, Form}
 use Rattle.replay_script.proofs.Numbers.{decided, decide_number, decide_byte, hexadecimal_injective}
 
 -- the limits of a volume keep each size below 2^64
-within_limits_parts : (s m b l : ℕ) → (nat_le 8 s && nat_le s (2 ^ 31) && nat_le 8 m && nat_le m 65536 && nat_le 1 b && nat_le b 65536 && nat_le (2 * (m + 1)) l && nat_le l (2 ^ 31)) ≡ true → (s < 2 ^ 64) × (l < 2 ^ 64) × (m < 2 ^ 64) × (b < 2 ^ 64)
-within_limits_parts s m b l e = (grind (arith, nat_tests), grind (arith, nat_tests), grind (arith, nat_tests), grind (arith, nat_tests))
+within_limits_parts : (s m b l : ℕ) → (nat_le 8 s && nat_le s (2 ^ 31) && nat_le 8 m && nat_le m 65536 && nat_le 1 b
+    && nat_le b 65536 && nat_le (2 * (m + 1)) l && nat_le l (2 ^ 31)) ≡ true → (s < 2 ^ 64) × (l < 2 ^ 64) × (m < 2 ^ 64)
+    × (b < 2 ^ 64)
+within_limits_parts s m b l e = (
+  grind (arith, nat_tests),
+  grind (arith, nat_tests),
+  grind (arith, nat_tests),
+  grind
+      (arith, nat_tests),
+)
 
 pub geometry_fits : (g : Geometry) → IsTrue (is_within_limits g) → SizesFit g
 geometry_fits g fits = within_limits_parts g.sectors g.max_write g.batch g.log fits
 
 -- geometries with the same sizes are one
-same_fields : (s s' m m' b b' l l' : ℕ) → s ≡ s' → m ≡ m' → b ≡ b' → l ≡ l' → ◌≡◌ {A = Geometry} (record { sectors = s; max_write = m; batch = b; log = l }) (record { sectors = s'; max_write = m'; batch = b'; log = l' })
+same_fields : (s s' m m' b b' l l' : ℕ) → s ≡ s' → m ≡ m' → b ≡ b' → l ≡ l'
+    → ◌≡◌ {A = Geometry} (record { sectors = s; max_write = m; batch = b; log = l })
+    (record { sectors = s'; max_write = m'; batch = b'; log = l' })
 same_fields s s' m m' b b' l l' e1 e2 e3 e4 = cc
 
 -- two geometries that are spelled alike are one
@@ -38,7 +51,8 @@ same_geometry g h e fits_g fits =
     same_fields g.sectors h.sectors g.max_write h.max_write g.batch h.batch g.log h.log sectors max_write batch log
 
 -- where the numbers make no geometry within the limits, the words spell no command `new`
-pub no_new_outside : (words : List (List ℕ)) (g : Geometry) → words ≡ spelling (New g) → SizesFit g → (IsTrue (is_within_limits g) → ⊥) → (h : Geometry) → words ≡ spelling (New h) → Fits (New h) → ⊥
+pub no_new_outside : (words : List (List ℕ)) (g : Geometry) → words ≡ spelling (New g) → SizesFit g
+    → (IsTrue (is_within_limits g) → ⊥) → (h : Geometry) → words ≡ spelling (New h) → Fits (New h) → ⊥
 no_new_outside words g e fits outside h e' fits_h =
     let same = same_geometry g h (sym e ∙ e') fits fits_h in
     outside (subst (λ (x : Geometry). IsTrue (is_within_limits x)) (sym same) fits_h)
@@ -74,12 +88,14 @@ one_spelling Flush Flush e fits_a fits_b = refl
 one_spelling Seal Seal e fits_a fits_b = refl
 one_spelling TakeJob TakeJob e fits_a fits_b = refl
 one_spelling (JobDone number) (JobDone number') e fits_a fits_b = ap JobDone (decimal_injective number number' fits_a fits_b (cc))
-one_spelling (JobFailed number) (JobFailed number') e fits_a fits_b = ap JobFailed (decimal_injective number number' fits_a fits_b (cc))
+one_spelling (JobFailed number) (JobFailed number') e fits_a fits_b =
+    ap JobFailed (decimal_injective number number' fits_a fits_b (cc))
 one_spelling Status Status e fits_a fits_b = refl
 one_spelling (Stop calls) (Stop calls') e fits_a fits_b = ap Stop (decimal_injective calls calls' fits_a fits_b (cc))
 one_spelling (CrashKeep device objects) (CrashKeep device' objects') e fits_a fits_b = cc
 one_spelling (CrashLost device objects) (CrashLost device' objects') e fits_a fits_b = cc
-one_spelling a b e fits_a fits_b = let kinds : kind_by (spelling a) ≡ kind_by (spelling b) = ap kind_by e in absurd (omega (arith, kinds))
+one_spelling a b e fits_a fits_b = let kinds : kind_by (spelling a) ≡ kind_by (spelling b) = ap kind_by e in
+    absurd (omega (arith, kinds))
 
 -- a line spells one command
 pub one_command : (line : List ℕ) (a b : Command) → Spells line a → Spells line b → a ≡ b
@@ -118,8 +134,15 @@ decide_new (name ∷ a ∷ b ∷ c ∷ d ∷ []) =
                             elim (decide_number d) [
                               | inr other ↦ inr (λ g (e, fits). other g.batch (geometry_fits g fits).3 (cc))
                               | inl batch ↦
-                                  let g : Geometry = record { sectors = sectors.0; log = log.0; max_write = max_write.0; batch = batch.0 } in
-                                  let e : name ∷ a ∷ b ∷ c ∷ d ∷ [] ≡ spelling (New g) = cc (is_new, sectors.2, log.2, max_write.2, batch.2) in
+                                  let g : Geometry = record {
+                                    sectors = sectors.0;
+                                    log = log.0;
+                                    max_write = max_write.0;
+                                    batch =
+                                        batch.0;
+                                  } in
+                                  let e : name ∷ a ∷ b ∷ c ∷ d ∷ [] ≡ spelling (New g) =
+                                  cc (is_new, sectors.2, log.2, max_write.2, batch.2) in
                                   decide_limits _ g e (sectors.1, log.1, max_write.1, batch.1)
                             ]
                       ]
@@ -142,7 +165,11 @@ decide_write (name ∷ a ∷ b ∷ c ∷ []) =
                   | inl sectors ↦
                       elim (decide_byte c) [
                         | inr other ↦ inr (λ lba sectors byte (e, fits). other byte fits.2 (cc))
-                        | inl byte ↦ inl (Write lba.0 sectors.0 byte.0, (cc (is_write, lba.2, sectors.2, byte.2), (lba.1, sectors.1, byte.1)))
+                        | inl byte ↦ inl (
+                          Write lba.0 sectors.0
+                              byte.0,
+                          (cc (is_write, lba.2, sectors.2, byte.2), (lba.1, sectors.1, byte.1)),
+                        )
                       ]
                 ]
           ]
@@ -163,7 +190,8 @@ abbrev AreWithNumber : List ℕ → List (List ℕ) → ℕ → Type 0
 AreWithNumber name words n = (words ≡ name ∷ decimal n ∷ []) × (n < 2 ^ 64)
 
 -- whether words are that is decided
-decide_with_number : (name : List ℕ) (words : List (List ℕ)) → ((n : ℕ) × AreWithNumber name words n) ⊎ ((n : ℕ) → ¬ AreWithNumber name words n)
+decide_with_number : (name : List ℕ) (words : List (List ℕ)) → ((n : ℕ) × AreWithNumber name words n)
+    ⊎ ((n : ℕ) → ¬ AreWithNumber name words n)
 decide_with_number name (word ∷ a ∷ []) =
     elim (decided (bytes_eq word name) (bytes_eq-Decides word name)) [
       | inr other ↦ inr (λ n (e, fits). other (cc))
@@ -177,7 +205,8 @@ decide_with_number name _ = inr (λ n (e, fits). omega (arith, ap length e))
 
 -- words are this name and two numbers
 abbrev AreWithNumbers : List ℕ → List (List ℕ) → (lba sectors : ℕ) → Type 0
-AreWithNumbers name words lba sectors = (words ≡ name ∷ decimal lba ∷ decimal sectors ∷ []) × ((lba < 2 ^ 64) × (sectors < 2 ^ 64))
+AreWithNumbers name words lba sectors = (words ≡ name ∷ decimal lba ∷ decimal sectors ∷ [])
+    × ((lba < 2 ^ 64) × (sectors < 2 ^ 64))
 
 -- whether words are that is decided
 decide_with_numbers : (name : List ℕ) (words : List (List ℕ))
@@ -224,40 +253,69 @@ or_next (inr b) next = next b
 
 -- whether words spell a command of each other kind is decided
 decide_flush : (words : List (List ℕ)) → IsSpelled words ⊎ ¬ Spell words Flush
-decide_flush words = elim (decide_alone (codes "f") words) [ inl e ↦ inl (Flush, (e, tt)) | inr other ↦ inr (λ spell. other spell.0) ]
+decide_flush words = elim (decide_alone (codes "f") words) [
+  | inl e ↦ inl (Flush, (e, tt))
+  | inr other ↦ inr (λ spell. other spell.0)
+]
 
 decide_seal : (words : List (List ℕ)) → IsSpelled words ⊎ ¬ Spell words Seal
-decide_seal words = elim (decide_alone (codes "s") words) [ inl e ↦ inl (Seal, (e, tt)) | inr other ↦ inr (λ spell. other spell.0) ]
+decide_seal words = elim (decide_alone (codes "s") words) [
+  | inl e ↦ inl (Seal, (e, tt))
+  | inr other ↦ inr (λ spell. other spell.0)
+]
 
 decide_take : (words : List (List ℕ)) → IsSpelled words ⊎ ¬ Spell words TakeJob
-decide_take words = elim (decide_alone (codes "u") words) [ inl e ↦ inl (TakeJob, (e, tt)) | inr other ↦ inr (λ spell. other spell.0) ]
+decide_take words = elim (decide_alone (codes "u") words) [
+  | inl e ↦ inl (TakeJob, (e, tt))
+  | inr other ↦ inr (λ spell. other spell.0)
+]
 
 decide_status : (words : List (List ℕ)) → IsSpelled words ⊎ ¬ Spell words Status
-decide_status words = elim (decide_alone (codes "i") words) [ inl e ↦ inl (Status, (e, tt)) | inr other ↦ inr (λ spell. other spell.0) ]
+decide_status words = elim (decide_alone (codes "i") words) [
+  | inl e ↦ inl (Status, (e, tt))
+  | inr other ↦ inr (λ spell. other spell.0)
+]
 
 decide_done : (words : List (List ℕ)) → IsSpelled words ⊎ ((number : ℕ) → ¬ Spell words (JobDone number))
-decide_done words = elim (decide_with_number (codes "d") words) [ inl found ↦ inl (JobDone found.0, found.1) | inr other ↦ inr other ]
+decide_done words = elim (decide_with_number (codes "d") words) [
+  | inl found ↦ inl (JobDone found.0, found.1)
+  | inr other ↦ inr other
+]
 
 decide_failed : (words : List (List ℕ)) → IsSpelled words ⊎ ((number : ℕ) → ¬ Spell words (JobFailed number))
-decide_failed words = elim (decide_with_number (codes "x") words) [ inl found ↦ inl (JobFailed found.0, found.1) | inr other ↦ inr other ]
+decide_failed words = elim (decide_with_number (codes "x") words) [
+  | inl found ↦ inl (JobFailed found.0, found.1)
+  | inr other ↦ inr other
+]
 
 decide_stop : (words : List (List ℕ)) → IsSpelled words ⊎ ((calls : ℕ) → ¬ Spell words (Stop calls))
-decide_stop words = elim (decide_with_number (codes "stop") words) [ inl found ↦ inl (Stop found.0, found.1) | inr other ↦ inr other ]
+decide_stop words = elim (decide_with_number (codes "stop") words) [
+  | inl found ↦ inl (Stop found.0, found.1)
+  | inr other ↦ inr other
+]
 
 decide_zero : (words : List (List ℕ)) → IsSpelled words ⊎ ((lba sectors : ℕ) → ¬ Spell words (Zero lba sectors))
-decide_zero words = elim (decide_with_numbers (codes "z") words) [ inl found ↦ inl (Zero found.0 found.1, found.2) | inr other ↦ inr other ]
+decide_zero words = elim (decide_with_numbers (codes "z") words) [
+  | inl found ↦ inl (Zero found.0 found.1, found.2)
+  | inr other ↦ inr other
+]
 
 decide_read : (words : List (List ℕ)) → IsSpelled words ⊎ ((lba sectors : ℕ) → ¬ Spell words (Read lba sectors))
-decide_read words = elim (decide_with_numbers (codes "r") words) [ inl found ↦ inl (Read found.0 found.1, found.2) | inr other ↦ inr other ]
+decide_read words = elim (decide_with_numbers (codes "r") words) [
+  | inl found ↦ inl (Read found.0 found.1, found.2)
+  | inr other ↦ inr other
+]
 
-decide_crash_keep : (words : List (List ℕ)) → IsSpelled words ⊎ ((device objects : List ℕ) → ¬ Spell words (CrashKeep device objects))
+decide_crash_keep : (words : List (List ℕ)) → IsSpelled words
+    ⊎ ((device objects : List ℕ) → ¬ Spell words (CrashKeep device objects))
 decide_crash_keep words =
     elim (decide_crash (codes "keep") words) [
       | inl found ↦ inl (CrashKeep found.0 found.1, (found.2, tt))
       | inr other ↦ inr (λ device objects spell. other device objects spell.0)
     ]
 
-decide_crash_lost : (words : List (List ℕ)) → IsSpelled words ⊎ ((device objects : List ℕ) → ¬ Spell words (CrashLost device objects))
+decide_crash_lost : (words : List (List ℕ)) → IsSpelled words
+    ⊎ ((device objects : List ℕ) → ¬ Spell words (CrashLost device objects))
 decide_crash_lost words =
     elim (decide_crash (codes "lost") words) [
       | inl found ↦ inl (CrashLost found.0 found.1, (found.2, tt))
@@ -329,14 +387,17 @@ decide_spelling words =
     })))))))))))))))
 
 -- where its numbers make no geometry within the limits, they spell no command
-no_new : (words : List (List ℕ)) (g : Geometry) → words ≡ spelling (New g) → SizesFit g → (IsTrue (is_within_limits g) → ⊥) → SpellNone words
+no_new : (words : List (List ℕ)) (g : Geometry) → words ≡ spelling (New g) → SizesFit g → (IsTrue (is_within_limits g) → ⊥)
+    → SpellNone words
 unfolding first_byte kind_by
 no_new words g e fits outside (New h) (e', fits_h) = no_new_outside words g e fits outside h e' fits_h
 no_new words g e fits outside command (e', fits') =
     let kinds : kind_by (spelling (New g)) ≡ kind_by (spelling command) = ap kind_by (sym e ∙ e') in omega (arith, kinds)
 
 -- what `then_some` gives where the geometry of these words may be outside the limits
-pub new_none : (a b c d : List ℕ) (g : Geometry) (inside : Bool) (found : Option Command) → a ≡ decimal g.sectors → b ≡ decimal g.log → c ≡ decimal g.max_write → d ≡ decimal g.batch → SizesFit g → inside ≡ is_within_limits g → found ≡ then_some inside (New g) → IfNone found (SpellNone (codes "new" ∷ a ∷ b ∷ c ∷ d ∷ []))
+pub new_none : (a b c d : List ℕ) (g : Geometry) (inside : Bool) (found : Option Command) → a ≡ decimal g.sectors
+    → b ≡ decimal g.log → c ≡ decimal g.max_write → d ≡ decimal g.batch → SizesFit g → inside ≡ is_within_limits g
+    → found ≡ then_some inside (New g) → IfNone found (SpellNone (codes "new" ∷ a ∷ b ∷ c ∷ d ∷ []))
 new_none a b c d g true found e1 e2 e3 e4 fits is_inside is_found = rw is_found tt
 new_none a b c d g false found e1 e2 e3 e4 fits is_inside is_found =
     rw is_found (no_new _ g (cc) fits (λ inside. let same = is_inside ∙ inside in cc))
@@ -352,11 +413,13 @@ take-none : (n : ℕ) → take {A = List ℕ} n [] ≡ []
 take-none n = grind arith
 
 -- words after a name of one word
-begin : (name : List ℕ) (words : List (List ℕ)) → take (length (name ∷ words)) (name ∷ []) ≡ take (length (name ∷ [])) (name ∷ words)
+begin : (name : List ℕ) (words : List (List ℕ)) → take (length (name ∷ words)) (name ∷ []) ≡ take (length (name ∷ []))
+    (name ∷ words)
 begin name words = ap (λ rest. name ∷ rest) (take-none (length words))
 
 -- words after a name of two words
-begin_two : (name kind : List ℕ) (words : List (List ℕ)) → take (length (name ∷ kind ∷ words)) (name ∷ kind ∷ []) ≡ take (length (name ∷ kind ∷ [])) (name ∷ kind ∷ words)
+begin_two : (name kind : List ℕ) (words : List (List ℕ)) → take (length (name ∷ kind ∷ words)) (name ∷ kind ∷ [])
+    ≡ take (length (name ∷ kind ∷ [])) (name ∷ kind ∷ words)
 begin_two name kind words = ap (λ rest. name ∷ kind ∷ rest) (take-none (length words))
 
 -- the first word of some words
@@ -365,7 +428,8 @@ first_word [] = []
 first_word (word ∷ words) = word
 
 -- words that begin with a command's name begin with its first word
-begins_first : (word : List ℕ) (words : List (List ℕ)) (command : Command) → BeginAs (word ∷ words) command → word ≡ first_word (name_of command)
+begins_first : (word : List ℕ) (words : List (List ℕ)) (command : Command) → BeginAs (word ∷ words) command
+    → word ≡ first_word (name_of command)
 unfolding first_word
 begins_first word words (New g) e = sym (ap first_word e)
 begins_first word words (Write lba sectors byte) e = sym (ap first_word e)
@@ -398,7 +462,8 @@ spelling_begins (CrashKeep device objects) = refl
 spelling_begins (CrashLost device objects) = refl
 
 spelled_begins : (line : List ℕ) (command : Command) → words_of line ≡ spelling command → BeginsAs line command
-spelled_begins line command e = let P : List (List ℕ) → Type 0 = λ words. BeginAs words command in subst P (sym e) (spelling_begins command)
+spelled_begins line command e = let P : List (List ℕ) → Type 0 = λ words. BeginAs words command in
+    subst P (sym e) (spelling_begins command)
 
 -- how many words the command has whose name is this one byte
 words_after_byte : ℕ → ℕ
@@ -429,30 +494,36 @@ count_by_name (CrashKeep device objects) = refl
 count_by_name (CrashLost device objects) = refl
 
 -- commands with whose names the same words begin have as many words
-same_count : (words : List (List ℕ)) (a b : Command) → (words ≡ [] → ⊥) → BeginAs words a → BeginAs words b → length (spelling a) ≡ length (spelling b)
+same_count : (words : List (List ℕ)) (a b : Command) → (words ≡ [] → ⊥) → BeginAs words a → BeginAs words b
+    → length (spelling a) ≡ length (spelling b)
 same_count [] a b some begins_a begins_b = absurd (some refl)
 same_count (word ∷ words) a b some begins_a begins_b =
-    count_by_name a ∙ (ap words_after (sym (begins_first word words a begins_a) ∙ begins_first word words b begins_b) ∙ sym (count_by_name b))
+    count_by_name a ∙ (ap words_after (sym (begins_first word words a begins_a) ∙ begins_first word words b begins_b)
+    ∙ sym (count_by_name b))
 
 -- a line that begins as a command and has another number of words has a wrong one
 miscounted_line : (line : List ℕ) (command : Command) → BeginsAs line command → ¬ CountsAs line command → HasWrongWordCount line
 miscounted_line line command begins other_count = record {
   command = command;
   known = begins;
-  miscounted = λ other begins' counts. other_count (counts ∙ same_count (words_of line) other command (some_word line) begins' begins);
+  miscounted = λ other begins' counts. other_count (counts
+      ∙ same_count (words_of line) other command (some_word line) begins' begins);
 }
 
 -- what holds of a line's words holds of words that are those
-of_words : (words : List (List ℕ)) (line : List ℕ) (command : Command) → words_of line ≡ words → BeginAs words command → BeginsAs line command
+of_words : (words : List (List ℕ)) (line : List ℕ) (command : Command) → words_of line ≡ words → BeginAs words command
+    → BeginsAs line command
 of_words words line command e begins = let P : List (List ℕ) → Type 0 = λ w. BeginAs w command in subst P (sym e) begins
 
 -- the same of its words
-pub miscounted : (words : List (List ℕ)) (command : Command) → BeginAs words command → ¬ (length words ≡ length (spelling command)) → AreRefusedAs words WordCount
+pub miscounted : (words : List (List ℕ)) (command : Command) → BeginAs words command
+    → ¬ (length words ≡ length (spelling command)) → AreRefusedAs words WordCount
 miscounted words command begins other_count line e =
     miscounted_line line command (of_words words line command e begins) (λ counts. other_count (ap length (sym e) ∙ counts))
 
 -- words that begin with a command's name, as many as it has, that spell none are not in their form
-pub misspelt : (words : List (List ℕ)) (command : Command) → BeginAs words command → length words ≡ length (spelling command) → SpellNone words → AreRefusedAs words Form
+pub misspelt : (words : List (List ℕ)) (command : Command) → BeginAs words command → length words ≡ length (spelling command)
+    → SpellNone words → AreRefusedAs words Form
 misspelt words command begins counts none line e = record {
   command = command;
   known = of_words words line command e begins;
@@ -518,7 +589,8 @@ pub unknown_unspelled : (line : List ℕ) → IsUnknown line → (command : Comm
 unknown_unspelled line unknown command spells = unknown command (spelled_begins line command spells.words)
 
 pub miscounted_unspelled : (line : List ℕ) → HasWrongWordCount line → (command : Command) → ¬ Spells line command
-miscounted_unspelled line wrong command spells = wrong.miscounted command (spelled_begins line command spells.words) (ap length spells.words)
+miscounted_unspelled line wrong command spells = wrong.miscounted command (spelled_begins line command spells.words)
+    (ap length spells.words)
 
 pub misspelt_unspelled : (line : List ℕ) → IsMisspelt line → (command : Command) → ¬ Spells line command
 misspelt_unspelled line wrong = wrong.unspelled
@@ -566,7 +638,8 @@ decide_first name word words command is =
 -- whether some command's name begins with these words is decided
 decide_name : (word : List ℕ) (words : List (List ℕ)) → IsJudged (word ∷ words)
 decide_name word words =
-    or_next (decide_first (codes "new") word words (New (record { sectors = 0; max_write = 0; batch = 0; log = 0 })) refl) (λ no_new.
+    or_next (decide_first (codes "new") word words (New (record { sectors = 0; max_write = 0; batch = 0; log = 0 })) refl)
+    (λ no_new.
     or_next (decide_first (codes "w") word words (Write 0 0 0) refl) (λ no_write.
     or_next (decide_first (codes "z") word words (Zero 0 0) refl) (λ no_zero.
     or_next (decide_first (codes "r") word words (Read 0 0) refl) (λ no_read.
@@ -600,14 +673,16 @@ decide_words [] some = absurd (some refl)
 decide_words (word ∷ words) some = decide_name word words
 
 -- whether a line that begins as a command and spells none has as many words is decided
-judge_named : (line : List ℕ) (command : Command) → BeginsAs line command → ((other : Command) → ¬ Spells line other) → HasWrongWordCount line ⊎ IsMisspelt line
+judge_named : (line : List ℕ) (command : Command) → BeginsAs line command → ((other : Command) → ¬ Spells line other)
+    → HasWrongWordCount line ⊎ IsMisspelt line
 judge_named line command begins none =
     elim (decided (length (words_of line) == length (spelling command)) (Decides-eqb _ _)) [
       | inl counts ↦ inr (record { command = command; known = begins; counted = counts; unspelled = none })
       | inr other_count ↦ inl (miscounted_line line command begins other_count)
     ]
 
-judge_unspelled : (line : List ℕ) → ((command : Command) → ¬ Spells line command) → IsUnknown line ⊎ (HasWrongWordCount line ⊎ IsMisspelt line)
+judge_unspelled : (line : List ℕ) → ((command : Command) → ¬ Spells line command) → IsUnknown line
+    ⊎ (HasWrongWordCount line ⊎ IsMisspelt line)
 judge_unspelled line none =
     elim (decide_words (words_of line) (some_word line)) [
       | inl named ↦ inr (judge_named line named.0 named.1 none)
@@ -615,7 +690,8 @@ judge_unspelled line none =
     ]
 
 -- each line spells a command or is refused
-pub judge_line : (line : List ℕ) → ((command : Command) × Spells line command) ⊎ (IsUnknown line ⊎ (HasWrongWordCount line ⊎ IsMisspelt line))
+pub judge_line : (line : List ℕ) → ((command : Command) × Spells line command)
+    ⊎ (IsUnknown line ⊎ (HasWrongWordCount line ⊎ IsMisspelt line))
 judge_line line =
     elim (decide_line line) [
       | inl found ↦ inl found

@@ -1,11 +1,13 @@
 -- Contract: the grammar of scripts: which bytes are a line, and which lines spell a command.
-use Rattle.std.specs.Prelude.{◌≡◌, ℕ, ◌/◌, ◌%◌, ◌^◌, ◌<◌, List, [], ◌∷◌, ◌==◌, IsTrue, if◌then◌else◌, length, take, codes, decimal}
+use Rattle.std.specs.Prelude.{◌≡◌, ℕ, ◌/◌, ◌%◌, ◌^◌, ◌<◌, List, [], ◌∷◌, ◌==◌, IsTrue, if◌then◌else◌, length, take, codes}
+use Rattle.std.specs.Prelude.{decimal}
 use Rattle.std.specs.Char.{digit_char}
 use Rattle.std.specs.List.{slice_split}
 use Rattle.lsvd_base.specs.Limits.{is_within_limits}
 use Rattle.lsvd_base.specs.declared.geometry.Geometry.{Geometry}
 use Rattle.replay_script.specs.declared.command.Command.{Command}
-use Rattle.replay_script.specs.declared.command.Command.TheVariants.{New, Write, Zero, Read, Flush, Seal, TakeJob, JobDone, JobFailed, Status, Stop, CrashKeep, CrashLost}
+use Rattle.replay_script.specs.declared.command.Command.TheVariants.{New, Write, Zero, Read, Flush, Seal, TakeJob, JobDone}
+use Rattle.replay_script.specs.declared.command.Command.TheVariants.{JobFailed, Status, Stop, CrashKeep, CrashLost}
 use Rattle.replay_script.specs.declared.error.LineError.{LineError}
 use Rattle.replay_script.specs.declared.error.LineError.TheVariants.{UnknownCommand, WordCount, Form, OutOfMemory}
 

@@ -39,7 +39,10 @@ pub record IsRunText (bytes text : List ℕ) : Type 0 where
 -- the runs, with a byte before them
 abbrev pub byte_before : ℕ → List Run → List Run
 byte_before byte [] = record { byte = byte; count = 1 } ∷ []
-byte_before byte (run ∷ more) = if byte == run.byte then record run { count = suc run.count } ∷ more else record { byte = byte; count = 1 } ∷ run ∷ more
+byte_before byte (run ∷ more) = if byte == run.byte then record run { count = suc run.count } ∷ more else record {
+  byte = byte;
+  count = 1;
+} ∷ run ∷ more
 
 abbrev pub runs_of : List ℕ → List Run
 runs_of [] = []

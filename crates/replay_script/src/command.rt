@@ -1,4 +1,5 @@
-ghost use Rattle.std.specs.Prelude.{IsTrue, ◌↔◌, IfOk, IfErr, IfSome, IfNone, ◌≡◌, ℕ, List, [], ◌∷◌, map, codes, length};
+ghost use Rattle.std.specs.Prelude.{IsTrue, ◌↔◌, IfOk, IfErr, IfSome, IfNone, ◌≡◌, ℕ, List, [], ◌∷◌, map};
+ghost use Rattle.std.specs.Prelude.{codes, length};
 ghost use Rattle.replay_script.specs.Grammar.{Spells, IsRefusedAs, Spell, SpellNone, AreRefusedAs};
 ghost use Rattle.replay_script.specs.Names.{BeginWith, word_count_of};
 ghost use Rattle.replay_script.specs.declared.error.LineError.TheVariants.{UnknownCommand};
@@ -34,11 +35,12 @@ pub enum Command {
     Status,
     /// `stop N`: lets the device pass N calls more, and fail each later one.
     Stop { calls: u64 },
-    /// `crash keep D P`: stops the machine, and mounts the volume again. D has a letter for each write that was not
-    /// synced, and P one for each object under way, or they are `-`; which letters fit is judged elsewhere.
+    /// `crash keep D P`: stops the machine, and mounts the volume again. D has a letter for each write that
+    /// was not synced, and P one for each object under way, or they are `-`; which letters fit is judged
+    /// elsewhere.
     CrashKeep { device: Letters, objects: Letters },
-    /// `crash lost D P`: stops the machine, and mounts the volume without its cache. D is `-`, since nothing is left of
-    /// the writes, and P is as for `crash keep`; which letters fit is judged elsewhere.
+    /// `crash lost D P`: stops the machine, and mounts the volume without its cache. D is `-`, since nothing
+    /// is left of the writes, and P is as for `crash keep`; which letters fit is judged elsewhere.
     CrashLost { device: Letters, objects: Letters },
 }
 
@@ -75,8 +77,8 @@ enum Name {
     CrashLost,
 }
 
-// The command that the words spell. The reasons why they spell none come in their order: no such command, another
-// number of words, a word that is not in its form.
+// The command that the words spell. The reasons why they spell none come in their order: no such command,
+// another number of words, a word that is not in its form.
 fn command_from(alloc: Global, words: &[&[u8]]) -> Result<Command, LineError>
     ensures found { IfOk result (Spell (map (λ word. word.now) words.now)) }
     ensures refused { IfErr result (AreRefusedAs (map (λ word. word.now) words.now)) }
@@ -88,7 +90,8 @@ fn command_from(alloc: Global, words: &[&[u8]]) -> Result<Command, LineError>
     form_of(alloc, name, words)?.ok_or(LineError::Form)
 }
 
-// The name that these words begin with, or are a front of: `crash` is one of `crash keep` and of `crash lost`.
+// The name that these words begin with, or are a front of: `crash` is one of `crash keep` and of `crash
+// lost`.
 fn name_of(words: &[&[u8]]) -> Option<Name>
     ensures found { IfSome result (BeginWith (map (λ word. word.now) words.now)) }
     ensures none { IfNone result (AreRefusedAs (map (λ word. word.now) words.now) UnknownCommand) }
@@ -136,7 +139,8 @@ fn name_from(first: &[u8], rest: &[&[u8]]) -> Option<Name>
 // The same of the words after `crash`.
 fn crash_name_from(rest: &[&[u8]]) -> Option<Name>
     ensures found { IfSome result (BeginWith (codes "crash" ∷ map (λ word. word.now) rest.now)) }
-    ensures none { IfNone result (AreRefusedAs (codes "crash" ∷ map (λ word. word.now) rest.now) UnknownCommand) }
+    ensures none { IfNone result (AreRefusedAs (codes "crash" ∷ map (λ word. word.now) rest.now)
+        UnknownCommand) }
 {
     match rest {
         [] => Some(Name::CrashKeep),
@@ -191,8 +195,10 @@ fn form_of(alloc: Global, name: Name, words: &[&[u8]]) -> Result<Option<Command>
 
 // The command `new` of these sizes, if each is a number and they are within the limits of a volume.
 fn new_of(sectors: &[u8], log: &[u8], max_write: &[u8], batch: &[u8]) -> Option<Command>
-    ensures found { IfSome result (Spell (codes "new" ∷ sectors.now ∷ log.now ∷ max_write.now ∷ batch.now ∷ [])) }
-    ensures none { IfNone result (SpellNone (codes "new" ∷ sectors.now ∷ log.now ∷ max_write.now ∷ batch.now ∷ [])) }
+    ensures found { IfSome result (Spell (codes "new" ∷ sectors.now ∷ log.now ∷ max_write.now
+        ∷ batch.now ∷ [])) }
+    ensures none { IfNone result (SpellNone (codes "new" ∷ sectors.now ∷ log.now ∷ max_write.now
+        ∷ batch.now ∷ [])) }
 {
     let geometry = Geometry {
         sectors: number_of(sectors)?,

@@ -4,7 +4,8 @@ ghost use Rattle.std.specs.Str.{bytes_eq};
 use std::alloc::{AllocError, Global};
 use std::marker::Model;
 
-/// A word of a line that has a letter for each of some writes, or other bytes: contracts see the list of its bytes.
+/// A word of a line that has a letter for each of some writes, or other bytes: contracts see the list of its
+/// bytes.
 #[derive(Debug, Drop)]
 pub struct Letters {
     bytes: Vec<u8>,

@@ -1,4 +1,5 @@
-ghost use Rattle.std.specs.Prelude.{◌≡◌, ℕ, ◌+◌, ◌-◌, ◌*◌, ◌^◌, ◌<◌, IfSome, IfNone, IsTrue, ◌↔◌, length, slice_index, decimal};
+ghost use Rattle.std.specs.Prelude.{◌≡◌, ℕ, ◌+◌, ◌-◌, ◌*◌, ◌^◌, ◌<◌, IfSome, IfNone, IsTrue, ◌↔◌, length};
+ghost use Rattle.std.specs.Prelude.{slice_index, decimal};
 ghost use Rattle.std.specs.Char.{digit_char};
 ghost use Rattle.std.specs.Option.{SomeIff};
 ghost use Rattle.std.specs.Int.{IsInRange};
@@ -27,7 +28,8 @@ fn has_needless_zero(word: &[u8]) -> bool
 // The value of decimal digits, of which the first may be zero. None is for any byte that is no digit, and
 // for a value of 2^64 or more.
 fn value_of(digits: &[u8]) -> Option<u64>
-    ensures { SomeIff result (AllDigits 10 digits.now × (digits_value 10 digits.now < 2 ^ 64)) (digits_value 10 digits.now) }
+    ensures { SomeIff result (AllDigits 10 digits.now × (digits_value 10 digits.now < 2 ^ 64))
+        (digits_value 10 digits.now) }
 {
     let mut value = 0;
     for digit in digits {
@@ -39,7 +41,8 @@ fn value_of(digits: &[u8]) -> Option<u64>
 // The number with one more decimal digit at its end. None is for a byte that is no digit, and for a number
 // of 2^64 or more.
 fn with_digit(number: u64, digit: u8) -> Option<u64>
-    ensures { SomeIff result (IsInRange 48 57 digit × (number * 10 + (digit - 48) < 2 ^ 64)) (number * 10 + (digit - 48)) }
+    ensures { SomeIff result (IsInRange 48 57 digit × (number * 10 + (digit - 48) < 2 ^ 64))
+        (number * 10 + (digit - 48)) }
 {
     if !digit.is_ascii_digit() {
         return None;

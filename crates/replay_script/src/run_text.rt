@@ -10,7 +10,8 @@ use std::alloc::AllocError;
 /// Appends the run text of the bytes: each maximal run of equal bytes as two hexadecimal digits, `x` and its
 /// length, joined by one space. The one error is out of memory.
 pub fn push_run_text(out: &mut Vec<u8>, bytes: &[u8]) -> Result<(), AllocError>
-    ensures ok { OnOk result ((text : List ℕ) × IsRunText bytes.now text × (out.new.items ≡ out.old.items ++ text)) }
+    ensures ok { OnOk result ((text : List ℕ) × IsRunText bytes.now text
+        × (out.new.items ≡ out.old.items ++ text)) }
     ensures err { OnErr result (StartsWith out.new.items out.old.items) }
 {
     let mut rest = bytes;
@@ -24,7 +25,8 @@ pub fn push_run_text(out: &mut Vec<u8>, bytes: &[u8]) -> Result<(), AllocError>
 fn push_first_run<'a>(out: &mut Vec<u8>, bytes: &'a [u8]) -> Result<&'a [u8], AllocError>
     requires { 0 < length bytes.now }
     ensures ok { IfOk result (λ rest.
-        out.new.items ++ text_of_runs (runs_of rest.now) ≡ out.old.items ++ text_of_runs (runs_of bytes.now)) }
+        out.new.items ++ text_of_runs (runs_of rest.now) ≡ out.old.items ++ text_of_runs
+        (runs_of bytes.now)) }
     ensures shorter { IfOk result (λ rest. length rest.now < length bytes.now) }
     ensures kept { StartsWith out.new.items out.old.items }
 {
@@ -48,7 +50,8 @@ fn count_leading(byte: u8, bytes: &[u8]) -> usize
 
 // Appends one run: its byte, an `x` and its length.
 fn push_run(out: &mut Vec<u8>, byte: u8, count: usize) -> Result<(), AllocError>
-    ensures ok { OnOk result (out.new.items ≡ out.old.items ++ text_of_run (record { byte = byte; count = count })) }
+    ensures ok { OnOk result (out.new.items ≡ out.old.items ++ text_of_run
+        (record { byte = byte; count = count })) }
     ensures err { OnErr result (StartsWith out.new.items out.old.items) }
 {
     out.extend_from_slice(&[

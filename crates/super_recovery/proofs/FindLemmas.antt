@@ -1,5 +1,6 @@
 -- What is found of a volume in a store, and why it is refused.
-use Rattle.std.proofs.Common.{◌≡◌, ℕ, ◌^◌, ◌<◌, ◌≤◌, inl, inr, Bool, true, false, Option, Some, None, List, [], ◌∷◌, ◌++◌, refl, sym, ◌∙◌, ap, subst, arith}
+use Rattle.std.proofs.Common.{◌≡◌, ℕ, ◌^◌, ◌<◌, ◌≤◌, inl, inr, Bool, true, false, Option, Some, None, List, [], ◌∷◌, ◌++◌, refl}
+use Rattle.std.proofs.Common.{sym, ◌∙◌, ap, subst, arith}
 use Rattle.std.specs.Prelude.{IfSome, IsTrue, ◌↔◌}
 use Rattle.std.specs.Option.{IsSome}
 use Rattle.std.specs.List.{Contains}
@@ -18,15 +19,18 @@ use Rattle.super_recovery.specs.declared.error.SuperError.{SuperError}
 use Rattle.super_recovery.specs.declared.error.SuperError.TheVariants as errors
 use Rattle.super_recovery.specs.declared.finding.FoundVolume.{FoundVolume}
 use Rattle.super_recovery.specs.Faults.{IsNoAnswer}
-use Rattle.super_recovery.specs.Found.{IsReadOf, IsGreatestEpoch, IsGreatestIn, HasEpoch, HasNoEpoch, HasBadEpoch, IsWhyNoEpoch, IsWhyRefused, IsFound, IsRefused}
+use Rattle.super_recovery.specs.Found.{IsReadOf, IsGreatestEpoch, IsGreatestIn, HasEpoch, HasNoEpoch, HasBadEpoch, IsWhyNoEpoch}
+use Rattle.super_recovery.specs.Found.{IsWhyRefused, IsFound, IsRefused}
 use Rattle.super_recovery.proofs.LawLemmas.{one_super, one_newest, sizes_of_super, epoch_fits}
 use Rattle.super_recovery.proofs.Results.{told_so, told_both}
 
 -- ---- names
 
 -- what is so of the epochs among names and of a further name is so of those among both
-each_with : (P : ObjName → Type 0) (names : List ObjName) (name : ObjName) → ((other : ObjName) → Contains names other → other.kind ≡ kinds.Epoch → P other)
-    → (name.kind ≡ kinds.Epoch → P name) → (other : ObjName) → Contains (names ++ name ∷ []) other → other.kind ≡ kinds.Epoch → P other
+each_with : (P : ObjName → Type 0) (names : List ObjName) (name : ObjName)
+    → ((other : ObjName) → Contains names other → other.kind ≡ kinds.Epoch → P other)
+    → (name.kind ≡ kinds.Epoch → P name) → (other : ObjName) → Contains (names ++ name ∷ []) other
+    → other.kind ≡ kinds.Epoch → P other
 each_with P names name each further other listed kind =
     elim (Contains-push_cases names name other listed) [
       | inl before ↦ each other before kind
@@ -44,7 +48,8 @@ module _ (names : List ObjName) (name : ObjName) where
     greatest = each_with (λ other. other.number ≤ number) names name is.greatest lower;
   }
 
-  own_greatest : name.kind ≡ kinds.Epoch → ((other : ObjName) → Contains names other → other.kind ≡ kinds.Epoch → other.number ≤ name.number)
+  own_greatest : name.kind ≡ kinds.Epoch → ((other : ObjName) → Contains names other → other.kind ≡ kinds.Epoch
+      → other.number ≤ name.number)
       → IsGreatestEpoch (names ++ name ∷ []) name.number
   own_greatest kind lower = record {
     name = name;
@@ -55,19 +60,23 @@ module _ (names : List ObjName) (name : ObjName) where
   }
 
   -- a name of another object changes nothing
-  pub with_other : (greatest : Option ℕ) → (name.kind ≡ kinds.Epoch → ⊥) → IsGreatestIn names greatest → IsGreatestIn (names ++ name ∷ []) greatest
+  pub with_other : (greatest : Option ℕ) → (name.kind ≡ kinds.Epoch → ⊥) → IsGreatestIn names greatest
+      → IsGreatestIn (names ++ name ∷ []) greatest
   with_other None apart is = each_with (λ other. ⊥) names name is apart
   with_other (Some number) apart is = same_greatest number is (λ kind. absurd (apart kind))
 
   -- nor does an epoch of no greater number
-  pub with_lower : (number : ℕ) → name.number ≤ number → IsGreatestIn names (Some number) → IsGreatestIn (names ++ name ∷ []) (Some number)
+  pub with_lower : (number : ℕ) → name.number ≤ number → IsGreatestIn names (Some number)
+      → IsGreatestIn (names ++ name ∷ []) (Some number)
   with_lower number lower is = same_greatest number is (λ kind. lower)
 
   -- any other epoch is the greatest
-  pub with_greater : (greatest : Option ℕ) → name.kind ≡ kinds.Epoch → IfSome greatest (λ number. number < name.number) → IsGreatestIn names greatest
+  pub with_greater : (greatest : Option ℕ) → name.kind ≡ kinds.Epoch → IfSome greatest (λ number. number < name.number)
+      → IsGreatestIn names greatest
       → IsGreatestIn (names ++ name ∷ []) (Some name.number)
   with_greater None kind greater is = own_greatest kind (λ other listed own. absurd (is other listed own))
-  with_greater (Some number) kind greater is = own_greatest kind (λ other listed own. let low = is.greatest other listed own in omega arith)
+  with_greater (Some number) kind greater is = own_greatest kind (λ other listed own. let low = is.greatest other listed own in
+      omega arith)
 
 -- ---- the epochs of a store
 
@@ -85,16 +94,20 @@ named_so uuid name number same kind is =
     ∙ ap (λ (k : Kind). let other : ObjName = record { uuid = uuid; kind = k; number = name.number } in other) kind
     ∙ ap (λ (n : ℕ). epoch_name uuid n) is
 
-module _ (uuid : List ℕ) (names : List ObjName) (is_uuid : IsUuid uuid) (objects : Objects) (lists : Lists uuid objects names) where
+module _ (uuid : List ℕ) (names : List ObjName) (is_uuid : IsUuid uuid) (objects : Objects)
+    (lists : Lists uuid objects names) where
   -- an epoch that the store has is listed
-  has_none : (number : ℕ) → number < 2 ^ 64 → (Contains names (epoch_name uuid number) → ⊥) → found objects (epoch_name uuid number) ≡ None
+  has_none : (number : ℕ) → number < 2 ^ 64 → (Contains names (epoch_name uuid number) → ⊥)
+      → found objects (epoch_name uuid number) ≡ None
   has_none number fits not =
-      none_unless (found objects (epoch_name uuid number)) (λ some. not (lists.complete (epoch_name uuid number) (epoch_named uuid number is_uuid fits) refl some))
+      none_unless (found objects (epoch_name uuid number))
+      (λ some. not (lists.complete (epoch_name uuid number) (epoch_named uuid number is_uuid fits) refl some))
 
   pub has_no_epoch : IsGreatestIn names None → HasNoEpoch uuid objects
   has_no_epoch none number fits = has_none number fits (λ listed. none (epoch_name uuid number) listed refl)
 
-  none_after : (number : ℕ) → IsGreatestEpoch names number → (other : ℕ) → number < other → other < 2 ^ 64 → found objects (epoch_name uuid other) ≡ None
+  none_after : (number : ℕ) → IsGreatestEpoch names number → (other : ℕ) → number < other → other < 2 ^ 64
+      → found objects (epoch_name uuid other) ≡ None
   none_after number is other past fits =
       has_none other fits (λ listed. let low = is.greatest (epoch_name uuid other) listed refl in omega arith)
 
@@ -103,16 +116,25 @@ module _ (uuid : List ℕ) (names : List ObjName) (is_uuid : IsUuid uuid) (objec
       let present = lists.present is.name is.listed in
       subst (λ name. IsSome (found objects name)) (named_so uuid is.name number present.1 is.of_epoch is.number_is) present.2
 
-  pub has_bad_epoch : (number : ℕ) → IsGreatestEpoch names number → (HasEpoch uuid number objects → ⊥) → HasBadEpoch uuid number objects
+  pub has_bad_epoch : (number : ℕ) → IsGreatestEpoch names number → (HasEpoch uuid number objects → ⊥)
+      → HasBadEpoch uuid number objects
   has_bad_epoch number is bad = record { present = is_present number is; bad = bad; newest = none_after number is }
 
-  pub has_newest_epoch : (number : ℕ) → IsGreatestEpoch names number → HasEpoch uuid number objects → HasNewestEpoch uuid number objects
+  pub has_newest_epoch : (number : ℕ) → IsGreatestEpoch names number → HasEpoch uuid number objects
+      → HasNewestEpoch uuid number objects
   has_newest_epoch number is has =
-      record { bytes = has.bytes; present = has.present; epoch = has.epoch; is_epoch = has.is_epoch; newest = none_after number is }
+      record {
+        bytes = has.bytes;
+        present = has.present;
+        epoch = has.epoch;
+        is_epoch = has.is_epoch;
+        newest = none_after number is;
+      }
 
 -- ---- what is found
 
-pub is_found : (uuid : List ℕ) (objects : Objects) (it : FoundVolume) → HasSuper uuid it.volume objects → HasNewestEpoch uuid it.epoch objects
+pub is_found : (uuid : List ℕ) (objects : Objects) (it : FoundVolume) → HasSuper uuid it.volume objects
+    → HasNewestEpoch uuid it.epoch objects
     → IsFound uuid objects it
 is_found uuid objects it says newest = record {
   says = says;
@@ -148,9 +170,11 @@ bytes_of : (held : Option (List ℕ)) → IsSome held → (bytes : List ℕ) × 
 bytes_of None some = cc
 bytes_of (Some bytes) some = (bytes, refl)
 
-no_volume : (uuid : List ℕ) (objects : Objects) (geometry : Geometry) (epoch : ℕ) (error : SuperError) → IsWhyRefused uuid objects error
+no_volume : (uuid : List ℕ) (objects : Objects) (geometry : Geometry) (epoch : ℕ) (error : SuperError)
+    → IsWhyRefused uuid objects error
     → HasVolume uuid geometry epoch objects → IsNoAnswer error
-no_volume uuid objects geometry epoch errors.NoVolume why has = one_of (found objects (super_name uuid)) has.says.bytes has.says.present why
+no_volume uuid objects geometry epoch errors.NoVolume why has =
+    one_of (found objects (super_name uuid)) has.says.bytes has.says.present why
 no_volume uuid objects geometry epoch (errors.BadSuper (reasons.Super reason)) why has =
     let same = same_bytes (found objects (super_name uuid)) has.says.bytes why.0 has.says.present why.1 in
     let none = why.2.none has.volume in
@@ -165,8 +189,13 @@ no_volume uuid objects geometry epoch (errors.BadSuper (reasons.BadEpoch number)
 no_volume uuid objects geometry epoch errors.StoreFault why has = tt
 no_volume uuid objects geometry epoch errors.OutOfMemory why has = tt
 
-pub is_refused : (uuid : List ℕ) (objects : Objects) (error : SuperError) → IsWhyRefused uuid objects error → IsRefused uuid objects error
-is_refused uuid objects error why = record { why = why; no_volume = λ geometry epoch has. no_volume uuid objects geometry epoch error why has }
+pub is_refused : (uuid : List ℕ) (objects : Objects) (error : SuperError) → IsWhyRefused uuid objects error
+    → IsRefused uuid objects error
+is_refused uuid objects error why = record {
+  why = why;
+  no_volume = λ geometry epoch has. no_volume uuid objects geometry epoch
+      error why has;
+}
 
 -- ---- where a store tells what it holds
 
@@ -188,18 +217,22 @@ module _ (told : Option Objects) (uuid : List ℕ) where
 
       pub told_newest : has ≡ true → IfSome told (HasNewestEpoch uuid number)
       told_newest holds =
-          told_both _ _ _ told (λ objects is either. has_newest_epoch uuid names is_uuid objects is number greatest (either.0 holds)) lists tells
+          told_both _ _ _ told (λ objects is either. has_newest_epoch uuid names is_uuid objects is number greatest
+          (either.0 holds)) lists tells
 
   pub told_found : (it : FoundVolume) → IfSome told (HasSuper uuid it.volume) → IfSome told (HasNewestEpoch uuid it.epoch)
       → IfSome told (λ objects. IsFound uuid objects it)
   told_found it = told_both _ _ _ told (λ objects. is_found uuid objects it)
 
-  pub told_refused : (error : SuperError) → IfSome told (λ objects. IsWhyRefused uuid objects error) → IfSome told (λ objects. IsRefused uuid objects error)
+  pub told_refused : (error : SuperError) → IfSome told (λ objects. IsWhyRefused uuid objects error)
+      → IfSome told (λ objects. IsRefused uuid objects error)
   told_refused error = told_so _ _ told (λ objects. is_refused uuid objects error)
 
-  pub told_why : (volume : Super) (error : SuperError) → IfSome told (HasSuper uuid volume) → IfSome told (λ objects. IsWhyNoEpoch uuid objects error)
+  pub told_why : (volume : Super) (error : SuperError) → IfSome told (HasSuper uuid volume)
+      → IfSome told (λ objects. IsWhyNoEpoch uuid objects error)
       → IfSome told (λ objects. IsRefused uuid objects error)
-  told_why volume error = told_both _ _ _ told (λ objects says why. is_refused uuid objects error (why_refused uuid objects volume error says why))
+  told_why volume error = told_both _ _ _ told
+      (λ objects says why. is_refused uuid objects error (why_refused uuid objects volume error says why))
 
 -- where no object has the name of the super object, there is no volume
 pub told_absent : (told : Option Objects) (uuid : List ℕ) (name : ObjName) → name ≡ super_name uuid → IsReadOf told name None

@@ -11,7 +11,8 @@ use Rattle.super_format.specs.Super.{geometry_with}
 use Rattle.super_format.proofs.LawLemmas.{supers_have_one_spelling}
 use Rattle.stopped_volume.specs.Super.{super_name, epoch_name, HasSuper, HasNewestEpoch, HasVolume}
 use Rattle.super_recovery.specs.Found.{HasEpoch}
-use Rattle.super_recovery.specs.Laws.{KeepsVolume, SaysTheSame, IsOtherKind, IsOther, ChangesOnly, OthersKeepVolume, HasOneSuper, HasOneNewest, HasOneVolume, NextEpochIsBegun, VolumeIsCreated}
+use Rattle.super_recovery.specs.Laws.{KeepsVolume, SaysTheSame, IsOtherKind, IsOther, ChangesOnly, OthersKeepVolume, HasOneSuper}
+use Rattle.super_recovery.specs.Laws.{HasOneNewest, HasOneVolume, NextEpochIsBegun, VolumeIsCreated}
 
 -- ---- other objects
 
@@ -78,7 +79,8 @@ one_super uuid a b objects is other =
 pub epoch_fits : (bytes uuid : List ℕ) (number : ℕ) (epoch : Epoch) → IsEpoch bytes uuid number epoch → number < 2 ^ 64
 epoch_fits bytes uuid number epoch is = subst (λ n. n < 2 ^ 64) is.number_is is.number_width
 
-not_past : (uuid : List ℕ) (m n : ℕ) (objects : Objects) → HasNewestEpoch uuid m objects → HasNewestEpoch uuid n objects → m < n → ⊥
+not_past : (uuid : List ℕ) (m n : ℕ) (objects : Objects) → HasNewestEpoch uuid m objects → HasNewestEpoch uuid n objects
+    → m < n → ⊥
 not_past uuid m n objects is other past =
     let none = is.newest n past (epoch_fits other.bytes uuid n other.epoch other.is_epoch) in
     let some = other.present in
@@ -93,7 +95,8 @@ one_newest uuid m n objects is other =
     ]
 
 -- the sizes of a volume are those of its super object
-pub sizes_of_super : (a : Geometry) (volume other : Super) → a ≡ geometry_with volume a.log → volume ≡ other → a ≡ geometry_with other a.log
+pub sizes_of_super : (a : Geometry) (volume other : Super) → a ≡ geometry_with volume a.log → volume ≡ other
+    → a ≡ geometry_with other a.log
 sizes_of_super a volume other sizes same = sizes ∙ ap (λ v. geometry_with v a.log) same
 
 pub one_volume : HasOneVolume
@@ -116,20 +119,26 @@ apart_number uuid m n apart same = apart (ap (λ (name : ObjName). name.number) 
 whole_with : (uuid : List ℕ) (put : ℕ) (objects : Objects) → HasEpoch uuid put objects
     → ((number : ℕ) (bytes : List ℕ) → (number ≡ put → ⊥) → found objects (epoch_name uuid number) ≡ Some bytes
     → (older : Epoch) × IsEpoch bytes uuid number older)
-    → (number : ℕ) (bytes : List ℕ) → found objects (epoch_name uuid number) ≡ Some bytes → (older : Epoch) × IsEpoch bytes uuid number older
+    → (number : ℕ) (bytes : List ℕ) → found objects (epoch_name uuid number) ≡ Some bytes → (older : Epoch)
+    × IsEpoch bytes uuid number older
 whole_with uuid put objects has rest number bytes present =
     elim (cases_eq number put) [
       | inl same ↦
-          let one : Some has.bytes ≡ Some bytes = sym has.present ∙ sym (ap (λ n. found objects (epoch_name uuid n)) same) ∙ present in
-          let is : has.bytes ≡ bytes = cc in
-          (has.epoch, subst (λ b. IsEpoch b uuid number has.epoch) is (subst (λ n. IsEpoch has.bytes uuid n has.epoch) (sym same) has.is_epoch))
+          let one : Some has.bytes ≡ Some bytes = sym has.present ∙ sym (ap (λ n. found objects (epoch_name uuid n)) same)
+          ∙ present in
+          let is : has.bytes ≡ bytes = cc in (
+            has.epoch,
+            subst (λ b. IsEpoch b uuid number has.epoch) is (subst (λ n. IsEpoch has.bytes uuid n has.epoch) (sym same)
+                has.is_epoch),
+          )
       | inr apart ↦ rest number bytes apart present
     ]
 
 pub next_epoch_is_begun : NextEpochIsBegun
 next_epoch_is_begun uuid geometry epoch old new is puts =
     let of_super = puts.others (super_name uuid) (apart_kind uuid (epoch + 1)) in
-    let others : (number : ℕ) → (number ≡ epoch + 1 → ⊥) → found new (epoch_name uuid number) ≡ found old (epoch_name uuid number) =
+    let others : (number : ℕ) → (number ≡ epoch + 1 → ⊥)
+    → found new (epoch_name uuid number) ≡ found old (epoch_name uuid number) =
     λ number apart. puts.others (epoch_name uuid number) (apart_number uuid number (epoch + 1) apart) in
     record {
       volume = is.volume;
@@ -144,7 +153,8 @@ next_epoch_is_begun uuid geometry epoch old new is puts =
         newest = λ other past fits. others other (λ same. omega arith) ∙ is.epochs.newest other (omega arith) fits;
       };
       whole =
-          whole_with uuid (epoch + 1) new puts.has (λ number bytes apart present. is.whole number bytes (sym (others number apart) ∙ present));
+          whole_with uuid (epoch + 1) new puts.has (λ number bytes apart present. is.whole number bytes (sym (others number apart)
+          ∙ present));
     }
 
 pub volume_is_created : VolumeIsCreated
@@ -161,7 +171,8 @@ volume_is_created volume geometry objects sizes alone says has none = record {
     newest = λ other past fits. none other past;
   };
   whole = whole_with volume.uuid 0 objects has
-      (λ number bytes apart present. let missing = none number (omega arith) in absurd (some_is_none bytes (sym present ∙ missing)));
+      (λ number bytes apart present. let missing = none number (omega arith) in
+      absurd (some_is_none bytes (sym present ∙ missing)));
 }
   where
     some_is_none : (bytes : List ℕ) → Some bytes ≡ None → ⊥

@@ -17,7 +17,8 @@ use Rattle.super_recovery.specs.Faults.{of_store}
 use Rattle.super_recovery.specs.Put.{PutsSuper, PutsEpoch, MayBecome}
 
 -- what a store becomes by one change it becomes by another that follows from it
-becomes_so : (Change Other : Objects → Objects → Type 0) (old new : Option Objects) → ((a b : Objects) → Change a b → Other a b) → Becomes Change old new
+becomes_so : (Change Other : Objects → Objects → Type 0) (old new : Option Objects) → ((a b : Objects) → Change a b → Other a b)
+    → Becomes Change old new
     → Becomes Other old new
 becomes_so Change Other None new so is = is
 becomes_so Change Other (Some old) new so is = (is.0, is.1, so old is.0 is.2)
@@ -29,7 +30,8 @@ store_failed outcome store.Failed is fault = refl
 store_failed (Ok value) store.OutOfMemory is fault = let other = fault in cc
 store_failed (Err e) store.OutOfMemory is fault = let same : errors.OutOfMemory ≡ e = sym is in cc
 
-module _ (Put : Objects → Objects → Type 0) (name own : ObjName) (bytes : List ℕ) (same : name ≡ own) (so : (a b : Objects) → IsPut own bytes a b → Put a b)
+module _ (Put : Objects → Objects → Type 0) (name own : ObjName) (bytes : List ℕ) (same : name ≡ own) (so : (a b : Objects)
+    → IsPut own bytes a b → Put a b)
     (old new : Option Objects) where
   becomes_put : Becomes (IsPut name bytes) old new → Becomes Put old new
   becomes_put = becomes_so (IsPut name bytes) Put old new (λ a b put. so a b (subst (λ n. IsPut n bytes a b) same put))
@@ -43,7 +45,8 @@ module _ (Put : Objects → Objects → Type 0) (name own : ObjName) (bytes : Li
 
 -- ---- super objects
 
-module _ (volume : Super) (name : ObjName) (bytes : List ℕ) (is : IsSuper bytes volume.uuid volume) (same : name ≡ super_name volume.uuid)
+module _ (volume : Super) (name : ObjName) (bytes : List ℕ) (is : IsSuper bytes volume.uuid volume)
+    (same : name ≡ super_name volume.uuid)
     (old new : Option Objects) where
   super_so : (a b : Objects) → IsPut (super_name volume.uuid) bytes a b → PutsSuper volume a b
   super_so a b put = record { says = record { bytes = bytes; present = put.put; is_super = is }; others = put.others }
@@ -59,7 +62,10 @@ module _ (volume : Super) (name : ObjName) (bytes : List ℕ) (is : IsSuper byte
 module _ (uuid : List ℕ) (number : ℕ) (epoch : Epoch) (name : ObjName) (bytes : List ℕ) (is : IsEpoch bytes uuid number epoch)
     (same : name ≡ epoch_name uuid number) (old new : Option Objects) where
   epoch_so : (a b : Objects) → IsPut (epoch_name uuid number) bytes a b → PutsEpoch uuid number a b
-  epoch_so a b put = record { has = record { bytes = bytes; present = put.put; epoch = epoch; is_epoch = is }; others = put.others }
+  epoch_so a b put = record {
+    has = record { bytes = bytes; present = put.put; epoch = epoch; is_epoch = is };
+    others = put.others;
+  }
 
   pub puts_epoch : Becomes (IsPut name bytes) old new → Becomes (PutsEpoch uuid number) old new
   puts_epoch = becomes_put (PutsEpoch uuid number) name (epoch_name uuid number) bytes same epoch_so old new

@@ -5,7 +5,8 @@ use Rattle.lsvd_objstore.specs.Objects.{Objects}
 use Rattle.lsvd_objstore.specs.Store.{StoreState, OnlyCounts}
 
 -- what an error comes to, where one is passed on
-pub passed_on : {T E : Type 0} (P : E → Type 0) (outcome : Result T E) (error : E) → IsErrAnd outcome (λ e. e ≡ error) → P error → IfErr outcome P
+pub passed_on : {T E : Type 0} (P : E → Type 0) (outcome : Result T E) (error : E) → IsErrAnd outcome (λ e. e ≡ error) → P error
+    → IfErr outcome P
 passed_on P (Ok value) error is so = tt
 passed_on P (Err e) error is so = subst P (sym is) so
 
@@ -17,11 +18,13 @@ pub same_objects : (old new : StoreState) → OnlyCounts old new → new.objects
 same_objects old new only = ap (λ (s : StoreState). s.objects) only
 
 -- what is so of the objects that are told follows from what is
-pub told_so : (P Q : Objects → Type 0) (told : Option Objects) → ((objects : Objects) → P objects → Q objects) → IfSome told P → IfSome told Q
+pub told_so : (P Q : Objects → Type 0) (told : Option Objects) → ((objects : Objects) → P objects → Q objects) → IfSome told P
+    → IfSome told Q
 told_so P Q None so is = tt
 told_so P Q (Some objects) so is = so objects is
 
-pub told_both : (P Q R : Objects → Type 0) (told : Option Objects) → ((objects : Objects) → P objects → Q objects → R objects) → IfSome told P
+pub told_both : (P Q R : Objects → Type 0) (told : Option Objects) → ((objects : Objects) → P objects → Q objects → R objects)
+    → IfSome told P
     → IfSome told Q → IfSome told R
 told_both P Q R None so is other = tt
 told_both P Q R (Some objects) so is other = so objects is other

@@ -87,7 +87,8 @@ IsWhyRefused uuid objects errors.NoVolume = found objects (super_name uuid) ≡ 
 IsWhyRefused uuid objects (errors.BadSuper (reasons.Super reason)) =
     (bytes : List ℕ) × (found objects (super_name uuid) ≡ Some bytes) × IsRefusedAs bytes uuid reason
 IsWhyRefused uuid objects (errors.BadSuper reasons.NoEpoch) = HasSomeSuper uuid objects × HasNoEpoch uuid objects
-IsWhyRefused uuid objects (errors.BadSuper (reasons.BadEpoch number)) = HasSomeSuper uuid objects × HasBadEpoch uuid number objects
+IsWhyRefused uuid objects (errors.BadSuper (reasons.BadEpoch number)) = HasSomeSuper uuid objects
+    × HasBadEpoch uuid number objects
 IsWhyRefused uuid objects errors.StoreFault = Unit {0}
 IsWhyRefused uuid objects errors.OutOfMemory = Unit {0}
 

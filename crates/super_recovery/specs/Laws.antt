@@ -40,10 +40,12 @@ IsOther uuid name = IsOtherKind name.kind ⊎ (name.uuid ≡ uuid → ⊥)
 
 -- where nothing changed but the object with one name, or that was put or removed, acknowledged or not
 abbrev pub ChangesOnly : ObjName → Objects → Objects → Type 0
-ChangesOnly name old new = KeepsOthers name old new ⊎ (((bytes : List ℕ) × MayBePut name bytes old new) ⊎ MayBeRemoved name old new)
+ChangesOnly name old new = KeepsOthers name old new
+    ⊎ (((bytes : List ℕ) × MayBePut name bytes old new) ⊎ MayBeRemoved name old new)
 
 abbrev pub OthersKeepVolume : Type 0
-OthersKeepVolume = (uuid : List ℕ) (name : ObjName) (old new : Objects) → IsOther uuid name → ChangesOnly name old new → KeepsVolume uuid old new
+OthersKeepVolume = (uuid : List ℕ) (name : ObjName) (old new : Objects) → IsOther uuid name → ChangesOnly name old new
+    → KeepsVolume uuid old new
 
 -- ---- one volume
 
@@ -72,6 +74,8 @@ NextEpochIsBegun =
 -- the super object of a volume without ancestors stands there, and its epoch 0 alone
 abbrev pub VolumeIsCreated : Type 0
 VolumeIsCreated =
-    (volume : supers.Super) (geometry : Geometry) (objects : Objects) → geometry ≡ geometry_with volume geometry.log → volume.chain ≡ []
+    (volume : supers.Super) (geometry : Geometry) (objects : Objects) → geometry ≡ geometry_with volume geometry.log
+    → volume.chain ≡ []
     → HasSuper volume.uuid volume objects → HasEpoch volume.uuid 0 objects
-    → ((number : ℕ) → 0 < number → found objects (epoch_name volume.uuid number) ≡ None) → HasVolume volume.uuid geometry 0 objects
+    → ((number : ℕ) → 0 < number → found objects (epoch_name volume.uuid number) ≡ None)
+    → HasVolume volume.uuid geometry 0 objects

@@ -7,7 +7,8 @@ ghost use Rattle.super_format.specs.Super.{MayStand};
 ghost use Rattle.stopped_volume.specs.Super.{super_name, HasSuper, HasNewestEpoch};
 ghost use Rattle.stopped_volume.specs.Store.{TellsBytes};
 ghost use Rattle.super_recovery.specs.Faults.{ends_by_fault, IsNoAnswer};
-ghost use Rattle.super_recovery.specs.Found.{HasEpoch, IsGreatestIn, IsFound, IsRefused, IsWhyNoEpoch, IsWhyRefused};
+ghost use Rattle.super_recovery.specs.Found.{HasEpoch, IsGreatestIn, IsFound, IsRefused, IsWhyNoEpoch};
+ghost use Rattle.super_recovery.specs.Found.{IsWhyRefused};
 
 use crate::error::{BadSuper, SuperError};
 use crate::naming::{epoch_name, is_uuid, super_name};
@@ -27,14 +28,16 @@ pub struct FoundVolume {
     pub epoch: u64,
 }
 
-/// Finds the volume with this uuid in a store: its super object, and the greatest number of its epochs. The store is only read.
+/// Finds the volume with this uuid in a store: its super object, and the greatest number of its epochs. The
+/// store is only read.
 ///
 /// An error comes where, in the order of the tests:
 ///
 /// - `NoVolume`: the store has no super object of the volume.
 /// - `BadSuper` with `Super`: the super object is none of the volume; the reason is the first.
 /// - `BadSuper` with `NoEpoch`: the store has no epoch of the volume.
-/// - `BadSuper` with `BadEpoch`: the epoch with the greatest number, which is told, has bytes that are no epoch of that number.
+/// - `BadSuper` with `BadEpoch`: the epoch with the greatest number, which is told, has bytes that are no
+///   epoch of that number.
 /// - `StoreFault`: a call of the store failed, and was counted by it.
 /// - `OutOfMemory`: memory ran out.
 pub fn find_volume<S: Store>(
@@ -44,9 +47,11 @@ pub fn find_volume<S: Store>(
 ) -> Result<FoundVolume, SuperError>
     ensures stands { IfOk result (λ found. MayStand found.volume) }
     ensures uuid { IfOk result (λ found. found.volume.uuid ≡ uuid) }
-    ensures found { TellsBytes S.Receipt.state → IfOk result (λ found. IfSome (S.state store.old).objects (λ objects.
+    ensures found { TellsBytes S.Receipt.state
+        → IfOk result (λ found. IfSome (S.state store.old).objects (λ objects.
         IsFound uuid objects found)) }
-    ensures refused { TellsBytes S.Receipt.state → IfErr result (λ error. IfSome (S.state store.old).objects (λ objects.
+    ensures refused { TellsBytes S.Receipt.state
+        → IfErr result (λ error. IfSome (S.state store.old).objects (λ objects.
         IsRefused uuid objects error)) }
     ensures unchanged { OnlyCounts (S.state store.old) (S.state store.new) }
     ensures faults { Counts (ends_by_fault result) (S.state store.old).faults (S.state store.new).faults }
@@ -56,10 +61,12 @@ pub fn find_volume<S: Store>(
     Ok(FoundVolume { volume, epoch })
 }
 
-/// Whether a store has a super object of the volume with this uuid, whatever its bytes are. The store is only read. The errors are
-/// `StoreFault`, where a call of the store failed, which the store counted, and `OutOfMemory`.
+/// Whether a store has a super object of the volume with this uuid, whatever its bytes are. The store is only
+/// read. The errors are `StoreFault`, where a call of the store failed, which the store counted, and
+/// `OutOfMemory`.
 pub fn has_super<S: Store>(alloc: Global, store: &mut S, uuid: Uuid) -> Result<bool, SuperError>
-    ensures has { IfOk result (λ has. IfSome (S.state store.old).objects (λ objects. IsTrue has ↔ IsSome (found objects (super_name uuid)))) }
+    ensures has { IfOk result (λ has. IfSome (S.state store.old).objects
+        (λ objects. IsTrue has ↔ IsSome (found objects (super_name uuid)))) }
     ensures answer { IfErr result IsNoAnswer }
     ensures unchanged { OnlyCounts (S.state store.old) (S.state store.new) }
     ensures faults { Counts (ends_by_fault result) (S.state store.old).faults (S.state store.new).faults }
@@ -72,8 +79,10 @@ pub fn has_super<S: Store>(alloc: Global, store: &mut S, uuid: Uuid) -> Result<b
 fn find_super<S: Store>(alloc: Global, store: &mut S, uuid: Uuid) -> Result<Super, SuperError>
     ensures stands { IfOk result MayStand }
     ensures uuid { IfOk result (λ volume. volume.uuid ≡ uuid) }
-    ensures says { TellsBytes S.Receipt.state → IfOk result (λ volume. IfSome (S.state store.old).objects (HasSuper uuid volume)) }
-    ensures why { TellsBytes S.Receipt.state → IfErr result (λ error. IfSome (S.state store.old).objects (λ objects.
+    ensures says { TellsBytes S.Receipt.state
+        → IfOk result (λ volume. IfSome (S.state store.old).objects (HasSuper uuid volume)) }
+    ensures why { TellsBytes S.Receipt.state
+        → IfErr result (λ error. IfSome (S.state store.old).objects (λ objects.
         IsWhyRefused uuid objects error)) }
     ensures unchanged { OnlyCounts (S.state store.old) (S.state store.new) }
     ensures faults { Counts (ends_by_fault result) (S.state store.old).faults (S.state store.new).faults }
@@ -87,8 +96,10 @@ fn find_super<S: Store>(alloc: Global, store: &mut S, uuid: Uuid) -> Result<Supe
 
 // The greatest number of an epoch of a volume.
 fn newest_epoch<S: Store>(alloc: Global, store: &mut S, uuid: Uuid) -> Result<u64, SuperError>
-    ensures newest { TellsBytes S.Receipt.state → IfOk result (λ number. IfSome (S.state store.old).objects (HasNewestEpoch uuid number)) }
-    ensures why { TellsBytes S.Receipt.state → IfErr result (λ error. IfSome (S.state store.old).objects (λ objects.
+    ensures newest { TellsBytes S.Receipt.state
+        → IfOk result (λ number. IfSome (S.state store.old).objects (HasNewestEpoch uuid number)) }
+    ensures why { TellsBytes S.Receipt.state
+        → IfErr result (λ error. IfSome (S.state store.old).objects (λ objects.
         IsWhyNoEpoch uuid objects error)) }
     ensures unchanged { OnlyCounts (S.state store.old) (S.state store.new) }
     ensures faults { Counts (ends_by_fault result) (S.state store.old).faults (S.state store.new).faults }
@@ -121,7 +132,8 @@ fn greatest_epoch(names: &[ObjName]) -> Option<u64>
 
 // The greatest number of an epoch among names, with a further name.
 fn greatest_with(greatest: Option<u64>, name: &ObjName) -> Option<u64>
-    ensures { (names : List ObjName) → IsGreatestIn names greatest → IsGreatestIn (names ++ name.now ∷ []) result }
+    ensures { (names : List ObjName) → IsGreatestIn names greatest
+        → IsGreatestIn (names ++ name.now ∷ []) result }
 {
     if name.kind != Kind::Epoch {
         return greatest;
@@ -132,14 +144,16 @@ fn greatest_with(greatest: Option<u64>, name: &ObjName) -> Option<u64>
     }
 }
 
-// Whether a store has the epoch of this number, with the bytes of one. A store that lists a name and then does not find it has none.
+// Whether a store has the epoch of this number, with the bytes of one. A store that lists a name and then
+// does not find it has none.
 fn has_epoch<S: Store>(
     alloc: Global,
     store: &mut S,
     uuid: Uuid,
     number: u64,
 ) -> Result<bool, StoreError>
-    ensures has { TellsBytes S.Receipt.state → IfOk result (λ has. IfSome (S.state store.old).objects (λ objects.
+    ensures has { TellsBytes S.Receipt.state
+        → IfOk result (λ has. IfSome (S.state store.old).objects (λ objects.
         IsTrue has ↔ HasEpoch uuid number objects)) }
     ensures unchanged { OnlyCounts (S.state store.old) (S.state store.new) }
     ensures faults { Counts (has_failed result) (S.state store.old).faults (S.state store.new).faults }

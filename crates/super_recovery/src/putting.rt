@@ -12,13 +12,16 @@ use std::alloc::Global;
 use super_format::{Epoch, Super};
 use uuid::Uuid;
 
-/// Puts the super object of a volume, in place of one that is there. It may stand in one (a condition, that `Super::may_stand` tests).
+/// Puts the super object of a volume, in place of one that is there. It may stand in one (a condition, that
+/// `Super::may_stand` tests).
 ///
-/// - `StoreFault`: the put was not acknowledged, and the store counted that. What was there stands, or the super object.
+/// - `StoreFault`: the put was not acknowledged, and the store counted that. What was there stands, or the
+///   super object.
 /// - `OutOfMemory`: memory ran out. Nothing changed.
 pub fn put_super<S: Store>(alloc: Global, store: &mut S, volume: &Super) -> Result<(), SuperError>
     requires { MayStand volume.now }
-    ensures ok { OnOk result (Becomes (PutsSuper volume.now) (S.state store.old).objects (S.state store.new).objects) }
+    ensures ok { OnOk result (Becomes (PutsSuper volume.now) (S.state store.old).objects
+        (S.state store.new).objects) }
     ensures failed { IsErrOf result SuperError.StoreFault
         → Becomes (MayBecome (PutsSuper volume.now)) (S.state store.old).objects (S.state store.new).objects }
     ensures unchanged { IsErrOf result SuperError.OutOfMemory → S.state store.new ≡ S.state store.old }
@@ -32,7 +35,8 @@ pub fn put_super<S: Store>(alloc: Global, store: &mut S, volume: &Super) -> Resu
 
 /// Puts the epoch of this number of a volume, in place of one that is there.
 ///
-/// - `StoreFault`: the put was not acknowledged, and the store counted that. What was there stands, or the epoch.
+/// - `StoreFault`: the put was not acknowledged, and the store counted that. What was there stands, or the
+///   epoch.
 /// - `OutOfMemory`: memory ran out. Nothing changed.
 pub fn put_epoch<S: Store>(
     alloc: Global,
@@ -40,9 +44,11 @@ pub fn put_epoch<S: Store>(
     uuid: Uuid,
     number: u64,
 ) -> Result<(), SuperError>
-    ensures ok { OnOk result (Becomes (PutsEpoch uuid number) (S.state store.old).objects (S.state store.new).objects) }
+    ensures ok { OnOk result (Becomes (PutsEpoch uuid number) (S.state store.old).objects
+        (S.state store.new).objects) }
     ensures failed { IsErrOf result SuperError.StoreFault
-        → Becomes (MayBecome (PutsEpoch uuid number)) (S.state store.old).objects (S.state store.new).objects }
+        → Becomes (MayBecome (PutsEpoch uuid number)) (S.state store.old).objects
+        (S.state store.new).objects }
     ensures unchanged { IsErrOf result SuperError.OutOfMemory → S.state store.new ≡ S.state store.old }
     ensures answer { IfErr result IsNoAnswer }
     ensures faults { Counts (ends_by_fault result) (S.state store.old).faults (S.state store.new).faults }

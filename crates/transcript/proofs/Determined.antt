@@ -6,16 +6,21 @@ use Rattle.plain_disk.specs.Step.{plain_reply}
 use Rattle.plain_disk.specs.declared.event.PlainEvent.{PlainEvent}
 use Rattle.plain_disk.specs.declared.event.PlainEvent.TheVariants as events
 use Rattle.plain_disk.specs.declared.event.PlainReply.{PlainReply}
-use Rattle.plain_disk.specs.declared.event.PlainReply.TheVariants.{Entered, Flushed, Planned, Released, Sealed, Taken, Done, Returned, Told, BatchFull, EntriesFull, NoRoom, Range, Nothing, Busy, Fault}
+use Rattle.plain_disk.specs.declared.event.PlainReply.TheVariants.{Entered, Flushed, Planned, Released, Sealed, Taken, Done}
+use Rattle.plain_disk.specs.declared.event.PlainReply.TheVariants.{Returned, Told, BatchFull, EntriesFull, NoRoom, Range, Nothing}
+use Rattle.plain_disk.specs.declared.event.PlainReply.TheVariants.{Busy, Fault}
 use Rattle.replay_script.specs.declared.command.Command.{Command}
-use Rattle.replay_script.specs.declared.command.Command.TheVariants.{New, Write, Zero, Read, Flush, Seal, TakeJob, JobDone, JobFailed, Status, Stop, CrashKeep, CrashLost}
+use Rattle.replay_script.specs.declared.command.Command.TheVariants.{New, Write, Zero, Read, Flush, Seal, TakeJob, JobDone}
+use Rattle.replay_script.specs.declared.command.Command.TheVariants.{JobFailed, Status, Stop, CrashKeep, CrashLost}
 use Rattle.replay_script.specs.Grammar.{lines_of}
-use Rattle.replay_script.proofs.Decide.{one_command, unknown_unspelled, miscounted_unspelled, misspelt_unspelled, unknown_or_miscounted, unknown_or_misspelt, miscounted_or_misspelt}
+use Rattle.replay_script.proofs.Decide.{one_command, unknown_unspelled, miscounted_unspelled, misspelt_unspelled}
+use Rattle.replay_script.proofs.Decide.{unknown_or_miscounted, unknown_or_misspelt, miscounted_or_misspelt}
 use Rattle.replay_script.proofs.Runs.{one_run_text}
 use Rattle.transcript.specs.declared.reason.Reason.{Reason}
 use Rattle.transcript.specs.declared.reason.Reason.TheVariants.{UnknownCommand, WordCount, Form, NotAllowed, Letters, TooLong}
 use Rattle.transcript.specs.Answers.{State, TellsReply, Steps, Answers, IsAllowed, FitsLetters}
-use Rattle.transcript.specs.Transcript.{Ending, Stopped, IsMisplaced, HasUnfitLetters, IsBad, IsAnswered, Transcript, IsTranscript}
+use Rattle.transcript.specs.Transcript.{Ending, Stopped, IsMisplaced, HasUnfitLetters, IsBad, IsAnswered, Transcript}
+use Rattle.transcript.specs.Transcript.{IsTranscript}
 
 -- a reply is told by one text
 one_telling : (reply : PlainReply) (a b : List ℕ) → TellsReply reply a → TellsReply reply b → a ≡ b
@@ -40,11 +45,13 @@ one_telling Fault a b s t = s ∙ sym t
 abbrev AreSame : List ℕ → List ℕ → State → State → Type 0
 AreSame a b p q = (a ≡ b) × (p ≡ q)
 
-one_step : (plain : PlainState) (event : PlainEvent) (a b : List ℕ) (p q : State) → Steps plain event a p → Steps plain event b q → AreSame a b p q
+one_step : (plain : PlainState) (event : PlainEvent) (a b : List ℕ) (p q : State) → Steps plain event a p → Steps plain event b q
+    → AreSame a b p q
 one_step plain event a b p q s t = (one_telling (plain_reply plain event) a b s.0 t.0, s.1 ∙ sym t.1)
 
 -- a command is answered in one way
-one_answer : (state : State) (command : Command) (a b : List ℕ) (p q : State) → Answers state command a p → Answers state command b q
+one_answer : (state : State) (command : Command) (a b : List ℕ) (p q : State) → Answers state command a p
+    → Answers state command b q
     → AreSame a b p q
 one_answer None (New g) a b p q s t = (s.0 ∙ sym t.0, s.1 ∙ sym t.1)
 one_answer None (Write lba sectors byte) a b p q s t = absurd s
@@ -60,9 +67,11 @@ one_answer None (Stop calls) a b p q s t = absurd s
 one_answer None (CrashKeep device objects) a b p q s t = absurd s
 one_answer None (CrashLost device objects) a b p q s t = absurd s
 one_answer (Some plain) (New g) a b p q s t = absurd s
-one_answer (Some plain) (Write lba sectors byte) a b p q s t = one_step plain (events.Write lba (replicate (512 * sectors) byte)) a b p q s t
+one_answer (Some plain) (Write lba sectors byte) a b p q s t = one_step plain (events.Write lba (replicate (512 * sectors) byte))
+    a b p q s t
 one_answer (Some plain) (Zero lba sectors) a b p q s t = one_step plain (events.Zero lba sectors) a b p q s t
-one_answer (Some plain) (Read lba sectors) a b p q s t = (one_telling (plain_reply plain (events.Look lba sectors)) a b s.0 t.0, s.1 ∙ sym t.1)
+one_answer (Some plain) (Read lba sectors) a b p q s t =
+    (one_telling (plain_reply plain (events.Look lba sectors)) a b s.0 t.0, s.1 ∙ sym t.1)
 one_answer (Some plain) Flush a b p q s t = one_step plain events.Flush a b p q s t
 one_answer (Some plain) Seal a b p q s t = one_step plain events.Seal a b p q s t
 one_answer (Some plain) TakeJob a b p q s t = one_step plain events.TakeJob a b p q s t
@@ -74,13 +83,15 @@ one_answer (Some plain) (CrashKeep device objects) a b p q s t = (s.1.0 ∙ sym 
 one_answer (Some plain) (CrashLost device objects) a b p q s t = (s.1.0 ∙ sym t.1.0, s.1.1 ∙ sym t.1.1)
 
 -- a line is answered in one way
-one_answered : (state : State) (line a b : List ℕ) (p q : State) → IsAnswered state line a p → IsAnswered state line b q → AreSame a b p q
+one_answered : (state : State) (line a b : List ℕ) (p q : State) → IsAnswered state line a p → IsAnswered state line b q
+    → AreSame a b p q
 one_answered state line a b p q s t =
     let P : Command → Type 0 = λ c. Answers state c b q in
     one_answer state s.command a b p q s.answered (subst P (one_command line t.command s.command t.spelled s.spelled) t.answered)
 
 -- a command that is answered is allowed, and its letters fit
-answered_allowed : (state : State) (command : Command) (text : List ℕ) (next : State) → Answers state command text next → IsAllowed state command
+answered_allowed : (state : State) (command : Command) (text : List ℕ) (next : State) → Answers state command text next
+    → IsAllowed state command
 answered_allowed None (New g) text next s = tt
 answered_allowed None (Write lba sectors byte) text next s = s
 answered_allowed None (Zero lba sectors) text next s = s
@@ -108,7 +119,8 @@ answered_allowed (Some plain) (Stop calls) text next s = s.0
 answered_allowed (Some plain) (CrashKeep device objects) text next s = tt
 answered_allowed (Some plain) (CrashLost device objects) text next s = tt
 
-answered_fits : (state : State) (command : Command) (text : List ℕ) (next : State) → Answers state command text next → FitsLetters state command
+answered_fits : (state : State) (command : Command) (text : List ℕ) (next : State) → Answers state command text next
+    → FitsLetters state command
 answered_fits None command text next s = tt
 answered_fits (Some plain) (New g) text next s = tt
 answered_fits (Some plain) (Write lba sectors byte) text next s = tt
@@ -132,7 +144,8 @@ answered_not_bad state line answer next WordCount s bad = miscounted_unspelled l
 answered_not_bad state line answer next Form s bad = misspelt_unspelled line bad.1 s.command s.spelled
 answered_not_bad state line answer next NotAllowed s (short, (command, spelled, disallowed)) =
     let P : Command → Type 0 = λ c. IsAllowed state c in
-    disallowed (subst P (one_command line s.command command s.spelled spelled) (answered_allowed state s.command answer next s.answered))
+    disallowed (subst P (one_command line s.command command s.spelled spelled)
+    (answered_allowed state s.command answer next s.answered))
 answered_not_bad state line answer next Letters s (short, (command, spelled, allowed, unfit)) =
     let P : Command → Type 0 = λ c. FitsLetters state c in
     unfit (subst P (one_command line s.command command s.spelled spelled) (answered_fits state s.command answer next s.answered))
@@ -142,7 +155,8 @@ answered_not_bad state line answer next TooLong s long = omega (arith, s.short, 
 abbrev pub StopsAt : ℕ → State → List ℕ → Ending → Type 0
 StopsAt number state line ending = (reason : Reason) × IsBad state line reason × (ending ≡ Stopped number reason)
 
-answered_or_bad : (number : ℕ) (state : State) (line answer : List ℕ) (next : State) (ending : Ending) → IsAnswered state line answer next
+answered_or_bad : (number : ℕ) (state : State) (line answer : List ℕ) (next : State) (ending : Ending)
+    → IsAnswered state line answer next
     → StopsAt number state line ending → ⊥
 answered_or_bad number state line answer next ending s (reason, bad, told) = answered_not_bad state line answer next reason s bad
 
@@ -191,17 +205,20 @@ one_reason state line TooLong NotAllowed p q = absurd (omega arith)
 one_reason state line TooLong Letters p q = absurd (omega arith)
 one_reason state line TooLong TooLong p q = refl
 
-one_stop : (number : ℕ) (state : State) (line : List ℕ) (x y : Ending) → StopsAt number state line x → StopsAt number state line y → x ≡ y
+one_stop : (number : ℕ) (state : State) (line : List ℕ) (x y : Ending) → StopsAt number state line x
+    → StopsAt number state line y → x ≡ y
 one_stop number state line x y (a, bad, told) (b, also, told_also) =
     told ∙ ap (Stopped number) (one_reason state line a b bad also) ∙ sym told_also
 
 -- the lines have one transcript from each state on
 abbrev HaveOne : List (List ℕ) → Type 0
 HaveOne lines =
-    (number : ℕ) (state : State) (a b : List ℕ) (x y : Ending) → Transcript number state lines a x → Transcript number state lines b y
+    (number : ℕ) (state : State) (a b : List ℕ) (x y : Ending) → Transcript number state lines a x
+    → Transcript number state lines b y
     → (a ≡ b) × (x ≡ y)
 
-same_line : (a b first second more rest : List ℕ) → a ≡ first ++ 10 ∷ more → b ≡ second ++ 10 ∷ rest → first ≡ second → more ≡ rest → a ≡ b
+same_line : (a b first second more rest : List ℕ) → a ≡ first ++ 10 ∷ more → b ≡ second ++ 10 ∷ rest → first ≡ second
+    → more ≡ rest → a ≡ b
 same_line a b first second more rest s t e f = cc
 
 one_more : (line : List ℕ) (lines : List (List ℕ)) → HaveOne lines → HaveOne (line ∷ lines)

@@ -10,14 +10,16 @@ use Rattle.plain_disk.specs.Stops.{stopping_after_calls, recovered_number, mount
 use Rattle.plain_disk.specs.declared.event.PlainEvent.{PlainEvent}
 use Rattle.plain_disk.specs.declared.event.PlainEvent.TheVariants as events
 use Rattle.replay_script.specs.declared.command.Command.{Command}
-use Rattle.replay_script.specs.declared.command.Command.TheVariants.{New, Write, Zero, Read, Flush, Seal, TakeJob, JobDone, JobFailed, Status, Stop, CrashKeep, CrashLost}
+use Rattle.replay_script.specs.declared.command.Command.TheVariants.{New, Write, Zero, Read, Flush, Seal, TakeJob, JobDone}
+use Rattle.replay_script.specs.declared.command.Command.TheVariants.{JobFailed, Status, Stop, CrashKeep, CrashLost}
 use Rattle.replay_script.specs.Grammar.{lines_of, Spells, IsUnknown, HasWrongWordCount, IsMisspelt}
 use Rattle.replay_script.proofs.Decide.{judge_line}
 use Rattle.transcript.specs.declared.reason.Reason.{Reason}
 use Rattle.transcript.specs.declared.reason.Reason.TheVariants.{UnknownCommand, WordCount, Form, NotAllowed, Letters, TooLong}
 use Rattle.transcript.specs.Letters.{is_dash, fits_writes, kept_by, under_way, fits_objects, landed_by}
 use Rattle.transcript.specs.Answers.{State, Steps, Reads, released_by, text_of_mount, IsAllowed, FitsLetters, Answers}
-use Rattle.transcript.specs.Transcript.{Ending, AllAnswered, Stopped, IsBad, IsAnswered, Transcript, line_after, IsTranscript, IsFrontOfTranscript}
+use Rattle.transcript.specs.Transcript.{Ending, AllAnswered, Stopped, IsBad, IsAnswered, Transcript, line_after, IsTranscript}
+use Rattle.transcript.specs.Transcript.{IsFrontOfTranscript}
 use Rattle.transcript.proofs.Determined.{StopsAt}
 use Rattle.transcript.proofs.Replies.{some_telling, IsLineEvent, line_reply}
 
@@ -29,9 +31,11 @@ HasAnswer state command = (text : List ℕ) × (next : State) × Answers state c
 abbrev IsUnfitAtAll : State → Command → Type 0
 IsUnfitAtAll state command = ¬ IsAllowed state command ⊎ (IsAllowed state command × ¬ FitsLetters state command)
 
-some_step : (plain : PlainState) (event : PlainEvent) → IsLineEvent event → (text : List ℕ) × (next : State) × Steps plain event text next
+some_step : (plain : PlainState) (event : PlainEvent) → IsLineEvent event → (text : List ℕ) × (next : State)
+    × Steps plain event text next
 some_step plain event is =
-    let told = some_telling (plain_reply plain event) (line_reply plain event is) in (told.0, Some (plain_after event plain), (told.1, refl))
+    let told = some_telling (plain_reply plain event) (line_reply plain event is) in
+    (told.0, Some (plain_after event plain), (told.1, refl))
 
 some_read : (plain : PlainState) (lba sectors : ℕ) → (text : List ℕ) × (next : State) × Reads plain lba sectors text next
 some_read plain lba sectors =
@@ -42,7 +46,8 @@ some_read plain lba sectors =
 -- a put is done, where it was begun
 done_answer : (plain : PlainState) (number : ℕ) (b : Bool) → is_started number plain.window.objects ≡ b
     → HasAnswer (Some plain) (JobDone number) ⊎ IsUnfitAtAll (Some plain) (JobDone number)
-done_answer plain number true is = let step = some_step plain (events.JobDone (Some number)) tt in inl (step.0, step.1, (is, step.2))
+done_answer plain number true is = let step = some_step plain (events.JobDone (Some number)) tt in
+    inl (step.0, step.1, (is, step.2))
 done_answer plain number false is = inr (inl (λ started. cc (is, started)))
 
 -- or it fails
@@ -110,7 +115,8 @@ some_answer (Some plain) (JobFailed number) = failed_answer plain number (is_sta
 some_answer (Some plain) Status = inl (some_step plain events.Status tt)
 some_answer (Some plain) (Stop calls) = stop_answer plain calls plain.cache.left refl
 some_answer (Some plain) (CrashKeep device objects) =
-    keep_answer plain device objects (fits_writes (length plain.cache.pending) device) (fits_objects (length (under_way plain.window)) objects)
+    keep_answer plain device objects (fits_writes (length plain.cache.pending) device)
+    (fits_objects (length (under_way plain.window)) objects)
     refl refl
 some_answer (Some plain) (CrashLost device objects) =
     lost_answer plain device objects (is_dash device) (fits_objects (length (under_way plain.window)) objects) refl refl
@@ -133,7 +139,8 @@ fate_spelled number state line command short spelled (inr (inr unfit)) =
     fate_bad number state line Letters (short, (command, spelled, unfit.0, unfit.1))
 
 fate_short : (number : ℕ) (state : State) (line : List ℕ) → length line ≤ 65536
-    → ((command : Command) × Spells line command) ⊎ (IsUnknown line ⊎ (HasWrongWordCount line ⊎ IsMisspelt line)) → LineFate number state line
+    → ((command : Command) × Spells line command) ⊎ (IsUnknown line ⊎ (HasWrongWordCount line ⊎ IsMisspelt line))
+    → LineFate number state line
 fate_short number state line short (inl c) = fate_spelled number state line c.0 short c.1 (some_answer state c.0)
 fate_short number state line short (inr (inl unknown)) = fate_bad number state line UnknownCommand (short, unknown)
 fate_short number state line short (inr (inr (inl miscounted))) = fate_bad number state line WordCount (short, miscounted)
@@ -146,13 +153,16 @@ fate number state line (inr short) = fate_short number state line short (judge_l
 abbrev SomeTranscript : ℕ → State → List (List ℕ) → Type 0
 SomeTranscript number state lines = (text : List ℕ) × (ending : Ending) × Transcript number state lines text ending
 
-after_stop : (number : ℕ) (state : State) (line : List ℕ) (lines : List (List ℕ)) (ending : Ending) → StopsAt number state line ending
+after_stop : (number : ℕ) (state : State) (line : List ℕ) (lines : List (List ℕ)) (ending : Ending)
+    → StopsAt number state line ending
     → SomeTranscript number state (line ∷ lines)
 after_stop number state line lines ending s = ([], ending, inr (refl, s))
 
-after_answer : (number : ℕ) (state next : State) (line answer : List ℕ) (lines : List (List ℕ)) → IsAnswered state line answer next
+after_answer : (number : ℕ) (state next : State) (line answer : List ℕ) (lines : List (List ℕ))
+    → IsAnswered state line answer next
     → SomeTranscript (number + 1) next lines → SomeTranscript number state (line ∷ lines)
-after_answer number state next line answer lines a more = (answer ++ 10 ∷ more.0, more.1, inl (answer, next, more.0, a, refl, more.2))
+after_answer number state next line answer lines a more =
+    (answer ++ 10 ∷ more.0, more.1, inl (answer, next, more.0, a, refl, more.2))
 
 -- the lines have a transcript from each state on
 pub some_transcript : (lines : List (List ℕ)) (number : ℕ) (state : State) → SomeTranscript number state lines
@@ -165,9 +175,14 @@ some_transcript (line ∷ lines) number state =
 
 -- the transcript of a script that passes its limit
 past_limit : (script : List ℕ) → 2 ^ 24 < length script → IsFrontOfTranscript script []
-past_limit script long = record { rest = []; ending = Stopped (line_after (2 ^ 24) script) TooLong; transcript = inr (long, refl, refl) }
+past_limit script long = record {
+  rest = [];
+  ending = Stopped (line_after (2 ^ 24) script) TooLong;
+  transcript = inr (long, refl, refl);
+}
 
-within_limit : (script : List ℕ) → length script ≤ 2 ^ 24 → SomeTranscript 1 None (lines_of script) → IsFrontOfTranscript script []
+within_limit : (script : List ℕ) → length script ≤ 2 ^ 24 → SomeTranscript 1 None (lines_of script)
+    → IsFrontOfTranscript script []
 within_limit script short t = record { rest = t.0; ending = t.1; transcript = inl (short, t.2) }
 
 by_length : (script : List ℕ) → (2 ^ 24 < length script) ⊎ (length script ≤ 2 ^ 24) → IsFrontOfTranscript script []

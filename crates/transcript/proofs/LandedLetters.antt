@@ -18,7 +18,8 @@ abbrev object_numbers : List OpenObject → List ℕ
 object_numbers objects = map (λ object. object.number) objects
 
 -- a lower number is not the one that is asked for
-first_below : (first number : ℕ) (rest letters : List ℕ) → first < number → ((more : List ℕ) → has_landed rest more number ≡ false)
+first_below : (first number : ℕ) (rest letters : List ℕ) → first < number
+    → ((more : List ℕ) → has_landed rest more number ≡ false)
     → has_landed (first ∷ rest) letters number ≡ false
 first_below first number rest [] below none = refl
 first_below first number rest (letter ∷ letters) below none =
@@ -31,7 +32,8 @@ none_above : (low : ℕ) (objects : List OpenObject) (last number : ℕ) (letter
 none_above low [] last number letters ascends above = refl
 none_above low (object ∷ objects) last number letters ascends above =
     let below : object.number < number = omega (arith, at_most object.number objects last ascends.1, above) in
-    elim object.was_started as (λ b. has_landed (object_numbers (cond b (object ∷ begun objects) (begun objects))) letters number ≡ false) [
+    elim object.was_started as (λ b. has_landed (object_numbers (cond b (object ∷ begun objects) (begun objects))) letters
+    number ≡ false) [
       | true ↦ first_below object.number number (object_numbers (begun objects)) letters below
           (λ more. none_above object.number objects last number more ascends.1 above)
       | false ↦ none_above object.number objects last number letters ascends.1 above

@@ -11,7 +11,8 @@ use Rattle.plain_disk.proofs.EventLemmas.{created_is, events_keep}
 use Rattle.plain_disk.proofs.MountLemmas.{mounts_keep}
 use Rattle.plain_disk.proofs.StopLemmas.{stops_keep, stop_keeps_acknowledged}
 use Rattle.replay_script.specs.declared.command.Command.{Command}
-use Rattle.replay_script.specs.declared.command.Command.TheVariants.{New, Write, Zero, Read, Flush, Seal, TakeJob, JobDone, JobFailed, Status, Stop, CrashKeep, CrashLost}
+use Rattle.replay_script.specs.declared.command.Command.TheVariants.{New, Write, Zero, Read, Flush, Seal, TakeJob, JobDone}
+use Rattle.replay_script.specs.declared.command.Command.TheVariants.{JobFailed, Status, Stop, CrashKeep, CrashLost}
 use Rattle.replay_script.specs.Grammar.{lines_of, Fits}
 use Rattle.transcript.specs.Letters.{kept_by, landed_by}
 use Rattle.transcript.specs.Answers.{State, released_by, Answers}
@@ -33,7 +34,8 @@ released_keeps (Planned front bytes objects) plain h = events_keep plain (events
 released_keeps reply plain h = h
 
 -- a command that is answered leaves a plain volume
-pub answer_keeps : (state : State) (command : Command) (text : List ℕ) (next : State) → Fits command → Answers state command text next
+pub answer_keeps : (state : State) (command : Command) (text : List ℕ) (next : State) → Fits command
+    → Answers state command text next
     → IsPlainState state → IsPlainState next
 answer_keeps None (New g) text next fits s h = along next _ s.1 (created_is g fits)
 answer_keeps None (Write lba sectors byte) text next fits s h = absurd s
@@ -53,12 +55,15 @@ answer_keeps (Some plain) (Write lba sectors byte) text next fits s h =
     along next _ s.1 (events_keep plain (events.Write lba (replicate (512 * sectors) byte)) h)
 answer_keeps (Some plain) (Zero lba sectors) text next fits s h = along next _ s.1 (events_keep plain (events.Zero lba sectors) h)
 answer_keeps (Some plain) (Read lba sectors) text next fits s h =
-    along next _ s.1 (released_keeps (plain_reply plain (events.Look lba sectors)) _ (events_keep plain (events.Look lba sectors) h))
+    along next _ s.1 (released_keeps (plain_reply plain (events.Look lba sectors)) _
+    (events_keep plain (events.Look lba sectors) h))
 answer_keeps (Some plain) Flush text next fits s h = along next _ s.1 (events_keep plain events.Flush h)
 answer_keeps (Some plain) Seal text next fits s h = along next _ s.1 (events_keep plain events.Seal h)
 answer_keeps (Some plain) TakeJob text next fits s h = along next _ s.1 (events_keep plain events.TakeJob h)
-answer_keeps (Some plain) (JobDone number) text next fits s h = along next _ s.1.1 (events_keep plain (events.JobDone (Some number)) h)
-answer_keeps (Some plain) (JobFailed number) text next fits s h = along next _ s.2 (events_keep plain (events.JobFailed (Some number)) h)
+answer_keeps (Some plain) (JobDone number) text next fits s h =
+    along next _ s.1.1 (events_keep plain (events.JobDone (Some number)) h)
+answer_keeps (Some plain) (JobFailed number) text next fits s h =
+    along next _ s.2 (events_keep plain (events.JobFailed (Some number)) h)
 answer_keeps (Some plain) Status text next fits s h = along next _ s.1 (events_keep plain events.Status h)
 answer_keeps (Some plain) (Stop calls) text next fits s h = along next _ s.2 (stops_keep plain calls h)
 answer_keeps (Some plain) (CrashKeep device objects) text next fits s h =
@@ -71,7 +76,8 @@ answer_keeps (Some plain) (CrashLost device objects) text next fits s h =
 abbrev EndingIs : Ending → Type 0
 EndingIs ending = (state : State) → ending ≡ AllAnswered state → IsPlainState state
 
-lines_keep : (lines : List (List ℕ)) (number : ℕ) (state : State) (text : List ℕ) (ending : Ending) → Transcript number state lines text ending
+lines_keep : (lines : List (List ℕ)) (number : ℕ) (state : State) (text : List ℕ) (ending : Ending)
+    → Transcript number state lines text ending
     → IsPlainState state → EndingIs ending
 lines_keep [] number state text ending t h = λ other is.
     let same : AllAnswered state ≡ AllAnswered other = sym t.1 ∙ is in
@@ -82,8 +88,10 @@ lines_keep (line ∷ lines) number state text ending (inl t) h =
 lines_keep (line ∷ lines) number state text ending (inr t) h = λ other is.
     let same : Stopped number t.1.0 ≡ AllAnswered other = sym t.1.2 ∙ is in cc
 
-script_keeps : (script text : List ℕ) (plain : PlainState) → IsTranscript script text (AllAnswered (Some plain)) → IsPlainVolume plain
-script_keeps script text plain (inl t) = lines_keep (lines_of script) 1 None text (AllAnswered (Some plain)) t.1 tt (Some plain) refl
+script_keeps : (script text : List ℕ) (plain : PlainState) → IsTranscript script text (AllAnswered (Some plain))
+    → IsPlainVolume plain
+script_keeps script text plain (inl t) = lines_keep (lines_of script) 1 None text (AllAnswered (Some plain)) t.1 tt
+    (Some plain) refl
 script_keeps script text plain (inr t) = cc
 
 -- in each state that a script reaches, a stop keeps what was flushed, and no more than was taken

@@ -1,6 +1,7 @@
 -- Which replies the events of a line have, and that each of them has a text.
 use Rattle.std.proofs.Common.{ℕ, List, ◌++◌, refl}
-use Rattle.std.specs.Prelude.{Bool, true, false, not, if◌then◌else◌, Option, Some, None, IfSome, unwrap_or, option_map, codes, decimal, length}
+use Rattle.std.specs.Prelude.{Bool, true, false, not, if◌then◌else◌, Option, Some, None, IfSome, unwrap_or, option_map, codes}
+use Rattle.std.specs.Prelude.{decimal, length}
 use Rattle.std.specs.List.{sum_by}
 use Rattle.lsvd_base.specs.declared.entry.Entry.{Entry}
 use Rattle.lsvd_base.specs.declared.entry.Entry.TheVariants as entries
@@ -13,10 +14,13 @@ use Rattle.upload_window.specs.Window.{lowest_ready}
 use Rattle.plain_disk.specs.declared.event.PlainEvent.{PlainEvent}
 use Rattle.plain_disk.specs.declared.event.PlainEvent.TheVariants as events
 use Rattle.plain_disk.specs.declared.event.PlainReply.{PlainReply}
-use Rattle.plain_disk.specs.declared.event.PlainReply.TheVariants.{Entered, Flushed, Planned, Released, Sealed, Taken, Done, Returned, Told, BatchFull, EntriesFull, NoRoom, Range, Nothing, Busy, Fault}
+use Rattle.plain_disk.specs.declared.event.PlainReply.TheVariants.{Entered, Flushed, Planned, Released, Sealed, Taken, Done}
+use Rattle.plain_disk.specs.declared.event.PlainReply.TheVariants.{Returned, Told, BatchFull, EntriesFull, NoRoom, Range, Nothing}
+use Rattle.plain_disk.specs.declared.event.PlainReply.TheVariants.{Busy, Fault}
 use Rattle.plain_disk.specs.Cache.{PlainCache, passes_commit, passes_entry}
 use Rattle.plain_disk.specs.State.{PlainState, unsealed_entries}
-use Rattle.plain_disk.specs.Entries.{reply_of_full, batch_refusal, has_room_for, cache_for, commits_are_made, room_reply, enter_reply}
+use Rattle.plain_disk.specs.Entries.{reply_of_full, batch_refusal, has_room_for, cache_for, commits_are_made, room_reply}
+use Rattle.plain_disk.specs.Entries.{enter_reply}
 use Rattle.plain_disk.specs.Reads.{passes_look}
 use Rattle.plain_disk.specs.Objects.{is_busy, has_unsealed, reply_of_taken, is_under_way}
 use Rattle.plain_disk.specs.Step.{plain_reply}

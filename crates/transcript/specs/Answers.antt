@@ -5,7 +5,9 @@ use Rattle.upload_window.specs.Window.{is_started}
 use Rattle.plain_disk.specs.declared.event.PlainEvent.{PlainEvent}
 use Rattle.plain_disk.specs.declared.event.PlainEvent.TheVariants as events
 use Rattle.plain_disk.specs.declared.event.PlainReply.{PlainReply}
-use Rattle.plain_disk.specs.declared.event.PlainReply.TheVariants.{Entered, Flushed, Planned, Released, Sealed, Taken, Done, Returned, Told, BatchFull, EntriesFull, NoRoom, Range, Nothing, Busy, Fault}
+use Rattle.plain_disk.specs.declared.event.PlainReply.TheVariants.{Entered, Flushed, Planned, Released, Sealed, Taken, Done}
+use Rattle.plain_disk.specs.declared.event.PlainReply.TheVariants.{Returned, Told, BatchFull, EntriesFull, NoRoom, Range, Nothing}
+use Rattle.plain_disk.specs.declared.event.PlainReply.TheVariants.{Busy, Fault}
 use Rattle.plain_disk.specs.State.{PlainState, created_volume, history_length}
 use Rattle.plain_disk.specs.Step.{plain_reply, plain_after}
 use Rattle.plain_disk.specs.Stops.{stopping_after_calls, recovered_number, mounted_kept, mounted_lost}
@@ -84,8 +86,8 @@ MountsLost plain objects = Mounts (landed_by plain.window objects) plain (mounte
 
 -- ---- commands
 
--- The volume allows the command: `new` comes only first, a put is done or fails only where it was begun, and the device is told to stop
--- only where it was not.
+-- The volume allows the command: `new` comes only first, a put is done or fails only where it was begun, and the device is told
+-- to stop only where it was not.
 abbrev pub AllowsCommand : PlainState → Command → Type 0
 AllowsCommand plain (commands.New g) = ⊥
 AllowsCommand plain (commands.Write lba sectors byte) = Unit {0}
@@ -162,7 +164,8 @@ Creates (commands.CrashLost device objects) text next = ⊥
 -- the volume answers the command by this text, and this is what it leaves
 abbrev pub AnswersOn : PlainState → Command → List ℕ → State → Type 0
 AnswersOn plain (commands.New g) text next = ⊥
-AnswersOn plain (commands.Write lba sectors byte) text next = Steps plain (events.Write lba (replicate (512 * sectors) byte)) text next
+AnswersOn plain (commands.Write lba sectors byte) text next =
+    Steps plain (events.Write lba (replicate (512 * sectors) byte)) text next
 AnswersOn plain (commands.Zero lba sectors) text next = Steps plain (events.Zero lba sectors) text next
 AnswersOn plain (commands.Read lba sectors) text next = Reads plain lba sectors text next
 AnswersOn plain commands.Flush text next = Steps plain events.Flush text next
@@ -176,7 +179,8 @@ AnswersOn plain (commands.JobFailed number) text next =
 AnswersOn plain commands.Status text next = Steps plain events.Status text next
 AnswersOn plain (commands.Stop calls) text next =
     (plain.cache.left ≡ None) × (text ≡ codes "stop " ++ decimal calls) × (next ≡ Some (stopping_after_calls calls plain))
-AnswersOn plain (commands.CrashKeep device objects) text next = FitKept plain device objects × MountsKept plain device objects text next
+AnswersOn plain (commands.CrashKeep device objects) text next = FitKept plain device objects
+    × MountsKept plain device objects text next
 AnswersOn plain (commands.CrashLost device objects) text next = FitLost plain device objects × MountsLost plain objects text next
 
 -- in this state the command is answered by this text, and leaves the next state

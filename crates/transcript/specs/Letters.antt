@@ -1,5 +1,7 @@
--- Contract: the letters of a crash: what becomes of each write that was not synced, and which of the objects under way have landed.
-use Rattle.std.specs.Prelude.{ℕ, ◌==◌, nat_le, Bool, true, false, not, ◌&&◌, ◌||◌, List, [], ◌∷◌, length, map, replicate, if◌then◌else◌, codes}
+-- Contract: the letters of a crash: what becomes of each write that was not synced, and which of the objects under way have
+-- landed.
+use Rattle.std.specs.Prelude.{ℕ, ◌==◌, nat_le, Bool, true, false, not, ◌&&◌, ◌||◌, List, [], ◌∷◌, length, map, replicate}
+use Rattle.std.specs.Prelude.{if◌then◌else◌, codes}
 use Rattle.std.specs.List.{list_all, list_any, filter}
 use Rattle.std.specs.Str.{bytes_eq}
 use Rattle.lsvd_device.specs.declared.fate.Fate.{Fate}

@@ -39,8 +39,8 @@ pub record IsAnswered (state : State) (line answer : List ℕ) (next : State) : 
   pub spelled : Spells line command
   pub answered : Answers state command answer next
 
--- The answers to the lines from this state on, each ended by a newline, up to the end or the first bad line, whose number counts on from
--- this one.
+-- The answers to the lines from this state on, each ended by a newline, up to the end or the first bad line, whose number counts
+-- on from this one.
 abbrev pub Transcript : ℕ → State → List (List ℕ) → List ℕ → Ending → Type 0
 Transcript number state [] text ending = (text ≡ []) × (ending ≡ AllAnswered state)
 Transcript number state (line ∷ lines) text ending =
@@ -54,7 +54,8 @@ Transcript number state (line ∷ lines) text ending =
 unfoldable pub line_after : ℕ → List ℕ → ℕ
 line_after count script = 1 + count_by (λ b. b == 10) (take count script)
 
--- The transcript of a script, and its ending. Of a script past its limit nothing is run: bad is the line in which the limit is passed.
+-- The transcript of a script, and its ending. Of a script past its limit nothing is run: bad is the line in which the limit is
+-- passed.
 abbrev pub IsTranscript : List ℕ → List ℕ → Ending → Type 0
 IsTranscript script text ending =
     ((length script ≤ 2 ^ 24) × Transcript 1 None (lines_of script) text ending)

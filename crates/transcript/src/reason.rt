@@ -1,17 +1,19 @@
 ghost use Rattle.std.specs.Prelude.{◌≡◌};
 ghost use Rattle.transcript.specs.Reason.{code_of};
 
-/// Why a line of a script is bad: of the reasons that apply, `TooLong` if it does, and else the first in this order.
+/// Why a line of a script is bad: of the reasons that apply, `TooLong` if it does, and else the first in this
+/// order.
 #[derive(Clone, Copy, Debug, PartialEq, Eq)]
 pub enum Reason {
     /// It does not begin with the name of a command.
     UnknownCommand,
     /// It has another number of words than its command.
     WordCount,
-    /// A word is not a number or a byte in its form, or the sizes of `new` are outside the limits of a volume.
+    /// A word is not a number or a byte in its form, or the sizes of `new` are outside the limits of a
+    /// volume.
     Form,
-    /// Its command is not allowed where it stands: `new` comes first, and only there; a put is done or fails only where it was begun; and
-    /// the device is told to stop only where it was not.
+    /// Its command is not allowed where it stands: `new` comes first, and only there; a put is done or fails
+    /// only where it was begun; and the device is told to stop only where it was not.
     NotAllowed,
     /// Its letters do not fit the writes that were not synced, or the objects under way.
     Letters,

@@ -1,5 +1,6 @@
 -- For `add_all`: entries that are added to a list one after the other.
-use Rattle.std.proofs.Common.{◌≡◌, ℕ, zero, suc, ◌+◌, ◌-◌, ◌^◌, ◌<◌, ◌≤◌, true, List, [], ◌∷◌, ◌++◌, length, drop, refl, sym, ◌∙◌, ap, subst, arith, append_assoc, length-append}
+use Rattle.std.proofs.Common.{◌≡◌, ℕ, zero, suc, ◌+◌, ◌-◌, ◌^◌, ◌<◌, ◌≤◌, true, List, [], ◌∷◌, ◌++◌, length, drop, refl, sym, ◌∙◌}
+use Rattle.std.proofs.Common.{ap, subst, arith, append_assoc, length-append}
 use Rattle.std.specs.Prelude.{IsTrue, slice_index_or}
 use Rattle.std.specs.List.{AllByRecursion, sum_by}
 use Rattle.std.proofs.lemmas.List.{append-nil}
@@ -62,7 +63,8 @@ same_then old middle new first second = record {
 -- one entry more
 pub adds_one_more : (data_at : ℕ → ℕ) (entries : List Entry) (entry : Entry) (old middle ready new : ObjLogState)
     → AddsEntries data_at entries old middle → IsSame middle ready → IsUploads ready.uploads.queue ready.uploads.window
-    → IsAdded entry (data_at (ready.batch.first + length ready.batch.entries)) ready new → AddsEntries data_at (entries ++ entry ∷ []) old new
+    → IsAdded entry (data_at (ready.batch.first + length ready.batch.entries)) ready new
+    → AddsEntries data_at (entries ++ entry ∷ []) old new
 adds_one_more data_at [] entry old middle ready new adds same uploads added =
     (ready, new, same_then old middle ready adds same, uploads, added, same_self new)
 adds_one_more data_at (first ∷ more) entry old middle ready new adds same uploads added =
@@ -76,7 +78,8 @@ pub record HasAdded (entries : List Entry) (old new : ObjLogState) : Type 0 wher
   pub window : new.uploads.window ≡ old.uploads.window
   pub uuid : new.uploads.uuid ≡ old.uploads.uuid
 
-pub has_added : (data_at : ℕ → ℕ) (entries : List Entry) (old new : ObjLogState) → AddsEntries data_at entries old new → HasAdded entries old new
+pub has_added : (data_at : ℕ → ℕ) (entries : List Entry) (old new : ObjLogState) → AddsEntries data_at entries old new
+    → HasAdded entries old new
 has_added data_at [] old new same = record {
   geometry = same.geometry;
   first = same.first;
@@ -118,7 +121,8 @@ fewer_total (suc n) (row ∷ rows) =
     let total = sum_by-cons record_size row rows in
     omega (arith, rest, total)
 
-pub all_dropped : {A : Type 0} (P : A → Type 0) (n : ℕ) (items : List A) → AllByRecursion P items → AllByRecursion P (drop n items)
+pub all_dropped : {A : Type 0} (P : A → Type 0) (n : ℕ) (items : List A) → AllByRecursion P items
+    → AllByRecursion P (drop n items)
 all_dropped P zero items all = all
 all_dropped P (suc n) [] all = tt
 all_dropped P (suc n) (item ∷ items) all = all_dropped P n items all.1
@@ -149,11 +153,13 @@ entry_in_range geometry row (entry_kinds.Write lba body) is may = subst (λ r. I
 entry_in_range geometry row (entry_kinds.Zero lba sectors) is may = subst (λ r. IsTrue (is_row_in_range geometry r)) is may
 
 -- an entry carries fewer sectors of data than its record has
-data_fits : (row : Row) (entry : Entry) → row ≡ row_of (seq_of row) (position_of row) entry → data_sectors entry + 1 ≤ record_size row
+data_fits : (row : Row) (entry : Entry) → row ≡ row_of (seq_of row) (position_of row) entry
+    → data_sectors entry + 1 ≤ record_size row
 data_fits row (entry_kinds.Write lba body) is = (let same = ap record_size is in omega (arith, same))
 data_fits row (entry_kinds.Zero lba sectors) is = (let same = ap record_size is in omega (arith, same))
 
-pub data_total : (rows : List Row) (entries : List Entry) → AreRowsOf rows entries → sum_by data_sectors entries ≤ sum_by record_size rows
+pub data_total : (rows : List Row) (entries : List Entry) → AreRowsOf rows entries
+    → sum_by data_sectors entries ≤ sum_by record_size rows
 data_total [] [] are = omega arith
 data_total [] (entry ∷ entries) are = absurd are
 data_total (row ∷ rows) [] are = absurd are
@@ -178,7 +184,8 @@ pub record HasRowAt (geometry : Geometry) (rows : List Row) (index : ℕ) (entry
   pub in_range : IsTrue (is_row_in_range geometry row)
   pub inside : index < length rows
 
-row_at : (geometry : Geometry) (rows : List Row) (done : List Entry) (entry : Entry) (rest : List Entry) → AreRowsOf rows (done ++ entry ∷ rest)
+row_at : (geometry : Geometry) (rows : List Row) (done : List Entry) (entry : Entry) (rest : List Entry)
+    → AreRowsOf rows (done ++ entry ∷ rest)
     → AreRowsInRange geometry rows → HasRowAt geometry rows (length done) entry
 row_at geometry [] [] entry rest are may = absurd are
 row_at geometry [] (first ∷ done) entry rest are may = absurd are
@@ -205,7 +212,8 @@ module _ (log : LogState) (all : List Entry) (old : ObjLogState) (limits : IsTru
       let whole : is.done ≡ all = sym (append-nil is.done) ∙ ap (λ r. is.done ++ r) (sym (none_left rest none)) ∙ is.whole in
       subst (λ list. AddsEntries (data_in log row_of_none) list old new) whole (is.adds row_of_none)
 
-  module _ (entry : Entry) (rest : List Entry) (count : ℕ) (before ready : ObjLogState) (is : IsAddedUpTo log all (entry ∷ rest) count old before)
+  module _ (entry : Entry) (rest : List Entry) (count : ℕ) (before ready : ObjLogState)
+      (is : IsAddedUpTo log all (entry ∷ rest) count old before)
       (same : IsSame before ready) where
     added_before : HasAdded is.done old before
     added_before = has_added (data_in log a_row) is.done old before (is.adds a_row)
@@ -256,21 +264,25 @@ module _ (log : LogState) (all : List Entry) (old : ObjLogState) (limits : IsTru
     pub places_fit : (position : ℕ) (row : Row) → position ≡ position_of row → position_of row + record_size row ≤ max_log
         → position + 1 + sector_count entry < 2 ^ 63
     places_fit position row is_position inside =
-        let few = covers_few old.batch.geometry entry limits (entry_in_range old.batch.geometry at.row entry at.is_of at.in_range) in
+        let few = covers_few old.batch.geometry entry limits (entry_in_range old.batch.geometry at.row entry at.is_of
+        at.in_range) in
         omega (arith, few, inside, is_position)
 
     -- its data begin past its record
-    data_is : (position index : ℕ) (row : Row) → position ≡ position_of row → index ≡ count → row ≡ slice_index_or log.rows index row
+    data_is : (position index : ℕ) (row : Row) → position ≡ position_of row → index ≡ count
+        → row ≡ slice_index_or log.rows index row
         → (row_of_none : Row)
         → position + 1 ≡ data_in log row_of_none (ready.batch.first + length ready.batch.entries)
     data_is position index row is_position is_count is_row row_of_none =
-        let seq : ready.batch.first + length ready.batch.entries - log.first ≡ length is.done = (let a = ready_next in omega (arith, a)) in
+        let seq : ready.batch.first + length ready.batch.entries - log.first ≡ length is.done =
+        (let a = ready_next in omega (arith, a)) in
         let there : slice_index_or log.rows (ready.batch.first + length ready.batch.entries - log.first) row_of_none ≡ row =
         ap (λ n. slice_index_or log.rows n row_of_none) seq ∙ at.there row_of_none ∙ sym (row_is index row is_count is_row) in
         ap (λ p. p + 1) (is_position ∙ ap position_of (sym there))
 
     -- and then it is
-    pub one_added : (position index later : ℕ) (row : Row) (new : ObjLogState) (left : List Entry) → position ≡ position_of row → index ≡ count
+    pub one_added : (position index later : ℕ) (row : Row) (new : ObjLogState) (left : List Entry) → position ≡ position_of row
+        → index ≡ count
         → row ≡ slice_index_or log.rows index row → later ≡ count + 1 → IsUploads ready.uploads.queue ready.uploads.window
         → IsAdded entry (position + 1) ready new → rest ≡ left → IsAddedUpTo log all left later old new
     one_added position index later row new left is_position is_count is_row is_later uploads added same_rest =
@@ -282,5 +294,6 @@ module _ (log : LogState) (all : List Entry) (old : ObjLogState) (limits : IsTru
           counted = omega (arith, counted, long, is_later);
           adds = λ row_of_none.
               adds_one_more (data_in log row_of_none) is.done entry old before ready new (is.adds row_of_none) same uploads
-              (subst (λ at. IsAdded entry at ready new) (data_is position index row is_position is_count is_row row_of_none) added);
+              (subst (λ at. IsAdded entry at ready new) (data_is position index row is_position is_count is_row row_of_none)
+              added);
         }

@@ -1,5 +1,6 @@
 -- For `complete`: the log from the end of the objects on, before and after it is committed.
-use Rattle.std.proofs.Common.{◌≡◌, ℕ, ◌+◌, ◌-◌, ◌<◌, ◌≤◌, Bool, true, List, [], ◌++◌, length, drop, sym, ◌∙◌, ap, subst, arith, length-drop}
+use Rattle.std.proofs.Common.{◌≡◌, ℕ, ◌+◌, ◌-◌, ◌<◌, ◌≤◌, Bool, true, List, [], ◌++◌, length, drop, sym, ◌∙◌, ap, subst, arith}
+use Rattle.std.proofs.Common.{length-drop}
 use Rattle.std.specs.Prelude.{Option, Some, None, IfSome, IsTrue, slice_index_or}
 use Rattle.std.specs.Option.{option_map}
 use Rattle.std.specs.List.{sum_by}
@@ -33,18 +34,23 @@ use Rattle.vol_mount.proofs.CostLemmas.{most_then, most_more, most_reads, most_c
 -- ---- a log that was read
 
 -- it has the same body to commit
-body_same : (old middle : LogState) → HasSameEntries old middle → IsAsBefore old.commits middle.commits → body_of middle ≡ body_of old
+body_same : (old middle : LogState) → HasSameEntries old middle → IsAsBefore old.commits middle.commits
+    → body_of middle ≡ body_of old
 body_same old middle same before =
-    let seq : next_seq middle ≡ next_seq old = ap (λ n. n + length middle.rows) same.first ∙ ap (λ r. old.first + length r) same.rows in
+    let seq : next_seq middle ≡ next_seq old = ap (λ n. n + length middle.rows) same.first
+    ∙ ap (λ r. old.first + length r) same.rows in
     let tail : Mark = record { position = middle.start; seq = middle.first } in
     let head : Mark = record { position = old.room.head; seq = next_seq old } in
-    ap {A = CommitBody} (λ b. record b { tail = tail; head = record { position = middle.room.head; seq = next_seq middle } }) before.same_body
-    ∙ ap (λ (r : Room). record old.commits.body { tail = tail; head = record { position = r.head; seq = next_seq middle } }) same.room
+    ap {A = CommitBody} (λ b. record b { tail = tail; head = record { position = middle.room.head; seq = next_seq middle } })
+    before.same_body
+    ∙ ap (λ (r : Room). record old.commits.body { tail = tail; head = record { position = r.head; seq = next_seq middle } })
+    same.room
     ∙ ap (λ s. record old.commits.body { tail = tail; head = record { position = old.room.head; seq = s } }) seq
     ∙ ap (λ p. record old.commits.body { tail = record { position = p; seq = middle.first }; head = head }) same.start
     ∙ ap (λ n. record old.commits.body { tail = record { position = old.start; seq = n }; head = head }) same.first
 
-last_or_same : (old middle : LogState) (n : ℕ) (b : CommitBody) → HasSameEntries old middle → IsAsBefore old.commits middle.commits
+last_or_same : (old middle : LogState) (n : ℕ) (b : CommitBody) → HasSameEntries old middle
+    → IsAsBefore old.commits middle.commits
     → IsLastOr middle.commits (body_of middle) n b
     → IsLastOr old.commits (body_of old) n b
 last_or_same old middle n b same before is =
@@ -68,26 +74,30 @@ since_in : (entries : Option (List Entry)) (log : ℕ) (rows : List Row) (P Q : 
     → IfSome entries (λ list. HoldsSince (LeavesEntries log rows list Q) old new)
 since_in None log rows P Q old new follows leaves = tt
 since_in (Some list) log rows P Q old new follows leaves =
-    passes_as (LeavesEntries log rows list P) (LeavesEntries log rows list Q) old new (λ medium is. leaves_as log rows list P Q medium follows is)
+    passes_as (LeavesEntries log rows list P) (LeavesEntries log rows list Q) old new
+    (λ medium is. leaves_as log rows list P Q medium follows is)
     leaves
 
 -- moments since the log was read are those since before
 since_read : (old middle : LogState) (new : DiskState) → HasSameEntries old middle → IsAsBefore old.commits middle.commits
     → middle.commits.disk.moments ≡ old.commits.disk.moments
-    → LeavesEntriesSince middle (IsLastOr middle.commits (body_of middle)) new → LeavesEntriesSince old (IsLastOr old.commits (body_of old)) new
+    → LeavesEntriesSince middle (IsLastOr middle.commits (body_of middle)) new
+    → LeavesEntriesSince old (IsLastOr old.commits (body_of old)) new
 since_read old middle new same commits moments leaves =
     let P : Option (List Entry) → ℕ → List Row → List Medium → Type 0 =
     λ e n r m. IfSome e (λ list. HoldsSince (LeavesEntries n r list (IsLastOr old.commits (body_of old))) m new.moments) in
     let rows : all_rows middle ≡ all_rows old = ap (λ h. h ++ middle.rows) same.held ∙ ap (λ r. old.held ++ r) same.rows in
     let since : P middle.all middle.room.log (all_rows middle) middle.commits.disk.moments =
-    since_in middle.all middle.room.log (all_rows middle) (IsLastOr middle.commits (body_of middle)) (IsLastOr old.commits (body_of old))
+    since_in middle.all middle.room.log (all_rows middle) (IsLastOr middle.commits (body_of middle))
+    (IsLastOr old.commits (body_of old))
     middle.commits.disk.moments new.moments
     (λ n b is. last_or_same old middle n b same commits is) leaves in
     subst₂ (λ r m. P old.all old.room.log r m) rows moments
     (subst (λ (r : Room). P old.all r.log (all_rows middle) middle.commits.disk.moments) same.room
     (subst (λ e. P e middle.room.log (all_rows middle) middle.commits.disk.moments) same.all since))
 
-since_nothing : (entries : Option (List Entry)) (log : ℕ) (rows : List Row) (P : ℕ → CommitBody → Type 0) (old new : List Medium) → new ≡ old
+since_nothing : (entries : Option (List Entry)) (log : ℕ) (rows : List Row) (P : ℕ → CommitBody → Type 0) (old new : List Medium)
+    → new ≡ old
     → IfSome entries (λ list. HoldsSince (LeavesEntries log rows list P) old new)
 since_nothing None log rows P old new same = tt
 since_nothing (Some list) log rows P old new same = record { since = []; moments = same; each = tt }
@@ -104,13 +114,15 @@ released_from old middle new same released =
           ∙ ap (option_map (entries_since m (all_rows old))) same.all;
       room =
           released.room
-          ∙ ap (λ (r : Room). room_of r.log r.head (sectors_from r.log new.commits.body.tail.position r.head (all_rows new))) same.room;
+          ∙ ap (λ (r : Room). room_of r.log r.head (sectors_from r.log new.commits.body.tail.position r.head (all_rows new)))
+          same.room;
     }
 
 made_from : (old middle new : LogState) → HasSameEntries old middle → IsAsBefore old.commits middle.commits
     → IsMade (body_of middle) middle.commits new.commits → IsMade (body_of old) old.commits new.commits
 made_from old middle new same commits made =
-    let number : finished_number middle.commits.number middle.commits.unfinished + 1 ≡ finished_number old.commits.number old.commits.unfinished + 1 =
+    let number : finished_number middle.commits.number middle.commits.unfinished + 1 ≡ finished_number old.commits.number
+    old.commits.unfinished + 1 =
     ap (λ n. finished_number n middle.commits.unfinished + 1) commits.same_number
     ∙ ap (λ u. finished_number old.commits.number u + 1) commits.same_unfinished in
     subst₂ (λ n b. IsAt n b None new.commits) number (body_same old middle same commits) made
@@ -122,7 +134,8 @@ told_from : (n : ℕ) (list : List Entry) (told : Option (List Entry)) → n ≡
 told_from n list None none are = tt
 told_from n list (Some all) none are = sym (are ∙ ap (λ k. drop k all) none)
 
-module _ (geometry : Geometry) (end : ℕ) (commits : CommitsState) (old trimmed : LogState) (limits : IsTrue (is_within_limits geometry))
+module _ (geometry : Geometry) (end : ℕ) (commits : CommitsState) (old trimmed : LogState)
+    (limits : IsTrue (is_within_limits geometry))
     (opened : IsOpenedUpTo geometry end commits old) (trims : IsTrimmed end old trimmed) where
   pub first_is : trimmed.first ≡ end
   first_is =
@@ -173,40 +186,43 @@ module _ (geometry : Geometry) (end : ℕ) (commits : CommitsState) (old trimmed
 
   -- ---- what happens to it then
 
-  module _ (read : LogState) (made : Bool) (reads : IsReadOnly (length trimmed.rows - (end - trimmed.first)) made trimmed read) where
-    pub number_low : read.commits.number < max_number
-    number_low =
-        let a = reads.commits.same.same_number in
-        let b = ap (λ (c : CommitsState). c.number) trims.commits in
-        let c = opened.opened.only.same.same_number in
-        let d = opened.number in
-        omega (arith, a, b, c, d)
+  module _ (read : LogState) (made : Bool) (reads : IsReadOnly (length trimmed.rows - (end - trimmed.first)) made trimmed read)
+    where
+      pub number_low : read.commits.number < max_number
+      number_low =
+          let a = reads.commits.same.same_number in
+          let b = ap (λ (c : CommitsState). c.number) trims.commits in
+          let c = opened.opened.only.same.same_number in
+          let d = opened.number in
+          omega (arith, a, b, c, d)
 
-    read_moments : read.commits.disk.moments ≡ old.commits.disk.moments
-    read_moments = reads.commits.moments ∙ ap (λ (c : CommitsState). c.disk.moments) trims.commits
+      read_moments : read.commits.disk.moments ≡ old.commits.disk.moments
+      read_moments = reads.commits.moments ∙ ap (λ (c : CommitsState). c.disk.moments) trims.commits
 
-    -- the reads of its entries
-    read_calls : MakesAtMost (reads_cost (length old.rows)) made old.commits.disk read.commits.disk
-    read_calls =
-        let b = ap length trims.rows in
-        let c = length-drop (end - old.first) old.rows in
-        let less : length trimmed.rows - (end - trimmed.first) ≤ length old.rows = omega (arith, b, c) in
-        subst (λ (c : CommitsState). MakesAtMost (reads_cost (length old.rows)) made c.disk read.commits.disk) trims.commits
-        (most_reads (length old.rows) made trimmed.commits.disk read.commits.disk
-        (fewer_reads (length trimmed.rows - (end - trimmed.first)) (length old.rows) made trimmed.commits.disk read.commits.disk less
-        reads.commits.reads))
+      -- the reads of its entries
+      read_calls : MakesAtMost (reads_cost (length old.rows)) made old.commits.disk read.commits.disk
+      read_calls =
+          let b = ap length trims.rows in
+          let c = length-drop (end - old.first) old.rows in
+          let less : length trimmed.rows - (end - trimmed.first) ≤ length old.rows = omega (arith, b, c) in
+          subst (λ (c : CommitsState). MakesAtMost (reads_cost (length old.rows)) made c.disk read.commits.disk) trims.commits
+          (most_reads (length old.rows) made trimmed.commits.disk read.commits.disk
+          (fewer_reads (length trimmed.rows - (end - trimmed.first)) (length old.rows) made trimmed.commits.disk
+          read.commits.disk less
+          reads.commits.reads))
 
-    -- nothing more
-    pub read_alone : MakesAtMost (again_cost (length old.rows)) made old.commits.disk read.commits.disk
-    read_alone = most_more (reads_cost (length old.rows)) (commit_cost None) made old.commits.disk read.commits.disk read_calls
+      -- nothing more
+      pub read_alone : MakesAtMost (again_cost (length old.rows)) made old.commits.disk read.commits.disk
+      read_alone = most_more (reads_cost (length old.rows)) (commit_cost None) made old.commits.disk read.commits.disk read_calls
 
-    pub leaves_alone : LeavesFrom end old read.commits.disk
-    leaves_alone = (
-      trimmed,
-      trims,
-      since_nothing trimmed.all trimmed.room.log (all_rows trimmed) (IsLastOr trimmed.commits (body_of trimmed)) trimmed.commits.disk.moments
-          read.commits.disk.moments reads.commits.moments,
-    )
+      pub leaves_alone : LeavesFrom end old read.commits.disk
+      leaves_alone = (
+        trimmed,
+        trims,
+        since_nothing trimmed.all trimmed.room.log (all_rows trimmed) (IsLastOr trimmed.commits (body_of trimmed))
+            trimmed.commits.disk.moments
+            read.commits.disk.moments reads.commits.moments,
+      )
 
   module _ (read new : LogState) (reads : IsReadOnly (length trimmed.rows - (end - trimmed.first)) true trimmed read) where
     none_unfinished : read.commits.unfinished ≡ None
@@ -222,7 +238,8 @@ module _ (geometry : Geometry) (end : ℕ) (commits : CommitsState) (old trimmed
         (read_calls read true reads)
         (most_commit read.commits.unfinished made read.commits.disk new.commits.disk none_unfinished calls)
 
-    pub leaves_again : LeavesEntriesSince read (IsLastOr read.commits (body_of read)) new.commits.disk → LeavesFrom end old new.commits.disk
+    pub leaves_again : LeavesEntriesSince read (IsLastOr read.commits (body_of read)) new.commits.disk
+        → LeavesFrom end old new.commits.disk
     leaves_again leaves =
         (trimmed, trims, since_read trimmed read new.commits.disk reads.same reads.commits.same reads.commits.moments leaves)
 
@@ -242,11 +259,13 @@ module _ (geometry : Geometry) (end : ℕ) (commits : CommitsState) (old trimmed
     made_again made = made_from trimmed read new reads.same reads.commits.same made
 
 -- where a log that was read has its rows, there the one before has them
-pub added_from : (old read : LogState) → read.rows ≡ old.rows → read.first ≡ old.first → (row_of_none : Row) (entries : List Entry)
+pub added_from : (old read : LogState) → read.rows ≡ old.rows → read.first ≡ old.first
+    → (row_of_none : Row) (entries : List Entry)
     (list before objects : ObjLogState) → list ≡ before → AddsEntries (data_in read row_of_none) entries list objects
     → AddsEntries (data_in old row_of_none) entries before objects
 added_from old read rows first row_of_none entries list before objects same adds =
     let places : data_in read row_of_none ≡ data_in old row_of_none =
     ap (λ r. λ seq. position_of (slice_index_or r (seq - read.first) row_of_none) + 1) rows
     ∙ ap (λ n. λ seq. position_of (slice_index_or old.rows (seq - n) row_of_none) + 1) first in
-    subst (λ l. AddsEntries (data_in old row_of_none) entries l objects) same (subst (λ d. AddsEntries d entries list objects) places adds)
+    subst (λ l. AddsEntries (data_in old row_of_none) entries l objects) same
+    (subst (λ d. AddsEntries d entries list objects) places adds)

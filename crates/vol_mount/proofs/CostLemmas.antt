@@ -16,7 +16,8 @@ use Rattle.cache_log.proofs.ForCallers.{nothing_taken}
 use Rattle.vol_mount.specs.Costs.{open_cost, again_cost, mount_cost, IsEntryCount, CostsMount}
 use Rattle.vol_mount.proofs.Moments.{now_as}
 
-pub most_then : (a b : Cost) (is_made : Bool) (old middle new : DiskState) → MakesAtMost a true old middle → MakesAtMost b is_made middle new
+pub most_then : (a b : Cost) (is_made : Bool) (old middle new : DiskState) → MakesAtMost a true old middle
+    → MakesAtMost b is_made middle new
     → MakesAtMost (together a b) is_made old new
 most_then a b is_made old middle new first second =
     let c = first.most_calls in
@@ -48,12 +49,20 @@ at_most a b is_made old new calls changes bytes most =
       calls = most.calls;
     }
 
-pub most_more : (a b : Cost) (is_made : Bool) (old new : DiskState) → MakesAtMost a is_made old new → MakesAtMost (together a b) is_made old new
+pub most_more : (a b : Cost) (is_made : Bool) (old new : DiskState) → MakesAtMost a is_made old new
+    → MakesAtMost (together a b) is_made old new
 most_more a b is_made old new most = at_most a (together a b) is_made old new (omega arith) (omega arith) (omega arith) most
 
-pub most_reads : (n : ℕ) (is_made : Bool) (old new : DiskState) → MakesReads n is_made old new → MakesAtMost (reads_cost n) is_made old new
+pub most_reads : (n : ℕ) (is_made : Bool) (old new : DiskState) → MakesReads n is_made old new
+    → MakesAtMost (reads_cost n) is_made old new
 most_reads n is_made old new reads =
-    record { cost = reads_cost reads.count; most_calls = reads.within; most_changes = omega arith; most_bytes = omega arith; calls = reads.calls }
+    record {
+      cost = reads_cost reads.count;
+      most_calls = reads.within;
+      most_changes = omega arith;
+      most_bytes = omega arith;
+      calls = reads.calls;
+    }
 
 -- fewer reads
 pub fewer_reads : (fewer more : ℕ) (is_made : Bool) (old new : DiskState) → fewer ≤ more → MakesReads fewer is_made old new
@@ -63,17 +72,25 @@ fewer_reads fewer more is_made old new less reads =
     record { count = reads.count; within = omega (arith, within, less); calls = reads.calls }
 
 -- the commits were loaded, and the log was opened or not
-pub opened_calls : (n : ℕ) (is_made : Bool) (old : DiskState) (middle new : CommitsState) → MakesAtMost load_cost true old middle.disk
+pub opened_calls : (n : ℕ) (is_made : Bool) (old : DiskState) (middle new : CommitsState)
+    → MakesAtMost load_cost true old middle.disk
     → AreReadOnly (2 * n) is_made middle new → MakesAtMost (open_cost n) is_made old new.disk
 opened_calls n is_made old middle new first second =
-    most_then load_cost (reads_cost (2 * n)) is_made old middle.disk new.disk first (most_reads (2 * n) is_made middle.disk new.disk second.reads)
+    most_then load_cost (reads_cost (2 * n)) is_made old middle.disk new.disk first
+    (most_reads (2 * n) is_made middle.disk new.disk second.reads)
 
 -- the calls of a commit where none is unfinished
 pub most_commit : (unfinished : Option CommitBody) (is_made : Bool) (old new : DiskState) → unfinished ≡ None
     → MakesCalls (commit_cost unfinished) is_made old new → MakesAtMost (commit_cost None) is_made old new
 most_commit unfinished is_made old new none calls =
     let P : Option CommitBody → Type 0 = λ u. MakesCalls (commit_cost u) is_made old new in
-    record { cost = commit_cost None; most_calls = omega arith; most_changes = omega arith; most_bytes = omega arith; calls = subst P none calls }
+    record {
+      cost = commit_cost None;
+      most_calls = omega arith;
+      most_changes = omega arith;
+      most_bytes = omega arith;
+      calls = subst P none calls;
+    }
 
 -- no call
 pub no_calls : (cost : Cost) (old new : DiskState) → new ≡ old → MakesAtMost cost true old new
@@ -95,10 +112,12 @@ counts_none log [] = tt
 counts_none log (now ∷ past) = inl refl
 
 -- the entries are those of the commit that was loaded
-counts_read : (log number : ℕ) (body : CommitBody) (moments : List Medium) → HoldsNow (λ now. Reads log now.bytes body number) moments
+counts_read : (log number : ℕ) (body : CommitBody) (moments : List Medium)
+    → HoldsNow (λ now. Reads log now.bytes body number) moments
     → HoldsNow (IsEntryCount log (entry_count body)) moments
 counts_read log number body moments read =
-    now_as (λ now. Reads log now.bytes body number) (IsEntryCount log (entry_count body)) moments (λ now is. inr (number, body, is, refl)) read
+    now_as (λ now. Reads log now.bytes body number) (IsEntryCount log (entry_count body)) moments
+    (λ now is. inr (number, body, is, refl)) read
 
 -- ---- the calls of a mount
 
@@ -118,7 +137,8 @@ costs_load geometry is_made old new load = record {
 
 -- it opened the log, or that failed
 pub costs_open : (geometry : Geometry) (is_made : Bool) (old new : DiskState) (number : ℕ) (body : CommitBody)
-    → HoldsNow (λ now. Reads geometry.log now.bytes body number) old.moments → MakesAtMost (open_cost (entry_count body)) is_made old new
+    → HoldsNow (λ now. Reads geometry.log now.bytes body number) old.moments
+    → MakesAtMost (open_cost (entry_count body)) is_made old new
     → CostsMount geometry.log is_made old new
 costs_open geometry is_made old new number body read opens = record {
   count = entry_count body;
@@ -128,7 +148,8 @@ costs_open geometry is_made old new number body read opens = record {
 
 -- and then it committed again, or that failed
 pub costs_again : (geometry : Geometry) (is_made : Bool) (old middle new : DiskState) (number : ℕ) (body : CommitBody)
-    → HoldsNow (λ now. Reads geometry.log now.bytes body number) old.moments → MakesAtMost (open_cost (entry_count body)) true old middle
+    → HoldsNow (λ now. Reads geometry.log now.bytes body number) old.moments
+    → MakesAtMost (open_cost (entry_count body)) true old middle
     → MakesAtMost (again_cost (entry_count body)) is_made middle new → CostsMount geometry.log is_made old new
 costs_again geometry is_made old middle new number body read opens again = record {
   count = entry_count body;

@@ -47,7 +47,8 @@ module _ (Tells : Type 0) (uuid : List ℕ) (geometry : Geometry) (number epoch 
 
   begun : (old middle new : Objects) → (Tells → IsLastLanded volume old number) → RemovesAllPast uuid number old middle
       → MayBecome (PutsEpoch uuid epoch) middle new → MayBeginEpoch Tells volume epoch old new
-  begun old middle new last all (inl same) = inl (subst (MayRemovePast Tells volume old) (sym same) (inr (number, last, all.removes)))
+  begun old middle new last all (inl same) =
+      inl (subst (MayRemovePast Tells volume old) (sym same) (inr (number, last, all.removes)))
   begun old middle new last all (inr put) = inr (number, last, (middle, all, put))
 
   may_begin_put : (old middle new : Option Objects) → (Tells → IfSome old (λ objects. IsLastLanded volume objects number))
@@ -65,15 +66,17 @@ module _ (Tells : Type 0) (uuid : List ℕ) (geometry : Geometry) (number epoch 
       becomes_so (MayRemovePast Tells volume) (MayBeginEpoch Tells volume epoch) old middle (λ a b is. inl is)
       (may_leave_less Tells uuid geometry number old middle last (all_removed uuid number old middle removed))
 
-  -- What is left of a store from which the objects past the first missing number were removed, and whose next epoch was not put, or was not
-  -- acknowledged.
+  -- What is left of a store from which the objects past the first missing number were removed, and whose next epoch was not put,
+  -- or was not acknowledged.
   pub may_begin : (error : SuperError) (old : Option Objects) (middle new : StoreState)
-      → (Tells → IfSome old (λ objects. IsLastLanded volume objects number)) → Becomes (RemovesAllPast uuid number) old middle.objects
+      → (Tells → IfSome old (λ objects. IsLastLanded volume objects number))
+      → Becomes (RemovesAllPast uuid number) old middle.objects
       → IsNoAnswer error → (error ≡ supers.StoreFault → Becomes (MayBecome (PutsEpoch uuid epoch)) middle.objects new.objects)
       → (error ≡ supers.OutOfMemory → new ≡ middle) → Becomes (MayBeginEpoch Tells volume epoch) old new.objects
   may_begin supers.NoVolume old middle new last removed is failed lacks = absurd is
   may_begin (supers.BadSuper reason) old middle new last removed is failed lacks = absurd is
-  may_begin supers.StoreFault old middle new last removed is failed lacks = may_begin_put old middle.objects new.objects last removed (failed refl)
+  may_begin supers.StoreFault old middle new last removed is failed lacks =
+      may_begin_put old middle.objects new.objects last removed (failed refl)
   may_begin supers.OutOfMemory old middle new last removed is failed lacks =
       subst (λ (s : StoreState). Becomes (MayBeginEpoch Tells volume epoch) old s.objects) (sym (lacks refl))
       (may_begin_less old middle.objects last removed)

@@ -20,13 +20,15 @@ none_unless : (held : Option (List ℕ)) → (IsSome held → ⊥) → held ≡ 
 none_unless None not = refl
 none_unless (Some bytes) not = absurd (not refl)
 
-named_so : (uuid : List ℕ) (name : ObjName) (number : ℕ) → name.uuid ≡ uuid → name.kind ≡ Object → name.number ≡ number → name ≡ name_of uuid number
+named_so : (uuid : List ℕ) (name : ObjName) (number : ℕ) → name.uuid ≡ uuid → name.kind ≡ Object → name.number ≡ number
+    → name ≡ name_of uuid number
 named_so uuid name number same kind is =
     ap (λ (u : List ℕ). let other : ObjName = record { uuid = u; kind = name.kind; number = name.number } in other) same
     ∙ ap (λ (k : Kind). let other : ObjName = record { uuid = uuid; kind = k; number = name.number } in other) kind
     ∙ ap (λ (n : ℕ). name_of uuid n) is
 
-module _ (uuid : List ℕ) (geometry : Geometry) (objects : Objects) (list : ObjLogState) (checkpoint : ℕ) (names : List ObjName) (greatest : ℕ)
+module _ (uuid : List ℕ) (geometry : Geometry) (objects : Objects) (list : ObjLogState) (checkpoint : ℕ) (names : List ObjName)
+    (greatest : ℕ)
     (from_checkpoint : checkpoint ≤ list.uploads.window.last)
     (from : IsRecoveredFrom uuid geometry objects list checkpoint) (lists : Lists uuid objects names)
     (is : IsGreatestNumber names list.uploads.window.last greatest) where
@@ -50,7 +52,8 @@ module _ (uuid : List ℕ) (geometry : Geometry) (objects : Objects) (list : Obj
       | inl same ↦ subst (λ n. IsTrue (landed_in objects uuid n)) (sym same) last_present
       | inr it ↦
           (let listed = lists.present it.0 it.1 in
-          subst (λ (name : ObjName). IsTrue (is_some (found objects name))) (named_so uuid it.0 greatest listed.1 it.2 it.3) listed.2)
+          subst (λ (name : ObjName). IsTrue (is_some (found objects name)))
+          (named_so uuid it.0 greatest listed.1 it.2 it.3) listed.2)
     ];
     end_is = λ low uuid_at stream number has.
         (let least = is.no_less in
@@ -60,7 +63,8 @@ module _ (uuid : List ℕ) (geometry : Geometry) (objects : Objects) (list : Obj
 pub extent_of : (uuid : List ℕ) (geometry : Geometry) (told : Option Objects) (recovered : RecoveredState) (greatest : ℕ)
     → IsRecovered uuid geometry recovered.log recovered.checkpoint
     → IfSome told (λ o. IsRecoveredFrom uuid geometry o recovered.log recovered.checkpoint) → HasAllNames told recovered
-    → IsGreatestNumber recovered.names recovered.log.uploads.window.last greatest → HasExtent uuid geometry told greatest recovered.log.uploads.queue.end
+    → IsGreatestNumber recovered.names recovered.log.uploads.window.last greatest
+    → HasExtent uuid geometry told greatest recovered.log.uploads.queue.end
 extent_of uuid geometry None recovered greatest list from names is = tt
 extent_of uuid geometry (Some objects) recovered greatest list from names is =
     extent_told uuid geometry objects recovered.log recovered.checkpoint recovered.names greatest list.from from

@@ -1,5 +1,6 @@
 -- What a device on which a plain volume was left is to a log that was opened on it.
-use Rattle.std.proofs.Common.{◌≡◌, ℕ, ◌+◌, ◌-◌, ◌≤◌, ◌%◌, List, [], ◌∷◌, length, drop, map, refl, sym, ◌∙◌, ap, subst, inl, inr, arith, length-drop}
+use Rattle.std.proofs.Common.{◌≡◌, ℕ, ◌+◌, ◌-◌, ◌≤◌, ◌%◌, List, [], ◌∷◌, length, drop, map, refl, sym, ◌∙◌, ap, subst, inl, inr}
+use Rattle.std.proofs.Common.{arith, length-drop}
 use Rattle.std.specs.Prelude.{Option, Some, IsTrue, max}
 use Rattle.std.specs.Option.{option_map}
 use Rattle.std.specs.List.{AllByRecursion}
@@ -35,15 +36,20 @@ use Rattle.vol_mount.specs.Steps.{IsOpenedOf}
 -- ---- the newest moment
 
 -- the commit that bytes read as is one
-pub reads_one : (log : ℕ) (bytes : List ℕ) (m n : ℕ) (a b : CommitBody) → Reads log bytes a m → Reads log bytes b n → (m ≡ n) × (a ≡ b)
+pub reads_one : (log : ℕ) (bytes : List ℕ) (m n : ℕ) (a b : CommitBody) → Reads log bytes a m → Reads log bytes b n
+    → (m ≡ n) × (a ≡ b)
 reads_one log bytes m n a b first second =
     let less = second.newest first.slot a m first.is_open in
     let more = first.newest second.slot b n second.is_open in
     let same : m ≡ n = omega (arith, less, more) in
-    let slot : first.slot ≡ second.slot = sym first.is_open.sector.in_slot ∙ ap (λ k. k % 3) same ∙ second.is_open.sector.in_slot in
+    let slot : first.slot ≡ second.slot = sym first.is_open.sector.in_slot ∙ ap (λ k. k % 3) same
+    ∙ second.is_open.sector.in_slot in
     let P : ℕ → Type 0 = λ s. IsOpenSlot log bytes s a m in
-    let there = subst P slot first.is_open in
-    (same, (determines_body a b m n there.sector.numbers second.is_open.sector.numbers (sym there.sector.bytes ∙ second.is_open.sector.bytes)).0)
+    let there = subst P slot first.is_open in (
+      same,
+      (determines_body a b m n there.sector.numbers second.is_open.sector.numbers (sym there.sector.bytes
+          ∙ second.is_open.sector.bytes)).0,
+    )
 
 -- there is a newest moment, which has P
 pub record HasNewest (P : Medium → Type 0) (moments : List Medium) : Type 0 where
@@ -56,7 +62,8 @@ pub newest_of : (P : Medium → Type 0) (moments : List Medium) → HasNow P mom
 newest_of P [] holds = absurd holds
 newest_of P (now ∷ past) holds = record { now = now; past = past; moments_are = refl; holds = holds }
 
-pub at_newest : (P : Medium → Type 0) (moments : List Medium) (now : Medium) (past : List Medium) → moments ≡ now ∷ past → HoldsNow P moments → P now
+pub at_newest : (P : Medium → Type 0) (moments : List Medium) (now : Medium) (past : List Medium) → moments ≡ now ∷ past
+    → HoldsNow P moments → P now
 at_newest P moments now past are holds = subst (HoldsNow P) are holds
 
 -- what was but synced reads as before
@@ -68,13 +75,15 @@ pub record ReadsAsBefore (now : Medium) (moments : List Medium) : Type 0 where
 
 but_synced : (now : Medium) (past moments : List Medium) → AreButSynced (now ∷ past) moments → ReadsAsBefore now moments
 but_synced now past moments (inl same) = record { newest = now; older = past; moments_are = same; bytes_are = refl }
-but_synced now past moments (inr synced) = record { newest = after_sync now; older = now ∷ past; moments_are = synced; bytes_are = refl }
+but_synced now past moments (inr synced) =
+    record { newest = after_sync now; older = now ∷ past; moments_are = synced; bytes_are = refl }
 
 synced_leaves : (medium : Medium) (left : List ℕ) → MayLeave (after_sync medium) left → left ≡ medium.bytes
 synced_leaves medium left may = ext_get_or 0 left medium.bytes may.count (λ i less. may.elsewhere i (All-nil (LiesOutside i)))
 
 -- what holds of whatever a stop leaves of what is synced holds since
-since_synced : (P : Medium → Type 0) (now : Medium) (past moments : List Medium) → P (after_sync now) → AreButSynced (now ∷ past) moments
+since_synced : (P : Medium → Type 0) (now : Medium) (past moments : List Medium) → P (after_sync now)
+    → AreButSynced (now ∷ past) moments
     → HoldsSince P (now ∷ past) moments
 since_synced P now past moments holds (inl same) = record { since = []; moments = same; each = tt }
 since_synced P now past moments holds (inr synced) = record { since = after_sync now ∷ []; moments = synced; each = (holds, tt) }
@@ -85,7 +94,8 @@ since_synced P now past moments holds (inr synced) = record { since = after_sync
 abbrev pub IsWhole : PlainState → (head : ℕ) → Type 0
 IsWhole plain head = head ≡ history_length plain
 
-module _ (uuid : List ℕ) (geometry : Geometry) (epoch : ℕ) (plain : PlainState) (found : PlainCommit) (number : ℕ) (told : Option Objects) (old : DiskState)
+module _ (uuid : List ℕ) (geometry : Geometry) (epoch : ℕ) (plain : PlainState) (found : PlainCommit) (number : ℕ)
+    (told : Option Objects) (old : DiskState)
     (size : log_start ≤ old.size) (sectors : geometry.log ≡ log_of old.size) (is_disk : IsDisk old)
     (left : IsLeft uuid geometry epoch plain found number told old) where
   abbrev count : ℕ
@@ -101,7 +111,8 @@ module _ (uuid : List ℕ) (geometry : Geometry) (epoch : ℕ) (plain : PlainSta
   has_commit = newest.holds
 
   pub settled_slots : ReadsSettled geometry.log newest.now.bytes has_commit.body has_commit.number
-  settled_slots = subst (λ (g : Geometry). ReadsSettled g.log newest.now.bytes has_commit.body has_commit.number) left.stored.geometry_is
+  settled_slots = subst (λ (g : Geometry). ReadsSettled g.log newest.now.bytes has_commit.body has_commit.number)
+      left.stored.geometry_is
       has_commit.slots
 
   long : byte_of plain.geometry.log ≤ length newest.now.bytes
@@ -121,7 +132,8 @@ module _ (uuid : List ℕ) (geometry : Geometry) (epoch : ℕ) (plain : PlainSta
 
   -- and each stop meanwhile keeps it
   pub load_keeps : (objects : Objects) (new : DiskState) → HasObjects uuid plain number objects → LeavesSettled old new
-      → HoldsSince (StopKeeps owner (mounted_with found number plain) (IsWhole (mounted_with found number plain))) old.moments new.moments
+      → HoldsSince (StopKeeps owner (mounted_with found number plain) (IsWhole (mounted_with found number plain))) old.moments
+      new.moments
   load_keeps objects new has settled =
       let K : Medium → Type 0 = StopKeeps owner (mounted_with found number plain) (IsWhole (mounted_with found number plain)) in
       let keeps = found_keeps uuid owner plain found number objects newest.now.bytes left.stored.valid has has_commit long in
@@ -136,16 +148,19 @@ module _ (uuid : List ℕ) (geometry : Geometry) (epoch : ℕ) (plain : PlainSta
 
   -- ---- the log that is opened on it
 
-  module _ (end : ℕ) (log : LogState) (limits : IsTrue (is_within_limits geometry)) (opened : IsOpenedOf uuid geometry epoch end old log) where
+  module _ (end : ℕ) (log : LogState) (limits : IsTrue (is_within_limits geometry))
+      (opened : IsOpenedOf uuid geometry epoch end old log) where
     abbrev commits : CommitsState
     commits = opened.commits
 
     reads : Reads geometry.log newest.now.bytes commits.body commits.number
-    reads = at_newest (λ now. Reads geometry.log now.bytes commits.body commits.number) old.moments newest.now newest.past newest.moments_are
+    reads = at_newest (λ now. Reads geometry.log now.bytes commits.body commits.number) old.moments newest.now newest.past
+        newest.moments_are
         opened.read
 
     one : (has_commit.number ≡ commits.number) × (has_commit.body ≡ commits.body)
-    one = reads_one geometry.log newest.now.bytes has_commit.number commits.number has_commit.body commits.body settled_slots.reads reads
+    one = reads_one geometry.log newest.now.bytes has_commit.number commits.number has_commit.body commits.body
+        settled_slots.reads reads
 
     pub body_is : has_commit.body ≡ commits.body
     body_is = one.1
@@ -159,12 +174,14 @@ module _ (uuid : List ℕ) (geometry : Geometry) (epoch : ℕ) (plain : PlainSta
     records_are : AreRecordsInRange geometry commits.body log.rows newest.now.bytes
     records_are =
         subst (AreRecordsInRange geometry commits.body log.rows) after.bytes_are
-        (at_newest (λ now. AreRecordsInRange geometry commits.body log.rows now.bytes) commits.disk.moments after.newest after.older moments_are
+        (at_newest (λ now. AreRecordsInRange geometry commits.body log.rows now.bytes) commits.disk.moments after.newest
+        after.older moments_are
         opened.up_to.opened.records)
 
     entries_are : log.entries ≡ Some (map (entry_of newest.now.bytes) log.rows)
     entries_are =
-        opened.up_to.opened.entries ∙ ap (entries_in log.rows) moments_are ∙ ap (λ bytes. Some (map (entry_of bytes) log.rows)) after.bytes_are
+        opened.up_to.opened.entries ∙ ap (entries_in log.rows) moments_are
+        ∙ ap (λ bytes. Some (map (entry_of bytes) log.rows)) after.bytes_are
 
     -- its rows are those of the plain volume's records
     pub rows_are : has_commit.rows ≡ log.rows
@@ -175,7 +192,8 @@ module _ (uuid : List ℕ) (geometry : Geometry) (epoch : ℕ) (plain : PlainSta
         record { limits = limits; may_stand = opened.up_to.may_stand; long = omega (arith, far, same) } in
         let there : AreRecordsInRange geometry commits.body has_commit.rows newest.now.bytes =
         subst (λ b. AreRecordsInRange geometry b has_commit.rows newest.now.bytes) body_is
-        (subst (λ g. AreRecordsInRange g has_commit.body has_commit.rows newest.now.bytes) left.stored.geometry_is has_commit.records) in
+        (subst (λ g. AreRecordsInRange g has_commit.body has_commit.rows newest.now.bytes) left.stored.geometry_is
+        has_commit.records) in
         have_one_list geometry commits.body has_commit.rows log.rows newest.now.bytes may there records_are
 
     -- all that it tells are its entries from an end on
@@ -190,7 +208,8 @@ module _ (uuid : List ℕ) (geometry : Geometry) (epoch : ℕ) (plain : PlainSta
 
     pub left_are : end ≡ count → entries_left ≡ entries_past plain count has_commit.body.head.seq
     left_are same =
-        let first : log.first ≡ has_commit.body.tail.seq = opened.up_to.opened.first ∙ sym (ap (λ (b : CommitBody). b.tail.seq) body_is) in
+        let first : log.first ≡ has_commit.body.tail.seq = opened.up_to.opened.first
+        ∙ sym (ap (λ (b : CommitBody). b.tail.seq) body_is) in
         ap (λ n. drop (n - log.first) (map (entry_of newest.now.bytes) log.rows)) same
         ∙ ap (λ n. drop (count - n) (map (entry_of newest.now.bytes) log.rows)) first
         ∙ ap (λ rows. drop (count - has_commit.body.tail.seq) (map (entry_of newest.now.bytes) rows)) (sym rows_are)

@@ -1,5 +1,6 @@
 -- For `mount_with_cache`: what is shown of a list that was completed and a log that was committed again.
-use Rattle.std.proofs.Common.{◌≡◌, ℕ, ◌+◌, ◌-◌, ◌<◌, ◌≤◌, Bool, true, List, [], ◌∷◌, ◌++◌, length, refl, sym, ◌∙◌, ap, subst, inl, arith, length-drop, length-append}
+use Rattle.std.proofs.Common.{◌≡◌, ℕ, ◌+◌, ◌-◌, ◌<◌, ◌≤◌, Bool, true, List, [], ◌∷◌, ◌++◌, length, refl, sym, ◌∙◌, ap, subst, inl}
+use Rattle.std.proofs.Common.{arith, length-drop, length-append}
 use Rattle.std.specs.Prelude.{Option, Some, None, IfSome, OnSome, IsTrue, max, slice_index_or}
 use Rattle.std.specs.List.{All}
 use Rattle.std.proofs.lemmas.List.Elements.{All-nil, All-cons}
@@ -53,7 +54,8 @@ use Rattle.vol_mount.proofs.CostLemmas.{costs_again}
 use Rattle.vol_mount.proofs.ShownLemmas.{shown}
 use Rattle.vol_mount.proofs.AddLemmas.{HasAdded, has_added, entry_in_range, a_row}
 use Rattle.vol_mount.proofs.CompleteLemmas.{first_is, rows_in_range}
-use Rattle.vol_mount.proofs.FoundLemmas.{IsWhole, reads_one, has_commit, load_keeps, body_is, rows_are, all_told, entries_left, told_is, left_are, left_count}
+use Rattle.vol_mount.proofs.FoundLemmas.{IsWhole, reads_one, has_commit, load_keeps, body_is, rows_are, all_told, entries_left}
+use Rattle.vol_mount.proofs.FoundLemmas.{told_is, left_are, left_count}
 
 -- ---- entries of rows
 
@@ -63,7 +65,8 @@ rows_count [] (entry ∷ entries) are = absurd are
 rows_count (row ∷ rows) [] are = absurd are
 rows_count (row ∷ rows) (entry ∷ entries) are = (let rest = rows_count rows entries are.1 in omega (arith, rest))
 
-pub entries_in_range : (geometry : Geometry) (rows : List Row) (entries : List Entry) → AreRowsOf rows entries → AreRowsInRange geometry rows
+pub entries_in_range : (geometry : Geometry) (rows : List Row) (entries : List Entry) → AreRowsOf rows entries
+    → AreRowsInRange geometry rows
     → All (λ entry. is_in_range geometry entry ≡ true) entries
 entries_in_range geometry [] [] are may = All-nil (λ entry. is_in_range geometry entry ≡ true)
 entries_in_range geometry [] (entry ∷ entries) are may = absurd are
@@ -84,8 +87,10 @@ on_told told all P is holds = subst (λ t. OnSome t P) is holds
 
 -- ---- a plain volume that was left
 
-module _ (uuid : List ℕ) (geometry : Geometry) (epoch : ℕ) (list : ObjLogState) (checkpoint : ℕ) (told : Option Objects) (old : DiskState) (log : LogState)
-    (limits : IsTrue (is_within_limits geometry)) (size : log_start ≤ old.size) (sectors : geometry.log ≡ log_of old.size) (is_disk : IsDisk old)
+module _ (uuid : List ℕ) (geometry : Geometry) (epoch : ℕ) (list : ObjLogState) (checkpoint : ℕ) (told : Option Objects)
+    (old : DiskState) (log : LogState)
+    (limits : IsTrue (is_within_limits geometry)) (size : log_start ≤ old.size) (sectors : geometry.log ≡ log_of old.size)
+    (is_disk : IsDisk old)
     (is : IsRecovered uuid geometry list checkpoint) (opened : IsOpenedOf uuid geometry epoch list.uploads.queue.end old log)
     (from : IfSome told (λ o. IsRecoveredFrom uuid geometry o list checkpoint)) where
   abbrev end : ℕ
@@ -100,55 +105,64 @@ module _ (uuid : List ℕ) (geometry : Geometry) (epoch : ℕ) (list : ObjLogSta
   abbrev of_log : PlainLog
   of_log = committed_at end (log_found geometry.log body log.rows)
 
-  module _ (plain : PlainState) (found : PlainCommit) (number : ℕ) (left : IsLeft uuid geometry epoch plain found number told old) where
-    of : (o : Objects) × IsListOf uuid geometry plain number o list checkpoint
-    of = list_of uuid geometry plain number told list checkpoint limits is from left.stored
+  module _ (plain : PlainState) (found : PlainCommit) (number : ℕ) (left : IsLeft uuid geometry epoch plain found number told old)
+    where
+      of : (o : Objects) × IsListOf uuid geometry plain number o list checkpoint
+      of = list_of uuid geometry plain number told list checkpoint limits is from left.stored
 
-    abbrev rest : PlainState
-    rest = mounted_without number plain
+      abbrev rest : PlainState
+      rest = mounted_without number plain
 
-    -- its entries past the objects' end
-    abbrev entries : List Entry
-    entries = entries_left uuid geometry epoch plain found number told old size sectors is_disk left end log limits opened
+      -- its entries past the objects' end
+      abbrev entries : List Entry
+      entries = entries_left uuid geometry epoch plain found number told old size sectors is_disk left end log limits opened
 
-    -- with them it is what a mount is to make
-    goes_on : going_on entries of_log rest ≡ mounted_with found number plain
-    goes_on =
-        let has = has_commit uuid geometry epoch plain found number told old size sectors is_disk left in
-        let count : ℕ = end_of_object number plain in
-        let P : List Entry → ℕ → Geometry → CommitBody → List Row → PlainState =
-        λ l n g b r. going_on l (committed_at n (log_found g.log b r)) rest in
-        ap (λ l. P l end geometry body log.rows)
-        (left_are uuid geometry epoch plain found number told old size sectors is_disk left end log limits opened of.1.end_is)
-        ∙ ap (λ n. P (entries_past plain count has.body.head.seq) n geometry body log.rows) of.1.end_is
-        ∙ ap (λ g. P (entries_past plain count has.body.head.seq) count g body log.rows) (sym left.stored.geometry_is)
-        ∙ ap (λ b. P (entries_past plain count has.body.head.seq) count plain.geometry b log.rows)
-        (sym (body_is uuid geometry epoch plain found number told old size sectors is_disk left end log limits opened))
-        ∙ ap (λ r. P (entries_past plain count has.body.head.seq) count plain.geometry has.body r)
-        (sym (rows_are uuid geometry epoch plain found number told old size sectors is_disk left end log limits opened))
-        ∙ mounted_is_going_on uuid owner plain found number of.0 _ left.stored.valid of.1.has has
+      -- with them it is what a mount is to make
+      goes_on : going_on entries of_log rest ≡ mounted_with found number plain
+      goes_on =
+          let has = has_commit uuid geometry epoch plain found number told old size sectors is_disk left in
+          let count : ℕ = end_of_object number plain in
+          let P : List Entry → ℕ → Geometry → CommitBody → List Row → PlainState =
+          λ l n g b r. going_on l (committed_at n (log_found g.log b r)) rest in
+          ap (λ l. P l end geometry body log.rows)
+          (left_are uuid geometry epoch plain found number told old size sectors is_disk left end log limits opened of.1.end_is)
+          ∙ ap (λ n. P (entries_past plain count has.body.head.seq) n geometry body log.rows) of.1.end_is
+          ∙ ap (λ g. P (entries_past plain count has.body.head.seq) count g body log.rows) (sym left.stored.geometry_is)
+          ∙ ap (λ b. P (entries_past plain count has.body.head.seq) count plain.geometry b log.rows)
+          (sym (body_is uuid geometry epoch plain found number told old size sectors is_disk left end log limits opened))
+          ∙ ap (λ r. P (entries_past plain count has.body.head.seq) count plain.geometry has.body r)
+          (sym (rows_are uuid geometry epoch plain found number told old size sectors is_disk left end log limits opened))
+          ∙ mounted_is_going_on uuid owner plain found number of.0 _ left.stored.valid of.1.has has
 
-    -- whatever a stop leaves meanwhile keeps them
-    keeps_left : (new : DiskState) → LeavesFrom end log new
-        → HoldsSince (StopKeeps owner (mounted_with found number plain) (IsWhole (mounted_with found number plain))) old.moments new.moments
-    keeps_left new leaves =
-        let trimmed : LogState = leaves.0 in
-        let trims : IsTrimmed end log trimmed = leaves.1 in
-        let K : PlainState → Medium → Type 0 = λ p. StopKeeps owner p (IsWhole p) in
-        let told_entries : trimmed.entries ≡ Some entries =
-        trims.entries ∙ told_is uuid geometry epoch plain found number told old size sectors is_disk left end log limits opened in
-        let keeps =
-        committing_keeps_mounted owner geometry checkpoint end rest entries of_log opened.commits log trimmed new of.1.at_rest opened.is_of
-        opened.up_to.finished opened.up_to.tail opened.up_to.opened trims (if_told trimmed.entries entries told_entries)
-        (left_count uuid geometry epoch plain found number told old size sectors is_disk left end log limits opened) leaves.2 in
-        let told_all = trims.all ∙ all_told uuid geometry epoch plain found number told old size sectors is_disk left end log limits opened in
-        let since = on_told trimmed.all _ (HoldsSince (K (going_on entries of_log rest)) trimmed.commits.disk.moments new.moments) told_all keeps in
-        let moments : trimmed.commits.disk.moments ≡ log.commits.disk.moments = ap (λ (c : CommitsState). c.disk.moments) trims.commits in
-        let second : HoldsSince (K (mounted_with found number plain)) log.commits.disk.moments new.moments =
-        subst (λ m. HoldsSince (K (mounted_with found number plain)) m new.moments) moments
-        (subst (λ p. HoldsSince (K p) trimmed.commits.disk.moments new.moments) goes_on since) in
-        passes_on (K (mounted_with found number plain)) old.moments log.commits.disk.moments new.moments
-        (load_keeps uuid geometry epoch plain found number told old size sectors is_disk left of.0 log.commits.disk of.1.has opened.settled) second
+      -- whatever a stop leaves meanwhile keeps them
+      keeps_left : (new : DiskState) → LeavesFrom end log new
+          → HoldsSince (StopKeeps owner (mounted_with found number plain) (IsWhole (mounted_with found number plain))) old.moments
+          new.moments
+      keeps_left new leaves =
+          let trimmed : LogState = leaves.0 in
+          let trims : IsTrimmed end log trimmed = leaves.1 in
+          let K : PlainState → Medium → Type 0 = λ p. StopKeeps owner p (IsWhole p) in
+          let told_entries : trimmed.entries ≡ Some entries =
+          trims.entries ∙ told_is uuid geometry epoch plain found number told old size sectors is_disk left end log
+          limits opened in
+          let keeps =
+          committing_keeps_mounted owner geometry checkpoint end rest entries of_log opened.commits log trimmed new of.1.at_rest
+          opened.is_of
+          opened.up_to.finished opened.up_to.tail opened.up_to.opened trims (if_told trimmed.entries entries told_entries)
+          (left_count uuid geometry epoch plain found number told old size sectors is_disk left end log limits opened) leaves.2 in
+          let told_all = trims.all ∙ all_told uuid geometry epoch plain found number told old size sectors is_disk left end log
+          limits opened in
+          let since = on_told trimmed.all _ (HoldsSince (K (going_on entries of_log rest)) trimmed.commits.disk.moments
+          new.moments)
+          told_all keeps in
+          let moments : trimmed.commits.disk.moments ≡ log.commits.disk.moments =
+          ap (λ (c : CommitsState). c.disk.moments) trims.commits in
+          let second : HoldsSince (K (mounted_with found number plain)) log.commits.disk.moments new.moments =
+          subst (λ m. HoldsSince (K (mounted_with found number plain)) m new.moments) moments
+          (subst (λ p. HoldsSince (K p) trimmed.commits.disk.moments new.moments) goes_on since) in
+          passes_on (K (mounted_with found number plain)) old.moments log.commits.disk.moments new.moments
+          (load_keeps uuid geometry epoch plain found number told old size sectors is_disk left of.0 log.commits.disk of.1.has
+          opened.settled) second
 
   pub completing_keeps : (new : DiskState) → LeavesFrom end log new → KeepsLeft uuid geometry epoch told old new
   completing_keeps new leaves = λ plain found number left synced. keeps_left plain found number left new leaves
@@ -166,7 +180,8 @@ completing_costs uuid geometry epoch end old new log made opened again =
 
 -- ---- the volume
 
-module _ (uuid : List ℕ) (geometry : Geometry) (epoch : ℕ) (list : ObjLogState) (checkpoint : ℕ) (old : DiskState) (log new : LogState) (objects : ObjLogState)
+module _ (uuid : List ℕ) (geometry : Geometry) (epoch : ℕ) (list : ObjLogState) (checkpoint : ℕ) (old : DiskState)
+    (log new : LogState) (objects : ObjLogState)
     (limits : IsTrue (is_within_limits geometry)) (is : IsRecovered uuid geometry list checkpoint)
     (opened : IsOpenedOf uuid geometry epoch list.uploads.queue.end old log) (done : IsCompleted list log new objects) where
   abbrev end_is : ℕ
@@ -205,7 +220,8 @@ module _ (uuid : List ℕ) (geometry : Geometry) (epoch : ℕ) (list : ObjLogSta
   shows_log : ShowsLog new found_log
   shows_log =
       subst (λ n. ShowsLog new (committed_at n (log_found geometry.log opened.commits.body log.rows))) trimmed_first
-      (reopened_shows_log geometry opened.commits log done.trimmed new end_is limits opened.up_to.may_stand opened.up_to.finished opened.up_to.opened
+      (reopened_shows_log geometry opened.commits log done.trimmed new end_is limits opened.up_to.may_stand opened.up_to.finished
+      opened.up_to.opened
       done.trims done.same done.released done.made)
 
   data_same : data_in new a_row ≡ place_of
@@ -214,26 +230,34 @@ module _ (uuid : List ℕ) (geometry : Geometry) (epoch : ℕ) (list : ObjLogSta
       ∙ ap (λ first. λ seq. position_of (slice_index_or done.trimmed.rows (seq - first) a_row) + 1) done.same.first
 
   -- it shows each volume at rest that the list shows, with the entries
-  kept_shows : (plain : PlainState) → IsAtRest geometry checkpoint end_is plain → ((data_at : ℕ → ℕ) → ShowsObjects data_at list plain)
-      → Shows (volume_of objects new [] checkpoint) (passing (fuse_in new.commits.disk.budget) (going_on done.entries found_log plain))
+  kept_shows : (plain : PlainState) → IsAtRest geometry checkpoint end_is plain
+      → ((data_at : ℕ → ℕ) → ShowsObjects data_at list plain)
+      → Shows (volume_of objects new [] checkpoint)
+      (passing (fuse_in new.commits.disk.budget) (going_on done.entries found_log plain))
   kept_shows plain rest shows =
       let now : PlainState = going_on done.entries found_log plain in
       let valid : IsPlainVolume now =
-      mounted_is_plain_volume geometry checkpoint end_is plain opened.commits.body log.rows done.entries rest opened.up_to.may_stand
+      mounted_is_plain_volume geometry checkpoint end_is plain opened.commits.body log.rows done.entries rest
+      opened.up_to.may_stand
       opened.up_to.opened.rows opened.up_to.tail in_range count_is in
       let of_objects : ShowsObjects place_of objects now =
-      entries_go_on place_of geometry checkpoint end_is plain done.entries found_log list objects rest (shows place_of) (done.added a_row) in
+      entries_go_on place_of geometry checkpoint end_is plain done.entries found_log list objects rest (shows place_of)
+      (done.added a_row) in
       let rows : AreRowsOf new.rows done.entries = subst (λ r. AreRowsOf r done.entries) (sym done.same.rows) done.rows in
-      let told : IfSome new.entries (λ l. l ≡ done.entries) = subst (λ t. IfSome t (λ l. l ≡ done.entries)) (sym done.same.entries) done.told in
+      let told : IfSome new.entries (λ l. l ≡ done.entries) =
+      subst (λ t. IfSome t (λ l. l ≡ done.entries)) (sym done.same.entries) done.told in
       let logged : HasLoggedEntries (data_in new a_row) new now =
-      added_are_logged geometry checkpoint end_is plain done.entries found_log new a_row rest (done.same.first ∙ trimmed_first) rows told
+      added_are_logged geometry checkpoint end_is plain done.entries found_log new a_row rest (done.same.first
+      ∙ trimmed_first) rows told
       done.numbered in
-      shown place_of objects new checkpoint now valid of_objects shows_log (subst (λ d. HasLoggedEntries d new now) data_same logged)
+      shown place_of objects new checkpoint now valid of_objects shows_log
+      (subst (λ d. HasLoggedEntries d new now) data_same logged)
       (sym rest.checkpoint_is) rest.pins
 
   pub kept_shows_some : (plain : PlainState) × Shows (volume_of objects new [] checkpoint) plain
   kept_shows_some =
-      let some = list_shows_some uuid geometry checkpoint list.uploads.window.last end_is list limits is.numbered is.from is.list is.places in
+      let some = list_shows_some uuid geometry checkpoint list.uploads.window.last end_is list limits is.numbered is.from is.list
+      is.places in
       (passing (fuse_in new.commits.disk.budget) (going_on done.entries found_log some.0), kept_shows some.0 some.1 some.2)
 
   pub last_is : objects.uploads.window.last ≡ list.uploads.window.last
@@ -272,7 +296,8 @@ module _ (uuid : List ℕ) (geometry : Geometry) (epoch : ℕ) (list : ObjLogSta
 
   pub kept_of_volume : IsOfVolume uuid geometry epoch (mounted_of objects new checkpoint)
   kept_of_volume =
-      let first = opened_has_committed own_cache geometry opened.commits log opened.is_of opened.up_to.finished opened.up_to.opened in
+      let first = opened_has_committed own_cache geometry opened.commits log opened.is_of opened.up_to.finished
+      opened.up_to.opened in
       let then = trimmed_has_committed own_cache geometry log done.trimmed end_is first done.trims in
       let own = commit_has_committed own_cache geometry done.trimmed new then done.released (inl done.made) in
       let uuid_is = added.uuid ∙ is.list.uuid_is in
@@ -311,7 +336,8 @@ module _ (uuid : List ℕ) (geometry : Geometry) (epoch : ℕ) (list : ObjLogSta
         let same = told_one done.trimmed.entries _ done.entries told_entries done.told in
         let goes : going_on done.entries found_log rest ≡ mounted_with found number plain =
         ap (λ l. going_on l found_log rest) same
-        ∙ goes_on uuid geometry epoch list checkpoint told old log limits size sectors is_disk is opened from plain found number left in
+        ∙ goes_on uuid geometry epoch list checkpoint told old log limits size sectors is_disk is opened from plain found
+        number left in
         let shows = kept_shows rest of.at_rest of.shows in
         let first = added.first ∙ is.list.first in
         let entries = added.entries_are ∙ ap (λ l. l ++ done.entries) is.list.entries in
@@ -320,7 +346,8 @@ module _ (uuid : List ℕ) (geometry : Geometry) (epoch : ℕ) (list : ObjLogSta
         let longer = length-append rest.entries done.entries in
         let whole = ap history_length goes in
         record {
-          shows = subst (λ p. Shows (volume_of objects new [] checkpoint) (passing (fuse_in new.commits.disk.budget) p)) goes shows;
+          shows = subst (λ p. Shows (volume_of objects new [] checkpoint) (passing (fuse_in new.commits.disk.budget) p))
+              goes shows;
           entries = omega (arith, first, count, history, longer, whole);
           number_is = last_is ∙ of.number_is;
         }

@@ -48,11 +48,14 @@ no_entries (now ∷ past) = refl
 goes_nowhere : (geometry : Geometry) (checkpoint end : ℕ) (plain : PlainState) → IsAtRest geometry checkpoint end plain
     → going_on [] (empty_from geometry.log end) plain ≡ plain
 goes_nowhere geometry checkpoint end plain rest =
-    ap (λ (list : List Entry). record plain { entries = list; cache = cache_with (empty_from geometry.log end) }) (append-nil plain.entries)
+    ap (λ (list : List Entry). record plain { entries = list; cache = cache_with (empty_from geometry.log end) })
+    (append-nil plain.entries)
     ∙ ap (λ (cache : PlainCache). record plain { cache = cache }) (sym rest.cache)
 
-module _ (uuid : List ℕ) (geometry : Geometry) (epoch : ℕ) (list : ObjLogState) (checkpoint : ℕ) (old : DiskState) (log : LogState)
-    (limits : IsTrue (is_within_limits geometry)) (sectors : geometry.log ≡ log_of old.size) (is : IsRecovered uuid geometry list checkpoint)
+module _ (uuid : List ℕ) (geometry : Geometry) (epoch : ℕ) (list : ObjLogState) (checkpoint : ℕ) (old : DiskState)
+    (log : LogState)
+    (limits : IsTrue (is_within_limits geometry)) (sectors : geometry.log ≡ log_of old.size)
+    (is : IsRecovered uuid geometry list checkpoint)
     (formatted : IsFormattedLog uuid epoch list.uploads.queue.end old log) where
   abbrev end : ℕ
   end = list.uploads.queue.end
@@ -73,18 +76,22 @@ module _ (uuid : List ℕ) (geometry : Geometry) (epoch : ℕ) (list : ObjLogSta
       let none : IfSome log.entries (λ l. l ≡ []) =
       subst (λ told. IfSome told (λ l. l ≡ [])) (sym formatted.entries) (no_entries log.commits.disk.moments) in
       subst (HasLoggedEntries (data_in log a_row) log) (goes_nowhere geometry checkpoint end plain rest)
-      (added_are_logged geometry checkpoint end plain [] (empty_from geometry.log end) log a_row rest formatted.first rows none numbered)
+      (added_are_logged geometry checkpoint end plain [] (empty_from geometry.log end) log a_row rest formatted.first rows
+      none numbered)
 
-  lost_shows : (plain : PlainState) → IsAtRest geometry checkpoint end plain → ((data_at : ℕ → ℕ) → ShowsObjects data_at list plain)
+  lost_shows : (plain : PlainState) → IsAtRest geometry checkpoint end plain
+      → ((data_at : ℕ → ℕ) → ShowsObjects data_at list plain)
       → Shows (volume_of list log [] checkpoint) (passing (fuse_in log.commits.disk.budget) plain)
   lost_shows plain rest shows =
-      let of_log : ShowsLog log plain.cache.log = subst (λ (cache : PlainCache). ShowsLog log cache.log) (sym rest.cache) shows_empty in
+      let of_log : ShowsLog log plain.cache.log = subst (λ (cache : PlainCache). ShowsLog log cache.log) (sym rest.cache)
+      shows_empty in
       shown (data_in log a_row) list log checkpoint plain rest.valid (shows (data_in log a_row)) of_log (logs_none plain rest)
       (sym rest.checkpoint_is) rest.pins
 
   pub lost_shows_some : (plain : PlainState) × Shows (volume_of list log [] checkpoint) plain
   lost_shows_some =
-      let some = list_shows_some uuid geometry checkpoint list.uploads.window.last end list limits is.numbered is.from is.list is.places in
+      let some = list_shows_some uuid geometry checkpoint list.uploads.window.last end list limits is.numbered is.from is.list
+      is.places in
       (passing (fuse_in log.commits.disk.budget) some.0, lost_shows some.0 some.1 some.2)
 
   pub lost_is_small : (before : ℕ) → AreLow before list → IsSmall (volume_of list log [] checkpoint) 0

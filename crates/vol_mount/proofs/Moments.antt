@@ -3,16 +3,19 @@ use Rattle.std.proofs.Common.{◌≡◌, List, [], ◌∷◌, ◌++◌, refl, �
 use Rattle.lsvd_device.specs.Medium.{Medium}
 use Rattle.lsvd_device.specs.Device.{HoldsNow, HoldsSince}
 
-pub now_as : (P Q : Medium → Type 0) (moments : List Medium) → ((medium : Medium) → P medium → Q medium) → HoldsNow P moments → HoldsNow Q moments
+pub now_as : (P Q : Medium → Type 0) (moments : List Medium) → ((medium : Medium) → P medium → Q medium) → HoldsNow P moments
+    → HoldsNow Q moments
 now_as P Q [] follows holds = tt
 now_as P Q (now ∷ past) follows holds = follows now holds
 
-pub now_with : (P Q R : Medium → Type 0) (moments : List Medium) → ((medium : Medium) → P medium → Q medium → R medium) → HoldsNow P moments
+pub now_with : (P Q R : Medium → Type 0) (moments : List Medium) → ((medium : Medium) → P medium → Q medium → R medium)
+    → HoldsNow P moments
     → HoldsNow Q moments → HoldsNow R moments
 now_with P Q R [] follows first second = tt
 now_with P Q R (now ∷ past) follows first second = follows now first second
 
-told_in : (since past : List Medium) (before : Medium) → (now : Medium) × (rest : List Medium) × (since ++ before ∷ past ≡ now ∷ rest)
+told_in : (since past : List Medium) (before : Medium) → (now : Medium) × (rest : List Medium)
+    × (since ++ before ∷ past ≡ now ∷ rest)
 told_in [] past before = (before, past, refl)
 told_in (now ∷ since) past before = (now, since ++ before ∷ past, refl)
 

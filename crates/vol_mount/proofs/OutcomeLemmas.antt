@@ -21,15 +21,18 @@ stored_as (Ok value) error is = absurd is
 stored_as (Err e) error is = sym (ap is_store_fault_of is)
 
 -- one that is none of the store's
-pub counts_none : {T : Type 0} (outcome : Result T MountError) (error : MountError) (old new : ℕ) → IsErrAnd outcome (λ e. e ≡ error)
+pub counts_none : {T : Type 0} (outcome : Result T MountError) (error : MountError) (old new : ℕ)
+    → IsErrAnd outcome (λ e. e ≡ error)
     → is_store_fault_of error ≡ false → new ≡ old → Counts (ends_by_store outcome) old new
 counts_none outcome error old new is none same = subst (λ b. Counts b old new) (sym none ∙ stored_as outcome error is) same
 
-pub counts_same : {T : Type 0} (outcome : Result T MountError) (error : MountError) (old new : ℕ) → IsErrAnd outcome (λ e. e ≡ error)
+pub counts_same : {T : Type 0} (outcome : Result T MountError) (error : MountError) (old new : ℕ)
+    → IsErrAnd outcome (λ e. e ≡ error)
     → Counts (is_store_fault_of error) old new → Counts (ends_by_store outcome) old new
 counts_same outcome error old new is counts = subst (λ b. Counts b old new) (stored_as outcome error is) counts
 
-pub counts_none_left : {D T : Type 0} (outcome : Result T (D × MountError)) (error : D × MountError) (old new : ℕ) → IsErrAnd outcome (λ e. e ≡ error)
+pub counts_none_left : {D T : Type 0} (outcome : Result T (D × MountError)) (error : D × MountError) (old new : ℕ)
+    → IsErrAnd outcome (λ e. e ≡ error)
     → is_store_fault_of error.1 ≡ false → new ≡ old → Counts (ends_by_store_fault outcome) old new
 counts_none_left (Ok value) error old new is none same = absurd is
 counts_none_left (Err e) error old new is none same =

@@ -42,12 +42,14 @@ read_same geometry body rows a b same are = record {
 
 pub entries_same : (geometry : Geometry) (body : CommitBody) (rows : List Row) (a b : List ℕ) → log_area a ≡ log_area b
     → AreRecordsInRange geometry body rows b → map (entry_of a) rows ≡ map (entry_of b) rows
-entries_same geometry body rows a b same are = (same_log_area rows geometry.log body.tail.position body.tail.seq a b same are.records.records).1
+entries_same geometry body rows a b same are =
+    (same_log_area rows geometry.log body.tail.position body.tail.seq a b same are.records.records).1
 
 refused_same : (geometry : Geometry) (place : Place) (seq : ℕ) (reason : Reason) (a b : List ℕ) → log_area a ≡ log_area b
     → IsRefusedAt geometry place seq b reason → IsRefusedAt geometry place seq a reason
 refused_same geometry place seq reason a b same (inl refused) =
-    inl (let P : List ℕ → Type 0 = λ s. IsRefusedAs s seq geometry place reason in subst P (sym (sectors_same place.position 1 a b same)) refused)
+    inl (let P : List ℕ → Type 0 = λ s. IsRefusedAs s seq geometry place reason in
+    subst P (sym (sectors_same place.position 1 a b same)) refused)
 refused_same geometry place seq reason a b same (inr (pad, refused)) =
     let P : List ℕ → Type 0 = λ s. IsHeader s seq geometry place (heads.Pad (geometry.log - place.position - 1)) in
     let Q : List ℕ → Type 0 = λ s. IsRefusedAs s seq geometry (after_pad geometry.log place) reason in
@@ -70,33 +72,41 @@ bad_same geometry body seq reason a b same bad = record {
 -- ---- before what kept the log area
 
 -- a thing that holds of the newest moment held before
-pub held_before : (P Q : Medium → Type 0) (old new : List Medium) → ((before now : Medium) → HasSameLogArea before now → P now → Q before)
+pub held_before : (P Q : Medium → Type 0) (old new : List Medium) → ((before now : Medium) → HasSameLogArea before now → P now
+    → Q before)
     → KeepsLogAreaSince old new → HoldsNow P new → HoldsNow Q old
 held_before P Q [] new follows stays holds = tt
 held_before P Q (before ∷ past) new follows stays holds =
     let at = told (HasSameLogArea before) before past new stays.0 in
     follows before at.0 (subst (HoldsNow (HasSameLogArea before)) at.2 stays.1) (subst (HoldsNow P) at.2 holds)
 
-pub records_before : (geometry : Geometry) (body : CommitBody) (rows : List Row) (old new : List Medium) → KeepsLogAreaSince old new
+pub records_before : (geometry : Geometry) (body : CommitBody) (rows : List Row) (old new : List Medium)
+    → KeepsLogAreaSince old new
     → HoldsNow (λ now. AreRecordsInRange geometry body rows now.bytes) new
     → HoldsNow (λ now. AreRecordsInRange geometry body rows now.bytes) old
 records_before geometry body rows old new stays holds =
-    held_before (λ now. AreRecordsInRange geometry body rows now.bytes) (λ now. AreRecordsInRange geometry body rows now.bytes) old new
+    held_before (λ now. AreRecordsInRange geometry body rows now.bytes) (λ now. AreRecordsInRange geometry body rows now.bytes)
+    old new
     (λ before now same is. read_same geometry body rows before.bytes now.bytes (sym same.same) is) stays holds
 
-pub entries_before : (geometry : Geometry) (body : CommitBody) (rows : List Row) (old new : List Medium) → KeepsLogAreaSince old new
+pub entries_before : (geometry : Geometry) (body : CommitBody) (rows : List Row) (old new : List Medium)
+    → KeepsLogAreaSince old new
     → HoldsNow (λ now. AreRecordsInRange geometry body rows now.bytes) new
     → HoldsNow (λ now. entries_in rows new ≡ Some (map (entry_of now.bytes) rows)) old
 entries_before geometry body rows [] new stays holds = tt
 entries_before geometry body rows (before ∷ past) new stays holds =
     let at = told (HasSameLogArea before) before past new stays.0 in
     let same : HasSameLogArea before at.0 = subst (HoldsNow (HasSameLogArea before)) at.2 stays.1 in
-    let is : AreRecordsInRange geometry body rows at.0.bytes = subst (HoldsNow (λ now. AreRecordsInRange geometry body rows now.bytes)) at.2 holds in
+    let is : AreRecordsInRange geometry body rows at.0.bytes =
+    subst (HoldsNow (λ now. AreRecordsInRange geometry body rows now.bytes)) at.2 holds in
     ap (entries_in rows) at.2 ∙ sym (ap Some (entries_same geometry body rows before.bytes at.0.bytes (sym same.same) is))
 
-pub bad_before : (geometry : Geometry) (body : CommitBody) (seq : ℕ) (reason : Reason) (old new : List Medium) → KeepsLogAreaSince old new
-    → HoldsNow (λ now. IsBadRecord geometry body seq reason now.bytes × ((rows : List Row) → ¬ AreRecordsInRange geometry body rows now.bytes)) new
-    → HoldsNow (λ now. IsBadRecord geometry body seq reason now.bytes × ((rows : List Row) → ¬ AreRecordsInRange geometry body rows now.bytes)) old
+pub bad_before : (geometry : Geometry) (body : CommitBody) (seq : ℕ) (reason : Reason) (old new : List Medium)
+    → KeepsLogAreaSince old new
+    → HoldsNow (λ now. IsBadRecord geometry body seq reason now.bytes
+    × ((rows : List Row) → ¬ AreRecordsInRange geometry body rows now.bytes)) new
+    → HoldsNow (λ now. IsBadRecord geometry body seq reason now.bytes
+    × ((rows : List Row) → ¬ AreRecordsInRange geometry body rows now.bytes)) old
 bad_before geometry body seq reason old new stays holds =
     let P : Medium → Type 0 = λ now. IsBadRecord geometry body seq reason now.bytes
     × ((rows : List Row) → ¬ AreRecordsInRange geometry body rows now.bytes) in

@@ -13,7 +13,8 @@ use Rattle.object_recovery.specs.declared.error.RecoverError.TheVariants as reco
 use Rattle.object_recovery.specs.Faults.{is_store_fault, IsNoAnswer}
 use Rattle.object_recovery.specs.Checkpoints.{expected_of, IsNewestWithEnd, IsNoCheckpoint}
 use Rattle.object_recovery.specs.Judging.{HaveLanded}
-use Rattle.object_recovery.specs.Recovery.{HasDataUpTo, IsListUpTo, IsNoLonger, HasRecovered, IsLastLanded, IsRecoveredOf, IsRefusal, IsRefused}
+use Rattle.object_recovery.specs.Recovery.{HasDataUpTo, IsListUpTo, IsNoLonger, HasRecovered, IsLastLanded, IsRecoveredOf}
+use Rattle.object_recovery.specs.Recovery.{IsRefusal, IsRefused}
 use Rattle.object_recovery.proofs.RecoverLemmas.{base_is}
 use Rattle.mount_meaning.specs.Found.{HasObjects}
 use Rattle.mount_meaning.specs.Mounted.{end_of_object, mounted_without}
@@ -22,7 +23,9 @@ use Rattle.mount_meaning.proofs.RestLemmas.{mounted_is_at_rest, recovered_shows_
 use Rattle.objects_meaning.specs.Shows.{ShowsObjects}
 use Rattle.vol_core.specs.Shows.{max_number}
 use Rattle.vol_mount.specs.declared.error.MountError.{MountError}
-use Rattle.vol_mount.specs.declared.error.MountError.TheVariants.{NoVolume, BadSuper, HasAncestors, NoCheckpoint, BadObject, NotData, NoSlot, WrongVolume, StaleCache, BadRecord, Worn, StoreFault, DeviceFault, OutOfMemory}
+use Rattle.vol_mount.specs.declared.error.MountError.TheVariants.{NoVolume, BadSuper, HasAncestors, NoCheckpoint, BadObject}
+use Rattle.vol_mount.specs.declared.error.MountError.TheVariants.{NotData, NoSlot, WrongVolume, StaleCache, BadRecord, Worn}
+use Rattle.vol_mount.specs.declared.error.MountError.TheVariants.{StoreFault, DeviceFault, OutOfMemory}
 use Rattle.vol_mount.specs.Mounting.{IsStored, RefusesNoneStored}
 use Rattle.vol_mount.specs.Refusals.{of_recovery, IsWhyNotStored, IsWhyLost, refuses, is_device_fault, is_store_fault_of}
 use Rattle.vol_mount.specs.Steps.{IsRecovered, IsRecoveredFrom, IsFault, ends_by_store}
@@ -50,7 +53,8 @@ none_is uuid geometry None refused = tt
 none_is uuid geometry (Some objects) refused = λ number more. refused.why number
 
 pub why_of : (error : RecoverError) (uuid : List ℕ) (geometry : Geometry) (objects : Option Objects)
-    → IfSome objects (λ o. IsRefused (expected_of uuid geometry) o error) → IsWhyNotStored uuid geometry objects (of_recovery error)
+    → IfSome objects (λ o. IsRefused (expected_of uuid geometry) o error)
+    → IsWhyNotStored uuid geometry objects (of_recovery error)
 why_of recovery.NoCheckpoint uuid geometry objects refused = none_is uuid geometry objects refused
 why_of (recovery.BadObject number reason) uuid geometry objects refused = refused
 why_of (recovery.NotData number) uuid geometry objects refused = refused
@@ -59,7 +63,8 @@ why_of recovery.OutOfMemory uuid geometry objects refused = tt
 
 -- the stream of a plain volume that the store has
 data_of : (uuid : List ℕ) (geometry : Geometry) (plain : PlainState) (number : ℕ) (objects : Objects) → plain.geometry ≡ geometry
-    → (has : HasObjects uuid plain number objects) → HasDataUpTo (expected_of uuid geometry) has.uuid_at objects (stream_in plain) number
+    → (has : HasObjects uuid plain number objects) → HasDataUpTo (expected_of uuid geometry) has.uuid_at objects
+    (stream_in plain) number
 data_of uuid geometry plain number objects same has =
     subst (λ g. HasDataUpTo (expected_of uuid g) has.uuid_at objects (stream_in plain) number) same has.stored
 
@@ -69,10 +74,12 @@ refuses_none : (error : RecoverError) (uuid : List ℕ) (geometry : Geometry) (o
 refuses_none error uuid geometry None refusal refused plain number stored = absurd stored.objects_are
 refuses_none error uuid geometry (Some objects) refusal refused plain number stored =
     let has : HasObjects uuid plain number objects = stored.objects_are in
-    refused.no_stream has.uuid_at (stream_in plain) number (data_of uuid geometry plain number objects stored.geometry_is has) refusal
+    refused.no_stream has.uuid_at (stream_in plain) number (data_of uuid geometry plain number objects stored.geometry_is has)
+    refusal
 
 pub no_refusal_of : (error : RecoverError) (uuid : List ℕ) (geometry : Geometry) (objects : Option Objects)
-    → IfSome objects (λ o. IsRefused (expected_of uuid geometry) o error) → RefusesNoneStored uuid geometry objects (of_recovery error)
+    → IfSome objects (λ o. IsRefused (expected_of uuid geometry) o error)
+    → RefusesNoneStored uuid geometry objects (of_recovery error)
 no_refusal_of recovery.NoCheckpoint uuid geometry objects refused = λ plain number stored.
     absurd (refuses_none recovery.NoCheckpoint uuid geometry objects tt refused plain number stored)
 no_refusal_of (recovery.BadObject n reason) uuid geometry objects refused = λ plain number stored.
@@ -103,20 +110,24 @@ wide_is geometry limits = grind (arith, nat_tests, limits)
 
 -- the newest checkpoint is that of each plain volume that the store has
 checkpoint_is : (uuid : List ℕ) (geometry : Geometry) (plain : PlainState) (number : ℕ) (objects : Objects) (checkpoint end : ℕ)
-    → IsTrue (is_within_limits geometry) → IsNewestWithEnd (expected_of uuid geometry) objects checkpoint end → plain.geometry ≡ geometry
+    → IsTrue (is_within_limits geometry) → IsNewestWithEnd (expected_of uuid geometry) objects checkpoint end
+    → plain.geometry ≡ geometry
     → HasObjects uuid plain number objects → plain.checkpoint ≡ checkpoint
 checkpoint_is uuid geometry plain number objects checkpoint end limits newest same has =
-    let is = base_is (expected_of uuid geometry) objects checkpoint end (wide_is geometry limits) newest has.uuid_at (stream_in plain) number
+    let is = base_is (expected_of uuid geometry) objects checkpoint end (wide_is geometry limits) newest has.uuid_at
+    (stream_in plain) number
     (data_of uuid geometry plain number objects same has) in
     has.opened ∙ sym is
 
 -- no plain volume has the number 0
-pub only_none_refuses : (uuid : List ℕ) (geometry : Geometry) (objects : Option Objects) (checkpoint : ℕ) → IsTrue (is_within_limits geometry)
+pub only_none_refuses : (uuid : List ℕ) (geometry : Geometry) (objects : Option Objects) (checkpoint : ℕ)
+    → IsTrue (is_within_limits geometry)
     → checkpoint ≡ 0
     → IsToldNewest uuid geometry objects checkpoint → RefusesNoneStored uuid geometry objects NoCheckpoint
 only_none_refuses uuid geometry None checkpoint limits none newest = λ plain number stored. absurd stored.objects_are
 only_none_refuses uuid geometry (Some objects) checkpoint limits none newest = λ plain number stored.
-    let is = checkpoint_is uuid geometry plain number objects checkpoint newest.0 limits newest.1 stored.geometry_is stored.objects_are in
+    let is = checkpoint_is uuid geometry plain number objects checkpoint newest.0 limits newest.1 stored.geometry_is
+    stored.objects_are in
     let more = stored.valid.numbered in
     absurd (omega (arith, is, more, none))
 
@@ -139,7 +150,8 @@ last_landed uuid geometry None log checkpoint low is = tt
 last_landed uuid geometry (Some objects) log checkpoint low is = (is.recovered (omega (arith, low))).last
 
 -- what a list is of a plain volume that the store has
-pub record IsListOf (uuid : List ℕ) (geometry : Geometry) (plain : PlainState) (number : ℕ) (objects : Objects) (log : ObjLogState)
+pub record IsListOf (uuid : List ℕ) (geometry : Geometry) (plain : PlainState) (number : ℕ) (objects : Objects)
+    (log : ObjLogState)
     (checkpoint : ℕ) : Type 0 where
   pub has : HasObjects uuid plain number objects
   pub at_rest : IsAtRest geometry checkpoint log.uploads.queue.end (mounted_without number plain)
@@ -147,8 +159,10 @@ pub record IsListOf (uuid : List ℕ) (geometry : Geometry) (plain : PlainState)
   pub end_is : log.uploads.queue.end ≡ end_of_object number plain
   pub number_is : log.uploads.window.last ≡ number
 
-list_of_told : (uuid : List ℕ) (geometry : Geometry) (plain : PlainState) (number : ℕ) (objects : Objects) (log : ObjLogState) (checkpoint : ℕ)
-    → IsTrue (is_within_limits geometry) → IsRecovered uuid geometry log checkpoint → IsRecoveredFrom uuid geometry objects log checkpoint
+list_of_told : (uuid : List ℕ) (geometry : Geometry) (plain : PlainState) (number : ℕ) (objects : Objects) (log : ObjLogState)
+    (checkpoint : ℕ)
+    → IsTrue (is_within_limits geometry) → IsRecovered uuid geometry log checkpoint
+    → IsRecoveredFrom uuid geometry objects log checkpoint
     → IsStored uuid geometry plain number (Some objects) → IsListOf uuid geometry plain number objects log checkpoint
 list_of_told uuid geometry plain number objects log checkpoint limits is from stored =
     let has : HasObjects uuid plain number objects = stored.objects_are in
@@ -165,7 +179,8 @@ list_of_told uuid geometry plain number objects log checkpoint limits is from st
       has = has;
       at_rest =
           subst (λ e. R geometry checkpoint e) (sym recovered.end_is)
-          (subst (λ c. R geometry c (end_of_object number plain)) first (subst (λ g. R g plain.checkpoint (end_of_object number plain)) same rest));
+          (subst (λ c. R geometry c (end_of_object number plain)) first
+          (subst (λ g. R g plain.checkpoint (end_of_object number plain)) same rest));
       shows = λ data_at.
           recovered_shows_objects uuid data_at plain number objects log stored.valid has
           (subst (λ g. IsListUpTo uuid g log.uploads.window.last log.uploads.queue.end log) (sym same) is.list)
@@ -174,7 +189,8 @@ list_of_told uuid geometry plain number objects log checkpoint limits is from st
       number_is = recovered.number_is;
     }
 
-pub list_of : (uuid : List ℕ) (geometry : Geometry) (plain : PlainState) (number : ℕ) (objects : Option Objects) (log : ObjLogState) (checkpoint : ℕ)
+pub list_of : (uuid : List ℕ) (geometry : Geometry) (plain : PlainState) (number : ℕ) (objects : Option Objects)
+    (log : ObjLogState) (checkpoint : ℕ)
     → IsTrue (is_within_limits geometry) → IsRecovered uuid geometry log checkpoint
     → IfSome objects (λ o. IsRecoveredFrom uuid geometry o log checkpoint)
     → IsStored uuid geometry plain number objects → (o : Objects) × IsListOf uuid geometry plain number o log checkpoint
@@ -246,7 +262,8 @@ why_lost_too OutOfMemory uuid geometry epoch objects why = tt
 
 -- an error that is passed on was counted as such
 pub counts_on : {T : Type 0} (outcome : Result T MountError) (error : RecoverError) (old middle new : ℕ)
-    → IsErrAnd outcome (λ e. e ≡ of_recovery error) → middle ≡ old → Counts (is_store_fault error) middle new → Counts (ends_by_store outcome) old new
+    → IsErrAnd outcome (λ e. e ≡ of_recovery error) → middle ≡ old → Counts (is_store_fault error) middle new
+    → Counts (ends_by_store outcome) old new
 counts_on (Ok value) error old middle new is same counts = absurd is
 counts_on (Err e) error old middle new is same counts =
     let fault : is_store_fault error ≡ is_store_fault_of e = sym (same_fault error) ∙ ap is_store_fault_of (sym is) in

@@ -17,7 +17,8 @@ use Rattle.vol_core.proofs.StepLemmas.{passing_keeps}
 
 -- the parts of a plain volume, of which nothing is pinned, are shown by a volume whose device passes what it tells
 pub shown : (data_at : ℕ → ℕ) (objects : ObjLogState) (log : LogState) (checkpoint : ℕ) (plain : PlainState) → IsPlainVolume plain
-    → ShowsObjects data_at objects plain → ShowsLog log plain.cache.log → HasLoggedEntries data_at log plain → checkpoint ≡ plain.checkpoint
+    → ShowsObjects data_at objects plain → ShowsLog log plain.cache.log → HasLoggedEntries data_at log plain
+    → checkpoint ≡ plain.checkpoint
     → plain.pins ≡ []
     → Shows (volume_of objects log [] checkpoint) (passing (fuse_in log.commits.disk.budget) plain)
 shown data_at objects log checkpoint plain valid shows of_log logged same none = record {

@@ -13,7 +13,8 @@ pub same_objects : (old new : StoreState) → OnlyCounts old new → new.objects
 same_objects old new only = ap (λ (s : StoreState). s.objects) only
 
 -- what becomes of the same objects
-pub becomes_from : (Change : Objects → Objects → Type 0) (old middle new : Option Objects) → middle ≡ old → Becomes Change middle new
+pub becomes_from : (Change : Objects → Objects → Type 0) (old middle new : Option Objects) → middle ≡ old
+    → Becomes Change middle new
     → Becomes Change old new
 becomes_from Change old middle new same becomes = subst (λ objects. Becomes Change objects new) same becomes
 
@@ -29,7 +30,8 @@ all_removed uuid number old new becomes =
     becomes_as (RemovesAllPast uuid number) (Removes (IsPastOf uuid number)) old new (λ a b all. all.removes) becomes
 
 -- none was removed
-pub none_removed : (uuid : List ℕ) (number : ℕ) (old new : Option Objects) → new ≡ old → Becomes (Removes (IsPastOf uuid number)) old new
+pub none_removed : (uuid : List ℕ) (number : ℕ) (old new : Option Objects) → new ≡ old
+    → Becomes (Removes (IsPastOf uuid number)) old new
 none_removed uuid number None new same = same
 none_removed uuid number (Some old) new same = (old, same, record { others = λ name not. refl; removed = λ name. inl refl })
 
@@ -40,7 +42,8 @@ may_leave_same Tells uuid geometry None new same = same
 may_leave_same Tells uuid geometry (Some old) new same = (old, same, inl refl)
 
 pub may_leave_less : (Tells : Type 0) (uuid : List ℕ) (geometry : Geometry) (number : ℕ) (old new : Option Objects)
-    → (Tells → IfSome old (λ objects. IsLastLanded (expected_of uuid geometry) objects number)) → Becomes (Removes (IsPastOf uuid number)) old new
+    → (Tells → IfSome old (λ objects. IsLastLanded (expected_of uuid geometry) objects number))
+    → Becomes (Removes (IsPastOf uuid number)) old new
     → Becomes (MayRemovePast Tells (expected_of uuid geometry)) old new
 may_leave_less Tells uuid geometry number None new last becomes = becomes
 may_leave_less Tells uuid geometry number (Some old) new last becomes = (becomes.0, becomes.1, inr (number, last, becomes.2))

@@ -27,8 +27,8 @@ NumbersNextCommit log old mounted =
     HoldsNow (λ now. (number : ℕ) (body : CommitBody) → Reads log now.bytes body number
     → mounted.volume.volume.log.commits.number ≡ number + 1) old.moments
 
--- It is the volume that was asked for, has made no step, and its commits are its own, in this epoch. Each of its objects is acknowledged,
--- and no plan of a read is out.
+-- It is the volume that was asked for, has made no step, and its commits are its own, in this epoch. Each of its objects is
+-- acknowledged, and no plan of a read is out.
 pub record IsOfVolume (uuid : List ℕ) (geometry : Geometry) (epoch : ℕ) (mounted : MountedState) : Type 0 where
   pub uuid_is : mounted.volume.volume.objects.uploads.uuid ≡ uuid
   pub geometry_is : mounted.volume.volume.objects.batch.geometry ≡ geometry

@@ -17,9 +17,10 @@ use Rattle.vol_mount.specs.Refusals.{refuses}
 
 -- ---- without the cache
 
--- A store has a plain volume, with its objects up to a number: that before the first missing one. It is below 2^63: a volume is worn out
--- long before.
-pub record IsStored (uuid : List ℕ) (geometry : Geometry) (plain : PlainState) (number : ℕ) (objects : Option Objects) : Type 0 where
+-- A store has a plain volume, with its objects up to a number: that before the first missing one. It is below 2^63: a volume is
+-- worn out long before.
+pub record IsStored (uuid : List ℕ) (geometry : Geometry) (plain : PlainState) (number : ℕ) (objects : Option Objects) :
+    Type 0 where
   pub valid : IsPlainVolume plain
   pub geometry_is : plain.geometry ≡ geometry
   pub objects_are : IsSomeAnd objects (HasObjects uuid plain number)
@@ -28,15 +29,19 @@ pub record IsStored (uuid : List ℕ) (geometry : Geometry) (plain : PlainState)
 -- whichever plain volume the store has, the mount makes of it what one without the cache is to make
 abbrev pub MountsStored : (uuid : List ℕ) → Geometry → Option Objects → MountedState → Type 0
 MountsStored uuid geometry objects mounted =
-    (plain : PlainState) (number : ℕ) → IsStored uuid geometry plain number objects → IsMountOf (mounted_without number plain) number mounted
+    (plain : PlainState) (number : ℕ) → IsStored uuid geometry plain number objects
+    → IsMountOf (mounted_without number plain) number mounted
 
 -- ---- with the cache
 
--- Device and store have a plain volume in an epoch: the store its objects up to a number, and the device reads as this commit of its log.
-pub record IsLeft (uuid : List ℕ) (geometry : Geometry) (epoch : ℕ) (plain : PlainState) (found : PlainCommit) (number : ℕ) (objects : Option Objects)
+-- Device and store have a plain volume in an epoch: the store its objects up to a number, and the device reads as this commit of
+-- its log.
+pub record IsLeft (uuid : List ℕ) (geometry : Geometry) (epoch : ℕ) (plain : PlainState) (found : PlainCommit) (number : ℕ)
+    (objects : Option Objects)
     (disk : DiskState) : Type 0 where
   pub stored : IsStored uuid geometry plain number objects
-  pub device : HasNow (λ now. HasCommit (record { uuid = uuid; epoch = epoch }) plain found (end_of_object number plain) now.bytes) disk.moments
+  pub device : HasNow (λ now. HasCommit (record { uuid = uuid; epoch = epoch }) plain found (end_of_object number plain)
+      now.bytes) disk.moments
 
 -- whichever plain volume they have, the mount makes of it what one with the cache is to make
 abbrev pub MountsLeft : (uuid : List ℕ) → Geometry → (epoch : ℕ) → Option Objects → DiskState → MountedState → Type 0
@@ -46,11 +51,14 @@ MountsLeft uuid geometry epoch objects disk mounted =
 
 -- ---- stops
 
--- Where nothing was pending on the device, whatever a stop leaves of it at each moment of the mount keeps all entries of what is made.
+-- Where nothing was pending on the device, whatever a stop leaves of it at each moment of the mount keeps all entries of what is
+-- made.
 abbrev pub KeepsLeft : (uuid : List ℕ) → Geometry → (epoch : ℕ) → Option Objects → (old new : DiskState) → Type 0
 KeepsLeft uuid geometry epoch objects old new =
-    (plain : PlainState) (found : PlainCommit) (number : ℕ) → IsLeft uuid geometry epoch plain found number objects old → HoldsNow IsSynced old.moments
-    → HoldsSince (StopKeeps (record { uuid = uuid; epoch = epoch }) (mounted_with found number plain) (λ head. head ≡ history_length (mounted_with found number plain)))
+    (plain : PlainState) (found : PlainCommit) (number : ℕ) → IsLeft uuid geometry epoch plain found number objects old
+    → HoldsNow IsSynced old.moments
+    → HoldsSince (StopKeeps (record { uuid = uuid; epoch = epoch }) (mounted_with found number plain)
+    (λ head. head ≡ history_length (mounted_with found number plain)))
     old.moments new.moments
 
 -- ---- completeness
@@ -62,4 +70,5 @@ RefusesNoneStored uuid geometry objects error =
 
 abbrev pub RefusesNoneLeft : (uuid : List ℕ) → Geometry → (epoch : ℕ) → Option Objects → DiskState → MountError → Type 0
 RefusesNoneLeft uuid geometry epoch objects disk error =
-    (plain : PlainState) (found : PlainCommit) (number : ℕ) → IsLeft uuid geometry epoch plain found number objects disk → refuses error ≡ false
+    (plain : PlainState) (found : PlainCommit) (number : ℕ) → IsLeft uuid geometry epoch plain found number objects disk
+    → refuses error ≡ false

@@ -1,5 +1,6 @@
 -- Contract: why a volume is not mounted.
-use Rattle.std.specs.Prelude.{◌≡◌, ℕ, ◌^◌, ◌<◌, ◌≤◌, ◌⊎◌, max, Bool, true, false, Option, None, IfSome, IsTrue, Result, Ok, Err, List, [], ◌∷◌}
+use Rattle.std.specs.Prelude.{◌≡◌, ℕ, ◌^◌, ◌<◌, ◌≤◌, ◌⊎◌, max, Bool, true, false, Option, None, IfSome, IsTrue, Result, Ok, Err}
+use Rattle.std.specs.Prelude.{List, [], ◌∷◌}
 use Rattle.lsvd_base.specs.declared.geometry.Geometry.{Geometry}
 use Rattle.lsvd_device.specs.Device.{DiskState, HoldsNow}
 use Rattle.lsvd_names.specs.Spelling.{IsName}
@@ -26,7 +27,9 @@ use Rattle.object_recovery.specs.declared.error.RecoverError.TheVariants as reco
 use Rattle.object_recovery.specs.Checkpoints.{expected_of, IsNoCheckpoint}
 use Rattle.object_recovery.specs.Recovery.{HasDataUpTo, IsPastOf, IsRefused}
 use Rattle.vol_mount.specs.declared.error.MountError.{MountError}
-use Rattle.vol_mount.specs.declared.error.MountError.TheVariants.{NoVolume, BadSuper, HasAncestors, NoCheckpoint, BadObject, NotData, NoSlot, WrongVolume, StaleCache, BadRecord, Worn, StoreFault, DeviceFault, OutOfMemory}
+use Rattle.vol_mount.specs.declared.error.MountError.TheVariants.{NoVolume, BadSuper, HasAncestors, NoCheckpoint, BadObject}
+use Rattle.vol_mount.specs.declared.error.MountError.TheVariants.{NotData, NoSlot, WrongVolume, StaleCache, BadRecord, Worn}
+use Rattle.vol_mount.specs.declared.error.MountError.TheVariants.{StoreFault, DeviceFault, OutOfMemory}
 
 -- ---- the errors of the steps
 
@@ -60,13 +63,15 @@ of_super supers.OutOfMemory = OutOfMemory
 
 -- a device reads as a commit with P
 abbrev pub ReadsAs : Geometry → (ℕ → CommitBody → Type 0) → DiskState → Type 0
-ReadsAs geometry P disk = HoldsNow (λ now. (number : ℕ) × (body : CommitBody) × Reads geometry.log now.bytes body number × P number body) disk.moments
+ReadsAs geometry P disk = HoldsNow (λ now. (number : ℕ) × (body : CommitBody) × Reads geometry.log now.bytes body number
+    × P number body) disk.moments
 
 -- the device reads as a commit whose log has no list of records up to the head, and the first bad record is this one
 abbrev pub IsBadLeftLog : Geometry → DiskState → (seq : ℕ) → Reason → Type 0
 IsBadLeftLog geometry disk seq reason =
     HoldsNow (λ now. (number : ℕ) × (body : CommitBody) × Reads geometry.log now.bytes body number
-    × IsBadRecord geometry body seq reason now.bytes × ((rows : List Row) → AreRecordsInRange geometry body rows now.bytes → ⊥)) disk.moments
+    × IsBadRecord geometry body seq reason now.bytes × ((rows : List Row) → AreRecordsInRange geometry body rows now.bytes → ⊥))
+    disk.moments
 
 -- ---- numbers that are too great
 
@@ -75,8 +80,8 @@ abbrev pub IsFirstGreat : List ℕ → (value : ℕ) → Type 0
 IsFirstGreat [] value = ⊥
 IsFirstGreat (number ∷ numbers) value = ((2 ^ 60 ≤ number) × (value ≡ number)) ⊎ ((number < 2 ^ 60) × IsFirstGreat numbers value)
 
--- The greatest number of the volume's objects in a store. Where it is not too great, this is the end of the object before the first missing
--- one, if the store has a stream of the volume.
+-- The greatest number of the volume's objects in a store. Where it is not too great, this is the end of the object before the
+-- first missing one, if the store has a stream of the volume.
 pub record IsExtent (uuid : List ℕ) (geometry : Geometry) (objects : Objects) (greatest end : ℕ) : Type 0 where
   pub none_greater : (name : ObjName) → IsName name → IsPastOf uuid greatest name → found objects name ≡ None
   pub present : IsTrue (landed_in objects uuid greatest)
@@ -92,7 +97,8 @@ IsWornStored uuid geometry epoch objects value =
     (greatest : ℕ) × (end : ℕ) × IsFirstGreat (epoch ∷ greatest ∷ end ∷ []) value
     × HasExtent uuid geometry objects greatest end
 
--- the first of these: the number of the commit that the device reads as, the epoch, the greatest number of an object, and the count of all entries
+-- the first of these: the number of the commit that the device reads as, the epoch, the greatest number of an object, and the
+-- count of all entries
 abbrev pub IsWornLeft : (uuid : List ℕ) → Geometry → (epoch : ℕ) → Option Objects → DiskState → (value : ℕ) → Type 0
 IsWornLeft uuid geometry epoch objects disk value =
     (greatest : ℕ) × (end : ℕ)
@@ -101,7 +107,8 @@ IsWornLeft uuid geometry epoch objects disk value =
 
 -- ---- the log of a device
 
--- The log of the commit that the device reads as is bad so; or its tail is past the end of the objects, which is then the seq that is told.
+-- The log of the commit that the device reads as is bad so; or its tail is past the end of the objects, which is then the seq
+-- that is told.
 abbrev pub IsBadLeft : (uuid : List ℕ) → Geometry → Option Objects → DiskState → (seq : ℕ) → Reason → Type 0
 IsBadLeft uuid geometry objects disk seq reason =
     IsBadLeftLog geometry disk seq reason
@@ -135,8 +142,10 @@ IsWhyLost uuid geometry epoch objects error = IsWhyNotStored uuid geometry objec
 
 -- why a mount with the cache gives none
 abbrev pub IsWhyNotLeft : (uuid : List ℕ) → Geometry → (epoch : ℕ) → Option Objects → DiskState → MountError → Type 0
-IsWhyNotLeft uuid geometry epoch objects disk (NoSlot log) = (log ≡ geometry.log) × HoldsNow (λ now. ReadsNone geometry.log now.bytes) disk.moments
-IsWhyNotLeft uuid geometry epoch objects disk (WrongVolume found) = ReadsAs geometry (λ number body. (body.uuid ≡ found) × (found ≡ uuid → ⊥)) disk
+IsWhyNotLeft uuid geometry epoch objects disk (NoSlot log) = (log ≡ geometry.log)
+    × HoldsNow (λ now. ReadsNone geometry.log now.bytes) disk.moments
+IsWhyNotLeft uuid geometry epoch objects disk (WrongVolume found) =
+    ReadsAs geometry (λ number body. (body.uuid ≡ found) × (found ≡ uuid → ⊥)) disk
 IsWhyNotLeft uuid geometry epoch objects disk (StaleCache cache store) =
     (store ≡ epoch) × (cache ≡ epoch → ⊥) × ReadsAs geometry (λ number body. (body.uuid ≡ uuid) × (body.epoch ≡ cache)) disk
 IsWhyNotLeft uuid geometry epoch objects disk (BadRecord seq reason) = IsBadLeft uuid geometry objects disk seq reason

@@ -1,5 +1,6 @@
 -- For this crate's own clauses: the steps of a mount.
-use Rattle.std.specs.Prelude.{◌≡◌, ℕ, ◌+◌, ◌-◌, ◌^◌, ◌<◌, ◌≤◌, ◌⊎◌, max, None, Bool, true, false, not, IfSome, Result, Ok, Err, List, [], ◌∷◌, length}
+use Rattle.std.specs.Prelude.{◌≡◌, ℕ, ◌+◌, ◌-◌, ◌^◌, ◌<◌, ◌≤◌, ◌⊎◌, max, None, Bool, true, false, not, IfSome, Result, Ok, Err}
+use Rattle.std.specs.Prelude.{List, [], ◌∷◌, length}
 use Rattle.lsvd_base.specs.declared.entry.Entry.{Entry}
 use Rattle.lsvd_base.specs.declared.geometry.Geometry.{Geometry}
 use Rattle.lsvd_device.specs.Device.{DiskState, HoldsNow}
@@ -26,7 +27,8 @@ use Rattle.mount_meaning.specs.Mounted.{data_in, AddsEntries}
 use Rattle.vol_core.specs.Volume.{volume_of}
 use Rattle.vol_core.specs.Shows.{max_number}
 use Rattle.vol_mount.specs.declared.error.MountError.{MountError}
-use Rattle.vol_mount.specs.declared.error.MountError.TheVariants.{NoSlot, WrongVolume, StaleCache, BadRecord, Worn, StoreFault, DeviceFault, OutOfMemory}
+use Rattle.vol_mount.specs.declared.error.MountError.TheVariants.{NoSlot, WrongVolume, StaleCache, BadRecord, Worn, StoreFault}
+use Rattle.vol_mount.specs.declared.error.MountError.TheVariants.{DeviceFault, OutOfMemory}
 use Rattle.vol_mount.specs.Mounted.{MountedState}
 use Rattle.vol_mount.specs.Costs.{open_cost}
 use Rattle.vol_mount.specs.Refusals.{ReadsAs, IsBadLeftLog, IsFirstGreat, is_device_fault, is_store_fault_of}
@@ -65,9 +67,10 @@ pub record AreLow (epoch : ℕ) (log : ObjLogState) : Type 0 where
   pub last : log.uploads.window.last < max_number
   pub end : log.uploads.queue.end < max_number
 
--- Where bytes are told, it is that of the objects of a store, and the checkpoint is their newest. A list whose last number is the greatest
--- that a list can have may end before the first missing number.
-pub record IsRecoveredFrom (uuid : List ℕ) (geometry : Geometry) (objects : Objects) (log : ObjLogState) (checkpoint : ℕ) : Type 0 where
+-- Where bytes are told, it is that of the objects of a store, and the checkpoint is their newest. A list whose last number is the
+-- greatest that a list can have may end before the first missing number.
+pub record IsRecoveredFrom (uuid : List ℕ) (geometry : Geometry) (objects : Objects) (log : ObjLogState) (checkpoint : ℕ) :
+    Type 0 where
   pub checkpoint_end : ℕ
   pub newest : IsNewestWithEnd (expected_of uuid geometry) objects checkpoint checkpoint_end
   pub landed : HaveLanded objects uuid checkpoint log.uploads.window.last
@@ -103,7 +106,8 @@ IsWhyNotOpened uuid geometry epoch end greatest old (WrongVolume found) =
 IsWhyNotOpened uuid geometry epoch end greatest old (StaleCache cache store) =
     (store ≡ epoch) × (cache ≡ epoch → ⊥) × ReadsAs geometry (λ number body. (body.uuid ≡ uuid) × (body.epoch ≡ cache)) old
 IsWhyNotOpened uuid geometry epoch end greatest old (BadRecord seq reason) =
-    IsBadLeftLog geometry old seq reason ⊎ ((seq ≡ end) × (reason ≡ reasons.Seq) × ReadsAs geometry (λ number body. seq < body.tail.seq) old)
+    IsBadLeftLog geometry old seq reason ⊎ ((seq ≡ end) × (reason ≡ reasons.Seq)
+    × ReadsAs geometry (λ number body. seq < body.tail.seq) old)
 IsWhyNotOpened uuid geometry epoch end greatest old (Worn value) =
     ReadsAs geometry (λ number body. IsFirstGreat (number ∷ epoch ∷ greatest ∷ max end body.head.seq ∷ []) value) old
 IsWhyNotOpened uuid geometry epoch end greatest old DeviceFault = Unit {0}

@@ -16,8 +16,9 @@ use lsvd_device::Disk;
 use lsvd_objstore::Receipt;
 use obj_log::ObjLog;
 
-/// Adds entries to the list of a volume, which has none in its batch, and whose next seq is that of the log's first entry. Their records
-/// stand at the rows of the log's list, in range, and in the room of a log (conditions). The one error is that memory ran out.
+/// Adds entries to the list of a volume, which has none in its batch, and whose next seq is that of the log's
+/// first entry. Their records stand at the rows of the log's list, in range, and in the room of a log
+/// (conditions). The one error is that memory ran out.
 pub(crate) fn add_all<D: Disk, R: Receipt>(
     objects: &mut ObjLog<R>,
     log: &CacheLog<D>,
@@ -30,7 +31,8 @@ pub(crate) fn add_all<D: Disk, R: Receipt>(
     requires rows { AreRowsOf log.now.rows entries.items }
     requires in_range { AreRowsInRange objects.old.batch.geometry log.now.rows }
     requires room { sum_by record_size log.now.rows ≤ max_log }
-    ensures added { OnOk result ((row_of_none : RowValue) → AddsEntries (data_in log.now row_of_none) entries.items objects.old objects.new) }
+    ensures added { OnOk result ((row_of_none : RowValue)
+        → AddsEntries (data_in log.now row_of_none) entries.items objects.old objects.new) }
     ensures memory { IfErr result (λ error. error ≡ OutOfMemory) }
 {
     for (index, entry) in entries.into_iter().enumerate() {

@@ -28,30 +28,32 @@ pub enum MountError {
     /// No object of the volume is a checkpoint. Its objects have numbers from 1 on.
     #[error("the store has no checkpoint of the volume")]
     NoCheckpoint,
-    /// The object of this number, past the newest checkpoint, is not of the grammar, or is before the first missing number and does not
-    /// go on where the object before it ends. It is the greatest such number.
+    /// The object of this number, past the newest checkpoint, is not of the grammar, or is before the first
+    /// missing number and does not go on where the object before it ends. It is the greatest such number.
     #[error("bad object {number}: {reason}")]
     BadObject { number: u64, reason: BadObject },
-    /// The object of this number, past the newest checkpoint and before the first missing number, holds no entries: it is a copy, which
-    /// is not recovered yet.
+    /// The object of this number, past the newest checkpoint and before the first missing number, holds no
+    /// entries: it is a copy, which is not recovered yet.
     #[error("object {number} holds no entries")]
     NotData { number: u64 },
-    /// No slot is open: the device, whose log has this many sectors, was not formatted to its end. Or the log is too short or too long for
-    /// the volume.
+    /// No slot is open: the device, whose log has this many sectors, was not formatted to its end. Or the log
+    /// is too short or too long for the volume.
     #[error("a log of {log} sectors with no open slot, or of no fitting length")]
     NoSlot { log: u64 },
     /// The device is the cache of the volume with this uuid, which is another one.
     #[error("the device is of the volume {found}")]
     WrongVolume { found: Uuid },
-    /// The device is the cache of this volume in another epoch than the newest that the store has: a mount without the cache came between.
+    /// The device is the cache of this volume in another epoch than the newest that the store has: a mount
+    /// without the cache came between.
     #[error("the device is of epoch {cache}, and the store of epoch {store}")]
     StaleCache { cache: u64, store: u64 },
-    /// The record with this seq, or the pad before it, is none: the first test that its header fails. Where the log begins past the end of
-    /// the objects, the seq is that end, and the reason is that of another seq.
+    /// The record with this seq, or the pad before it, is none: the first test that its header fails. Where
+    /// the log begins past the end of the objects, the seq is that end, and the reason is that of another
+    /// seq.
     #[error("bad record {seq}: {reason}")]
     BadRecord { seq: u64, reason: Reason },
-    /// A number is 2^60 or more: the first of that of the last commit (where the cache is kept), the newest epoch, the greatest number of
-    /// an object, and the count of entries. The volume is worn out.
+    /// A number is 2^60 or more: the first of that of the last commit (where the cache is kept), the newest
+    /// epoch, the greatest number of an object, and the count of entries. The volume is worn out.
     #[error("{value}: the volume is worn out")]
     Worn { value: u64 },
     /// A call of the store failed, and was counted by it.

@@ -13,8 +13,8 @@ use lsvd_objstore::{Receipt, Store};
 use std::alloc::Global;
 use uuid::Uuid;
 
-/// Why a volume is refused on a device whose log is too short or too long for it: by its objects, which are judged before, or for that. Its
-/// other sizes keep their limits (a condition). The store is only read.
+/// Why a volume is refused on a device whose log is too short or too long for it: by its objects, which are
+/// judged before, or for that. Its other sizes keep their limits (a condition). The store is only read.
 pub fn refuse_log<S: Store>(
     alloc: Global,
     store: &mut S,

@@ -16,7 +16,8 @@ ghost use Rattle.vol_mount.specs.Mounted.{IsOfVolume, disk_of, NumbersNextCommit
 ghost use Rattle.vol_mount.specs.Mounting.{MountsLeft, KeepsLeft, RefusesNoneLeft};
 ghost use Rattle.vol_mount.specs.Refusals.{IsWhyNotLeft, refuses, is_device_fault, ends_by_store_fault};
 ghost use Rattle.vol_mount.specs.Costs.{again_cost, CostsMount};
-ghost use Rattle.vol_mount.specs.Steps.{IsRecovered, IsOpenedUpTo, IsCompleted, LeavesFrom, IsFault, passes_device, ends_by_store};
+ghost use Rattle.vol_mount.specs.Steps.{IsRecovered, IsOpenedUpTo, IsCompleted, LeavesFrom, IsFault};
+ghost use Rattle.vol_mount.specs.Steps.{passes_device, ends_by_store};
 
 use crate::adding::add_all;
 use crate::error::MountError;
@@ -32,24 +33,26 @@ use object_recovery::Recovered;
 use std::alloc::Global;
 use uuid::Uuid;
 
-/// Mounts a volume with the cache that it had: recovers the list of its objects, opens the log up to the head of the commit that the
-/// device reads as, takes the entries past the objects' end from it, removes the objects past the first missing number, and makes one
-/// commit, whose tail is at that end.
+/// Mounts a volume with the cache that it had: recovers the list of its objects, opens the log up to the head
+/// of the commit that the device reads as, takes the entries past the objects' end from it, removes the
+/// objects past the first missing number, and makes one commit, whose tail is at that end.
 ///
-/// The store has the volume with these sizes, and this is its newest epoch. The geometry is within the limits, its log has just the sectors of
-/// the device past byte 4,096, and the device is a disk of at least 4,096 bytes (conditions). Objects and device are tested before anything
-/// is changed, but that loading mends the slots of the device.
+/// The store has the volume with these sizes, and this is its newest epoch. The geometry is within the
+/// limits, its log has just the sectors of the device past byte 4,096, and the device is a disk of at least
+/// 4,096 bytes (conditions). Objects and device are tested before anything is changed, but that loading mends
+/// the slots of the device.
 ///
-/// Of each plain volume that device and store have it makes what such a mount is to make. Where nothing was pending on the device, whatever
-/// a stop leaves of it meanwhile keeps all entries of that, and so does what an error leaves. An error comes with the device, which is a
-/// disk still. They are tested in this order:
+/// Of each plain volume that device and store have it makes what such a mount is to make. Where nothing was
+/// pending on the device, whatever a stop leaves of it meanwhile keeps all entries of that, and so does what
+/// an error leaves. An error comes with the device, which is a disk still. They are tested in this order:
 ///
 /// - `NoCheckpoint`, `BadObject`, `NotData`: the objects are refused.
 /// - `NoSlot`: no slot of the device is open; it was but synced then.
 /// - `WrongVolume`: the commit is of a volume with another uuid.
 /// - `StaleCache`: the commit is of another epoch.
 /// - `BadRecord`: the log begins past the end of the objects, or has no list of records up to the head.
-/// - `Worn`: the number of the commit, the epoch, the greatest number of an object, or the count of entries is 2^60 or more.
+/// - `Worn`: the number of the commit, the epoch, the greatest number of an object, or the count of entries
+///   is 2^60 or more.
 /// - `StoreFault`, `DeviceFault`: a call of the store, or of the device, failed, which ended the mount.
 /// - `OutOfMemory`: memory ran out.
 pub fn mount_with_cache<D: Disk, S: Store>(
@@ -68,7 +71,8 @@ pub fn mount_with_cache<D: Disk, S: Store>(
     ensures mounts { TellsBytes S.Receipt.state → IfOk result
         (MountsLeft uuid geometry epoch (S.state store.old).objects (D.state disk)) }
     ensures removed { IfOk result (λ mounted.
-        Becomes (RemovesAllPast uuid mounted.number) (S.state store.old).objects (S.state store.new).objects) }
+        Becomes (RemovesAllPast uuid mounted.number) (S.state store.old).objects
+        (S.state store.new).objects) }
     ensures stops { TellsBytes S.Receipt.state → IfOk result (λ mounted.
         KeepsLeft uuid geometry epoch (S.state store.old).objects (D.state disk) (disk_of mounted)) }
     ensures costs { IfOk result (λ mounted.
@@ -81,13 +85,15 @@ pub fn mount_with_cache<D: Disk, S: Store>(
         RefusesNoneLeft uuid geometry epoch (S.state store.old).objects (D.state disk) error.1) }
     ensures refused { IfErr result (λ error.
         refuses error.1 ≡ true → (S.state store.new).objects ≡ (S.state store.old).objects) }
-    ensures some { OnErr result (Becomes (MayRemovePast (TellsBytes S.Receipt.state) (expected_of uuid geometry))
+    ensures some { OnErr result (Becomes
+        (MayRemovePast (TellsBytes S.Receipt.state) (expected_of uuid geometry))
         (S.state store.old).objects (S.state store.new).objects) }
     ensures err_stops { TellsBytes S.Receipt.state → IfErr result (λ error.
         KeepsLeft uuid geometry epoch (S.state store.old).objects (D.state disk) (D.state error.0)) }
     ensures err_costs { IfErr result (λ error.
         CostsMount geometry.log (not (is_device_fault error.1)) (D.state disk) (D.state error.0)) }
-    ensures faults { Counts (ends_by_store_fault result) (S.state store.old).faults (S.state store.new).faults }
+    ensures faults { Counts (ends_by_store_fault result) (S.state store.old).faults
+        (S.state store.new).faults }
     ensures is_disk { IfErr result (λ error. IsDisk (D.state error.0)) }
 {
     let recovered = match recover_list(alloc, store, uuid, geometry) {
@@ -109,9 +115,10 @@ pub fn mount_with_cache<D: Disk, S: Store>(
     }
 }
 
-// Completes a list that was recovered by the entries that the log has past the objects' end. The objects past the first missing number are
-// removed, and the log is committed with its tail at that end. The geometry is within the limits, the log was opened for the list, and the
-// store has the same objects as when the list was recovered (conditions).
+// Completes a list that was recovered by the entries that the log has past the objects' end. The objects past
+// the first missing number are removed, and the log is committed with its tail at that end. The geometry is
+// within the limits, the log was opened for the list, and the store has the same objects as when the list was
+// recovered (conditions).
 fn complete<D: Disk, S: Store>(
     alloc: Global,
     store: &mut S,
@@ -119,7 +126,8 @@ fn complete<D: Disk, S: Store>(
     log: &mut CacheLog<D>,
 ) -> Result<ObjLog<S::Receipt>, MountError>
     requires limits { IsTrue (is_within_limits recovered.log.batch.geometry) }
-    requires list { IsRecovered recovered.log.uploads.uuid recovered.log.batch.geometry recovered.log recovered.checkpoint }
+    requires list { IsRecovered recovered.log.uploads.uuid recovered.log.batch.geometry recovered.log
+        recovered.checkpoint }
     requires names { HasAllNames (S.state store.old).objects recovered }
     requires opened { (commits : CommitsState)
         × IsOpenedUpTo recovered.log.batch.geometry recovered.log.uploads.queue.end commits log.old }
@@ -127,7 +135,8 @@ fn complete<D: Disk, S: Store>(
     ensures stops { LeavesFrom recovered.log.uploads.queue.end log.old log.new.commits.disk }
     ensures calls { MakesAtMost (again_cost (length log.old.rows)) (passes_device result)
         log.old.commits.disk log.new.commits.disk }
-    ensures removed { OnOk result (Becomes (RemovesAllPast recovered.log.uploads.uuid recovered.log.uploads.window.last)
+    ensures removed { OnOk result (Becomes
+        (RemovesAllPast recovered.log.uploads.uuid recovered.log.uploads.window.last)
         (S.state store.old).objects (S.state store.new).objects) }
     ensures some { Becomes (Removes (IsPastOf recovered.log.uploads.uuid recovered.log.uploads.window.last))
         (S.state store.old).objects (S.state store.new).objects }

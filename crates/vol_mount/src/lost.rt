@@ -1,4 +1,5 @@
-ghost use Rattle.std.specs.Prelude.{◌≡◌, ◌+◌, ◌<◌, ◌≤◌, true, false, IsTrue, IfOk, IfErr, IfSome, OnOk, OnErr};
+ghost use Rattle.std.specs.Prelude.{◌≡◌, ◌+◌, ◌<◌, ◌≤◌, true, false, IsTrue, IfOk, IfErr, IfSome, OnOk};
+ghost use Rattle.std.specs.Prelude.{OnErr};
 ghost use Rattle.lsvd_base.specs.Limits.{is_within_limits};
 ghost use Rattle.lsvd_fault.specs.Faults.{Counts};
 ghost use Rattle.lsvd_device.specs.Device.{IsDisk, HoldsNow};
@@ -29,17 +30,20 @@ use std::alloc::Global;
 use super_recovery::put_epoch;
 use uuid::Uuid;
 
-/// Mounts a volume without its cache, on a device that is formatted anew: recovers the list of its objects, removes the objects past the
-/// first missing number, puts the next epoch, and formats the device in that. The history has the entries of the objects.
+/// Mounts a volume without its cache, on a device that is formatted anew: recovers the list of its objects,
+/// removes the objects past the first missing number, puts the next epoch, and formats the device in that.
+/// The history has the entries of the objects.
 ///
-/// The store has the volume with these sizes, and this is its newest epoch. The geometry is within the limits, its log has just the sectors of
-/// the device past byte 4,096, and the device is a disk (conditions). Of each plain volume that the store has it makes what such a mount is to
-/// make. An error comes with the device, which is a disk still. They are tested in this order:
+/// The store has the volume with these sizes, and this is its newest epoch. The geometry is within the
+/// limits, its log has just the sectors of the device past byte 4,096, and the device is a disk (conditions).
+/// Of each plain volume that the store has it makes what such a mount is to make. An error comes with the
+/// device, which is a disk still. They are tested in this order:
 ///
 /// - `NoCheckpoint`, `BadObject`, `NotData`: the objects are refused.
 /// - `Worn`: the epoch, the greatest number of an object, or the count of entries is 2^60 or more.
-/// - `StoreFault`, `DeviceFault`: a call of the store, or of the device, failed, which ended the mount. The store has what it had, perhaps
-///   without objects past the first missing number, and perhaps with the next epoch, where none of these is left.
+/// - `StoreFault`, `DeviceFault`: a call of the store, or of the device, failed, which ended the mount. The
+///   store has what it had, perhaps without objects past the first missing number, and perhaps with the next
+///   epoch, where none of these is left.
 /// - `OutOfMemory`: memory ran out.
 pub fn mount_without_cache<D: Disk, S: Store>(
     alloc: Global,
@@ -53,23 +57,28 @@ pub fn mount_without_cache<D: Disk, S: Store>(
     requires is_disk { IsDisk (D.state disk) }
     requires log { geometry.log ≡ log_of (D.state disk).size }
     ensures volume { IfOk result (IsOfVolume uuid geometry (epoch + 1)) }
-    ensures mounts { TellsBytes S.Receipt.state → IfOk result (MountsStored uuid geometry (S.state store.old).objects) }
+    ensures mounts { TellsBytes S.Receipt.state
+        → IfOk result (MountsStored uuid geometry (S.state store.old).objects) }
     ensures begun { IfOk result (λ mounted.
-        Becomes (BeginsEpoch uuid mounted.number (epoch + 1)) (S.state store.old).objects (S.state store.new).objects) }
+        Becomes (BeginsEpoch uuid mounted.number (epoch + 1)) (S.state store.old).objects
+        (S.state store.new).objects) }
     ensures synced { IfOk result (λ mounted. HoldsNow IsSynced (disk_of mounted).moments) }
     ensures number { IfOk result (λ mounted. mounted.volume.volume.log.commits.number ≡ 0) }
-    ensures costs { IfOk result (λ mounted. CostsNewLog uuid (epoch + 1) true (D.state disk) (disk_of mounted)) }
+    ensures costs { IfOk result (λ mounted. CostsNewLog uuid (epoch + 1) true (D.state disk)
+        (disk_of mounted)) }
     ensures why { TellsBytes S.Receipt.state → IfErr result (λ error.
         IsWhyLost uuid geometry epoch (S.state store.old).objects error.1) }
     ensures no_refusal { TellsBytes S.Receipt.state → IfErr result (λ error.
         RefusesNoneStored uuid geometry (S.state store.old).objects error.1) }
     ensures refused { IfErr result (λ error.
         refuses error.1 ≡ true → (S.state store.new).objects ≡ (S.state store.old).objects) }
-    ensures some { OnErr result (Becomes (MayBeginEpoch (TellsBytes S.Receipt.state) (expected_of uuid geometry) (epoch + 1))
+    ensures some { OnErr result (Becomes
+        (MayBeginEpoch (TellsBytes S.Receipt.state) (expected_of uuid geometry) (epoch + 1))
         (S.state store.old).objects (S.state store.new).objects) }
     ensures err_costs { IfErr result (λ error.
         FailsToFormat uuid (epoch + 1) (is_device_fault error.1) (D.state disk) (D.state error.0)) }
-    ensures faults { Counts (ends_by_store_fault result) (S.state store.old).faults (S.state store.new).faults }
+    ensures faults { Counts (ends_by_store_fault result) (S.state store.old).faults
+        (S.state store.new).faults }
     ensures is_disk { IfErr result (λ error. IsDisk (D.state error.0)) }
 {
     let (objects, checkpoint) = match begin_epoch(alloc, store, uuid, geometry, epoch) {
@@ -82,8 +91,8 @@ pub fn mount_without_cache<D: Disk, S: Store>(
     }
 }
 
-// The list of a volume and the number of its newest checkpoint. The objects past the first missing number are removed, and the next epoch is
-// put. The geometry is within the limits (a condition).
+// The list of a volume and the number of its newest checkpoint. The objects past the first missing number are
+// removed, and the next epoch is put. The geometry is within the limits (a condition).
 fn begin_epoch<S: Store>(
     alloc: Global,
     store: &mut S,
@@ -94,15 +103,20 @@ fn begin_epoch<S: Store>(
     requires { IsTrue (is_within_limits geometry) }
     ensures list { IfOk result (λ recovered. IsRecovered uuid geometry recovered.0 recovered.1) }
     ensures low { IfOk result (λ recovered. AreLow epoch recovered.0) }
-    ensures told { TellsBytes S.Receipt.state → IfOk result (λ recovered. IfSome (S.state store.old).objects (λ objects.
+    ensures told { TellsBytes S.Receipt.state
+        → IfOk result (λ recovered. IfSome (S.state store.old).objects (λ objects.
         IsRecoveredFrom uuid geometry objects recovered.0 recovered.1)) }
-    ensures begun { IfOk result (λ recovered. Becomes (BeginsEpoch uuid recovered.0.uploads.window.last (epoch + 1))
+    ensures begun { IfOk result (λ recovered.
+        Becomes (BeginsEpoch uuid recovered.0.uploads.window.last (epoch + 1))
         (S.state store.old).objects (S.state store.new).objects) }
-    ensures why { TellsBytes S.Receipt.state → IfErr result (IsWhyLost uuid geometry epoch (S.state store.old).objects) }
-    ensures no_refusal { TellsBytes S.Receipt.state → IfErr result (RefusesNoneStored uuid geometry (S.state store.old).objects) }
+    ensures why { TellsBytes S.Receipt.state
+        → IfErr result (IsWhyLost uuid geometry epoch (S.state store.old).objects) }
+    ensures no_refusal { TellsBytes S.Receipt.state
+        → IfErr result (RefusesNoneStored uuid geometry (S.state store.old).objects) }
     ensures refused { IfErr result (λ error.
         refuses error ≡ true → (S.state store.new).objects ≡ (S.state store.old).objects) }
-    ensures some { OnErr result (Becomes (MayBeginEpoch (TellsBytes S.Receipt.state) (expected_of uuid geometry) (epoch + 1))
+    ensures some { OnErr result (Becomes
+        (MayBeginEpoch (TellsBytes S.Receipt.state) (expected_of uuid geometry) (epoch + 1))
         (S.state store.old).objects (S.state store.new).objects) }
     ensures no_fault { IfErr result (λ error. is_device_fault error ≡ false) }
     ensures faults { Counts (ends_by_store result) (S.state store.old).faults (S.state store.new).faults }
@@ -112,8 +126,9 @@ fn begin_epoch<S: Store>(
     Ok(recovered)
 }
 
-// The list of a volume and the number of its newest checkpoint, where neither its epoch, nor a number of its objects, nor the count of its
-// entries is too great. The objects past the first missing number are removed. The geometry is within the limits (a condition).
+// The list of a volume and the number of its newest checkpoint, where neither its epoch, nor a number of its
+// objects, nor the count of its entries is too great. The objects past the first missing number are removed.
+// The geometry is within the limits (a condition).
 fn recover_alone<S: Store>(
     alloc: Global,
     store: &mut S,
@@ -124,15 +139,19 @@ fn recover_alone<S: Store>(
     requires { IsTrue (is_within_limits geometry) }
     ensures list { IfOk result (λ recovered. IsRecovered uuid geometry recovered.0 recovered.1) }
     ensures low { IfOk result (λ recovered. AreLow epoch recovered.0) }
-    ensures told { TellsBytes S.Receipt.state → IfOk result (λ recovered. IfSome (S.state store.old).objects (λ objects.
+    ensures told { TellsBytes S.Receipt.state
+        → IfOk result (λ recovered. IfSome (S.state store.old).objects (λ objects.
         IsRecoveredFrom uuid geometry objects recovered.0 recovered.1)) }
     ensures removed { IfOk result (λ recovered. Becomes (RemovesAllPast uuid recovered.0.uploads.window.last)
         (S.state store.old).objects (S.state store.new).objects) }
-    ensures why { TellsBytes S.Receipt.state → IfErr result (IsWhyLost uuid geometry epoch (S.state store.old).objects) }
-    ensures no_refusal { TellsBytes S.Receipt.state → IfErr result (RefusesNoneStored uuid geometry (S.state store.old).objects) }
+    ensures why { TellsBytes S.Receipt.state
+        → IfErr result (IsWhyLost uuid geometry epoch (S.state store.old).objects) }
+    ensures no_refusal { TellsBytes S.Receipt.state
+        → IfErr result (RefusesNoneStored uuid geometry (S.state store.old).objects) }
     ensures refused { IfErr result (λ error.
         refuses error ≡ true → (S.state store.new).objects ≡ (S.state store.old).objects) }
-    ensures some { OnErr result (Becomes (MayRemovePast (TellsBytes S.Receipt.state) (expected_of uuid geometry))
+    ensures some { OnErr result (Becomes
+        (MayRemovePast (TellsBytes S.Receipt.state) (expected_of uuid geometry))
         (S.state store.old).objects (S.state store.new).objects) }
     ensures no_fault { IfErr result (λ error. is_device_fault error ≡ false) }
     ensures faults { Counts (ends_by_store result) (S.state store.old).faults (S.state store.new).faults }

@@ -31,8 +31,8 @@ impl<D: Disk, R: Receipt> Model for Mounted<D, R> {
     ghost view = { λ m. record { volume = m.volume; entries = m.entries; number = m.number } };
 }
 
-/// The volume of a list and a log, whose newest checkpoint has this number. They show a plain volume, and their numbers are small
-/// (conditions).
+/// The volume of a list and a log, whose newest checkpoint has this number. They show a plain volume, and
+/// their numbers are small (conditions).
 pub(crate) fn assemble<D: Disk, R: Receipt>(
     alloc: Global,
     objects: ObjLog<R>,

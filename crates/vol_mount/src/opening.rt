@@ -35,9 +35,10 @@ pub(crate) struct Known {
     pub(crate) greatest: u64,
 }
 
-/// Loads the commits of a device, and opens the log of the last one, which is of this volume in this epoch, and begins at this end of its
-/// objects or before. The geometry is within the limits, its log has just the sectors of the device past byte 4,096, and the device is a
-/// disk of at least 4,096 bytes (conditions). An error comes with the device.
+/// Loads the commits of a device, and opens the log of the last one, which is of this volume in this epoch,
+/// and begins at this end of its objects or before. The geometry is within the limits, its log has just the
+/// sectors of the device past byte 4,096, and the device is a disk of at least 4,096 bytes (conditions). An
+/// error comes with the device.
 pub(crate) fn open_log<D: Disk>(
     alloc: Global,
     disk: D,
@@ -47,10 +48,12 @@ pub(crate) fn open_log<D: Disk>(
     requires is_disk { IsDisk (D.state disk) }
     requires size { 4096 ≤ (D.state disk).size }
     requires log { known.now.geometry.log ≡ log_of (D.state disk).size }
-    ensures ok { IfOk result (IsOpenedOf known.now.uuid known.now.geometry known.now.epoch known.now.end (D.state disk)) }
+    ensures ok { IfOk result (IsOpenedOf known.now.uuid known.now.geometry known.now.epoch known.now.end
+        (D.state disk)) }
     ensures low { OnOk result ((known.now.epoch < max_number) × (known.now.greatest < max_number)) }
     ensures why { IfErr result (λ error.
-        IsWhyNotOpened known.now.uuid known.now.geometry known.now.epoch known.now.end known.now.greatest (D.state disk) error.1) }
+        IsWhyNotOpened known.now.uuid known.now.geometry known.now.epoch known.now.end known.now.greatest
+        (D.state disk) error.1) }
     ensures settled { IfErr result (λ error. LeavesSettled (D.state disk) (D.state error.0)) }
     ensures costs { IfErr result (λ error.
         CostsMount known.now.geometry.log (not (is_device_fault error.1)) (D.state disk) (D.state error.0)) }
@@ -74,11 +77,16 @@ pub(crate) fn open_log<D: Disk>(
     }
 }
 
-// Why the last commit is not that of this volume in its newest epoch, or its log begins past the end of the volume's objects.
+// Why the last commit is not that of this volume in its newest epoch, or its log begins past the end of the
+// volume's objects.
 fn refusal_of<D: Disk>(commits: &Commits<D>, known: &Known) -> Option<MountError>
-    ensures none { IfNone result ((owner_of commits.now.body ≡ record { uuid = known.now.uuid; epoch = known.now.epoch })
+    ensures none { IfNone result ((owner_of commits.now.body ≡ record {
+      uuid = known.now.uuid;
+      epoch = known.now.epoch;
+    })
         × (commits.now.body.tail.seq ≤ known.now.end)) }
-    ensures some { IfSome result (IsWhyRefusedCommit known.now.uuid known.now.epoch known.now.end commits.now.body) }
+    ensures some { IfSome result (IsWhyRefusedCommit known.now.uuid known.now.epoch known.now.end
+        commits.now.body) }
     ensures may_stand { MayStand commits.now.body (log_of commits.now.disk.size) }
 {
     let body = commits.body();

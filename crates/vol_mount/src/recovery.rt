@@ -15,7 +15,8 @@ use object_recovery::{Recovered, recover};
 use std::alloc::Global;
 use uuid::Uuid;
 
-/// Recovers the list of a volume. The store is only read. An object of number 0 is none of a volume's, and so no checkpoint of it.
+/// Recovers the list of a volume. The store is only read. An object of number 0 is none of a volume's, and so
+/// no checkpoint of it.
 pub(crate) fn recover_list<S: Store>(
     alloc: Global,
     store: &mut S,
@@ -25,10 +26,13 @@ pub(crate) fn recover_list<S: Store>(
     requires { IsTrue (is_within_limits geometry) }
     ensures list { IfOk result (λ recovered. IsRecovered uuid geometry recovered.log recovered.checkpoint) }
     ensures names { IfOk result (HasAllNames (S.state store.old).objects) }
-    ensures told { TellsBytes S.Receipt.state → IfOk result (λ recovered. IfSome (S.state store.old).objects (λ objects.
+    ensures told { TellsBytes S.Receipt.state
+        → IfOk result (λ recovered. IfSome (S.state store.old).objects (λ objects.
         IsRecoveredFrom uuid geometry objects recovered.log recovered.checkpoint)) }
-    ensures why { TellsBytes S.Receipt.state → IfErr result (IsWhyNotStored uuid geometry (S.state store.old).objects) }
-    ensures no_refusal { TellsBytes S.Receipt.state → IfErr result (RefusesNoneStored uuid geometry (S.state store.old).objects) }
+    ensures why { TellsBytes S.Receipt.state
+        → IfErr result (IsWhyNotStored uuid geometry (S.state store.old).objects) }
+    ensures no_refusal { TellsBytes S.Receipt.state
+        → IfErr result (RefusesNoneStored uuid geometry (S.state store.old).objects) }
     ensures no_fault { IfErr result (λ error. is_device_fault error ≡ false) }
     ensures unchanged { OnlyCounts (S.state store.old) (S.state store.new) }
     ensures faults { Counts (ends_by_store result) (S.state store.old).faults (S.state store.new).faults }

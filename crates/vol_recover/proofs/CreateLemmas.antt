@@ -23,7 +23,8 @@ use Rattle.super_recovery.specs.Faults.{IsNoAnswer}
 use Rattle.super_recovery.specs.Put.{PutsSuper, PutsEpoch, MayBecome}
 use Rattle.vol_recover.specs.declared.creating.CreateError.{CreateError}
 use Rattle.vol_recover.specs.declared.creating.CreateError.TheVariants.{Exists, StoreFault, DeviceFault, OutOfMemory}
-use Rattle.vol_recover.specs.Creating.{IsFirstObject, PutsFirst, PutsEpochToo, PutsNoSuper, PutsSome, PutsVolume, MayPut, IsOfStore, super_of, of_super}
+use Rattle.vol_recover.specs.Creating.{IsFirstObject, PutsFirst, PutsEpochToo, PutsNoSuper, PutsSome, PutsVolume, MayPut}
+use Rattle.vol_recover.specs.Creating.{IsOfStore, super_of, of_super}
 use Rattle.object_recovery.proofs.RemovalLemmas.{becomes_so, becomes_both}
 use Rattle.vol_recover.proofs.Results.{same_objects, none_changed}
 
@@ -36,7 +37,8 @@ first_expected uuid geometry = expected_alone (expected_of uuid geometry) 1
 abbrev first_header : (uuid : List ℕ) → Geometry → Header
 first_header uuid geometry = header_of (first_expected uuid geometry) 0 0 Checkpoint
 
-pub may_be_written : (uuid : List ℕ) (geometry : Geometry) → MayBeWritten (first_expected uuid geometry) (first_header uuid geometry) Checkpoint
+pub may_be_written : (uuid : List ℕ) (geometry : Geometry)
+    → MayBeWritten (first_expected uuid geometry) (first_header uuid geometry) Checkpoint
 may_be_written uuid geometry = record { seqs = refl; limits = search (rules, tests); spelling = refl }
 
 pub first_object_is : (uuid : List ℕ) (geometry : Geometry) (bytes : List ℕ) → WritesObjects → length uuid ≡ 16
@@ -44,13 +46,23 @@ pub first_object_is : (uuid : List ℕ) (geometry : Geometry) (bytes : List ℕ)
 first_object_is uuid geometry bytes law size is =
     let header : Header = first_header uuid geometry in
     let widths : HasWidths header =
-    record { uuid = size; number = search rules; first_seq = search rules; end_seq = search rules; rows = search rules; payload = search rules } in
+    record {
+      uuid = size;
+      number = search rules;
+      first_seq = search rules;
+      end_seq = search rules;
+      rows = search rules;
+      payload = search rules;
+    } in
     let written = law (first_expected uuid geometry) 0 0 Checkpoint [] widths (may_be_written uuid geometry) refl in
     let P : List ℕ → Type 0 = λ b. IsObject b (length b) (first_expected uuid geometry) header Checkpoint in
     record {
       header = header;
       payload = _;
-      parts = record { is_object = subst P (sym is) (subst P (append-nil (front_bytes header Checkpoint)) written); payload_is = refl };
+      parts = record {
+        is_object = subst P (sym is) (subst P (append-nil (front_bytes header Checkpoint)) written);
+        payload_is = refl;
+      };
       ends = refl;
     }
 
@@ -72,7 +84,8 @@ put_first_is uuid geometry bytes first old new put = (
   },
 )
 
-pub puts_first : (uuid : List ℕ) (geometry : Geometry) (bytes : List ℕ) (old new : Option Objects) → IsFirstObject uuid geometry bytes
+pub puts_first : (uuid : List ℕ) (geometry : Geometry) (bytes : List ℕ) (old new : Option Objects)
+    → IsFirstObject uuid geometry bytes
     → Becomes (IsPut (name_of uuid 1) bytes) old new → Becomes (PutsFirst uuid geometry) old new
 puts_first uuid geometry bytes old new first put =
     becomes_so (IsPut (name_of uuid 1) bytes) (PutsFirst uuid geometry) old new (put_first_is uuid geometry bytes first) put
@@ -93,7 +106,8 @@ after_error uuid geometry bytes store_errors.Failed old new first failed lacks =
     becomes_so (MayBePut (name_of uuid 1) bytes) (MayBecome (PutsFirst uuid geometry)) old.objects new.objects
     (may_put_first uuid geometry bytes first) (failed refl)
 after_error uuid geometry bytes store_errors.OutOfMemory old new first failed lacks =
-    none_changed (MayBecome (PutsFirst uuid geometry)) old.objects new.objects (λ objects. inl refl) (same_objects old new (lacks refl))
+    none_changed (MayBecome (PutsFirst uuid geometry)) old.objects new.objects (λ objects. inl refl)
+    (same_objects old new (lacks refl))
 
 -- and one of the put of a super object or of an epoch
 pub after_super_error : (Change : Objects → Objects → Type 0) (error : SuperError) (old new : StoreState) → IsNoAnswer error
@@ -130,22 +144,27 @@ pub after_epoch_error : (uuid : List ℕ) (geometry : Geometry) (old before firs
     → Becomes (PutsFirst uuid geometry) before first → Becomes (MayBecome (PutsEpoch uuid 0)) first new
     → Becomes (PutsNoSuper uuid geometry) old new
 after_epoch_error uuid geometry old before first new same put may =
-    becomes_both (PutsFirst uuid geometry) (MayBecome (PutsEpoch uuid 0)) (PutsNoSuper uuid geometry) old first new (epoch_failed uuid geometry)
+    becomes_both (PutsFirst uuid geometry) (MayBecome (PutsEpoch uuid 0)) (PutsNoSuper uuid geometry) old first new
+    (epoch_failed uuid geometry)
     (subst (λ objects. Becomes (PutsFirst uuid geometry) objects first) same put) may
 
 -- that of the super object after these
 super_failed : (uuid : List ℕ) (geometry : Geometry) (old middle new : Objects) → PutsEpochToo uuid geometry old middle
     → MayBecome (PutsSuper (super_of uuid geometry)) middle new → PutsSome uuid geometry old new
-super_failed uuid geometry old middle new puts (inl same) = inl (inr (inr (subst (PutsEpochToo uuid geometry old) (sym same) puts)))
+super_failed uuid geometry old middle new puts (inl same) =
+    inl (inr (inr (subst (PutsEpochToo uuid geometry old) (sym same) puts)))
 super_failed uuid geometry old middle new puts (inr super) = inr (middle, puts, super)
 
-pub some_put : (uuid : List ℕ) (geometry : Geometry) (old middle new : Option Objects) → Becomes (PutsEpochToo uuid geometry) old middle
+pub some_put : (uuid : List ℕ) (geometry : Geometry) (old middle new : Option Objects)
+    → Becomes (PutsEpochToo uuid geometry) old middle
     → Becomes (MayBecome (PutsSuper (super_of uuid geometry))) middle new → Becomes (PutsSome uuid geometry) old new
 some_put uuid geometry old middle new puts may =
-    becomes_both (PutsEpochToo uuid geometry) (MayBecome (PutsSuper (super_of uuid geometry))) (PutsSome uuid geometry) old middle new
+    becomes_both (PutsEpochToo uuid geometry) (MayBecome (PutsSuper (super_of uuid geometry))) (PutsSome uuid geometry)
+    old middle new
     (super_failed uuid geometry) puts may
 
-pub all_put : (uuid : List ℕ) (geometry : Geometry) (old middle new : Option Objects) → Becomes (PutsEpochToo uuid geometry) old middle
+pub all_put : (uuid : List ℕ) (geometry : Geometry) (old middle new : Option Objects)
+    → Becomes (PutsEpochToo uuid geometry) old middle
     → Becomes (PutsSuper (super_of uuid geometry)) middle new → Becomes (PutsVolume uuid geometry) old new
 all_put uuid geometry old middle new puts super =
     becomes_both (PutsEpochToo uuid geometry) (PutsSuper (super_of uuid geometry)) (PutsVolume uuid geometry) old middle new
@@ -154,4 +173,5 @@ all_put uuid geometry old middle new puts super =
 pub becomes_may_put : (uuid : List ℕ) (geometry : Geometry) (error : CreateError) (old new : Option Objects) → IsOfStore error
     → Becomes (PutsSome uuid geometry) old new → Becomes (MayPut uuid geometry error) old new
 becomes_may_put uuid geometry error old new of_store some =
-    becomes_so (PutsSome uuid geometry) (MayPut uuid geometry error) old new (λ a b so. may_put uuid geometry error a b of_store so) some
+    becomes_so (PutsSome uuid geometry) (MayPut uuid geometry error) old new
+    (λ a b so. may_put uuid geometry error a b of_store so) some

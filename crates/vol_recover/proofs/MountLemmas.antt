@@ -37,21 +37,24 @@ of_volume uuid log objects geometry epoch P the so g e log_is has =
 
 -- what a mount made of the store, once the volume was described, which changed nothing
 pub ok_of_volume : {T E : Type 0} (uuid : List ℕ) (log : ℕ) (old described : Option Objects) (geometry : Geometry) (epoch : ℕ)
-    (P : Option Objects → Geometry → ℕ → T → Type 0) (outcome : Result T E) → IsTheVolume uuid log old geometry epoch → described ≡ old
+    (P : Option Objects → Geometry → ℕ → T → Type 0) (outcome : Result T E) → IsTheVolume uuid log old geometry epoch
+    → described ≡ old
     → IfOk outcome (P described geometry epoch) → IfOk outcome (λ value. OfVolume uuid log old (λ g e. P old g e value))
 ok_of_volume uuid log old described geometry epoch P (Ok value) the same so =
     of_volume uuid log old geometry epoch (λ g e. P old g e value) the (subst (λ objects. P objects geometry epoch value) same so)
 ok_of_volume uuid log old described geometry epoch P (Err error) the same so = tt
 
 pub err_of_volume : {T E : Type 0} (uuid : List ℕ) (log : ℕ) (old described : Option Objects) (geometry : Geometry) (epoch : ℕ)
-    (P : Option Objects → Geometry → ℕ → E → Type 0) (outcome : Result T E) → IsTheVolume uuid log old geometry epoch → described ≡ old
+    (P : Option Objects → Geometry → ℕ → E → Type 0) (outcome : Result T E) → IsTheVolume uuid log old geometry epoch
+    → described ≡ old
     → IfErr outcome (P described geometry epoch) → IfErr outcome (λ error. OfVolume uuid log old (λ g e. P old g e error))
 err_of_volume uuid log old described geometry epoch P (Ok value) the same so = tt
 err_of_volume uuid log old described geometry epoch P (Err error) the same so =
     of_volume uuid log old geometry epoch (λ g e. P old g e error) the (subst (λ objects. P objects geometry epoch error) same so)
 
 -- it has some
-pub of_some_volume : (uuid : List ℕ) (log : ℕ) (geometry : Geometry) (epoch : ℕ) → geometry.log ≡ log → IsTrue (is_within_limits geometry)
+pub of_some_volume : (uuid : List ℕ) (log : ℕ) (geometry : Geometry) (epoch : ℕ) → geometry.log ≡ log
+    → IsTrue (is_within_limits geometry)
     → (mounted : MountedState) → IsOfVolume uuid geometry epoch mounted → IsOfSomeVolume uuid log mounted
 of_some_volume uuid log geometry epoch log_is limits mounted is = (geometry, epoch, log_is, limits, is)
 
@@ -63,11 +66,13 @@ removes_none Which old new same = record {
   removed = λ name. inl (ap (λ (objects : Objects). found objects name) same);
 }
 
-removes_some : (Tells : Type 0) (volume : Expected) (old new : Objects) → MayRemovePast Tells volume old new → RemovesSome volume.uuid old new
+removes_some : (Tells : Type 0) (volume : Expected) (old new : Objects) → MayRemovePast Tells volume old new
+    → RemovesSome volume.uuid old new
 removes_some Tells volume old new (inl same) = (0, removes_none (IsPastOf volume.uuid 0) old new same)
 removes_some Tells volume old new (inr some) = (some.0, some.2)
 
-begins_some : (uuid : List ℕ) (number epoch : ℕ) (old new : Objects) → BeginsEpoch uuid number epoch old new → RemovesAndBegins uuid old new
+begins_some : (uuid : List ℕ) (number epoch : ℕ) (old new : Objects) → BeginsEpoch uuid number epoch old new
+    → RemovesAndBegins uuid old new
 begins_some uuid number epoch old new begins = (begins.0, (number, begins.1.removes), inr (epoch, begins.2))
 
 may_begin_some : (Tells : Type 0) (volume : Expected) (epoch : ℕ) (old new : Objects) → MayBeginEpoch Tells volume epoch old new
@@ -75,7 +80,8 @@ may_begin_some : (Tells : Type 0) (volume : Expected) (epoch : ℕ) (old new : O
 may_begin_some Tells volume epoch old new (inl may) = (new, removes_some Tells volume old new may, inl refl)
 may_begin_some Tells volume epoch old new (inr begins) = begins_some volume.uuid begins.0 epoch old new begins.2
 
-pub err_removes_some : {T E : Type 0} (Tells : Type 0) (volume : Expected) (outcome : Result T E) (old described new : Option Objects)
+pub err_removes_some : {T E : Type 0} (Tells : Type 0) (volume : Expected) (outcome : Result T E)
+    (old described new : Option Objects)
     → described ≡ old → OnErr outcome (Becomes (MayRemovePast Tells volume) described new)
     → OnErr outcome (Becomes (RemovesSome volume.uuid) old new)
 err_removes_some Tells volume (Ok value) old described new same is = tt
@@ -83,7 +89,8 @@ err_removes_some Tells volume (Err error) old described new same is =
     becomes_so (MayRemovePast Tells volume) (RemovesSome volume.uuid) old new (removes_some Tells volume)
     (subst (λ objects. Becomes (MayRemovePast Tells volume) objects new) same is)
 
-pub none_begun : (uuid : List ℕ) (old new : StoreState) → OnlyCounts old new → Becomes (RemovesAndBegins uuid) old.objects new.objects
+pub none_begun : (uuid : List ℕ) (old new : StoreState) → OnlyCounts old new
+    → Becomes (RemovesAndBegins uuid) old.objects new.objects
 none_begun uuid old new only =
     none_changed (RemovesAndBegins uuid) old.objects new.objects
     (λ objects. (objects, (0, removes_none (IsPastOf uuid 0) objects objects refl), inl refl)) (counted_objects old new only)
@@ -97,7 +104,8 @@ none_removed Tells volume old new only =
 pub no_epoch_begun : (Tells : Type 0) (volume : Expected) (epoch : ℕ) (old new : StoreState) → OnlyCounts old new
     → Becomes (MayBeginEpoch Tells volume epoch) old.objects new.objects
 no_epoch_begun Tells volume epoch old new only =
-    none_changed (MayBeginEpoch Tells volume epoch) old.objects new.objects (λ objects. inl (inl refl)) (counted_objects old new only)
+    none_changed (MayBeginEpoch Tells volume epoch) old.objects new.objects (λ objects. inl (inl refl))
+    (counted_objects old new only)
 
 -- whether the mount without the cache was made or not
 pub may_begin : {T E : Type 0} (Tells : Type 0) (volume : Expected) (epoch : ℕ) (number : T → ℕ) (outcome : Result T E)
@@ -105,7 +113,8 @@ pub may_begin : {T E : Type 0} (Tells : Type 0) (volume : Expected) (epoch : ℕ
     → IfOk outcome (λ value. Becomes (BeginsEpoch volume.uuid (number value) epoch) described new)
     → OnErr outcome (Becomes (MayBeginEpoch Tells volume epoch) described new) → Becomes (RemovesAndBegins volume.uuid) old new
 may_begin Tells volume epoch number (Ok value) old described new same ok err =
-    becomes_so (BeginsEpoch volume.uuid (number value) epoch) (RemovesAndBegins volume.uuid) old new (begins_some volume.uuid (number value) epoch)
+    becomes_so (BeginsEpoch volume.uuid (number value) epoch) (RemovesAndBegins volume.uuid) old new
+    (begins_some volume.uuid (number value) epoch)
     (subst (λ objects. Becomes (BeginsEpoch volume.uuid (number value) epoch) objects new) same ok)
 may_begin Tells volume epoch number (Err error) old described new same ok err =
     becomes_so (MayBeginEpoch Tells volume epoch) (RemovesAndBegins volume.uuid) old new (may_begin_some Tells volume epoch)

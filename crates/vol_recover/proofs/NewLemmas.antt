@@ -18,7 +18,8 @@ use Rattle.store_meaning.specs.Laws.{LeftHasObjects}
 use Rattle.super_recovery.specs.Found.{HasEpoch}
 use Rattle.super_recovery.specs.Laws.{VolumeIsCreated}
 use Rattle.super_recovery.specs.Put.{PutsSuper, PutsEpoch}
-use Rattle.vol_recover.specs.Creating.{PutsFirst, PutsNoSuper, PutsSome, PutsVolume, IsNewTo, HasNewVolume, HasNoneOrNew, super_of}
+use Rattle.vol_recover.specs.Creating.{PutsFirst, PutsNoSuper, PutsSome, PutsVolume, IsNewTo, HasNewVolume, HasNoneOrNew}
+use Rattle.vol_recover.specs.Creating.{super_of}
 
 -- ---- names
 
@@ -35,7 +36,8 @@ first_is_no_epoch : (uuid : List ℕ) (number : ℕ) → epoch_name uuid number 
 first_is_no_epoch uuid number same = let kind = ap (λ (n : ObjName). n.kind) same in cc
 
 other_epoch : (uuid : List ℕ) (number : ℕ) → 0 < number → epoch_name uuid number ≡ epoch_name uuid 0 → ⊥
-other_epoch uuid number past same = let number_is : number ≡ 0 = ap (λ (n : ObjName). n.number) same in omega (arith, number_is, past)
+other_epoch uuid number past same = let number_is : number ≡ 0 = ap (λ (n : ObjName). n.number) same in
+    omega (arith, number_is, past)
 
 epoch_is_no_object : (uuid : List ℕ) (number epoch : ℕ) → name_of uuid number ≡ epoch_name uuid epoch → ⊥
 epoch_is_no_object uuid number epoch same = let kind = ap (λ (n : ObjName). n.kind) same in cc
@@ -52,10 +54,14 @@ not_some : (held : Option (List ℕ)) → (held ≢ None → ⊥) → held ≡ N
 not_some None never = refl
 not_some (Some bytes) never = absurd (never (λ (same : Some bytes ≡ None). cc))
 
-lacks : (uuid : List ℕ) (objects : Objects) (name : ObjName) → IsNewTo uuid objects → name.uuid ≡ uuid → (name ≡ name_of uuid 1 → ⊥)
+lacks : (uuid : List ℕ) (objects : Objects) (name : ObjName) → IsNewTo uuid objects → name.uuid ≡ uuid
+    → (name ≡ name_of uuid 1 → ⊥)
     → (name ≡ epoch_name uuid 0 → ⊥) → found objects name ≡ None
 lacks uuid objects name new of_uuid no_first no_epoch =
-    not_some (found objects name) (λ there. elim (new name of_uuid there) [ inl first ↦ no_first first | inr epoch ↦ no_epoch epoch ])
+    not_some (found objects name) (λ there. elim (new name of_uuid there) [
+      | inl first ↦ no_first first
+      | inr epoch ↦ no_epoch epoch
+    ])
 
 -- no object was sealed yet
 abbrev no_puts : ℕ → Option (PutState × List ℕ)
@@ -81,16 +87,19 @@ module _ (uuid : List ℕ) (geometry : Geometry) (old : Objects) (new_to : IsNew
 
   -- ---- the whole volume
 
-  module _ (limits : IsTrue (is_within_limits geometry)) (created : VolumeIsCreated) (left : LeftHasObjects) (first epoch new : Objects)
+  module _ (limits : IsTrue (is_within_limits geometry)) (created : VolumeIsCreated) (left : LeftHasObjects)
+      (first epoch new : Objects)
       (puts_first : PutsFirst uuid geometry old first) (puts_epoch : PutsEpoch uuid 0 first epoch)
       (puts_super : PutsSuper (super_of uuid geometry) epoch new) where
-    same_as_first : (name : ObjName) → (name ≡ epoch_name uuid 0 → ⊥) → (name ≡ super_name uuid → ⊥) → found new name ≡ found first name
+    same_as_first : (name : ObjName) → (name ≡ epoch_name uuid 0 → ⊥) → (name ≡ super_name uuid → ⊥)
+        → found new name ≡ found first name
     same_as_first name no_epoch no_super = puts_super.others name no_super ∙ puts_epoch.others name no_epoch
 
     still_lacks : (name : ObjName) → name.uuid ≡ uuid → (name ≡ name_of uuid 1 → ⊥) → (name ≡ epoch_name uuid 0 → ⊥)
         → (name ≡ super_name uuid → ⊥) → found new name ≡ None
     still_lacks name of_uuid no_first no_epoch no_super =
-        same_as_first name no_epoch no_super ∙ puts_first.1.others name no_first ∙ lacks uuid old name new_to of_uuid no_first no_epoch
+        same_as_first name no_epoch no_super ∙ puts_first.1.others name no_first
+        ∙ lacks uuid old name new_to of_uuid no_first no_epoch
 
     has_epoch : HasEpoch uuid 0 new
     has_epoch = record {
@@ -104,11 +113,13 @@ module _ (uuid : List ℕ) (geometry : Geometry) (old : Objects) (new_to : IsNew
     has_volume =
         created (super_of uuid geometry) geometry new refl refl puts_super.says has_epoch
         (λ number past.
-        still_lacks (epoch_name uuid number) refl (first_is_no_epoch uuid number) (other_epoch uuid number past) (super_is_no_epoch uuid number))
+        still_lacks (epoch_name uuid number) refl (first_is_no_epoch uuid number) (other_epoch uuid number past)
+        (super_is_no_epoch uuid number))
 
     lacks_object : (number : ℕ) → (number ≡ 1 → ⊥) → found new (name_of uuid number) ≡ None
     lacks_object number apart =
-        still_lacks (name_of uuid number) refl (other_object uuid number apart) (epoch_is_no_object uuid number 0) (super_is_no_object uuid number)
+        still_lacks (name_of uuid number) refl (other_object uuid number apart) (epoch_is_no_object uuid number 0)
+        (super_is_no_object uuid number)
 
     has_first : IsCheckpointOf (expected_of uuid geometry) new 1 0 (stream_in (created_volume geometry)).opening
     has_first =
@@ -144,34 +155,47 @@ module _ (uuid : List ℕ) (geometry : Geometry) (old : Objects) (new_to : IsNew
     are_puts = record { known = λ number past within. absurd (omega arith); none_else = λ number past. refl }
 
     has_new_volume : HasNewVolume uuid geometry new
-    has_new_volume = (has_volume, (left uuid 0 (created_volume geometry) no_puts new (created_is geometry limits) are_puts may_be_left).0)
+    has_new_volume = (
+      has_volume,
+      (left uuid 0 (created_volume geometry) no_puts new (created_is geometry limits) are_puts
+          may_be_left).0,
+    )
 
 -- ---- what a creation leaves
 
-new_stands : (uuid : List ℕ) (geometry : Geometry) (old new : Objects) → IsTrue (is_within_limits geometry) → VolumeIsCreated → LeftHasObjects
+new_stands : (uuid : List ℕ) (geometry : Geometry) (old new : Objects) → IsTrue (is_within_limits geometry) → VolumeIsCreated
+    → LeftHasObjects
     → PutsVolume uuid geometry old new → IsNewTo uuid old → HasNewVolume uuid geometry new
 new_stands uuid geometry old new limits created left (middle, (first, puts_first, puts_epoch), puts_super) new_to =
     has_new_volume uuid geometry old new_to limits created left first middle new puts_first puts_epoch puts_super
 
-none_or_new : (uuid : List ℕ) (geometry : Geometry) (old new : Objects) → IsTrue (is_within_limits geometry) → VolumeIsCreated → LeftHasObjects
+none_or_new : (uuid : List ℕ) (geometry : Geometry) (old new : Objects) → IsTrue (is_within_limits geometry) → VolumeIsCreated
+    → LeftHasObjects
     → PutsSome uuid geometry old new → IsNewTo uuid old → HasNoneOrNew uuid geometry new
 none_or_new uuid geometry old new limits created left (inl none) new_to = inl (no_super uuid geometry old new_to new none)
-none_or_new uuid geometry old new limits created left (inr volume) new_to = inr (new_stands uuid geometry old new limits created left volume new_to)
+none_or_new uuid geometry old new limits created left (inr volume) new_to =
+    inr (new_stands uuid geometry old new limits created left volume new_to)
 
 -- what a store becomes says so of it
-becomes_told : (C : Objects → Objects → Type 0) (P Q : Objects → Type 0) (old new : Option Objects) → ((a b : Objects) → C a b → P a → Q b)
+becomes_told : (C : Objects → Objects → Type 0) (P Q : Objects → Type 0) (old new : Option Objects)
+    → ((a b : Objects) → C a b → P a → Q b)
     → Becomes C old new → IfSome old (λ a. P a → IfSome new Q)
 becomes_told C P Q None new so becomes = tt
-becomes_told C P Q (Some a) new so becomes = λ before. subst (λ told. IfSome told Q) (sym becomes.1) (so a becomes.0 becomes.2 before)
+becomes_told C P Q (Some a) new so becomes =
+    λ before. subst (λ told. IfSome told Q) (sym becomes.1) (so a becomes.0 becomes.2 before)
 
-pub stands_new : (uuid : List ℕ) (geometry : Geometry) (old new : Option Objects) → IsTrue (is_within_limits geometry) → VolumeIsCreated
-    → LeftHasObjects → Becomes (PutsVolume uuid geometry) old new → IfSome old (λ a. IsNewTo uuid a → IfSome new (HasNewVolume uuid geometry))
+pub stands_new : (uuid : List ℕ) (geometry : Geometry) (old new : Option Objects) → IsTrue (is_within_limits geometry)
+    → VolumeIsCreated
+    → LeftHasObjects → Becomes (PutsVolume uuid geometry) old new
+    → IfSome old (λ a. IsNewTo uuid a → IfSome new (HasNewVolume uuid geometry))
 stands_new uuid geometry old new limits created left puts =
     becomes_told (PutsVolume uuid geometry) (IsNewTo uuid) (HasNewVolume uuid geometry) old new
     (λ a b. new_stands uuid geometry a b limits created left) puts
 
-pub stands_none_or_new : (uuid : List ℕ) (geometry : Geometry) (old new : Option Objects) → IsTrue (is_within_limits geometry) → VolumeIsCreated
-    → LeftHasObjects → Becomes (PutsSome uuid geometry) old new → IfSome old (λ a. IsNewTo uuid a → IfSome new (HasNoneOrNew uuid geometry))
+pub stands_none_or_new : (uuid : List ℕ) (geometry : Geometry) (old new : Option Objects) → IsTrue (is_within_limits geometry)
+    → VolumeIsCreated
+    → LeftHasObjects → Becomes (PutsSome uuid geometry) old new
+    → IfSome old (λ a. IsNewTo uuid a → IfSome new (HasNoneOrNew uuid geometry))
 stands_none_or_new uuid geometry old new limits created left puts =
     becomes_told (PutsSome uuid geometry) (IsNewTo uuid) (HasNoneOrNew uuid geometry) old new
     (λ a b. none_or_new uuid geometry a b limits created left) puts

@@ -6,15 +6,18 @@ use Rattle.lsvd_objstore.specs.Store.{StoreState, OnlyCounts, Becomes}
 
 -- ---- outcomes
 
-pub ok_so : {T E : Type 0} (P Q : T → Type 0) (outcome : Result T E) → ((value : T) → P value → Q value) → IfOk outcome P → IfOk outcome Q
+pub ok_so : {T E : Type 0} (P Q : T → Type 0) (outcome : Result T E) → ((value : T) → P value → Q value) → IfOk outcome P
+    → IfOk outcome Q
 ok_so P Q (Ok value) so is = so value is
 ok_so P Q (Err error) so is = tt
 
-pub err_so : {T E : Type 0} (P Q : E → Type 0) (outcome : Result T E) → ((error : E) → P error → Q error) → IfErr outcome P → IfErr outcome Q
+pub err_so : {T E : Type 0} (P Q : E → Type 0) (outcome : Result T E) → ((error : E) → P error → Q error) → IfErr outcome P
+    → IfErr outcome Q
 err_so P Q (Ok value) so is = tt
 err_so P Q (Err error) so is = so error is
 
-pub ok_if : {T E : Type 0} (P : T → Type 0) (outcome : Result T E) (value : T) → IfOk outcome (λ v. v ≡ value) → P value → IfOk outcome P
+pub ok_if : {T E : Type 0} (P : T → Type 0) (outcome : Result T E) (value : T) → IfOk outcome (λ v. v ≡ value) → P value
+    → IfOk outcome P
 ok_if P (Ok v) value is so = subst P (sym is) so
 ok_if P (Err e) value is so = tt
 
@@ -37,7 +40,8 @@ counted_objects old new only = ap (λ (s : StoreState). s.objects) only
 pub counted_then : (old middle new : StoreState) → OnlyCounts old middle → OnlyCounts middle new → OnlyCounts old new
 counted_then old middle new first second = second ∙ ap (λ (s : StoreState). record s { faults = new.faults }) first
 
-pub none_changed : (C : Objects → Objects → Type 0) (old new : Option Objects) → ((objects : Objects) → C objects objects) → new ≡ old
+pub none_changed : (C : Objects → Objects → Type 0) (old new : Option Objects) → ((objects : Objects) → C objects objects)
+    → new ≡ old
     → Becomes C old new
 none_changed C None new none same = same
 none_changed C (Some old) new none same = (old, same, none old)

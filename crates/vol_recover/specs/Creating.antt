@@ -70,7 +70,8 @@ PutsNoSuper uuid geometry old new = (new ≡ old) ⊎ (PutsFirst uuid geometry o
 abbrev pub PutsSome : (uuid : List ℕ) → Geometry → (old new : Objects) → Type 0
 PutsSome uuid geometry old new = PutsNoSuper uuid geometry old new ⊎ PutsVolume uuid geometry old new
 
--- what an error leaves of a store: nothing was put of a volume that there is, and where the device failed all but the super object was
+-- what an error leaves of a store: nothing was put of a volume that there is, and where the device failed all but the super
+-- object was
 abbrev pub MayPut : (uuid : List ℕ) → Geometry → CreateError → (old new : Objects) → Type 0
 MayPut uuid geometry Exists old new = new ≡ old
 MayPut uuid geometry StoreFault old new = PutsSome uuid geometry old new

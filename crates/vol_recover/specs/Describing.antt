@@ -17,7 +17,8 @@ abbrev pub OfVolume : (uuid : List ℕ) → (log : ℕ) → Option Objects → (
 OfVolume uuid log objects P =
     (geometry : Geometry) (epoch : ℕ) → geometry.log ≡ log → IsSomeAnd objects (HasVolume uuid geometry epoch) → P geometry epoch
 
--- the store says that there is a volume without ancestors, which has these sizes on such a device, and that this is its newest epoch
+-- the store says that there is a volume without ancestors, which has these sizes on such a device, and that this is its newest
+-- epoch
 pub record SaysVolume (uuid : List ℕ) (geometry : Geometry) (epoch : ℕ) (objects : Objects) : Type 0 where
   pub volume : Super
   pub says : HasSuper uuid volume objects

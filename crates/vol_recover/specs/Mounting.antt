@@ -13,7 +13,8 @@ use Rattle.vol_mount.specs.Mounted.{MountedState, IsOfVolume}
 -- it is the volume that was asked for, of some sizes within the limits and the log of the device, in some epoch
 abbrev pub IsOfSomeVolume : (uuid : List ℕ) → (log : ℕ) → MountedState → Type 0
 IsOfSomeVolume uuid log mounted =
-    (geometry : Geometry) × (epoch : ℕ) × (geometry.log ≡ log) × IsTrue (is_within_limits geometry) × IsOfVolume uuid geometry epoch mounted
+    (geometry : Geometry) × (epoch : ℕ) × (geometry.log ≡ log) × IsTrue (is_within_limits geometry)
+    × IsOfVolume uuid geometry epoch mounted
 
 -- objects of a volume past some number were removed, or none, and nothing else changed
 abbrev pub RemovesSome : (uuid : List ℕ) → (old new : Objects) → Type 0

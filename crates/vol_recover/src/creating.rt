@@ -1,4 +1,5 @@
-ghost use Rattle.std.specs.Prelude.{◌≡◌, true, None, IsTrue, IsSome, IfSome, IfOk, IfErr, OnOk, OnErr, length};
+ghost use Rattle.std.specs.Prelude.{◌≡◌, true, None, IsTrue, IsSome, IfSome, IfOk, IfErr, OnOk, OnErr};
+ghost use Rattle.std.specs.Prelude.{length};
 ghost use Rattle.lsvd_base.specs.Limits.{is_within_limits};
 ghost use Rattle.lsvd_fault.specs.Faults.{Counts};
 ghost use Rattle.lsvd_device.specs.Device.{IsDisk};
@@ -13,7 +14,10 @@ ghost use Rattle.pending_meaning.specs.Pending.{ShowsPending};
 ghost use Rattle.super_recovery.specs.Put.{PutsSuper, MayBecome};
 ghost use Rattle.vol_core.specs.Creating.{IsCreated, CostsFormat, CanFormat};
 ghost use Rattle.vol_recover.specs.declared.creating.CreateError.TheVariants as create_errors;
-ghost use Rattle.vol_recover.specs.Creating.{IsFirstObject, PutsFirst, PutsEpochToo, PutsVolume, PutsNoSuper, MayPut, IsOfStore, IsNewTo, HasNewVolume, HasNoneOrNew, MayFormat, super_of, of_put, of_super, ends_by_put, ends_by_put_fault};
+ghost use Rattle.vol_recover.specs.Creating.{IsFirstObject, PutsFirst, PutsEpochToo, PutsVolume, PutsNoSuper};
+ghost use Rattle.vol_recover.specs.Creating.{MayPut, IsOfStore, IsNewTo, HasNewVolume, HasNoneOrNew};
+ghost use Rattle.vol_recover.specs.Creating.{MayFormat, super_of, of_put, of_super, ends_by_put};
+ghost use Rattle.vol_recover.specs.Creating.{ends_by_put_fault};
 
 use clone_chain::Chain;
 use lsvd_base::{Geometry, ObjectBytes};
@@ -86,17 +90,19 @@ impl From<Failed> for CreateError {
     }
 }
 
-/// Creates a volume: puts its first object, a checkpoint without rows, and its epoch 0, formats its cache device, and puts its super object
-/// last.
+/// Creates a volume: puts its first object, a checkpoint without rows, and its epoch 0, formats its cache
+/// device, and puts its super object last.
 ///
-/// The geometry is within the limits, its log has just the sectors of the device past byte 4,096, and the device is a disk (conditions).
-/// Where the store has no more of the volume than a creation leaves that was stopped, it has no volume until the super object is put, and
-/// then the whole one, with no entries. The device is asked for the calls of formatting alone, of which those are made that its fuse passes,
-/// where it has room for them; and where it tells what it holds too, nothing is pending then. An error comes with the device, which is a
-/// disk still:
+/// The geometry is within the limits, its log has just the sectors of the device past byte 4,096, and the
+/// device is a disk (conditions). Where the store has no more of the volume than a creation leaves that was
+/// stopped, it has no volume until the super object is put, and then the whole one, with no entries. The
+/// device is asked for the calls of formatting alone, of which those are made that its fuse passes, where it
+/// has room for them; and where it tells what it holds too, nothing is pending then. An error comes with the
+/// device, which is a disk still:
 ///
 /// - `Exists`: the store has a super object of the volume. Nothing was changed.
-/// - `StoreFault`: a call of the store failed, which the store counted. Some of the puts were made, in their order.
+/// - `StoreFault`: a call of the store failed, which the store counted. Some of the puts were made, in their
+///   order.
 /// - `DeviceFault`: a call of the device failed. All but the super object was put.
 /// - `OutOfMemory`: memory ran out. Some of the puts were made, in their order.
 pub fn create<D: Disk, S: Store>(
@@ -110,14 +116,18 @@ pub fn create<D: Disk, S: Store>(
     requires log { geometry.log ≡ log_of (D.state disk).size }
     requires is_disk { IsDisk (D.state disk) }
     ensures ok { IfOk result (IsCreated uuid geometry) }
-    ensures made { OnOk result (Becomes (PutsVolume uuid geometry) (S.state store.old).objects (S.state store.new).objects) }
-    ensures absent { OnOk result (IfSome (S.state store.old).objects (λ objects. found objects (super_name uuid) ≡ None)) }
-    ensures calls { IfOk result (λ stepped. CostsFormat uuid true (D.state disk) stepped.volume.log.commits.disk) }
+    ensures made { OnOk result (Becomes (PutsVolume uuid geometry) (S.state store.old).objects
+        (S.state store.new).objects) }
+    ensures absent { OnOk result (IfSome (S.state store.old).objects
+        (λ objects. found objects (super_name uuid) ≡ None)) }
+    ensures calls { IfOk result (λ stepped. CostsFormat uuid true (D.state disk)
+        stepped.volume.log.commits.disk) }
     ensures pending { IfOk result (λ stepped.
         CanFormat (D.state disk) → ShowsPending stepped.volume.log (created_volume geometry).cache) }
     ensures exists { IfErr result (λ error. error.1 ≡ create_errors.Exists
         → IfSome (S.state store.old).objects (λ objects. IsSome (found objects (super_name uuid)))) }
-    ensures untouched { IfSome (S.state store.old).objects (λ objects. IsSome (found objects (super_name uuid))
+    ensures untouched { IfSome (S.state store.old).objects
+        (λ objects. IsSome (found objects (super_name uuid))
         → (S.state store.new).objects ≡ (S.state store.old).objects) }
     ensures stands { OnOk result (IfSome (S.state store.old).objects (λ old. IsNewTo uuid old
         → IfSome (S.state store.new).objects (HasNewVolume uuid geometry))) }
@@ -151,15 +161,19 @@ fn prepare<S: Store>(
     uuid: Uuid,
     geometry: &Geometry,
 ) -> Result<(), CreateError>
-    ensures ok { OnOk result (Becomes (PutsEpochToo uuid geometry.now) (S.state store.old).objects (S.state store.new).objects) }
-    ensures absent { OnOk result (IfSome (S.state store.old).objects (λ objects. found objects (super_name uuid) ≡ None)) }
+    ensures ok { OnOk result (Becomes (PutsEpochToo uuid geometry.now) (S.state store.old).objects
+        (S.state store.new).objects) }
+    ensures absent { OnOk result (IfSome (S.state store.old).objects
+        (λ objects. found objects (super_name uuid) ≡ None)) }
     ensures exists { IfErr result (λ error. error ≡ create_errors.Exists
         → IfSome (S.state store.old).objects (λ objects. IsSome (found objects (super_name uuid)))) }
-    ensures untouched { IfSome (S.state store.old).objects (λ objects. IsSome (found objects (super_name uuid))
+    ensures untouched { IfSome (S.state store.old).objects
+        (λ objects. IsSome (found objects (super_name uuid))
         → (S.state store.new).objects ≡ (S.state store.old).objects) }
     ensures err { IfErr result (λ error.
         Becomes (MayPut uuid geometry.now error) (S.state store.old).objects (S.state store.new).objects) }
-    ensures no_super { OnErr result (Becomes (PutsNoSuper uuid geometry.now) (S.state store.old).objects (S.state store.new).objects) }
+    ensures no_super { OnErr result (Becomes (PutsNoSuper uuid geometry.now) (S.state store.old).objects
+        (S.state store.new).objects) }
     ensures no_device { IfErr result (λ error. error ≡ create_errors.DeviceFault → ⊥) }
     ensures faults { Counts (ends_by_put result) (S.state store.old).faults (S.state store.new).faults }
 {
@@ -179,8 +193,10 @@ fn complete<S: Store>(
     geometry: &Geometry,
 ) -> Result<(), CreateError>
     requires { IsTrue (is_within_limits geometry.now) }
-    ensures ok { OnOk result (Becomes (PutsSuper (super_of uuid geometry.now)) (S.state store.old).objects (S.state store.new).objects) }
-    ensures err { OnErr result (Becomes (MayBecome (PutsSuper (super_of uuid geometry.now))) (S.state store.old).objects (S.state store.new).objects) }
+    ensures ok { OnOk result (Becomes (PutsSuper (super_of uuid geometry.now)) (S.state store.old).objects
+        (S.state store.new).objects) }
+    ensures err { OnErr result (Becomes (MayBecome (PutsSuper (super_of uuid geometry.now)))
+        (S.state store.old).objects (S.state store.new).objects) }
     ensures why { IfErr result IsOfStore }
     ensures faults { Counts (ends_by_put result) (S.state store.old).faults (S.state store.new).faults }
 {
@@ -202,8 +218,10 @@ fn put_first<S: Store>(
     uuid: Uuid,
     geometry: &Geometry,
 ) -> Result<(), CreateError>
-    ensures ok { OnOk result (Becomes (PutsFirst uuid geometry.now) (S.state store.old).objects (S.state store.new).objects) }
-    ensures err { OnErr result (Becomes (MayBecome (PutsFirst uuid geometry.now)) (S.state store.old).objects (S.state store.new).objects) }
+    ensures ok { OnOk result (Becomes (PutsFirst uuid geometry.now) (S.state store.old).objects
+        (S.state store.new).objects) }
+    ensures err { OnErr result (Becomes (MayBecome (PutsFirst uuid geometry.now)) (S.state store.old).objects
+        (S.state store.new).objects) }
     ensures why { IfErr result IsOfStore }
     ensures faults { Counts (ends_by_put result) (S.state store.old).faults (S.state store.new).faults }
 {

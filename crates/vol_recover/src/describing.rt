@@ -24,8 +24,8 @@ pub(crate) struct Described {
     pub(crate) epoch: u64,
 }
 
-/// Finds the volume with this uuid, for a device whose log has so many sectors. The store is only read. The sizes keep their limits, but the
-/// log, which is not judged.
+/// Finds the volume with this uuid, for a device whose log has so many sectors. The store is only read. The
+/// sizes keep their limits, but the log, which is not judged.
 pub(crate) fn describe<S: Store>(
     alloc: Global,
     store: &mut S,
@@ -33,12 +33,15 @@ pub(crate) fn describe<S: Store>(
     log: u64,
 ) -> Result<Described, MountError>
     ensures log { IfOk result (λ described. described.geometry.log ≡ log) }
-    ensures sizes { IfOk result (λ described. IsTrue (is_within_limits (record described.geometry { log = max_log }))) }
+    ensures sizes { IfOk result (λ described.
+        IsTrue (is_within_limits (record described.geometry { log = max_log }))) }
     ensures told { TellsBytes S.Receipt.state → IfOk result (λ described.
         IfSome (S.state store.old).objects (SaysVolume uuid described.geometry described.epoch)) }
-    ensures same { TellsBytes S.Receipt.state → IfOk result (λ described. OfVolume uuid log (S.state store.old).objects (λ geometry epoch.
+    ensures same { TellsBytes S.Receipt.state
+        → IfOk result (λ described. OfVolume uuid log (S.state store.old).objects (λ geometry epoch.
         (described.geometry ≡ geometry) × (described.epoch ≡ epoch))) }
-    ensures why { TellsBytes S.Receipt.state → IfErr result (IsWhyNotDescribed uuid (S.state store.old).objects) }
+    ensures why { TellsBytes S.Receipt.state
+        → IfErr result (IsWhyNotDescribed uuid (S.state store.old).objects) }
     ensures no_refusal { TellsBytes S.Receipt.state → IfErr result (λ error.
         OfVolume uuid log (S.state store.old).objects (λ geometry epoch. refuses error ≡ false)) }
     ensures no_fault { IfErr result (λ error. is_device_fault error ≡ false) }

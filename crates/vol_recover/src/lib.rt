@@ -1,11 +1,13 @@
-//! Creating a volume with its store, and mounting it after a stop: with the cache that it had, or without it on a new device.
+//! Creating a volume with its store, and mounting it after a stop: with the cache that it had, or without it
+//! on a new device.
 //!
-//! Its contract: a volume that was created has no entries, and its store has its first object, its first epoch and its super object, which
-//! is put last, so that a creation that is stopped leaves no volume or the whole one. A mount makes of the volume that the store has, and of
-//! the plain volume that device and store have, what such a mount is to make. Whenever it is stopped, the same is left, and the volume may be
-//! mounted again. What is refused is left as it was.
-//! It stands on `super_recovery` for the super object and epochs, on `vol_mount` for mounts of a volume whose sizes are known, on
-//! `vol_core` for the volume, and on `store_meaning` for the objects that a new store has.
+//! Its contract: a volume that was created has no entries, and its store has its first object, its first
+//! epoch and its super object, which is put last, so that a creation that is stopped leaves no volume or the
+//! whole one. A mount makes of the volume that the store has, and of the plain volume that device and store
+//! have, what such a mount is to make. Whenever it is stopped, the same is left, and the volume may be
+//! mounted again. What is refused is left as it was. It stands on `super_recovery` for the super object and
+//! epochs, on `vol_mount` for mounts of a volume whose sizes are known, on `vol_core` for the volume, and on
+//! `store_meaning` for the objects that a new store has.
 #![tactic(auto)]
 
 mod creating;

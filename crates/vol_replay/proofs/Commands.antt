@@ -31,7 +31,8 @@ use Rattle.vol_replay.specs.Lines.{is_crash, AnswersCommand, IsUnanswered}
 use Rattle.vol_replay.specs.Rig.{RigState, ShowsPlain}
 
 -- a command is not answered where memory ran out
-pub unanswered : {T : Type 0} (result : Result T Refusal) (rig : Option RigState) (command : Command) → IsErrAnd result (λ refusal. refusal ≡ OutOfMemory)
+pub unanswered : {T : Type 0} (result : Result T Refusal) (rig : Option RigState) (command : Command)
+    → IsErrAnd result (λ refusal. refusal ≡ OutOfMemory)
     → IfErr result (IsUnanswered rig command)
 unanswered (Ok made) rig command lacks = absurd lacks
 unanswered (Err refusal) rig command lacks = subst (IsUnanswered rig command) (sym lacks) tt
@@ -39,7 +40,8 @@ unanswered (Err refusal) rig command lacks = subst (IsUnanswered rig command) (s
 -- ---- events
 
 -- the text that tells an answer tells the reply that the answer says
-tells_reply : (reply : PlainReply) (answer : Answer) (text : List ℕ) → SaysReply reply answer → TellsAnswer answer text → TellsReply reply text
+tells_reply : (reply : PlainReply) (answer : Answer) (text : List ℕ) → SaysReply reply answer → TellsAnswer answer text
+    → TellsReply reply text
 tells_reply (replies.Entered count) answer text says tells = subst (λ a. TellsAnswer a text) says tells
 tells_reply (replies.Flushed count) answer text says tells = subst (λ a. TellsAnswer a text) says tells
 tells_reply (replies.Planned front bytes objects) answer text says tells =
@@ -60,7 +62,8 @@ tells_reply replies.Fault answer text says tells = subst (λ a. TellsAnswer a te
 
 -- a command that is one event is answered as that is
 pub event_command : (command : Command) (event : PlainEvent) (answer : Answer) (old new : RigState)
-    → ((plain : PlainState) (text : List ℕ) (next : State) → ShowsPlain old plain → Steps plain event text next → AnswersOn plain command text next)
+    → ((plain : PlainState) (text : List ℕ) (next : State) → ShowsPlain old plain → Steps plain event text next
+    → AnswersOn plain command text next)
     → AnswersEvent event answer old new → AnswersCommand command answer (Some old) (Some new)
 event_command command event answer old new is h None shown = absurd shown
 event_command command event answer old new is h (Some plain) shown =
@@ -95,18 +98,22 @@ pub done_not_allowed : (number : ℕ) (result : Bool) (rig : RigState) → resul
     → ((plain : PlainState) → ShowsPlain rig plain → result ≡ is_started number plain.window.objects)
     → IsUnanswered (Some rig) (commands.JobDone number) (Bad NotAllowed)
 done_not_allowed number result rig is tells None shown = absurd shown
-done_not_allowed number result rig is tells (Some plain) shown = λ out. put_is_not_out number result rig plain is shown (tells plain shown) out
+done_not_allowed number result rig is tells (Some plain) shown =
+    λ out. put_is_not_out number result rig plain is shown (tells plain shown) out
 
 pub failed_not_allowed : (number : ℕ) (result : Bool) (rig : RigState) → result ≡ false
     → ((plain : PlainState) → ShowsPlain rig plain → result ≡ is_started number plain.window.objects)
     → IsUnanswered (Some rig) (commands.JobFailed number) (Bad NotAllowed)
 failed_not_allowed number result rig is tells None shown = absurd shown
-failed_not_allowed number result rig is tells (Some plain) shown = λ out. put_is_not_out number result rig plain is shown (tells plain shown) out
+failed_not_allowed number result rig is tells (Some plain) shown =
+    λ out. put_is_not_out number result rig plain is shown (tells plain shown) out
 
-pub done_command : (number : ℕ) (answer : Answer) (old new : RigState) → IsOut number old → AnswersEvent (events.JobDone (Some number)) answer old new
+pub done_command : (number : ℕ) (answer : Answer) (old new : RigState) → IsOut number old
+    → AnswersEvent (events.JobDone (Some number)) answer old new
     → AnswersCommand (commands.JobDone number) answer (Some old) (Some new)
 done_command number answer old new out h =
-    event_command (commands.JobDone number) (events.JobDone (Some number)) answer old new (λ plain text next shown steps. (out plain shown, steps)) h
+    event_command (commands.JobDone number) (events.JobDone (Some number)) answer old new
+    (λ plain text next shown steps. (out plain shown, steps)) h
 
 pub failed_command : (number : ℕ) (answer : Answer) (old new : RigState) → IsOut number old → FailsPut number answer old new
     → AnswersCommand (commands.JobFailed number) answer (Some old) (Some new)
@@ -137,7 +144,8 @@ pub stop_not_allowed : (calls : ℕ) (result : Bool) (rig : RigState) → result
     → ((plain : PlainState) → ShowsPlain rig plain → result ≡ is_some plain.cache.left)
     → IsUnanswered (Some rig) (commands.Stop calls) (Bad NotAllowed)
 stop_not_allowed calls result rig is tells None shown = absurd shown
-stop_not_allowed calls result rig is tells (Some plain) shown = λ none. told_before plain.cache.left result is (tells plain shown) none
+stop_not_allowed calls result rig is tells (Some plain) shown =
+    λ none. told_before plain.cache.left result is (tells plain shown) none
 
 pub stop_command : (calls : ℕ) (old new : RigState) (answer : Answer) → answer ≡ answers.Stopping calls
     → ((plain : PlainState) → ShowsPlain old plain → plain.cache.left ≡ None) → StopsAfter calls old new
@@ -158,26 +166,34 @@ ArePending count rig = (plain : PlainState) → ShowsPlain rig plain → count �
 abbrev pub AreUnderWay : (count : ℕ) → RigState → Type 0
 AreUnderWay count rig = (plain : PlainState) → ShowsPlain rig plain → count ≡ length (under_way plain.window)
 
-pub fit_kept : (device objects : List ℕ) (pending count : ℕ) (rig : RigState) → IsTrue (fits_writes pending device) → IsTrue (fits_objects count objects)
+pub fit_kept : (device objects : List ℕ) (pending count : ℕ) (rig : RigState) → IsTrue (fits_writes pending device)
+    → IsTrue (fits_objects count objects)
     → ArePending pending rig → AreUnderWay count rig → (plain : PlainState) → ShowsPlain rig plain → FitKept plain device objects
-fit_kept device objects pending count rig writes puts pends are plain shown =
-    (subst (λ n. IsTrue (fits_writes n device)) (pends plain shown) writes, subst (λ n. IsTrue (fits_objects n objects)) (are plain shown) puts)
+fit_kept device objects pending count rig writes puts pends are plain shown = (
+  subst (λ n. IsTrue (fits_writes n device)) (pends plain shown) writes,
+  subst (λ n. IsTrue (fits_objects n objects))
+      (are plain shown) puts,
+)
 
-pub fit_lost : (device objects : List ℕ) (count : ℕ) (rig : RigState) → IsTrue (is_dash device) → IsTrue (fits_objects count objects)
+pub fit_lost : (device objects : List ℕ) (count : ℕ) (rig : RigState) → IsTrue (is_dash device)
+    → IsTrue (fits_objects count objects)
     → AreUnderWay count rig → (plain : PlainState) → ShowsPlain rig plain → FitLost plain device objects
-fit_lost device objects count rig dash puts are plain shown = (dash, subst (λ n. IsTrue (fits_objects n objects)) (are plain shown) puts)
+fit_lost device objects count rig dash puts are plain shown =
+    (dash, subst (λ n. IsTrue (fits_objects n objects)) (are plain shown) puts)
 
 -- as many as a test fails for, it fails for
 fails_too : (test : ℕ → Bool) (n m : ℕ) → n ≡ m → test n ≡ false → IsTrue (test m) → ⊥
 fails_too test n m same fails holds = (let e = ap test same in cc)
 
-pub unfit_writes : (device objects : List ℕ) (pending : ℕ) (rig : RigState) → fits_writes pending device ≡ false → ArePending pending rig
+pub unfit_writes : (device objects : List ℕ) (pending : ℕ) (rig : RigState) → fits_writes pending device ≡ false
+    → ArePending pending rig
     → IsUnanswered (Some rig) (commands.CrashKeep device objects) (Bad Letters)
 unfit_writes device objects pending rig unfit pends None shown = absurd shown
 unfit_writes device objects pending rig unfit pends (Some plain) shown =
     (tt, λ fit. fails_too (λ n. fits_writes n device) pending (length plain.cache.pending) (pends plain shown) unfit fit.0)
 
-pub unfit_kept : (device objects : List ℕ) (count : ℕ) (rig : RigState) → fits_objects count objects ≡ false → AreUnderWay count rig
+pub unfit_kept : (device objects : List ℕ) (count : ℕ) (rig : RigState) → fits_objects count objects ≡ false
+    → AreUnderWay count rig
     → IsUnanswered (Some rig) (commands.CrashKeep device objects) (Bad Letters)
 unfit_kept device objects count rig unfit are None shown = absurd shown
 unfit_kept device objects count rig unfit are (Some plain) shown =
@@ -188,7 +204,8 @@ pub unfit_word : (device objects : List ℕ) (rig : RigState) → is_dash device
 unfit_word device objects rig unfit None shown = absurd shown
 unfit_word device objects rig unfit (Some plain) shown = (tt, λ fit. let dash = fit.0 in cc)
 
-pub unfit_lost : (device objects : List ℕ) (count : ℕ) (rig : RigState) → fits_objects count objects ≡ false → AreUnderWay count rig
+pub unfit_lost : (device objects : List ℕ) (count : ℕ) (rig : RigState) → fits_objects count objects ≡ false
+    → AreUnderWay count rig
     → IsUnanswered (Some rig) (commands.CrashLost device objects) (Bad Letters)
 unfit_lost device objects count rig unfit are None shown = absurd shown
 unfit_lost device objects count rig unfit are (Some plain) shown =
@@ -196,7 +213,8 @@ unfit_lost device objects count rig unfit are (Some plain) shown =
 
 -- ---- a stop of the machine, and a mount
 
-mount_told : (landed : Numbers) (plain mounted : PlainState) (answer : Answer) (text : List ℕ) → IsMountTold landed plain mounted answer
+mount_told : (landed : Numbers) (plain mounted : PlainState) (answer : Answer) (text : List ℕ)
+    → IsMountTold landed plain mounted answer
     → TellsAnswer answer text → text ≡ text_of_mount (history_length mounted) (recovered_number landed plain)
 mount_told landed plain mounted answer text is tells = subst (λ a. TellsAnswer a text) is tells
 
@@ -218,7 +236,8 @@ keep_command device objects list pending answer old new fit count are h (Some pl
     let kept : List Bool = map plain_cache.is_kept list in
     let read : kept ≡ kept_by (length plain.cache.pending) device =
     kept_alike list ∙ ap (map letters.is_kept) (are ∙ ap (λ n. fates_of n device) (count plain shown)) in
-    let both = subst (λ k. IsMountTold landed plain (mounted_kept landed k plain) answer × ShowsPlain new (mounted_kept landed k plain)) read (h plain shown) in
+    let both = subst (λ k. IsMountTold landed plain (mounted_kept landed k plain) answer
+    × ShowsPlain new (mounted_kept landed k plain)) read (h plain shown) in
     let mounted : PlainState = mounted_kept landed (kept_by (length plain.cache.pending) device) plain in
     (Some mounted, λ text tells. (fit plain shown, (mount_told landed plain mounted answer text both.0 tells, refl)), both.1)
 

@@ -38,8 +38,10 @@ use Rattle.vol_core.proofs.CreateLemmas.{format_covered}
 use Rattle.vol_recover.specs.declared.creating.CreateError.{CreateError}
 use Rattle.vol_recover.specs.declared.creating.CreateError.TheVariants as create_errors
 use Rattle.vol_mount.specs.declared.error.MountError.{MountError}
-use Rattle.vol_mount.specs.declared.error.MountError.TheVariants.{NoVolume, BadSuper, HasAncestors, NoCheckpoint, BadObject, NotData, NoSlot}
-use Rattle.vol_mount.specs.declared.error.MountError.TheVariants.{WrongVolume, StaleCache, BadRecord, Worn, StoreFault, DeviceFault, OutOfMemory}
+use Rattle.vol_mount.specs.declared.error.MountError.TheVariants.{NoVolume, BadSuper, HasAncestors, NoCheckpoint, BadObject}
+use Rattle.vol_mount.specs.declared.error.MountError.TheVariants.{NotData, NoSlot}
+use Rattle.vol_mount.specs.declared.error.MountError.TheVariants.{WrongVolume, StaleCache, BadRecord, Worn, StoreFault}
+use Rattle.vol_mount.specs.declared.error.MountError.TheVariants.{DeviceFault, OutOfMemory}
 use Rattle.vol_mount.specs.Costs.{mount_cost, CostsMount}
 use Rattle.vol_mount.specs.Costs as mounts
 use Rattle.vol_mount.specs.Epochs.{BeginsEpoch}
@@ -49,7 +51,8 @@ use Rattle.vol_mount.specs.Refusals.{IsWhyLost, IsWhyNotLeft, refuses, is_device
 use Rattle.vol_recover.specs.Creating.{PutsVolume, IsNewTo, HasNewVolume, MayFormat, is_put_fault}
 use Rattle.vol_recover.specs.Describing.{OfVolume, IsWhyFor}
 use Rattle.vol_recover.specs.Mounting.{FailsToFormatIn}
-use Rattle.vol_replay.specs.Crash.{FailsNone, IsBlankDisk, IsLeftBy, LandsAs, Lands, IsNewVolume, MayMountStored, MayMountLeft, RemovesNumbers, IsMountedVolume}
+use Rattle.vol_replay.specs.Crash.{FailsNone, IsBlankDisk, IsLeftBy, LandsAs, Lands, IsNewVolume, MayMountStored, MayMountLeft}
+use Rattle.vol_replay.specs.Crash.{RemovesNumbers, IsMountedVolume}
 use Rattle.vol_replay.specs.Puts.{PutView}
 use Rattle.vol_replay.specs.Rig.{script_uuid}
 
@@ -59,7 +62,8 @@ none_inside : (budget : Budget) → fuse_of (Some budget) ≡ Some None → budg
 none_inside budget is = cc
 
 -- they are made, and there is no fuse then
-takes_all : (cost : Cost) (is_made : Bool) (old new : Option Budget) → fuse_of old ≡ Some None → HasRoom cost.changes cost.bytes old
+takes_all : (cost : Cost) (is_made : Bool) (old new : Option Budget) → fuse_of old ≡ Some None
+    → HasRoom cost.changes cost.bytes old
     → Takes cost is_made old new → (is_made ≡ true) × (fuse_of new ≡ Some None)
 takes_all cost is_made None new fuse room takes = absurd room
 takes_all cost is_made (Some old) new fuse room takes =
@@ -85,14 +89,16 @@ most_all : (most : Cost) (is_made : Bool) (old new : DiskState) → FailsNone mo
     → (is_made ≡ true) × (fuse_of new.budget ≡ Some None)
 most_all most is_made old new fails makes =
     takes_all makes.cost is_made old.budget new.budget fails.fuse
-    (room_less most.changes most.bytes makes.cost.changes makes.cost.bytes old.budget fails.room makes.most_changes makes.most_bytes)
+    (room_less most.changes most.bytes makes.cost.changes makes.cost.bytes old.budget fails.room makes.most_changes
+    makes.most_bytes)
     makes.calls.budget
 
 -- the room for a mount is the same whatever entries there are
 mounts_all : (log : ℕ) (is_made : Bool) (old new : DiskState) → FailsNone (mount_cost 0) old → CostsMount log is_made old new
     → (is_made ≡ true) × (fuse_of new.budget ≡ Some None)
 mounts_all log is_made old new fails is =
-    most_all (mount_cost is.count) is_made old new (record { is_disk = fails.is_disk; fuse = fails.fuse; room = fails.room }) is.calls
+    most_all (mount_cost is.count) is_made old new (record { is_disk = fails.is_disk; fuse = fails.fuse; room = fails.room })
+    is.calls
 
 -- ---- a store in memory
 
@@ -146,9 +152,11 @@ first_there geometry old new puts =
       none = put.2.none;
     }
 
-pub new_volume : (geometry : Geometry) (disk : DiskState) (volume : SteppedVolume) (old new : Objects) → FailsNone format_cost disk
+pub new_volume : (geometry : Geometry) (disk : DiskState) (volume : SteppedVolume) (old new : Objects)
+    → FailsNone format_cost disk
     → IsBlankDisk disk.size disk → old ≡ [] → IsCreated script_uuid geometry volume
-    → Becomes (PutsVolume script_uuid geometry) (Some old) (Some new) → (IsNewTo script_uuid old → HasNewVolume script_uuid geometry new)
+    → Becomes (PutsVolume script_uuid geometry) (Some old) (Some new)
+    → (IsNewTo script_uuid old → HasNewVolume script_uuid geometry new)
     → CostsFormat script_uuid true disk volume.volume.log.commits.disk
     → (CanFormat disk → ShowsPending volume.volume.log (created_volume geometry).cache) → IsNewVolume geometry volume new
 new_volume geometry disk volume old new fails blank empty created becomes stands calls pending =
@@ -166,10 +174,12 @@ new_volume geometry disk volume old new fails blank empty created becomes stands
 
 -- what ends a creation is want of memory alone
 pub only_memory_to_create : (disk left : DiskState) (error : CreateError) (old : Objects) → FailsNone format_cost disk
-    → MayFormat script_uuid error disk left → old ≡ [] → (error ≡ create_errors.Exists → IsSome (found old (super_name script_uuid)))
+    → MayFormat script_uuid error disk left → old ≡ []
+    → (error ≡ create_errors.Exists → IsSome (found old (super_name script_uuid)))
     → Counts (is_put_fault error) 0 0 → error ≡ create_errors.OutOfMemory
 only_memory_to_create disk left create_errors.Exists old fails format empty exists counts =
-    absurd (let e : IsSome (found [] (super_name script_uuid)) = subst (λ (os : Objects). IsSome (found os (super_name script_uuid))) empty (exists refl) in cc)
+    absurd (let e : IsSome (found [] (super_name script_uuid)) =
+    subst (λ (os : Objects). IsSome (found os (super_name script_uuid))) empty (exists refl) in cc)
 only_memory_to_create disk left create_errors.StoreFault old fails format empty exists counts = absurd (no_fault counts)
 only_memory_to_create disk left create_errors.DeviceFault old fails format empty exists counts =
     absurd (let made = (makes_all format_cost false disk left fails format.calls).0 in cc)
@@ -184,17 +194,22 @@ has_one P (now ∷ past) has = tt
 -- what it has is not refused
 no_refusal_left : (geometry : Geometry) (objects : Objects) (disk : DiskState) (error : MountError)
     → (may : MayMountLeft geometry objects disk)
-    → OfVolume script_uuid (log_of disk.size) (Some objects) (λ g epoch. RefusesNoneLeft script_uuid g epoch (Some objects) disk error)
+    → OfVolume script_uuid (log_of disk.size) (Some objects) (λ g epoch. RefusesNoneLeft script_uuid g epoch (Some objects)
+    disk error)
     → refuses error ≡ true → ⊥
 no_refusal_left geometry objects disk error may none refused =
     (let e = none geometry may.epoch may.log may.described may.plain may.found may.number may.left in cc)
 
 -- what ends a mount is want of memory alone
-pub only_memory_left : (geometry : Geometry) (objects : Objects) (disk left : DiskState) (error : MountError) → FailsNone (mount_cost 0) disk
+pub only_memory_left : (geometry : Geometry) (objects : Objects) (disk left : DiskState) (error : MountError)
+    → FailsNone (mount_cost 0) disk
     → MayMountLeft geometry objects disk
-    → OfVolume script_uuid (log_of disk.size) (Some objects) (λ g epoch. IsWhyFor (λ h e. IsWhyNotLeft script_uuid h e (Some objects) disk) g epoch error)
-    → OfVolume script_uuid (log_of disk.size) (Some objects) (λ g epoch. RefusesNoneLeft script_uuid g epoch (Some objects) disk error)
-    → CostsMount (log_of disk.size) (not (is_device_fault error)) disk left → Counts (is_store_fault_of error) 0 0 → error ≡ OutOfMemory
+    → OfVolume script_uuid (log_of disk.size) (Some objects)
+    (λ g epoch. IsWhyFor (λ h e. IsWhyNotLeft script_uuid h e (Some objects) disk) g epoch error)
+    → OfVolume script_uuid (log_of disk.size) (Some objects) (λ g epoch. RefusesNoneLeft script_uuid g epoch (Some objects)
+    disk error)
+    → CostsMount (log_of disk.size) (not (is_device_fault error)) disk left → Counts (is_store_fault_of error) 0 0
+    → error ≡ OutOfMemory
 only_memory_left geometry objects disk left NoVolume fails may why none costs counts =
     absurd (no_refusal_left geometry objects disk NoVolume may none refl)
 only_memory_left geometry objects disk left (BadSuper reason) fails may why none costs counts =
@@ -224,7 +239,8 @@ only_memory_left geometry objects disk left OutOfMemory fails may why none costs
 
 -- nothing is pending on what a stop leaves
 pub left_is_synced : (fates : List Fate) (before left : DiskState) → IsLeftBy fates before left → HoldsNow IsSynced left.moments
-left_is_synced fates before left is = subst (HoldsNow IsSynced) (sym is.stopped.moments) (record { pending = refl; synced = refl })
+left_is_synced fates before left is = subst (HoldsNow IsSynced) (sym is.stopped.moments)
+    (record { pending = refl; synced = refl })
 
 -- where there was a moment, there is one after further ones
 still_one : (since old : List Medium) → HasNow (λ now. Unit {0}) old → HasNow (λ now. Unit {0}) (since ++ old)
@@ -251,7 +267,8 @@ removes_numbers number old new removed = record {
 }
 
 -- what a removal leaves of what the store says of the volume
-removal_keeps_volume : (number : ℕ) (old new : Objects) (geometry : Geometry) (epoch : ℕ) → RemovesAllPast script_uuid number old new
+removal_keeps_volume : (number : ℕ) (old new : Objects) (geometry : Geometry) (epoch : ℕ)
+    → RemovesAllPast script_uuid number old new
     → HasVolume script_uuid geometry epoch old → HasVolume script_uuid geometry epoch new
 removal_keeps_volume number old new geometry epoch removed has =
     (says_the_same script_uuid old new (record {
@@ -259,11 +276,13 @@ removal_keeps_volume number old new geometry epoch removed has =
       of_epochs = λ n. removed.removes.others (epoch_name script_uuid n) (λ past. (let e = past.1.0 in cc));
     })).has geometry epoch has
 
-pub mounted_again : (geometry : Geometry) (disk : DiskState) (mounted : MountedState) (old new : Objects) → FailsNone (mount_cost 0) disk
+pub mounted_again : (geometry : Geometry) (disk : DiskState) (mounted : MountedState) (old new : Objects)
+    → FailsNone (mount_cost 0) disk
     → MayMountLeft geometry old disk
     → OfVolume script_uuid (log_of disk.size) (Some old) (λ g epoch. IsOfVolume script_uuid g epoch mounted)
     → Becomes (RemovesAllPast script_uuid mounted.number) (Some old) (Some new)
-    → OfVolume script_uuid (log_of disk.size) (Some old) (λ g epoch. KeepsLeft script_uuid g epoch (Some old) disk (disk_of mounted))
+    → OfVolume script_uuid (log_of disk.size) (Some old) (λ g epoch. KeepsLeft script_uuid g epoch (Some old) disk
+    (disk_of mounted))
     → CostsMount (log_of disk.size) true disk (disk_of mounted) → HoldsNow IsSynced (disk_of mounted).moments
     → OfVolume script_uuid (log_of disk.size) (Some old) (λ g epoch. IsMountedVolume g epoch old mounted new)
 mounted_again geometry disk mounted old new fails may volume becomes stops costs synced = λ g epoch log described.
@@ -289,7 +308,8 @@ formatted_one epoch end disk new fails blank costs =
     subst (HasNow (λ now. Unit {0})) (sym is.moments) (has_now passed disk.moments (blank_now disk.size disk blank))
 
 -- what is so of the numbered objects stays where an epoch is put
-begun_numbers : (number epoch : ℕ) (old new : Objects) → BeginsEpoch script_uuid number epoch old new → RemovesNumbers number old new
+begun_numbers : (number epoch : ℕ) (old new : Objects) → BeginsEpoch script_uuid number epoch old new
+    → RemovesNumbers number old new
 begun_numbers number epoch old new begun =
     let (middle, removed, put) = begun in
     let before = removes_numbers number old middle removed in
@@ -301,7 +321,8 @@ begun_numbers number epoch old new begun =
     }
 
 pub mounted_anew : (disk : DiskState) (mounted : MountedState) (old new : Objects) → FailsNone format_cost disk
-    → IsBlankDisk disk.size disk → OfVolume script_uuid (log_of disk.size) (Some old) (λ g epoch. IsOfVolume script_uuid g (epoch + 1) mounted)
+    → IsBlankDisk disk.size disk → OfVolume script_uuid (log_of disk.size) (Some old)
+    (λ g epoch. IsOfVolume script_uuid g (epoch + 1) mounted)
     → OfVolume script_uuid (log_of disk.size) (Some old) (λ g epoch.
     Becomes (BeginsEpoch script_uuid mounted.number (epoch + 1)) (Some old) (Some new))
     → (epoch : ℕ) × mounts.CostsNewLog script_uuid epoch true disk (disk_of mounted) → HoldsNow IsSynced (disk_of mounted).moments
@@ -312,22 +333,27 @@ mounted_anew disk mounted old new fails blank volume becomes costs synced = λ g
     record {
       volume = volume g epoch log described;
       described =
-          next_epoch_is_begun script_uuid g epoch middle new (removal_keeps_volume mounted.number old middle g epoch removed described) put;
+          next_epoch_is_begun script_uuid g epoch middle new (removal_keeps_volume mounted.number old middle g epoch removed
+          described) put;
       removed = begun_numbers mounted.number (epoch + 1) old new begun;
       fuse = (makes_all format_cost true disk (disk_of mounted) fails costs.1.calls.calls).1;
-      now = synced_one (disk_of mounted).moments synced (formatted_one costs.0 costs.1.end disk (disk_of mounted) fails blank costs.1.calls);
+      now = synced_one (disk_of mounted).moments synced (formatted_one costs.0 costs.1.end disk (disk_of mounted) fails blank
+          costs.1.calls);
     }
 
 no_refusal_stored : (geometry : Geometry) (sectors : ℕ) (objects : Objects) (error : MountError) → geometry.log ≡ sectors
     → MayMountStored geometry objects
-    → OfVolume script_uuid sectors (Some objects) (λ g epoch. RefusesNoneStored script_uuid g (Some objects) error) → refuses error ≡ true → ⊥
+    → OfVolume script_uuid sectors (Some objects) (λ g epoch. RefusesNoneStored script_uuid g (Some objects) error)
+    → refuses error ≡ true → ⊥
 no_refusal_stored geometry sectors objects error log may none refused =
     (let e = none geometry may.epoch log may.described may.plain may.number may.stored in cc)
 
 -- what ends it is want of memory alone
-pub only_memory_anew : (geometry : Geometry) (objects : Objects) (disk left : DiskState) (error : MountError) → FailsNone format_cost disk
+pub only_memory_anew : (geometry : Geometry) (objects : Objects) (disk left : DiskState) (error : MountError)
+    → FailsNone format_cost disk
     → geometry.log ≡ log_of disk.size → MayMountStored geometry objects
-    → OfVolume script_uuid (log_of disk.size) (Some objects) (λ g epoch. IsWhyFor (λ h e. IsWhyLost script_uuid h e (Some objects)) g epoch error)
+    → OfVolume script_uuid (log_of disk.size) (Some objects)
+    (λ g epoch. IsWhyFor (λ h e. IsWhyLost script_uuid h e (Some objects)) g epoch error)
     → OfVolume script_uuid (log_of disk.size) (Some objects) (λ g epoch. RefusesNoneStored script_uuid g (Some objects) error)
     → FailsToFormatIn script_uuid (is_device_fault error) disk left → Counts (is_store_fault_of error) 0 0 → error ≡ OutOfMemory
 only_memory_anew geometry objects disk left NoVolume fails log_is may why none format counts =
@@ -359,8 +385,10 @@ only_memory_anew geometry objects disk left OutOfMemory fails log_is may why non
 
 -- ---- objects that land
 
-lands_one_more : (puts : List PutView) (letters : List ℕ) (put : PutView) (letter : ℕ) (old middle new : Objects) → length puts ≡ length letters
-    → Lands puts letters old middle → LandsAs (letter == 121) put middle new → Lands (puts ++ put ∷ []) (letters ++ letter ∷ []) old new
+lands_one_more : (puts : List PutView) (letters : List ℕ) (put : PutView) (letter : ℕ) (old middle new : Objects)
+    → length puts ≡ length letters
+    → Lands puts letters old middle → LandsAs (letter == 121) put middle new
+    → Lands (puts ++ put ∷ []) (letters ++ letter ∷ []) old new
 lands_one_more [] [] put letter old middle new same before lands =
     (new, subst (λ objects. LandsAs (letter == 121) put objects new) before lands, refl)
 lands_one_more [] (other ∷ letters) put letter old middle new same before lands = absurd (omega (arith, same))
@@ -371,7 +399,8 @@ lands_one_more (one ∷ puts) (other ∷ letters) put letter old middle new same
 -- those of the first letters, and the next one
 pub lands_next : {X : Type 0} (puts : List PutView) (letters : List ℕ) (yielded : List X) (item : X) (put : PutView) (letter : ℕ)
     (old middle new : Objects)
-    → (length yielded < length puts) × (length yielded < length letters) × ((other : PutView) → put ≡ get_or puts (length yielded) other)
+    → (length yielded < length puts) × (length yielded < length letters)
+    × ((other : PutView) → put ≡ get_or puts (length yielded) other)
     × ((other : ℕ) → letter ≡ get_or letters (length yielded) other)
     → Lands (take (length yielded) puts) (take (length yielded) letters) old middle → LandsAs (letter == 121) put middle new
     → Lands (take (length (yielded ++ item ∷ [])) puts) (take (length (yielded ++ item ∷ [])) letters) old new
@@ -392,7 +421,8 @@ lands_next puts letters yielded item put letter old middle new turn before lands
     subst (λ n. Lands (take n puts) (take n letters) old new) (sym (length_push yielded item)) both
 
 -- where either are used up, all have landed that do
-pub lands_all : (puts : List PutView) (letters : List ℕ) (count : ℕ) (old new : Objects) → count ≡ min (length puts) (length letters)
+pub lands_all : (puts : List PutView) (letters : List ℕ) (count : ℕ) (old new : Objects)
+    → count ≡ min (length puts) (length letters)
     → Lands (take count puts) (take count letters) old new → Lands puts letters old new
 lands_all [] letters count old new is lands =
     let none : count ≡ 0 = omega (arith, is) in

@@ -1,5 +1,6 @@
 -- What a stop leaves of the store of a rig, where some of the objects under way have landed.
-use Rattle.std.proofs.Common.{◌≡◌, ℕ, zero, suc, ◌+◌, ◌-◌, ◌<◌, ◌≤◌, ◌==◌, nat_eq, nat_le, Bool, true, false, cond, not, ◌&&◌, ◌||◌, List, [], ◌∷◌}
+use Rattle.std.proofs.Common.{◌≡◌, ℕ, zero, suc, ◌+◌, ◌-◌, ◌<◌, ◌≤◌, ◌==◌, nat_eq, nat_le, Bool, true, false, cond, not, ◌&&◌}
+use Rattle.std.proofs.Common.{◌||◌, List, [], ◌∷◌}
 use Rattle.std.proofs.Common.{map, refl, sym, ◌∙◌, ap, subst, inl, inr, arith}
 use Rattle.std.specs.Prelude.{Option, Some, None, is_some, option_map, unwrap_or, slice_index_or}
 use Rattle.std.specs.List.{AllByRecursion, list_any}
@@ -22,7 +23,8 @@ use Rattle.store_meaning.specs.Puts.{IsObjectOf, state_of_put, AreBytesOfPut, Ar
 use Rattle.transcript.specs.Letters.{under_way, has_landed, landed_by}
 use Rattle.vol_replay.specs.Crash.{LandsAs, Lands}
 use Rattle.vol_replay.specs.Puts.{PutView}
-use Rattle.vol_replay.specs.Rig.{RigState, script_uuid, expected_of_plain, AreUnderWay, IsFirstUnderWay, HasBytesOfObject, ShowsPlain}
+use Rattle.vol_replay.specs.Rig.{RigState, script_uuid, expected_of_plain, AreUnderWay, IsFirstUnderWay, HasBytesOfObject}
+use Rattle.vol_replay.specs.Rig.{ShowsPlain}
 use Rattle.vol_replay.proofs.Describing.{lands_keep_volume}
 use Rattle.vol_replay.proofs.Stepped.{all_puts}
 use Rattle.vol_replay.proofs.WindowLemmas.{under_way_numbers}
@@ -30,7 +32,8 @@ use Rattle.vol_replay.proofs.Putting.{open_within}
 
 -- ---- the objects under way
 
-all_both : (P Q : PutView → Type 0) (puts : List PutView) → AllByRecursion P puts → AllByRecursion Q puts → AllByRecursion (λ put. P put × Q put) puts
+all_both : (P Q : PutView → Type 0) (puts : List PutView) → AllByRecursion P puts → AllByRecursion Q puts
+    → AllByRecursion (λ put. P put × Q put) puts
 all_both P Q [] first second = tt
 all_both P Q (put ∷ puts) first second = ((first.0, second.0), all_both P Q puts first.1 second.1)
 
@@ -41,12 +44,14 @@ started_first object objects n is was =
     let here : nat_eq object.number n ≡ true = eq-eqb object.number n is in
     rw (here, was) refl
 
-started_later : (object : OpenObject) (objects : List OpenObject) (n : ℕ) → was_started n objects ≡ true → was_started n (object ∷ objects) ≡ true
+started_later : (object : OpenObject) (objects : List OpenObject) (n : ℕ) → was_started n objects ≡ true
+    → was_started n (object ∷ objects) ≡ true
 started_later object objects n was = rw was (or-true (was_started_with n object))
 
 puts_started_by : (object : OpenObject) (objects : List OpenObject) (puts : List PutView) (b : Bool) → object.was_started ≡ b
     → ((more : List PutView) → AreUnderWay objects more → AllByRecursion (λ put. was_started put.number objects ≡ true) more)
-    → IsFirstUnderWay b object puts (AreUnderWay objects) → AllByRecursion (λ put. was_started put.number (object ∷ objects) ≡ true) puts
+    → IsFirstUnderWay b object puts (AreUnderWay objects)
+    → AllByRecursion (λ put. was_started put.number (object ∷ objects) ≡ true) puts
 puts_started_by object objects [] true was more are = absurd are
 puts_started_by object objects (put ∷ puts) true was more are = (
   started_first object objects put.number (sym are.0) was,
@@ -67,7 +72,8 @@ started_is_open : (n : ℕ) (objects : List OpenObject) → was_started n object
 started_is_open n [] is = cc
 started_is_open n (object ∷ objects) is =
     let more = started_is_open n objects in
-    elim (has_number n object) as (λ b. ((b && object.was_started) || was_started n objects) ≡ true → (b || list_any (has_number n) objects) ≡ true) [
+    elim (has_number n object) as (λ b. ((b && object.was_started) || was_started n objects) ≡ true
+    → (b || list_any (has_number n) objects) ≡ true) [
       | true ↦ λ i. refl
       | false ↦ λ i. more i
     ] is
@@ -84,12 +90,14 @@ pub record IsUnderWayWith (P : PutView → Type 0) (n : ℕ) (puts : List PutVie
   pub number : put.number ≡ n
   pub has : P put
 
-found_first : (P : PutView → Type 0) (n : ℕ) (put : PutView) (puts : List PutView) → P put → put.number ≡ n → IsUnderWayWith P n (put ∷ puts)
+found_first : (P : PutView → Type 0) (n : ℕ) (put : PutView) (puts : List PutView) → P put → put.number ≡ n
+    → IsUnderWayWith P n (put ∷ puts)
 found_first P n put puts has is =
     let here : (put.number == n) ≡ true = eq-eqb put.number n is in
     record { put = put; is = ap (λ b. cond b (Some put) (put_with n puts)) here; number = is; has = has }
 
-found_later : (P : PutView → Type 0) (n : ℕ) (put : PutView) (puts : List PutView) → (put.number ≡ n → ⊥) → IsUnderWayWith P n puts
+found_later : (P : PutView → Type 0) (n : ℕ) (put : PutView) (puts : List PutView) → (put.number ≡ n → ⊥)
+    → IsUnderWayWith P n puts
     → IsUnderWayWith P n (put ∷ puts)
 found_later P n put puts other h =
     let not_here : (put.number == n) ≡ false = ne_eqb put.number n other in
@@ -97,8 +105,10 @@ found_later P n put puts other h =
 
 under_way_by : (P : PutView → Type 0) (n : ℕ) (object : OpenObject) (objects : List OpenObject) (puts : List PutView) (b : Bool)
     → object.was_started ≡ b
-    → ((more : List PutView) → AreUnderWay objects more → AllByRecursion P more → was_started n objects ≡ true → IsUnderWayWith P n more)
-    → IsFirstUnderWay b object puts (AreUnderWay objects) → AllByRecursion P puts → was_started n (object ∷ objects) ≡ true → IsUnderWayWith P n puts
+    → ((more : List PutView) → AreUnderWay objects more → AllByRecursion P more → was_started n objects ≡ true
+    → IsUnderWayWith P n more)
+    → IsFirstUnderWay b object puts (AreUnderWay objects) → AllByRecursion P puts → was_started n (object ∷ objects) ≡ true
+    → IsUnderWayWith P n puts
 under_way_by P n object objects [] true was more are all started = absurd are
 under_way_by P n object objects (put ∷ puts) true was more are all started =
     elim (cases_eq put.number n) [
@@ -110,13 +120,15 @@ under_way_by P n object objects (put ∷ puts) true was more are all started =
     ]
 under_way_by P n object objects puts false was more are all started =
     let rest : was_started n objects ≡ true =
-    (elim (has_number n object) as (λ c. ((c && object.was_started) || was_started n objects) ≡ true → was_started n objects ≡ true) [
+    (elim (has_number n object) as (λ c. ((c && object.was_started) || was_started n objects) ≡ true
+    → was_started n objects ≡ true) [
       | true ↦ λ i. rw was at i
       | false ↦ λ i. i
     ]) started in
     more puts are all rest
 
-under_way_with : (P : PutView → Type 0) (n : ℕ) (objects : List OpenObject) (puts : List PutView) → AreUnderWay objects puts → AllByRecursion P puts
+under_way_with : (P : PutView → Type 0) (n : ℕ) (objects : List OpenObject) (puts : List PutView) → AreUnderWay objects puts
+    → AllByRecursion P puts
     → was_started n objects ≡ true → IsUnderWayWith P n puts
 under_way_with P n [] puts are all started = cc
 under_way_with P n (object ∷ objects) puts are all started =
@@ -150,7 +162,13 @@ lands_first P n put false true old middle new has as_ later =
       | inl is ↦
           let here : (put.number == n) ≡ true = eq-eqb put.number n is in
           subst (λ b. LandedOr P n ((b && true) || false) old new) (sym here)
-          (record { put = put; number = is; has = has; there = later ∙ ap (λ k. found middle (name_of script_uuid k)) (sym is) ∙ as_.put })
+          (record {
+            put = put;
+            number = is;
+            has = has;
+            there = later ∙ ap (λ k. found middle (name_of script_uuid k)) (sym is)
+                ∙ as_.put;
+          })
       | inr other ↦
           let not_here : (put.number == n) ≡ false = ne_eqb put.number n other in
           subst (λ b. LandedOr P n ((b && true) || false) old new) (sym not_here)
@@ -211,7 +229,8 @@ acked plain n is =
     record { was_entered = leb-true n plain.window.last parts.0; not_open = parts.1 }
 
 -- a number up to the last that is not acknowledged is open
-open_else : (plain : PlainState) (n : ℕ) → n ≤ plain.window.last → is_acked plain n ≡ false → list_any (has_number n) plain.window.objects ≡ true
+open_else : (plain : PlainState) (n : ℕ) → n ≤ plain.window.last → is_acked plain n ≡ false
+    → list_any (has_number n) plain.window.objects ≡ true
 open_else plain n low not_ =
     let e : nat_le n plain.window.last ≡ true = le-leb n plain.window.last low in
     let f : not (list_any (has_number n) plain.window.objects) ≡ false = rw e at not_ in
@@ -238,7 +257,8 @@ landed_or rig plain letters new n h lands =
     (lands_at (IsPutOf plain) n rig.puts letters rig.objects new (puts_of rig plain h) lands)
 
 -- which objects have landed
-landed_by_case : (rig : RigState) (plain : PlainState) (new : Objects) (n : ℕ) (a b : Bool) → ShowsPlain rig plain → 1 < n → is_acked plain n ≡ a
+landed_by_case : (rig : RigState) (plain : PlainState) (new : Objects) (n : ℕ) (a b : Bool) → ShowsPlain rig plain → 1 < n
+    → is_acked plain n ≡ a
     → LandedOr (IsPutOf plain) n b rig.objects new → landed_in new script_uuid n ≡ (a || b)
 landed_by_case rig plain new n a true h past is at = ap is_some at.there ∙ sym (or-true a)
 landed_by_case rig plain new n true false h past is at =
@@ -249,7 +269,8 @@ landed_by_case rig plain new n false false h past is at = ap is_some (at ∙ una
 pub landed_same : (rig : RigState) (plain : PlainState) (letters : List ℕ) (new : Objects) (n : ℕ) → ShowsPlain rig plain
     → Lands rig.puts letters rig.objects new → 1 < n → landed_in new script_uuid n ≡ landed_by plain.window letters n
 landed_same rig plain letters new n h lands past =
-    landed_by_case rig plain new n (is_acked plain n) (letter_of plain letters n) h past refl (landed_or rig plain letters new n h lands)
+    landed_by_case rig plain new n (is_acked plain n) (letter_of plain letters n) h past refl
+    (landed_or rig plain letters new n h lands)
 
 -- ---- the puts
 
@@ -259,7 +280,8 @@ held_begun : (plain : PlainState) (n : ℕ) (held : Option (List ℕ)) (bytes re
 held_begun plain n held bytes rest is object =
     subst (λ h. IsHeldAs plain Begun n (unwrap_or h rest) h) (sym is) (object, inr refl)
 
-held_not_yet : (plain : PlainState) (n : ℕ) (held : Option (List ℕ)) (rest : List ℕ) → held ≡ None → IsObjectOf (expected_of_plain plain) plain n rest
+held_not_yet : (plain : PlainState) (n : ℕ) (held : Option (List ℕ)) (rest : List ℕ) → held ≡ None
+    → IsObjectOf (expected_of_plain plain) plain n rest
     → IsHeldAs plain Begun n (unwrap_or held rest) held
 held_not_yet plain n held rest is object = subst (λ h. IsHeldAs plain Begun n (unwrap_or h rest) h) (sym is) (object, inl refl)
 
@@ -277,27 +299,33 @@ object_of plain n put is has = subst (λ k. IsObjectOf (expected_of_plain plain)
 begun_state : (window : WindowState) (n : ℕ) → was_started n window.objects ≡ true → state_of_put window n ≡ Begun
 begun_state window n was = ap (λ b. cond b Begun (cond (list_any (has_number n) window.objects) NotBegun Acknowledged)) was
 
-waiting_state : (window : WindowState) (n : ℕ) → was_started n window.objects ≡ false → list_any (has_number n) window.objects ≡ true
+waiting_state : (window : WindowState) (n : ℕ) → was_started n window.objects ≡ false
+    → list_any (has_number n) window.objects ≡ true
     → state_of_put window n ≡ NotBegun
 waiting_state window n never is_open =
     ap (λ b. cond b Begun (cond (list_any (has_number n) window.objects) NotBegun Acknowledged)) never
     ∙ ap (λ b. cond b NotBegun Acknowledged) is_open
 
-done_state : (window : WindowState) (n : ℕ) → list_any (has_number n) window.objects ≡ false → state_of_put window n ≡ Acknowledged
+done_state : (window : WindowState) (n : ℕ) → list_any (has_number n) window.objects ≡ false
+    → state_of_put window n ≡ Acknowledged
 done_state window n closed =
     let never : was_started n window.objects ≡ false =
     (elim (was_started n window.objects) as (λ b. was_started n window.objects ≡ b → b ≡ false) [
       | true ↦ λ was. (let e : false ≡ true = sym closed ∙ started_is_open n window.objects was in cc)
       | false ↦ λ never. refl
     ]) refl in
-    ap (λ b. cond b Begun (cond (list_any (has_number n) window.objects) NotBegun Acknowledged)) never ∙ ap (λ b. cond b NotBegun Acknowledged) closed
+    ap (λ b. cond b Begun (cond (list_any (has_number n) window.objects) NotBegun Acknowledged)) never
+    ∙ ap (λ b. cond b NotBegun Acknowledged) closed
 
-held_case : (rig : RigState) (plain : PlainState) (new : Objects) (n : ℕ) (a b s : Bool) → ShowsPlain rig plain → 1 < n → n ≤ plain.window.last
+held_case : (rig : RigState) (plain : PlainState) (new : Objects) (n : ℕ) (a b s : Bool) → ShowsPlain rig plain → 1 < n
+    → n ≤ plain.window.last
     → is_acked plain n ≡ a → was_started n plain.window.objects ≡ s → LandedOr (IsPutOf plain) n b rig.objects new
     → IsHeldAs plain (state_of_put plain.window n) n (bytes_now new rig.puts n) (found new (name_of script_uuid n))
 held_case rig plain new n a true s h past low is was at =
-    let started : was_started n plain.window.objects ≡ true = subst (λ k. was_started k plain.window.objects ≡ true) at.number at.has.1 in
-    subst (λ state. IsHeldAs plain state n (bytes_now new rig.puts n) (found new (name_of script_uuid n))) (sym (begun_state plain.window n started))
+    let started : was_started n plain.window.objects ≡ true = subst (λ k. was_started k plain.window.objects ≡ true) at.number
+    at.has.1 in
+    subst (λ state. IsHeldAs plain state n (bytes_now new rig.puts n) (found new (name_of script_uuid n)))
+    (sym (begun_state plain.window n started))
     (held_begun plain n (found new (name_of script_uuid n)) at.put.bytes _ at.there (object_of plain n at.put at.number at.has.0))
 held_case rig plain new n true false s h past low is was at =
     let had = h.stored.acknowledged n past (acked plain n is) in
@@ -308,7 +336,8 @@ held_case rig plain new n false false true h past low is was at =
     let put = under_way_with (IsPutOf plain) n plain.window.objects rig.puts h.puts (puts_of rig plain h) was in
     let rest : unwrap_or (option_map (λ (p : PutView). p.bytes) (put_with n rig.puts)) [] ≡ put.put.bytes =
     ap (λ p. unwrap_or (option_map (λ (q : PutView). q.bytes) p) []) put.is in
-    subst (λ state. IsHeldAs plain state n (bytes_now new rig.puts n) (found new (name_of script_uuid n))) (sym (begun_state plain.window n was))
+    subst (λ state. IsHeldAs plain state n (bytes_now new rig.puts n) (found new (name_of script_uuid n)))
+    (sym (begun_state plain.window n was))
     (held_not_yet plain n (found new (name_of script_uuid n)) _ (at ∙ unacked rig plain n h is)
     (subst (IsObjectOf (expected_of_plain plain) plain n) (sym rest) (object_of plain n put.put put.number put.has.0)))
 held_case rig plain new n false false false h past low is was at =
@@ -321,7 +350,8 @@ held_as : (rig : RigState) (plain : PlainState) (letters : List ℕ) (new : Obje
     → 1 < n → n ≤ plain.window.last
     → IsHeldAs plain (state_of_put plain.window n) n (bytes_now new rig.puts n) (found new (name_of script_uuid n))
 held_as rig plain letters new n h lands past low =
-    held_case rig plain new n (is_acked plain n) (letter_of plain letters n) (was_started n plain.window.objects) h past low refl refl
+    held_case rig plain new n (is_acked plain n) (letter_of plain letters n) (was_started n plain.window.objects) h past
+    low refl refl
     (landed_or rig plain letters new n h lands)
 
 -- the puts of a rig, by what the store has then
@@ -329,11 +359,14 @@ abbrev pub puts_now : PlainState → List PutView → Objects → ℕ → Option
 puts_now plain puts new n = cond (nat_le n plain.window.last) (Some (state_of_put plain.window n, bytes_now new puts n)) None
 
 -- an object under way is past the first, and none past the last
-landed_within : (rig : RigState) (plain : PlainState) (n : ℕ) (new : Objects) → ShowsPlain rig plain → IsLandedAt (IsPutOf plain) n new
+landed_within : (rig : RigState) (plain : PlainState) (n : ℕ) (new : Objects) → ShowsPlain rig plain
+    → IsLandedAt (IsPutOf plain) n new
     → (1 < n) × (n ≤ plain.window.last)
 landed_within rig plain n new h at =
-    let started : was_started n plain.window.objects ≡ true = subst (λ k. was_started k plain.window.objects ≡ true) at.number at.has.1 in
-    let within = open_within n 0 plain.window.objects plain.window.last h.shows.valid.window.order (started_is_open n plain.window.objects started) in
+    let started : was_started n plain.window.objects ≡ true = subst (λ k. was_started k plain.window.objects ≡ true) at.number
+    at.has.1 in
+    let within = open_within n 0 plain.window.objects plain.window.last h.shows.valid.window.order
+    (started_is_open n plain.window.objects started) in
     let opened = h.shows.valid.opened in
     let first = h.opens.number in
     (omega (arith, within.0, opened, first), within.1)
@@ -384,7 +417,8 @@ puts_within : (plain : PlainState) (puts : List PutView) (new : Objects) (n : �
     → puts_now plain puts new n ≡ Some (state_of_put plain.window n, bytes_now new puts n)
 puts_within plain puts new n low = (let e : nat_le n plain.window.last ≡ true = le-leb n plain.window.last low in rw e refl)
 
-puts_past : (plain : PlainState) (puts : List PutView) (new : Objects) (n : ℕ) → plain.window.last < n → puts_now plain puts new n ≡ None
+puts_past : (plain : PlainState) (puts : List PutView) (new : Objects) (n : ℕ) → plain.window.last < n
+    → puts_now plain puts new n ≡ None
 puts_past plain puts new n past = (let e : nat_le n plain.window.last ≡ false = lt-leb n plain.window.last past in rw e refl)
 
 pub are_puts : (rig : RigState) (plain : PlainState) (letters : List ℕ) (new : Objects) → ShowsPlain rig plain
@@ -403,9 +437,11 @@ are_puts rig plain letters new h lands =
 
 -- what a store may hold of a put that is known
 may_hold : (plain : PlainState) (state known : PutState) (bytes told : List ℕ) (held : Option (List ℕ))
-    → ◌≡◌ {A = Option (PutState × List ℕ)} (Some (state, bytes)) (Some (known, told)) → MayHoldPut state bytes held → MayHoldPut known told held
+    → ◌≡◌ {A = Option (PutState × List ℕ)} (Some (state, bytes)) (Some (known, told)) → MayHoldPut state bytes held
+    → MayHoldPut known told held
 may_hold plain state known bytes told held is holds =
-    let same : ◌≡◌ {A = PutState × List ℕ} (state, bytes) (known, told) = ap (λ (o : Option (PutState × List ℕ)). unwrap_or o (state, bytes)) is in
+    let same : ◌≡◌ {A = PutState × List ℕ} (state, bytes) (known, told) =
+    ap (λ (o : Option (PutState × List ℕ)). unwrap_or o (state, bytes)) is in
     subst (λ (p : PutState × List ℕ). MayHoldPut p.0 p.1 held) same holds
 
 pub may_be_left : (rig : RigState) (plain : PlainState) (letters : List ℕ) (new : Objects) → (h : ShowsPlain rig plain)
@@ -420,15 +456,16 @@ may_be_left rig plain letters new h lands =
       opened = opens.checkpoint ∙ sym opens.number;
       opened_first = opens.number;
       blank_is = opens.opening;
-      first = subst (λ k. IsCheckpointOf (expected_of_plain plain) new k plain.end (stream_in plain).opening) (sym opens.number) (record {
-        bytes = stays.bytes;
-        present = stays.present;
-        header = stays.header;
-        payload = stays.payload;
-        parts = stays.parts;
-        ends = stays.ends ∙ sym opens.end;
-        none = λ k. ap (λ (os : List (Option Owner)). slice_index_or os k None) opens.owned;
-      });
+      first = subst (λ k. IsCheckpointOf (expected_of_plain plain) new k plain.end (stream_in plain).opening)
+          (sym opens.number) (record {
+            bytes = stays.bytes;
+            present = stays.present;
+            header = stays.header;
+            payload = stays.payload;
+            parts = stays.parts;
+            ends = stays.ends ∙ sym opens.end;
+            none = λ k. ap (λ (os : List (Option Owner)). slice_index_or os k None) opens.owned;
+          });
       none_lower = λ n lower.
           let e : n ≡ 0 = omega (arith, lower, first) in
           ap (λ k. found new (name_of script_uuid k)) e ∙ none_first rig plain letters new h lands;
@@ -439,7 +476,8 @@ may_be_left rig plain letters new h lands =
               sym (puts_past plain rig.puts new n late) ∙ is in cc)
           | inr low ↦
               let within : n ≤ plain.window.last = omega (arith, low) in
-              may_hold plain (state_of_put plain.window n) state (bytes_now new rig.puts n) bytes (found new (name_of script_uuid n))
+              may_hold plain (state_of_put plain.window n) state (bytes_now new rig.puts n) bytes
+              (found new (name_of script_uuid n))
               (sym (puts_within plain rig.puts new n within) ∙ is)
               (held_as rig plain letters new n h lands (omega (arith, past, first)) within).1
         ];
@@ -468,7 +506,8 @@ pub recovered_same : (rig : RigState) (plain : PlainState) (letters : List ℕ) 
     → recovered_number (landed_in new script_uuid) plain ≡ recovered_number (landed_by plain.window letters) plain
 recovered_same rig plain letters new h lands =
     let first = h.opens.checkpoint in
-    landed_as (landed_in new script_uuid) (landed_by plain.window letters) plain.checkpoint (last_number (stream_in plain) - plain.checkpoint)
+    landed_as (landed_in new script_uuid) (landed_by plain.window letters) plain.checkpoint
+    (last_number (stream_in plain) - plain.checkpoint)
     (λ n past. landed_same rig plain letters new n h lands (omega (arith, past, first)))
 
 -- ---- the objects that are left
@@ -488,12 +527,14 @@ object_held plain Begun n told bytes held is has = elim has.1 [
 object_held plain NotBegun n told bytes held is has =
     absurd (let e : ◌≡◌ {A = Option (List ℕ)} None (Some bytes) = sym has.1 ∙ is in cc)
 
-pub left_object : (rig : RigState) (plain : PlainState) (letters : List ℕ) (new : Objects) (n : ℕ) (bytes : List ℕ) → ShowsPlain rig plain
+pub left_object : (rig : RigState) (plain : PlainState) (letters : List ℕ) (new : Objects) (n : ℕ) (bytes : List ℕ)
+    → ShowsPlain rig plain
     → Lands rig.puts letters rig.objects new → 1 < n → found new (name_of script_uuid n) ≡ Some bytes
     → IsObjectOf (expected_of_plain plain) plain n bytes
 left_object rig plain letters new n bytes h lands past there = elim (cases_lt plain.window.last n) [
   | inl late ↦
-      absurd (let e : ◌≡◌ {A = Option (List ℕ)} None (Some bytes) = sym (none_past rig plain letters new n h lands late) ∙ there in cc)
+      absurd (let e : ◌≡◌ {A = Option (List ℕ)} None (Some bytes) = sym (none_past rig plain letters new n h lands late)
+      ∙ there in cc)
   | inr low ↦
       object_held plain (state_of_put plain.window n) n (bytes_now new rig.puts n) bytes (found new (name_of script_uuid n)) there
       (held_as rig plain letters new n h lands past (omega (arith, low)))

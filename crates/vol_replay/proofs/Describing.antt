@@ -11,20 +11,23 @@ use Rattle.vol_replay.specs.Puts.{PutView}
 use Rattle.vol_replay.specs.Rig.{script_uuid}
 
 -- an object was put
-pub put_keeps_volume : (n : ℕ) (bytes : List ℕ) (old new : Objects) (geometry : Geometry) (epoch : ℕ) → IsPut (name_of script_uuid n) bytes old new
+pub put_keeps_volume : (n : ℕ) (bytes : List ℕ) (old new : Objects) (geometry : Geometry) (epoch : ℕ)
+    → IsPut (name_of script_uuid n) bytes old new
     → HasVolume script_uuid geometry epoch old → HasVolume script_uuid geometry epoch new
 put_keeps_volume n bytes old new geometry epoch put has =
     let keeps : KeepsVolume script_uuid old new =
     others_keep_volume script_uuid (name_of script_uuid n) old new (inl tt) (inr (inl (bytes, inr put))) in
     (says_the_same script_uuid old new keeps).has geometry epoch has
 
-as_keeps_volume : (has_landed : Bool) (put : PutView) (old new : Objects) (geometry : Geometry) (epoch : ℕ) → LandsAs has_landed put old new
+as_keeps_volume : (has_landed : Bool) (put : PutView) (old new : Objects) (geometry : Geometry) (epoch : ℕ)
+    → LandsAs has_landed put old new
     → HasVolume script_uuid geometry epoch old → HasVolume script_uuid geometry epoch new
 as_keeps_volume true put old new geometry epoch lands has = put_keeps_volume put.number put.bytes old new geometry epoch lands has
 as_keeps_volume false put old new geometry epoch lands has = subst (HasVolume script_uuid geometry epoch) (sym lands) has
 
 -- and so were those that have landed
-pub lands_keep_volume : (puts : List PutView) (letters : List ℕ) (old new : Objects) (geometry : Geometry) (epoch : ℕ) → Lands puts letters old new
+pub lands_keep_volume : (puts : List PutView) (letters : List ℕ) (old new : Objects) (geometry : Geometry) (epoch : ℕ)
+    → Lands puts letters old new
     → HasVolume script_uuid geometry epoch old → HasVolume script_uuid geometry epoch new
 lands_keep_volume [] letters old new geometry epoch lands has = subst (HasVolume script_uuid geometry epoch) (sym lands) has
 lands_keep_volume (put ∷ puts) [] old new geometry epoch lands has = subst (HasVolume script_uuid geometry epoch) (sym lands) has

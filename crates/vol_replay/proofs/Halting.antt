@@ -27,7 +27,8 @@ use Rattle.vol_replay.proofs.Stepped.{all_puts}
 use Rattle.vol_replay.proofs.WindowLemmas.{under_way_numbers}
 
 -- how many objects are under way
-pub count_under_way : (rig : RigState) (plain : PlainState) → ShowsPlain rig plain → length rig.puts ≡ length (under_way plain.window)
+pub count_under_way : (rig : RigState) (plain : PlainState) → ShowsPlain rig plain
+    → length rig.puts ≡ length (under_way plain.window)
 count_under_way rig plain h =
     sym (length-map rig.puts (λ put. put.number)) ∙ ap length (under_way_numbers plain.window.objects rig.puts h.puts)
 
@@ -59,11 +60,13 @@ fates_pending rig plain disk fates h is count =
 
 -- ---- a device that is told to stop
 
-set_fuse : (fuse : Fuse) (old new : Option Budget) → IsTrue (is_some old) → new ≡ with_new_fuse fuse old → (fuse_in new ≡ fuse) × IsTrue (is_some new)
+set_fuse : (fuse : Fuse) (old new : Option Budget) → IsTrue (is_some old) → new ≡ with_new_fuse fuse old → (fuse_in new ≡ fuse)
+    × IsTrue (is_some new)
 set_fuse fuse None new told is = cc
 set_fuse fuse (Some budget) new told is = (ap fuse_in is, ap is_some is)
 
-object_with_cache : (volume : Expected) (plain : PlainState) (cache : PlainCache) (number : ℕ) (bytes : List ℕ) → IsObjectOf volume plain number bytes
+object_with_cache : (volume : Expected) (plain : PlainState) (cache : PlainCache) (number : ℕ) (bytes : List ℕ)
+    → IsObjectOf volume plain number bytes
     → IsObjectOf volume (record plain { cache = cache }) number bytes
 object_with_cache volume plain cache number bytes is = record {
   past = is.past;
@@ -75,7 +78,8 @@ object_with_cache volume plain cache number bytes is = record {
   changes = is.changes;
 }
 
-pub stopping_rig : (calls : ℕ) (old : RigState) (volume : SteppedVolume) (plain : PlainState) → ShowsPlain old plain → plain.cache.left ≡ None
+pub stopping_rig : (calls : ℕ) (old : RigState) (volume : SteppedVolume) (plain : PlainState) → ShowsPlain old plain
+    → plain.cache.left ≡ None
     → volume ≡ record old.volume { volume = with_budget_of volume.volume.log.commits.disk old.volume.volume }
     → (Shows old.volume.volume plain → Shows volume.volume (passing (fuse_in volume.volume.log.commits.disk.budget) plain))
     → volume.volume.log.commits.disk.budget ≡ with_new_fuse (Some calls) old.volume.volume.log.commits.disk.budget
@@ -97,7 +101,8 @@ stopping_rig calls old volume plain h none rest shows budget =
           (still_shows_pending before.log log plain.cache cache h.pending
           (record { same_number = refl; same_body = refl; same_unfinished = refl }) refl set.1 unspent refl);
       epoch = h.epoch;
-      own = subst (HasOwnCommits h.epoch) (sym is) (record { last = h.own.last; unfinished = h.own.unfinished; in_range = h.own.in_range });
+      own = subst (HasOwnCommits h.epoch) (sym is)
+          (record { last = h.own.last; unfinished = h.own.unfinished; in_range = h.own.in_range });
       described = h.described;
       begun = omega (arith, h.begun);
       uuid_is = subst (λ (v : VolumeState). v.objects.uploads.uuid ≡ script_uuid) (sym is) h.uuid_is;

@@ -1,5 +1,6 @@
 -- The rig of a volume that was stopped and mounted again.
-use Rattle.std.proofs.Common.{◌≡◌, ℕ, ◌+◌, ◌*◌, ◌-◌, ◌%◌, ◌^◌, ◌<◌, ◌≤◌, max, true, false, List, [], ◌∷◌, length, map, refl, sym, ◌∙◌, ap}
+use Rattle.std.proofs.Common.{◌≡◌, ℕ, ◌+◌, ◌*◌, ◌-◌, ◌%◌, ◌^◌, ◌<◌, ◌≤◌, max, true, false, List, [], ◌∷◌, length, map, refl, sym}
+use Rattle.std.proofs.Common.{◌∙◌, ap}
 use Rattle.std.proofs.Common.{subst, inl, inr, arith}
 use Rattle.std.specs.Prelude.{Option, Some, None, is_some, IsTrue}
 use Rattle.std.specs.List.{AllByRecursion}
@@ -53,7 +54,8 @@ use Rattle.vol_replay.specs.Crash.{IsLeftBy, Lands, MayMountStored, MayMountLeft
 use Rattle.vol_replay.specs.Puts.{PutView}
 use Rattle.vol_replay.specs.Rig.{RigState, rig_of, script_uuid, expected_of_plain, ShowsPlain}
 use Rattle.vol_replay.proofs.CrashLemmas.{left_is_synced}
-use Rattle.vol_replay.proofs.Crashing.{left_object, none_past, none_first, checkpoint_stays, are_puts, may_be_left, puts_now, recovered_same}
+use Rattle.vol_replay.proofs.Crashing.{left_object, none_past, none_first, checkpoint_stays, are_puts, may_be_left, puts_now}
+use Rattle.vol_replay.proofs.Crashing.{recovered_same}
 use Rattle.vol_replay.proofs.Opening.{fuse_told}
 use Rattle.vol_replay.proofs.Describing.{lands_keep_volume}
 use Rattle.vol_replay.proofs.Standing.{owner_at, rig_stops, ends_past}
@@ -68,7 +70,8 @@ pub has_left : (rig : RigState) (plain : PlainState) (letters : List ℕ) (new :
     → Lands rig.puts letters rig.objects new
     → HasObjects script_uuid plain (number_left new plain) new × MayLand plain (landed_in new script_uuid)
 has_left rig plain letters new h lands =
-    left_has_objects script_uuid h.epoch plain (puts_now plain rig.puts new) new h.shows.valid (are_puts rig plain letters new h lands)
+    left_has_objects script_uuid h.epoch plain (puts_now plain rig.puts new) new h.shows.valid
+    (are_puts rig plain letters new h lands)
     (may_be_left rig plain letters new h lands)
 
 -- it is at most that of the last object
@@ -79,7 +82,8 @@ left_within plain new valid =
     omega (arith, sealed, last)
 
 pub stored_left : (rig : RigState) (plain : PlainState) (letters : List ℕ) (new : Objects) → ShowsPlain rig plain
-    → Lands rig.puts letters rig.objects new → rig.lines < 2 ^ 40 → IsStored script_uuid plain.geometry plain (number_left new plain) (Some new)
+    → Lands rig.puts letters rig.objects new → rig.lines < 2 ^ 40
+    → IsStored script_uuid plain.geometry plain (number_left new plain) (Some new)
 stored_left rig plain letters new h lands few =
     let most = h.young.objects in
     let within = left_within plain new h.shows.valid in
@@ -108,12 +112,14 @@ record AreLowLeft (greatest end : ℕ) : Type 0 where
   of_end : end < 2 ^ 60
 
 low_left : (rig : RigState) (plain : PlainState) (letters : List ℕ) (new : Objects) (greatest end : ℕ) → ShowsPlain rig plain
-    → Lands rig.puts letters rig.objects new → rig.lines < 2 ^ 40 → IsExtent script_uuid plain.geometry new greatest end → AreLowLeft greatest end
+    → Lands rig.puts letters rig.objects new → rig.lines < 2 ^ 40 → IsExtent script_uuid plain.geometry new greatest end
+    → AreLowLeft greatest end
 low_left rig plain letters new greatest end h lands few extent =
     let has = (has_left rig plain letters new h lands).0 in
     let most = h.young.objects in
     let low : greatest < 2 ^ 60 = elim (cases_lt plain.window.last greatest) [
-      | inl late ↦ absurd (some_is (found new (name_of script_uuid greatest)) (none_past rig plain letters new greatest h lands late) extent.present)
+      | inl late ↦ absurd (some_is (found new (name_of script_uuid greatest))
+          (none_past rig plain letters new greatest h lands late) extent.present)
       | inr low ↦ omega (arith, low, most, few)
     ] in
     let ends = extent.end_is low has.uuid_at (stream_in plain) (number_left new plain) has.stored in
@@ -145,17 +151,23 @@ may_mount_stored rig plain letters new h lands few = record {
 }
 
 -- the commit that bytes read as is one
-reads_one : (log : ℕ) (bytes : List ℕ) (m n : ℕ) (a b : CommitBody) → Reads log bytes a m → Reads log bytes b n → (m ≡ n) × (a ≡ b)
+reads_one : (log : ℕ) (bytes : List ℕ) (m n : ℕ) (a b : CommitBody) → Reads log bytes a m → Reads log bytes b n
+    → (m ≡ n) × (a ≡ b)
 reads_one log bytes m n a b first second =
     let less = second.newest first.slot a m first.is_open in
     let more = first.newest second.slot b n second.is_open in
     let same : m ≡ n = omega (arith, less, more) in
-    let slot : first.slot ≡ second.slot = sym first.is_open.sector.in_slot ∙ ap (λ k. k % 3) same ∙ second.is_open.sector.in_slot in
-    let there = subst (λ s. IsOpenSlot log bytes s a m) slot first.is_open in
-    (same, (determines_body a b m n there.sector.numbers second.is_open.sector.numbers (sym there.sector.bytes ∙ second.is_open.sector.bytes)).0)
+    let slot : first.slot ≡ second.slot = sym first.is_open.sector.in_slot ∙ ap (λ k. k % 3) same
+    ∙ second.is_open.sector.in_slot in
+    let there = subst (λ s. IsOpenSlot log bytes s a m) slot first.is_open in (
+      same,
+      (determines_body a b m n there.sector.numbers second.is_open.sector.numbers (sym there.sector.bytes
+          ∙ second.is_open.sector.bytes)).0,
+    )
 
 -- what the fates of the pending writes leave
-module _ (rig : RigState) (plain : PlainState) (fates : List Fate) (letters : List ℕ) (new : Objects) (left : DiskState) (h : ShowsPlain rig plain)
+module _ (rig : RigState) (plain : PlainState) (fates : List Fate) (letters : List ℕ) (new : Objects) (left : DiskState)
+    (h : ShowsPlain rig plain)
     (on_disk : IsOnDisk rig.volume.volume.log) (lands : Lands rig.puts letters rig.objects new)
     (is : IsLeftBy fates rig.volume.volume.log.commits.disk left) (count : length fates ≡ length plain.cache.pending) where
   abbrev pub commit_left : PlainCommit
@@ -167,18 +179,22 @@ module _ (rig : RigState) (plain : PlainState) (fates : List Fate) (letters : Li
   abbrev pub end_left : ℕ
   end_left = end_of_object (number_left new plain) plain
 
-  pub has_commit : (has : HasCommit (owner_at h.epoch) plain commit_left end_left bytes_left) × (has.number ≤ rig.volume.volume.log.commits.number + 1)
+  pub has_commit : (has : HasCommit (owner_at h.epoch) plain commit_left end_left bytes_left)
+      × (has.number ≤ rig.volume.volume.log.commits.number + 1)
   has_commit =
       let valid = h.shows.valid in
       let landed : Numbers = landed_in new script_uuid in
       let may = (has_left rig plain letters new h lands).1 in
       let sealed = recovers_sealed plain landed valid in
       let last = valid.last in
-      let ends = ends_past plain (number_left new plain) valid (recovers_frontier plain landed valid may) (omega (arith, sealed, last)) in
-      fates_keep_commit (owner_at h.epoch) h.shows.data_at rig.volume.volume.log plain fates end_left (rig_stops rig plain h on_disk) h.pending count
+      let ends = ends_past plain (number_left new plain) valid (recovers_frontier plain landed valid may)
+      (omega (arith, sealed, last)) in
+      fates_keep_commit (owner_at h.epoch) h.shows.data_at rig.volume.volume.log plain fates end_left
+      (rig_stops rig plain h on_disk) h.pending count
       is.may_leave ends.0 ends.1
 
-  pub is_left : rig.lines < 2 ^ 40 → IsLeft script_uuid plain.geometry h.epoch plain commit_left (number_left new plain) (Some new) left
+  pub is_left : rig.lines < 2 ^ 40 → IsLeft script_uuid plain.geometry h.epoch plain commit_left (number_left new plain)
+      (Some new) left
   is_left few = record {
     stored = stored_left rig plain letters new h lands few;
     device =
@@ -190,7 +206,8 @@ module _ (rig : RigState) (plain : PlainState) (fates : List Fate) (letters : Li
   pub reads_left : (P : ℕ → CommitBody → Type 0) → P has_commit.0.number has_commit.0.body
       → HoldsNow (λ now. (n : ℕ) (body : CommitBody) → Reads plain.geometry.log now.bytes body n → P n body) left.moments
   reads_left P holds =
-      subst (HoldsNow (λ now. (n : ℕ) (body : CommitBody) → Reads plain.geometry.log now.bytes body n → P n body)) (sym is.stopped.moments)
+      subst (HoldsNow (λ now. (n : ℕ) (body : CommitBody) → Reads plain.geometry.log now.bytes body n → P n body))
+      (sym is.stopped.moments)
       (λ n body reads.
       let has = has_commit.0 in
       let same = reads_one plain.geometry.log bytes_left has.number n has.body body has.slots.reads reads in
@@ -212,7 +229,8 @@ module _ (rig : RigState) (plain : PlainState) (fates : List Fate) (letters : Li
       let has = has_commit.0 in
       let (greatest, end, reads, extent) = worn in
       let P : ℕ → CommitBody → Type 0 = λ n body. IsFirstGreat (n ∷ h.epoch ∷ greatest ∷ max end body.head.seq ∷ []) value in
-      let here = subst (HoldsNow (λ now. (n : ℕ) × (body : CommitBody) × Reads plain.geometry.log now.bytes body n × P n body)) is.stopped.moments reads in
+      let here = subst (HoldsNow (λ now. (n : ℕ) × (body : CommitBody) × Reads plain.geometry.log now.bytes body n × P n body))
+      is.stopped.moments reads in
       let same = reads_one plain.geometry.log bytes_left here.0 has.number here.1 has.body here.2 has.slots.reads in
       let great : P has.number has.body = subst (P has.number) same.1 (subst (λ n. P n here.1) same.0 here.3) in
       let low = low_commit few in
@@ -222,7 +240,8 @@ module _ (rig : RigState) (plain : PlainState) (fates : List Fate) (letters : Li
       no_great (has.number ∷ h.epoch ∷ greatest ∷ max end has.body.head.seq ∷ []) value
       (low.0, (low_epoch rig plain h few, (are.of_greatest, (omega (arith, a, b), tt)))) great
 
-  pub may_mount_left : rig.lines < 2 ^ 40 → (plain.geometry.log ≡ log_of left.size) × (4096 ≤ left.size) → MayMountLeft plain.geometry new left
+  pub may_mount_left : rig.lines < 2 ^ 40 → (plain.geometry.log ≡ log_of left.size) × (4096 ≤ left.size)
+      → MayMountLeft plain.geometry new left
   may_mount_left few sizes = record {
     log = sizes.0;
     size = sizes.1;
@@ -266,10 +285,12 @@ some_bytes : (held : Option (List ℕ)) → is_some held ≡ true → (bytes : L
 some_bytes None is = absurd cc
 some_bytes (Some bytes) is = (bytes, refl)
 
-module _ (rig : RigState) (plain : PlainState) (letters : List ℕ) (new after : Objects) (mounted : MountedState) (count : ℕ) (log : PlainLog)
+module _ (rig : RigState) (plain : PlainState) (letters : List ℕ) (new after : Objects) (mounted : MountedState) (count : ℕ)
+    (log : PlainLog)
     (h : ShowsPlain rig plain) (lands : Lands rig.puts letters rig.objects new) (few : rig.lines < 2 ^ 40)
     (epoch : ℕ) (begun : epoch ≤ rig.lines + 1) (was : IsMountedVolume plain.geometry epoch new mounted after)
-    (is : IsMountOf (mounted_as (number_left new plain) count log plain) (number_left new plain) mounted) (finished : log.unfinished ≡ None)
+    (is : IsMountOf (mounted_as (number_left new plain) count log plain) (number_left new plain) mounted)
+    (finished : log.unfinished ≡ None)
     (keeps : (n : ℕ) (bytes : List ℕ) → n ≤ number_left new plain → IsObjectOf (expected_of_plain plain) plain n bytes
     → IsObjectOf (expected_of_plain plain) (mounted_as (number_left new plain) count log plain) n bytes)
     (next : mounted.volume.volume.log.commits.number ≤ 4 * (rig.lines + 1)) where
@@ -349,7 +370,8 @@ module _ (rig : RigState) (plain : PlainState) (letters : List ℕ) (new after :
       record {
         shows = shown;
         pending =
-            synced_shows_pending mounted.volume.volume.log made.cache (has_budget (disk_of mounted).budget None was.fuse) was.now finished_too refl;
+            synced_shows_pending mounted.volume.volume.log made.cache (has_budget (disk_of mounted).budget None was.fuse) was.now
+            finished_too refl;
         epoch = epoch;
         own = was.volume.own;
         described = was.described;
@@ -366,7 +388,11 @@ module _ (rig : RigState) (plain : PlainState) (letters : List ℕ) (new after :
         puts = refl;
         put_objects = tt;
         bytes = tt;
-        stored = record { first = first_stays; acknowledged = λ n past ack. recovered_there n past ack.was_entered; none_else = none_there };
+        stored = record {
+          first = first_stays;
+          acknowledged = λ n past ack. recovered_there n past ack.was_entered;
+          none_else = none_there;
+        };
         young = record {
           entries = omega (arith, entries, fewer);
           objects = omega (arith, last_high, most);
@@ -404,9 +430,11 @@ IsMadeBy rig made mounted after number =
 
 told_mount : (mounted : MountedState) (made : PlainState) (to : ℕ) → IsMountOf made to mounted
     → Mounted mounted.entries mounted.number ≡ Mounted (history_length made) to
-told_mount mounted made to is = ap (λ n. Mounted n mounted.number) is.entries ∙ ap (λ n. Mounted (history_length made) n) is.number_is
+told_mount mounted made to is = ap (λ n. Mounted n mounted.number) is.entries
+    ∙ ap (λ n. Mounted (history_length made) n) is.number_is
 
-pub kept_rig : (rig : RigState) (plain : PlainState) (fates : List Fate) (letters : List ℕ) (new after : Objects) (left : DiskState)
+pub kept_rig : (rig : RigState) (plain : PlainState) (fates : List Fate) (letters : List ℕ) (new after : Objects)
+    (left : DiskState)
     (mounted : MountedState)
     → ShowsPlain rig plain → IsOnDisk rig.volume.volume.log → Lands rig.puts letters rig.objects new
     → IsLeftBy fates rig.volume.volume.log.commits.disk left → length fates ≡ length plain.cache.pending → rig.lines < 2 ^ 40
@@ -418,10 +446,12 @@ kept_rig rig plain fates letters new after left mounted h on_disk lands is_left_
     let number : ℕ = number_left new plain in
     let end : ℕ = end_of_object number plain in
     let described = described_left rig plain letters new h lands in
-    let is = mounts plain.geometry h.epoch log described plain commit number (is_left rig plain fates letters new left h on_disk lands is_left_by count few) in
+    let is = mounts plain.geometry h.epoch log described plain commit number
+    (is_left rig plain fates letters new left h on_disk lands is_left_by count few) in
     let begun = h.begun in
     let shows =
-    mounted_rig rig plain letters new after mounted (max end commit.head.seq) (mounted_log commit end plain.cache.log) h lands few h.epoch
+    mounted_rig rig plain letters new after mounted (max end commit.head.seq) (mounted_log commit end plain.cache.log) h lands
+    few h.epoch
     (omega (arith, begun)) (was plain.geometry h.epoch log described) is refl
     (λ n bytes low object. (mounts_keep_object (expected_of_plain plain) plain commit number n bytes h.shows.valid low object).0)
     (next_number rig plain fates letters new left h on_disk lands is_left_by count mounted
@@ -429,9 +459,11 @@ kept_rig rig plain fates letters new after left mounted h on_disk lands is_left_
     subst (IsMadeBy rig (λ n. mounted_with commit n plain) mounted after) (recovered_same rig plain letters new h lands)
     (told_mount mounted (mounted_with commit number plain) number is, shows)
 
-pub lost_rig : (rig : RigState) (plain : PlainState) (letters : List ℕ) (new after : Objects) (mounted : MountedState) (sectors : ℕ)
+pub lost_rig : (rig : RigState) (plain : PlainState) (letters : List ℕ) (new after : Objects) (mounted : MountedState)
+    (sectors : ℕ)
     → ShowsPlain rig plain → Lands rig.puts letters rig.objects new → rig.lines < 2 ^ 40
-    → plain.geometry.log ≡ sectors → MountedAs sectors (λ epoch. epoch + 1) new mounted after → MountsStoredOf sectors new mounted → mounted.volume.volume.log.commits.number ≡ 0
+    → plain.geometry.log ≡ sectors → MountedAs sectors (λ epoch. epoch + 1) new mounted after → MountsStoredOf sectors new mounted
+    → mounted.volume.volume.log.commits.number ≡ 0
     → IsMountedRig rig letters plain (mounted_lost (landed_by plain.window letters) plain) mounted after
 lost_rig rig plain letters new after mounted sectors h lands few log was mounts numbers =
     let number : ℕ = number_left new plain in
@@ -440,17 +472,19 @@ lost_rig rig plain letters new after mounted sectors h lands few log was mounts 
     let is = mounts plain.geometry h.epoch log described plain number (stored_left rig plain letters new h lands few) in
     let begun = h.begun in
     let shows =
-    mounted_rig rig plain letters new after mounted end (empty_from plain.cache.log.size end) h lands few (h.epoch + 1) (omega (arith, begun))
+    mounted_rig rig plain letters new after mounted end (empty_from plain.cache.log.size end) h lands few (h.epoch + 1)
+    (omega (arith, begun))
     (was plain.geometry h.epoch log described) is refl
-    (λ n bytes low object. (mounts_keep_object (expected_of_plain plain) plain plain.cache.log.last number n bytes h.shows.valid low object).1)
+    (λ n bytes low object. (mounts_keep_object (expected_of_plain plain) plain plain.cache.log.last number n bytes h.shows.valid
+    low object).1)
     (omega (arith, numbers)) in
     subst (IsMadeBy rig (λ n. mounted_without n plain) mounted after) (recovered_same rig plain letters new h lands)
     (told_mount mounted (mounted_without number plain) number is, shows)
 
 -- ---- a rig that was stopped
 
--- Of a rig that was stopped, and whose objects with some letters landed, these are left: a store, and a device where the pending writes met
--- some fates.
+-- Of a rig that was stopped, and whose objects with some letters landed, these are left: a store, and a device where the pending
+-- writes met some fates.
 pub record WasStopped (rig : RigState) (fates : List Fate) (letters : List ℕ) (new : Objects) (left : DiskState) : Type 0 where
   pub on_disk : IsOnDisk rig.volume.volume.log
   pub few : rig.lines < 2 ^ 40
@@ -466,7 +500,8 @@ pub record WasLost (rig : RigState) (letters : List ℕ) (new : Objects) : Type 
 pub was_stopped : (rig self : RigState) (fates : List Fate) (letters : List ℕ) (puts : List PutView) (new : Objects)
     (disk left : DiskState)
     → rig ≡ self → IsOnDisk rig.volume.volume.log → self.lines < 2 ^ 40
-    → ((plain : PlainState) → ShowsPlain self plain → length fates ≡ length plain.cache.pending) → disk ≡ rig.volume.volume.log.commits.disk
+    → ((plain : PlainState) → ShowsPlain self plain → length fates ≡ length plain.cache.pending)
+    → disk ≡ rig.volume.volume.log.commits.disk
     → IsLeftBy fates disk left → puts ≡ rig.puts → Lands puts letters rig.objects new → WasStopped rig fates letters new left
 was_stopped rig self fates letters puts new disk left same on_disk few count is left_by are lands = record {
   on_disk = on_disk;
@@ -486,7 +521,8 @@ was_lost rig self letters puts new same few are lands = record {
 
 -- ---- what a mount needs
 
-same_geometry : (rig : RigState) (plain : PlainState) → ShowsPlain rig plain → plain.geometry ≡ rig.volume.volume.objects.batch.geometry
+same_geometry : (rig : RigState) (plain : PlainState) → ShowsPlain rig plain
+    → plain.geometry ≡ rig.volume.volume.objects.batch.geometry
 same_geometry rig plain h = sym h.shows.objects.geometry
 
 -- the log has the sectors of the device past its slots
@@ -500,7 +536,8 @@ has_log rig plain fates left h on_disk left_by =
       subst (λ n. 4096 ≤ n) (sym left_by.size) on_disk.commits.size,
     )
 
-pub may_mount_again : (rig : RigState) (plain : PlainState) (fates : List Fate) (letters : List ℕ) (new : Objects) (left : DiskState)
+pub may_mount_again : (rig : RigState) (plain : PlainState) (fates : List Fate) (letters : List ℕ) (new : Objects)
+    (left : DiskState)
     → ShowsPlain rig plain → WasStopped rig fates letters new left → MayMountLeft plain.geometry new left
 may_mount_again rig plain fates letters new left h was =
     may_mount_left rig plain fates letters new left h was.on_disk was.lands was.left_by (was.count plain h) was.few
@@ -519,22 +556,28 @@ log_anew rig plain geometry sectors h is log = ap (λ (g : Geometry). g.log) (sa
 
 pub rig_again : (rig : RigState) (plain : PlainState) (fates : List Fate) (letters : List ℕ) (new after : Objects)
     (left : DiskState) (mounted : MountedState)
-    → ShowsPlain rig plain → WasStopped rig fates letters new left → MountedAs (log_of left.size) (λ epoch. epoch) new mounted after
+    → ShowsPlain rig plain → WasStopped rig fates letters new left
+    → MountedAs (log_of left.size) (λ epoch. epoch) new mounted after
     → MountsLeftOf (log_of left.size) new left mounted → NumbersNextCommit (log_of left.size) left mounted
     → IsMountedRig rig letters plain (mounted_kept (landed_by plain.window letters) (map is_kept fates) plain) mounted after
 rig_again rig plain fates letters new after left mounted h was volume mounts numbers =
     kept_rig rig plain fates letters new after left mounted h was.on_disk was.lands was.left_by (was.count plain h) was.few
     (has_log rig plain fates left h was.on_disk was.left_by).0 volume mounts numbers
 
-pub rig_anew : (rig : RigState) (plain : PlainState) (letters : List ℕ) (new after : Objects) (mounted : MountedState) (sectors : ℕ)
-    → ShowsPlain rig plain → WasLost rig letters new → plain.geometry.log ≡ sectors → MountedAs sectors (λ epoch. epoch + 1) new mounted after
+pub rig_anew : (rig : RigState) (plain : PlainState) (letters : List ℕ) (new after : Objects) (mounted : MountedState)
+    (sectors : ℕ)
+    → ShowsPlain rig plain → WasLost rig letters new → plain.geometry.log ≡ sectors
+    → MountedAs sectors (λ epoch. epoch + 1) new mounted after
     → MountsStoredOf sectors new mounted → mounted.volume.volume.log.commits.number ≡ 0
     → IsMountedRig rig letters plain (mounted_lost (landed_by plain.window letters) plain) mounted after
 rig_anew rig plain letters new after mounted sectors h was log volume mounts numbers =
     lost_rig rig plain letters new after mounted sectors h was.lands was.few log volume mounts numbers
 
-pub told_by : (rig : RigState) (letters : List ℕ) (plain made : PlainState) (mounted : MountedState) (after : Objects) (answer : Answer)
+pub told_by : (rig : RigState) (letters : List ℕ) (plain made : PlainState) (mounted : MountedState) (after : Objects)
+    (answer : Answer)
     (bench : RigState)
     → bench ≡ rig_of mounted.volume after [] false (rig.lines + 1) → answer ≡ Mounted mounted.entries mounted.number
-    → IsMountedRig rig letters plain made mounted after → IsMountTold (landed_by plain.window letters) plain made answer × ShowsPlain bench made
-told_by rig letters plain made mounted after answer bench is says made_is = (says ∙ made_is.0, subst (λ r. ShowsPlain r made) (sym is) made_is.1)
+    → IsMountedRig rig letters plain made mounted after → IsMountTold (landed_by plain.window letters) plain made answer
+    × ShowsPlain bench made
+told_by rig letters plain made mounted after answer bench is says made_is =
+    (says ∙ made_is.0, subst (λ r. ShowsPlain r made) (sym is) made_is.1)

@@ -1,5 +1,6 @@
 -- A put of an object begins, fails or is done, and the rig shows what that makes of the plain volume.
-use Rattle.std.proofs.Common.{◌≡◌, ℕ, ◌+◌, ◌<◌, ◌≤◌, nat_eq, Bool, true, false, cond, List, [], ◌∷◌, refl, sym, ◌∙◌, ap, subst, inl, inr, arith}
+use Rattle.std.proofs.Common.{◌≡◌, ℕ, ◌+◌, ◌<◌, ◌≤◌, nat_eq, Bool, true, false, cond, List, [], ◌∷◌, refl, sym, ◌∙◌, ap, subst}
+use Rattle.std.proofs.Common.{inl, inr, arith}
 use Rattle.std.specs.Prelude.{Option, Some, None, is_some, IsTrue, Result, Ok, Err, IfOk}
 use Rattle.std.specs.List.{AllByRecursion, list_any}
 use Rattle.std.specs.declared.alloc.AllocError.{AllocError}
@@ -23,7 +24,8 @@ use Rattle.obj_log.specs.Changes.{expected_of_volume}
 use Rattle.stopped_volume.specs.Objects.{IsCheckpointOf}
 use Rattle.stopped_volume.specs.Super.{HasVolume}
 use Rattle.upload_window.specs.declared.object.OpenObject.{OpenObject}
-use Rattle.upload_window.specs.Window.{WindowState, Ascends, IsAcknowledged, has_number, below_lowest, below_open, is_ready, lowest_ready, is_started, marked, acknowledged}
+use Rattle.upload_window.specs.Window.{WindowState, Ascends, IsAcknowledged, has_number, below_lowest, below_open, is_ready}
+use Rattle.upload_window.specs.Window.{lowest_ready, is_started, marked, acknowledged}
 use Rattle.batcher.specs.declared.full.Full.TheVariants as full
 use Rattle.plain_disk.specs.declared.event.PlainEvent.{PlainEvent}
 use Rattle.plain_disk.specs.declared.event.PlainEvent.TheVariants as events
@@ -47,18 +49,24 @@ use Rattle.vol_replay.specs.declared.answer.Answer.{Answer}
 use Rattle.vol_replay.specs.declared.answer.Answer.TheVariants as answers
 use Rattle.vol_replay.specs.Answers.{SaysReply, SaysCounts}
 use Rattle.vol_replay.specs.Bench.{AnswersEvent, FailsPut}
-use Rattle.vol_replay.specs.Puts.{PutView, put_of, is_put_out, out_put, with_begun, with_failed, without_put, IsPutOut, IsJobTaken}
-use Rattle.vol_replay.specs.Rig.{RigState, rig_of, script_uuid, expected_of_plain, AreUnderWay, HasBytesOfObject, HasStored, ShowsPlain}
+use Rattle.vol_replay.specs.Puts.{PutView, put_of, is_put_out, out_put, with_begun, with_failed, without_put, IsPutOut}
+use Rattle.vol_replay.specs.Puts.{IsJobTaken}
+use Rattle.vol_replay.specs.Rig.{RigState, rig_of, script_uuid, expected_of_plain, AreUnderWay, HasBytesOfObject, HasStored}
+use Rattle.vol_replay.specs.Rig.{ShowsPlain}
 use Rattle.vol_replay.proofs.PlainLemmas.{GrowsByOne, event_grows, still_opens}
 use Rattle.vol_replay.proofs.Says.{says_reply, done_counts}
 use Rattle.vol_replay.proofs.Describing.{put_keeps_volume}
-use Rattle.vol_replay.proofs.Stepped.{ShowsVolume, volume_shown, StepsVolume, step_of_plain, bytes_kept, on_its_way, stored_still, put_objects_still, young_still, KeepsUnderWay, same_under_way, goes_on}
-use Rattle.vol_replay.proofs.WindowLemmas.{open_above, started_is_open, ready_is_open, marked_numbers, without_others, without_own, begun_under_way, failed_under_way, done_under_way, out_if_started, all_begun, all_failed, all_without, all_at}
+use Rattle.vol_replay.proofs.Stepped.{ShowsVolume, volume_shown, StepsVolume, step_of_plain, bytes_kept, on_its_way, stored_still}
+use Rattle.vol_replay.proofs.Stepped.{put_objects_still, young_still, KeepsUnderWay, same_under_way, goes_on}
+use Rattle.vol_replay.proofs.WindowLemmas.{open_above, started_is_open, ready_is_open, marked_numbers, without_others}
+use Rattle.vol_replay.proofs.WindowLemmas.{without_own, begun_under_way, failed_under_way, done_under_way, out_if_started}
+use Rattle.vol_replay.proofs.WindowLemmas.{all_begun, all_failed, all_without, all_at}
 
 -- ---- an object that is open, and one whose put is out
 
 -- an open number is above the frontier, and not above the last
-pub open_within : (n low : ℕ) (objects : List OpenObject) (last : ℕ) → Ascends low objects last → list_any (has_number n) objects ≡ true
+pub open_within : (n low : ℕ) (objects : List OpenObject) (last : ℕ) → Ascends low objects last
+    → list_any (has_number n) objects ≡ true
     → (below_lowest objects last < n) × (n ≤ last)
 open_within n low [] last ascends is = cc
 open_within n low (object ∷ objects) last ascends is =
@@ -74,7 +82,8 @@ open_within n low (object ∷ objects) last ascends is =
     ]
 
 -- so it is past the first of a rig, which opens there
-open_in_rig : (n : ℕ) (rig : RigState) (plain : PlainState) → ShowsPlain rig plain → list_any (has_number n) plain.window.objects ≡ true
+open_in_rig : (n : ℕ) (rig : RigState) (plain : PlainState) → ShowsPlain rig plain
+    → list_any (has_number n) plain.window.objects ≡ true
     → (1 < n) × (n ≤ plain.window.last)
 open_in_rig n rig plain h is =
     let within = open_within n 0 plain.window.objects plain.window.last h.shows.valid.window.order is in
@@ -89,11 +98,13 @@ out_listed n rig plain h =
     out_if_started n 0 plain.window.objects plain.window.last rig.puts window.order window.starts h.puts
 
 pub out_in_list : (n : ℕ) (old now : RigState) → ((plain : PlainState) × ShowsPlain old plain) → old ≡ now
-    → ((plain : PlainState) → ShowsPlain now plain → IsTrue (is_started n plain.window.objects)) → is_put_out (put_of n old.puts) ≡ true
+    → ((plain : PlainState) → ShowsPlain now plain → IsTrue (is_started n plain.window.objects))
+    → is_put_out (put_of n old.puts) ≡ true
 out_in_list n old now known same out =
     out_listed n old known.0 known.1 ∙ out known.0 (subst (λ (r : RigState). ShowsPlain r known.0) same known.1)
 
-pub taken_job : (n : ℕ) (result : Option JobState) (job : JobState) (puts : List PutView) → result ≡ Some job → IsJobTaken n result puts
+pub taken_job : (n : ℕ) (result : Option JobState) (job : JobState) (puts : List PutView) → result ≡ Some job
+    → IsJobTaken n result puts
     → (job.name.number ≡ n) × IsPutOut n job.bytes puts
 taken_job n None job puts is taken = absurd taken
 taken_job n (Some other) job puts is taken =
@@ -101,7 +112,8 @@ taken_job n (Some other) job puts is taken =
     subst (λ (j : JobState). (j.name.number ≡ n) × IsPutOut n j.bytes puts) same taken
 
 -- its bytes are those of the volume's sealed object
-out_of_volume : (n : ℕ) (bytes : List ℕ) (rig : RigState) (plain : PlainState) → ShowsPlain rig plain → is_started n plain.window.objects ≡ true
+out_of_volume : (n : ℕ) (bytes : List ℕ) (rig : RigState) (plain : PlainState) → ShowsPlain rig plain
+    → is_started n plain.window.objects ≡ true
     → IsPutOut n bytes rig.puts → IsOut rig.volume.volume.objects.uploads n bytes
 out_of_volume n bytes rig plain h started is = record {
   started = ap (λ (w : WindowState). is_started n w.objects) h.shows.objects.window ∙ started;
@@ -114,9 +126,11 @@ out_of_volume n bytes rig plain h started is = record {
 abbrev rig_after : RigState → SteppedVolume → Objects → List PutView → RigState
 rig_after old volume objects puts = rig_of volume objects puts old.is_stopping (old.lines + 1)
 
-with_list : (old : RigState) (volume : SteppedVolume) (objects : Objects) (list puts : List PutView) (plain : PlainState) → list ≡ puts
+with_list : (old : RigState) (volume : SteppedVolume) (objects : Objects) (list puts : List PutView) (plain : PlainState)
+    → list ≡ puts
     → ShowsPlain (rig_after old volume objects puts) plain → ShowsPlain (rig_after old volume objects list) plain
-with_list old volume objects list puts plain same shows = subst (λ now. ShowsPlain (rig_after old volume objects now) plain) (sym same) shows
+with_list old volume objects list puts plain same shows = subst (λ now. ShowsPlain (rig_after old volume objects now) plain)
+    (sym same) shows
 
 -- what is known of an object under way
 record IsKnownPut (plain : PlainState) (volume : VolumeState) (put : PutView) : Type 0 where
@@ -125,13 +139,15 @@ record IsKnownPut (plain : PlainState) (volume : VolumeState) (put : PutView) : 
   bytes : HasBytesOf volume put.number put.bytes
 
 all_known : (plain : PlainState) (volume : VolumeState) (puts : List PutView) → AllByRecursion (HasBytesOfObject plain) puts
-    → AllByRecursion (λ put. IsOnItsWay volume put.number) puts → AllByRecursion (λ put. HasBytesOf volume put.number put.bytes) puts
+    → AllByRecursion (λ put. IsOnItsWay volume put.number) puts
+    → AllByRecursion (λ put. HasBytesOf volume put.number put.bytes) puts
     → AllByRecursion (IsKnownPut plain volume) puts
 all_known plain volume [] objects waits bytes = tt
 all_known plain volume (put ∷ puts) objects waits bytes =
     (record { object = objects.0; waits = waits.0; bytes = bytes.0 }, all_known plain volume puts objects.1 waits.1 bytes.1)
 
-known_puts : (rig : RigState) (plain : PlainState) → ShowsPlain rig plain → AllByRecursion (IsKnownPut plain rig.volume.volume) rig.puts
+known_puts : (rig : RigState) (plain : PlainState) → ShowsPlain rig plain
+    → AllByRecursion (IsKnownPut plain rig.volume.volume) rig.puts
 known_puts rig plain h =
     all_known plain rig.volume.volume rig.puts h.put_objects (on_its_way rig.volume.volume plain rig.puts h.shows h.puts) h.bytes
 
@@ -151,9 +167,11 @@ known_bytes plain volume [] all = tt
 known_bytes plain volume (put ∷ puts) all = (all.0.bytes, known_bytes plain volume puts all.1)
 
 -- it shows the plain volume after the event, where these objects are under way then, and the store has what it is to have
-puts_go_on : (old : RigState) (volume : SteppedVolume) (objects : Objects) (puts : List PutView) (event : Event Kept) (reply : Reply Kept)
+puts_go_on : (old : RigState) (volume : SteppedVolume) (objects : Objects) (puts : List PutView) (event : Event Kept)
+    (reply : Reply Kept)
     (asked : PlainEvent) (plain : PlainState)
-    → (h : ShowsPlain old plain) → StepsVolume event reply old.volume volume → ShowsVolume h.epoch volume.volume (plain_after asked plain)
+    → (h : ShowsPlain old plain) → StepsVolume event reply old.volume volume
+    → ShowsVolume h.epoch volume.volume (plain_after asked plain)
     → AreUnderWay (plain_after asked plain).window.objects puts → AllByRecursion (IsKnownPut plain old.volume.volume) puts
     → HasStored (plain_after asked plain) objects → HasVolume script_uuid plain.geometry h.epoch objects
     → ShowsPlain (rig_after old volume objects puts) (plain_after asked plain)
@@ -177,7 +195,8 @@ puts_go_on old volume objects puts event reply asked plain h of now are known st
       bytes = bytes_kept old.volume.volume volume.volume puts of.bytes (known_waits plain old.volume.volume puts known)
           (on_its_way volume.volume next puts now.shows are) (known_bytes plain old.volume.volume puts known);
       stored = stored;
-      young = young_still old volume objects puts old.is_stopping plain next grows (omega (arith, of.steps)) (omega (arith, of.commits)) h.young;
+      young = young_still old volume objects puts old.is_stopping plain next grows (omega (arith, of.steps))
+          (omega (arith, of.commits)) h.young;
     }
 
 -- no step of a put needs room on the device
@@ -204,7 +223,8 @@ stored_marked n started old plain asked h is =
     stored_still plain (plain_after asked plain) old.objects (event_grows plain asked)
     (λ number bytes object. events_keep_object (expected_of_plain plain) plain number bytes asked h.shows.valid object)
     (λ number positive a. marked_back n started plain.window number (subst (λ (w : WindowState). IsAcknowledged w number) is a))
-    (λ number positive a. subst (λ (w : WindowState). IsAcknowledged w number) (sym is) (marked_forth n started plain.window number a))
+    (λ number positive a. subst (λ (w : WindowState). IsAcknowledged w number) (sym is)
+    (marked_forth n started plain.window number a))
     h.stored
 
 -- ---- a put begins
@@ -232,16 +252,19 @@ some_taken None n is = cc
 some_taken (Some number) n is = (let same : number ≡ n = cc in ap Some same)
 
 -- none is ready
-none_begun : (old : RigState) (volume : SteppedVolume) (reply : Reply Kept) (plain : PlainState) → ((job : JobState) → reply ≡ told.Taken job → ⊥)
+none_begun : (old : RigState) (volume : SteppedVolume) (reply : Reply Kept) (plain : PlainState)
+    → ((job : JobState) → reply ≡ told.Taken job → ⊥)
     → StepsVolume TakeJob reply old.volume volume → (h : ShowsPlain old plain)
     → Tells told_receipt old.volume.volume reply (plain_reply plain events.TakeJob)
     → ShowsVolume h.epoch volume.volume (plain_after events.TakeJob plain)
     → SaysReply (plain_reply plain events.TakeJob) answers.Nothing
     × ShowsPlain (rig_after old volume old.objects old.puts) (plain_after events.TakeJob plain)
 none_begun old volume reply plain not_taken of h tells now =
-    let none : lowest_ready plain.window.objects ≡ None = none_taken (lowest_ready plain.window.objects) old.volume.volume reply not_taken tells in
+    let none : lowest_ready plain.window.objects ≡ None = none_taken (lowest_ready plain.window.objects) old.volume.volume reply
+    not_taken tells in
     let keeps : KeepsUnderWay plain.window (window_after_take (lowest_ready plain.window.objects) plain.window) =
-    subst (λ lowest. KeepsUnderWay plain.window (window_after_take lowest plain.window)) (sym none) (same_under_way plain.window) in (
+    subst (λ lowest. KeepsUnderWay plain.window (window_after_take lowest plain.window)) (sym none)
+    (same_under_way plain.window) in (
       subst (λ lowest. SaysReply (reply_of_taken lowest) answers.Nothing) (sym none) refl,
       goes_on old volume TakeJob reply events.TakeJob plain h of now keeps,
     )
@@ -262,7 +285,8 @@ begun_none old volume reply list same not_taken of = λ plain h.
 
 -- the job has the bytes of the plain volume's object
 job_of_rig : (rig : RigState) (plain : PlainState) (n : ℕ) (job : JobState) → ShowsPlain rig plain
-    → IsUploads rig.volume.volume.objects.uploads.queue rig.volume.volume.objects.uploads.window → list_any (has_number n) plain.window.objects ≡ true
+    → IsUploads rig.volume.volume.objects.uploads.queue rig.volume.volume.objects.uploads.window
+    → list_any (has_number n) plain.window.objects ≡ true
     → IsJobOf rig.volume.volume.objects.uploads n job → IsKnownPut plain rig.volume.volume (out_put n job.bytes)
 job_of_rig rig plain n job h uploads open_ is_job =
     let objects : ObjLogState = rig.volume.volume.objects in
@@ -274,7 +298,8 @@ job_of_rig rig plain n job h uploads open_ is_job =
     let object = job_is_object h.shows.data_at objects plain n job uploads h.shows.valid h.shows.objects
     (omega (arith, within.0, frontier, below)) (omega (arith, within.1, last)) is_job in
     let expected : expected_of_volume objects ≡ expected_of_plain plain =
-    ap (λ (g : Geometry). expected_of objects.uploads.uuid g) h.shows.objects.geometry ∙ ap (λ uuid. expected_of uuid plain.geometry) h.uuid_is in
+    ap (λ (g : Geometry). expected_of objects.uploads.uuid g) h.shows.objects.geometry
+    ∙ ap (λ uuid. expected_of uuid plain.geometry) h.uuid_is in
     record {
       object = subst (λ e. IsObjectOf e plain n job.bytes) expected object;
       waits = ap (λ (w : WindowState). list_any (has_number n) w.objects) window ∙ open_;
@@ -286,7 +311,8 @@ job_begun : (old : RigState) (volume : SteppedVolume) (job : JobState) (plain : 
     → StepsVolume TakeJob (told.Taken job) old.volume volume → (h : ShowsPlain old plain)
     → Tells told_receipt old.volume.volume (told.Taken job) (plain_reply plain events.TakeJob)
     → ShowsVolume h.epoch volume.volume (plain_after events.TakeJob plain)
-    → ShowsPlain (rig_after old volume old.objects (with_begun job.name.number job.bytes old.puts)) (plain_after events.TakeJob plain)
+    → ShowsPlain (rig_after old volume old.objects (with_begun job.name.number job.bytes old.puts))
+    (plain_after events.TakeJob plain)
 job_begun old volume job plain uploads of h tells now =
     let n : ℕ = job.name.number in
     let objects : List OpenObject = plain.window.objects in
@@ -301,7 +327,8 @@ job_begun old volume job plain uploads of h tells now =
     (known_puts old plain h))
     (stored_marked n true old plain events.TakeJob h window) h.described
 
-pub begun_some : (old : RigState) (volume : SteppedVolume) (job : JobState) (number : ℕ) (list : List PutView) → number ≡ job.name.number
+pub begun_some : (old : RigState) (volume : SteppedVolume) (job : JobState) (number : ℕ) (list : List PutView)
+    → number ≡ job.name.number
     → list ≡ with_begun job.name.number job.bytes old.puts
     → IsUploads old.volume.volume.objects.uploads.queue old.volume.volume.objects.uploads.window
     → StepsVolume TakeJob (told.Taken job) old.volume volume
@@ -314,7 +341,8 @@ begun_some old volume job number list number_is same uploads of = λ plain h.
           let now = subst (λ e. ShowsVolume h.epoch volume.volume (plain_after e plain)) s.asks s.now in
           let made = job_begun old volume job plain uploads of h tells now in (
             subst (λ reply. SaysReply reply (answers.Put number)) (sym tells.0) (ap answers.Put number_is),
-            with_list old volume old.objects list (with_begun job.name.number job.bytes old.puts) (plain_after events.TakeJob plain) same made,
+            with_list old volume old.objects list (with_begun job.name.number job.bytes old.puts)
+                (plain_after events.TakeJob plain) same made,
           )
       | inr none ↦ (let e : false ≡ true = none.may in cc)
     ]
@@ -344,7 +372,8 @@ job_failed n old volume job reply plain started of h now =
     (stored_marked n false old plain (events.JobFailed (Some n)) h window) h.described
 
 pub failed_answers : (n : ℕ) (old : RigState) (volume : SteppedVolume) (job : JobState) (reply : Reply Kept) (list : List PutView)
-    → ((plain : PlainState) → ShowsPlain old plain → IsTrue (is_started n plain.window.objects)) → job.name.number ≡ n → IsPutOut n job.bytes old.puts
+    → ((plain : PlainState) → ShowsPlain old plain → IsTrue (is_started n plain.window.objects)) → job.name.number ≡ n
+    → IsPutOut n job.bytes old.puts
     → list ≡ with_failed n old.puts → StepsVolume (JobFailed job) reply old.volume volume
     → FailsPut n (answers.Failed n) old (rig_after old volume old.objects list)
 failed_answers n old volume job reply list out number is same of = λ plain h.
@@ -358,7 +387,8 @@ failed_answers n old volume job reply list out number is same of = λ plain h.
           let now = subst (λ e. ShowsVolume h.epoch volume.volume (plain_after e plain)) asked s.now in
           let made = job_failed n old volume job reply plain started of h now in (
             refl,
-            with_list old volume old.objects list (with_failed n old.puts) (plain_after (events.JobFailed (Some n)) plain) same made,
+            with_list old volume old.objects list (with_failed n old.puts) (plain_after (events.JobFailed (Some n)) plain) same
+                made,
           )
       | inr none ↦ (let e : false ≡ true = none.may in cc)
     ]
@@ -375,7 +405,8 @@ pub record IsMadePut (n : ℕ) (old : RigState) (store : Objects) (job : JobStat
   pub number : job.name.number ≡ n
   pub job_out : IsPutOut n job.bytes old.puts
 
-put_done : (volume : VolumeState) (job : JobState) (receipt : ReceiptState) (n : ℕ) (put : Option ℕ) → IsOfDonePut volume job receipt put
+put_done : (volume : VolumeState) (job : JobState) (receipt : ReceiptState) (n : ℕ) (put : Option ℕ)
+    → IsOfDonePut volume job receipt put
     → job.name.number ≡ n → volume.objects.uploads.uuid ≡ script_uuid → receipt.name ≡ name_of script_uuid n
     → IsOut volume.objects.uploads n job.bytes → put ≡ Some n
 put_done volume job receipt n None of number uuid named out =
@@ -387,10 +418,18 @@ put_done volume job receipt n (Some other) of number uuid named out = ap Some (o
 -- which objects are acknowledged then: the one that is done, and those that were
 module _ (n : ℕ) (window : WindowState) (order : Ascends 0 window.objects window.last) where
   done_back : (number : ℕ) → (number ≡ n → ⊥) → IsAcknowledged (acknowledged n window) number → IsAcknowledged window number
-  done_back number other is = record { was_entered = is.was_entered; not_open = sym (without_others number n window.objects other) ∙ is.not_open }
+  done_back number other is = record {
+    was_entered = is.was_entered;
+    not_open = sym (without_others number n window.objects other)
+        ∙ is.not_open;
+  }
 
   done_forth : (number : ℕ) → (number ≡ n → ⊥) → IsAcknowledged window number → IsAcknowledged (acknowledged n window) number
-  done_forth number other is = record { was_entered = is.was_entered; not_open = without_others number n window.objects other ∙ is.not_open }
+  done_forth number other is = record {
+    was_entered = is.was_entered;
+    not_open = without_others number n window.objects other
+        ∙ is.not_open;
+  }
 
   done_itself : n ≤ window.last → IsAcknowledged (acknowledged n window) n
   done_itself most = record { was_entered = most; not_open = without_own n 0 window.objects window.last order }
@@ -400,7 +439,8 @@ other_name number n other same = other (ap (λ (name : ObjName). name.number) sa
 
 -- the first object is not the one that was put
 first_stays : (volume : Expected) (n : ℕ) (bytes : List ℕ) (old new : Objects) → volume.uuid ≡ script_uuid → 1 < n
-    → IsPut (name_of script_uuid n) bytes old new → IsCheckpointOf volume old 1 0 (λ k. None) → IsCheckpointOf volume new 1 0 (λ k. None)
+    → IsPut (name_of script_uuid n) bytes old new → IsCheckpointOf volume old 1 0 (λ k. None)
+    → IsCheckpointOf volume new 1 0 (λ k. None)
 first_stays volume n bytes old new uuid past put first =
     let other : found new (name_of script_uuid 1) ≡ found old (name_of script_uuid 1) =
     put.others (name_of script_uuid 1) (other_name 1 n (λ same. omega (arith, same, past))) in
@@ -417,7 +457,8 @@ first_stays volume n bytes old new uuid past put first =
 stored_done : (n : ℕ) (bytes : List ℕ) (plain next : PlainState) (old new : Objects) → GrowsByOne plain next
     → next.window ≡ acknowledged n plain.window → Ascends 0 plain.window.objects plain.window.last → 1 < n → n ≤ plain.window.last
     → IsPut (name_of script_uuid n) bytes old new → IsObjectOf (expected_of_plain plain) plain n bytes
-    → ((number : ℕ) (more : List ℕ) → IsObjectOf (expected_of_plain plain) plain number more → IsObjectOf (expected_of_plain plain) next number more)
+    → ((number : ℕ) (more : List ℕ) → IsObjectOf (expected_of_plain plain) plain number more
+    → IsObjectOf (expected_of_plain plain) next number more)
     → HasStored plain old → HasStored next new
 stored_done n bytes plain next old new grows window order past most put object keeps stored =
     let same : expected_of_plain next ≡ expected_of_plain plain = ap (expected_of script_uuid) grows.geometry in
@@ -433,7 +474,8 @@ stored_done n bytes plain next old new grows window order past most put object k
           subst (λ k. IsObjectOf (expected_of_plain next) next k bytes) (sym itself) (object_next n bytes object),
         )
         | inr other ↦
-            let was = done_back n plain.window order number other (subst (λ (w : WindowState). IsAcknowledged w number) window is) in
+            let was = done_back n plain.window order number other (subst (λ (w : WindowState). IsAcknowledged w number)
+            window is) in
             let had = stored.acknowledged number later was in
             (had.0, put.others (name_of script_uuid number) (other_name number n other) ∙ had.1, object_next number had.0 had.2)
       ];
@@ -449,7 +491,8 @@ stored_done n bytes plain next old new grows window order past most put object k
       ];
     }
 
-job_done : (n : ℕ) (bytes : List ℕ) (old : RigState) (volume : SteppedVolume) (store : Objects) (job : JobState) (receipt : Kept) (reply : Reply Kept)
+job_done : (n : ℕ) (bytes : List ℕ) (old : RigState) (volume : SteppedVolume) (store : Objects) (job : JobState) (receipt : Kept)
+    (reply : Reply Kept)
     (plain : PlainState)
     → is_started n plain.window.objects ≡ true → IsPutOut n bytes old.puts → IsPut (name_of script_uuid n) bytes old.objects store
     → StepsVolume (JobDone job receipt) reply old.volume volume → (h : ShowsPlain old plain)
@@ -461,21 +504,26 @@ job_done n bytes old volume store job receipt reply plain started is put of h no
     let order = h.shows.valid.window.order in
     let open_ = started_is_open n objects started in
     let within = open_in_rig n old plain h open_ in
-    let window : next.window ≡ acknowledged n plain.window = ap (λ b. cond b (acknowledged n plain.window) plain.window) started in
+    let window : next.window ≡ acknowledged n plain.window =
+    ap (λ b. cond b (acknowledged n plain.window) plain.window) started in
     let are = done_under_way n 0 objects plain.window.last old.puts order open_ h.puts in
     puts_go_on old volume store (without_put n old.puts) (JobDone job receipt) reply (events.JobDone (Some n)) plain h of now
     (subst (λ (w : WindowState). AreUnderWay w.objects (without_put n old.puts)) (sym window) are)
     (all_without (IsKnownPut plain old.volume.volume) n old.puts (known_puts old plain h))
-    (stored_done n bytes plain next old.objects store (event_grows plain (events.JobDone (Some n))) window order within.0 within.1 put
+    (stored_done n bytes plain next old.objects store (event_grows plain (events.JobDone (Some n))) window order within.0
+    within.1 put
     (all_at (HasBytesOfObject plain) n old.puts (out_put n bytes) is h.put_objects)
-    (λ number more object. events_keep_object (expected_of_plain plain) plain number more (events.JobDone (Some n)) h.shows.valid object)
+    (λ number more object. events_keep_object (expected_of_plain plain) plain number more (events.JobDone (Some n))
+    h.shows.valid object)
     h.stored)
     (put_keeps_volume n bytes old.objects store plain.geometry h.epoch put h.described)
 
 -- the plain volume's put is done, and the rig shows it
-done_on : (n : ℕ) (old : RigState) (volume : SteppedVolume) (store : Objects) (job : JobState) (receipt : Kept) (reply : Reply Kept)
+done_on : (n : ℕ) (old : RigState) (volume : SteppedVolume) (store : Objects) (job : JobState) (receipt : Kept)
+    (reply : Reply Kept)
     (list : List PutView) (plain : PlainState)
-    → IsMadePut n old store job receipt → list ≡ without_put n old.puts → StepsVolume (JobDone job receipt) reply old.volume volume
+    → IsMadePut n old store job receipt → list ≡ without_put n old.puts
+    → StepsVolume (JobDone job receipt) reply old.volume volume
     → ShowsPlain old plain
     → Tells told_receipt old.volume.volume reply (plain_reply plain (events.JobDone (Some n)))
     × ShowsPlain (rig_after old volume store list) (plain_after (events.JobDone (Some n)) plain)
@@ -496,21 +544,26 @@ done_on n old volume store job receipt reply list plain made same of h =
       | inr none ↦ (let e : false ≡ true = none.may in cc)
     ]
 
-pub done_shows : (n : ℕ) (old : RigState) (volume : SteppedVolume) (store : Objects) (job : JobState) (receipt : Kept) (reply : Reply Kept)
+pub done_shows : (n : ℕ) (old : RigState) (volume : SteppedVolume) (store : Objects) (job : JobState) (receipt : Kept)
+    (reply : Reply Kept)
     (list : List PutView) (plain : PlainState)
-    → IsMadePut n old store job receipt → list ≡ without_put n old.puts → StepsVolume (JobDone job receipt) reply old.volume volume
+    → IsMadePut n old store job receipt → list ≡ without_put n old.puts
+    → StepsVolume (JobDone job receipt) reply old.volume volume
     → ShowsPlain old plain → (now : PlainState) × ShowsPlain (rig_after old volume store list) now
 done_shows n old volume store job receipt reply list plain made same of h =
     (plain_after (events.JobDone (Some n)) plain, (done_on n old volume store job receipt reply list plain made same of h).1)
 
-pub done_answers : (n : ℕ) (old : RigState) (volume : SteppedVolume) (store : Objects) (job : JobState) (receipt : Kept) (reply : Reply Kept)
+pub done_answers : (n : ℕ) (old : RigState) (volume : SteppedVolume) (store : Objects) (job : JobState) (receipt : Kept)
+    (reply : Reply Kept)
     (list : List PutView) (result : Result Answer AllocError)
-    → IsMadePut n old store job receipt → list ≡ without_put n old.puts → StepsVolume (JobDone job receipt) reply old.volume volume
+    → IsMadePut n old store job receipt → list ≡ without_put n old.puts
+    → StepsVolume (JobDone job receipt) reply old.volume volume
     → IfOk result (SaysCounts reply)
     → IfOk result (λ answer. AnswersEvent (events.JobDone (Some n)) answer old (rig_after old volume store list))
 done_answers n old volume store job receipt reply list (Err error) made same of says = tt
 done_answers n old volume store job receipt reply list (Ok answer) made same of says = λ plain h.
     let done = done_on n old volume store job receipt reply list plain made same of h in (
-      says_reply old.volume.volume reply (plain_reply plain (events.JobDone (Some n))) answer done.0 (done_counts plain (Some n)) says,
+      says_reply old.volume.volume reply (plain_reply plain (events.JobDone (Some n))) answer done.0
+          (done_counts plain (Some n)) says,
       done.1,
     )

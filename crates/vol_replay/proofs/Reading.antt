@@ -1,5 +1,6 @@
 -- A read of a rig: it looks, fetches what the plan gives, and gives the plan back.
-use Rattle.std.proofs.Common.{◌≡◌, ℕ, ◌+◌, ◌≤◌, Bool, true, false, cond, List, [], ◌∷◌, ◌++◌, length, take, refl, sym, ◌∙◌, ap, subst, inl, inr, arith}
+use Rattle.std.proofs.Common.{◌≡◌, ℕ, ◌+◌, ◌≤◌, Bool, true, false, cond, List, [], ◌∷◌, ◌++◌, length, take, refl, sym, ◌∙◌, ap}
+use Rattle.std.proofs.Common.{subst, inl, inr, arith}
 use Rattle.std.specs.Prelude.{Option, Some, None, is_some, is_err, IsTrue, IfSome, Result, Ok, Err, IfOk, OnOk, if◌then◌else◌}
 use Rattle.std.specs.Global.{Vec}
 use Rattle.std.specs.declared.alloc.AllocError.{AllocError}
@@ -40,7 +41,8 @@ use Rattle.vol_replay.specs.Answers.{SaysReply, SaysCounts}
 use Rattle.vol_replay.specs.Bench.{AnswersRead}
 use Rattle.vol_replay.specs.Rig.{RigState, rig_of, IsYoung, ShowsPlain}
 use Rattle.vol_replay.proofs.Says.{IsCountReply, says_reply, lacks_unsaid}
-use Rattle.vol_replay.proofs.Stepped.{ShowsVolume, volume_shown, StepsVolume, step_of_plain, KeepsUnderWay, same_under_way, goes_on, goes_on_with}
+use Rattle.vol_replay.proofs.Stepped.{ShowsVolume, volume_shown, StepsVolume, step_of_plain, KeepsUnderWay, same_under_way}
+use Rattle.vol_replay.proofs.Stepped.{goes_on, goes_on_with}
 use Rattle.vol_replay.proofs.Rooms.{no_step_rig}
 
 -- ---- what a read leaves of the plain volume
@@ -51,7 +53,8 @@ record IsReadOnly (old new : PlainState) : Type 0 where
   pins : List ℕ
   is : new ≡ record old { cache = cache; pins = pins }
 
-either_read : (plain : PlainState) (b : Bool) (x y : PlainState) → IsReadOnly plain x → IsReadOnly plain y → IsReadOnly plain (cond b x y)
+either_read : (plain : PlainState) (b : Bool) (x y : PlainState) → IsReadOnly plain x → IsReadOnly plain y
+    → IsReadOnly plain (cond b x y)
 either_read plain true x y read other = read
 either_read plain false x y read other = other
 
@@ -73,11 +76,17 @@ release_reads plain numbers =
 
 then_reads : (old middle new : PlainState) → IsReadOnly old middle → IsReadOnly middle new → IsReadOnly old new
 then_reads old middle new first second =
-    record { cache = second.cache; pins = second.pins; is = second.is ∙ ap (λ (p : PlainState). record p { cache = second.cache; pins = second.pins }) first.is }
+    record {
+      cache = second.cache;
+      pins = second.pins;
+      is = second.is
+          ∙ ap (λ (p : PlainState). record p { cache = second.cache; pins = second.pins }) first.is;
+    }
 
 -- no object is under way that was not, and a rig is young a line and two steps later
 windows_stay : (old new : PlainState) → IsReadOnly old new → KeepsUnderWay old.window new.window
-windows_stay old new read = subst (λ (p : PlainState). KeepsUnderWay old.window p.window) (sym read.is) (same_under_way old.window)
+windows_stay old new read = subst (λ (p : PlainState). KeepsUnderWay old.window p.window) (sym read.is)
+    (same_under_way old.window)
 
 young_after_read : (old : RigState) (volume : SteppedVolume) (plain next : PlainState) → IsReadOnly plain next
     → volume.steps ≤ old.volume.steps + 2 → volume.volume.log.commits.number ≤ old.volume.volume.log.commits.number + 4
@@ -100,7 +109,8 @@ no_room_needed (Some budget) is = (omega arith, omega arith)
 -- ---- a look
 
 -- the rig a line later, where the volume looked as the plain one does
-looked_rig : (lba sectors : ℕ) (old : RigState) (volume : SteppedVolume) (plain : PlainState) (reply : Reply Kept) (asked : PlainEvent)
+looked_rig : (lba sectors : ℕ) (old : RigState) (volume : SteppedVolume) (plain : PlainState) (reply : Reply Kept)
+    (asked : PlainEvent)
     → (h : ShowsPlain old plain) → StepsVolume (Look lba sectors) reply old.volume volume → asked ≡ events.Look lba sectors
     → ShowsVolume h.epoch volume.volume (plain_after asked plain)
     → ShowsPlain (rig_of volume old.objects old.puts old.is_stopping (old.lines + 1)) (plain_after asked plain)
@@ -110,7 +120,8 @@ looked_rig lba sectors old volume plain reply asked h of is now =
     (windows_stay plain (plain_after (events.Look lba sectors) plain) (look_reads plain lba sectors)) in
     goes_on old volume (Look lba sectors) reply asked plain h of now keeps
 
-pub look_shows : (lba sectors : ℕ) (old : RigState) (volume : SteppedVolume) (plain : PlainState) (reply : Reply Kept) → ShowsPlain old plain
+pub look_shows : (lba sectors : ℕ) (old : RigState) (volume : SteppedVolume) (plain : PlainState) (reply : Reply Kept)
+    → ShowsPlain old plain
     → StepsVolume (Look lba sectors) reply old.volume volume
     → (now : PlainState) × ShowsPlain (rig_of volume old.objects old.puts old.is_stopping (old.lines + 1)) now
 look_shows lba sectors old volume plain reply h of =
@@ -122,7 +133,8 @@ look_shows lba sectors old volume plain reply h of =
 
 -- ---- a look without a plan
 
-refusal_no_plan : (why : Refusal) (front : ℕ) (bytes objects : List ℕ) → TellsRefusal why (replies.Planned front bytes objects) → ⊥
+refusal_no_plan : (why : Refusal) (front : ℕ) (bytes objects : List ℕ) → TellsRefusal why (replies.Planned front bytes objects)
+    → ⊥
 refusal_no_plan refusals.Range front bytes objects tells = cc
 refusal_no_plan (refusals.Full (full.Sectors sectors)) front bytes objects tells = cc
 refusal_no_plan (refusals.Full (full.Entries count)) front bytes objects tells = cc
@@ -131,7 +143,8 @@ refusal_no_plan refusals.Fault front bytes objects tells = cc
 refusal_no_plan refusals.OutOfMemory front bytes objects tells = tells
 
 -- a reply that is no plan tells none
-no_plan_told : (volume : VolumeState) (reply : Reply Kept) (front : ℕ) (bytes objects : List ℕ) → ((plan : PlanState) → reply ≡ told.Planned plan → ⊥)
+no_plan_told : (volume : VolumeState) (reply : Reply Kept) (front : ℕ) (bytes objects : List ℕ)
+    → ((plan : PlanState) → reply ≡ told.Planned plan → ⊥)
     → Tells told_receipt volume reply (replies.Planned front bytes objects) → ⊥
 no_plan_told volume (told.Entered count) front bytes objects none tells = cc
 no_plan_told volume (told.NotEntered entry why) front bytes objects none tells = refusal_no_plan why front bytes objects tells
@@ -159,15 +172,20 @@ record PlansNone (reply : PlainReply) : Type 0 where
 
 plans_none : (volume : VolumeState) (reply : Reply Kept) (front : ℕ) (bytes objects : List ℕ) (may passes : Bool)
     → ((plan : PlanState) → reply ≡ told.Planned plan → ⊥)
-    → Tells told_receipt volume reply (if may then (if passes then replies.Planned front bytes objects else replies.Fault) else replies.Range)
+    → Tells told_receipt volume reply (if may then (if passes then replies.Planned front bytes objects else replies.Fault) else
+    replies.Range)
     → PlansNone (if may then (if passes then replies.Planned front bytes objects else replies.Fault) else replies.Range)
-plans_none volume reply front bytes objects true true none tells = absurd (no_plan_told volume reply front bytes objects none tells)
+plans_none volume reply front bytes objects true true none tells =
+    absurd (no_plan_told volume reply front bytes objects none tells)
 plans_none volume reply front bytes objects true false none tells = record { counts = tt; stays = λ plain. refl }
 plans_none volume reply front bytes objects false passes none tells = record { counts = tt; stays = λ plain. refl }
 
-pub read_refused : (lba sectors : ℕ) (old : RigState) (volume : SteppedVolume) (reply : Reply Kept) (result : Result Answer AllocError)
-    → ((plan : PlanState) → reply ≡ told.Planned plan → ⊥) → StepsVolume (Look lba sectors) reply old.volume volume → IfOk result (SaysCounts reply)
-    → IfOk result (λ answer. AnswersRead lba sectors answer old (rig_of volume old.objects old.puts old.is_stopping (old.lines + 1)))
+pub read_refused : (lba sectors : ℕ) (old : RigState) (volume : SteppedVolume) (reply : Reply Kept)
+    (result : Result Answer AllocError)
+    → ((plan : PlanState) → reply ≡ told.Planned plan → ⊥) → StepsVolume (Look lba sectors) reply old.volume volume
+    → IfOk result (SaysCounts reply)
+    → IfOk result (λ answer. AnswersRead lba sectors answer old
+    (rig_of volume old.objects old.puts old.is_stopping (old.lines + 1)))
 read_refused lba sectors old volume reply (Err error) none of says = tt
 read_refused lba sectors old volume reply (Ok answer) none of says = λ plain h.
     let rig : RigState = rig_of volume old.objects old.puts old.is_stopping (old.lines + 1) in
@@ -176,7 +194,8 @@ read_refused lba sectors old volume reply (Ok answer) none of says = λ plain h.
     (no_room_needed old.volume.volume.log.commits.disk.budget h.pending.told) of) [
       | inl s ↦
           let tells = subst (λ e. Tells told_receipt old.volume.volume reply (plain_reply plain e)) s.asks s.tells in
-          let plans = plans_none old.volume.volume reply (history_length plain) (sectors_at lba sectors (image_now plain)) (objects_read plain lba sectors)
+          let plans = plans_none old.volume.volume reply (history_length plain) (sectors_at lba sectors (image_now plain))
+          (objects_read plain lba sectors)
           (may_transfer plain.geometry lba sectors) (passes_look plain lba sectors) none tells in
           let shown = subst (λ e. ShowsPlain rig (plain_after e plain)) s.asks
           (looked_rig lba sectors old volume plain reply s.asked h of s.asks s.now) in (
@@ -189,20 +208,24 @@ read_refused lba sectors old volume reply (Ok answer) none of says = λ plain h.
 -- ---- a look with a plan, which is given back
 
 -- what the plain volume answers, and the rig after the look
-record IsPlanned (lba sectors : ℕ) (plan : PlanState) (old : RigState) (middle : SteppedVolume) (plain : PlainState) : Type 0 where
+record IsPlanned (lba sectors : ℕ) (plan : PlanState) (old : RigState) (middle : SteppedVolume) (plain : PlainState) :
+    Type 0 where
   bytes : List ℕ
   is : plain_reply plain (events.Look lba sectors) ≡ replies.Planned plan.front bytes plan.objects
   gives : IfSome old.volume.volume.log.entries (λ list. Gives plan bytes)
-  now : ShowsPlain (rig_of middle old.objects old.puts old.is_stopping (old.lines + 1)) (plain_after (events.Look lba sectors) plain)
+  now : ShowsPlain (rig_of middle old.objects old.puts old.is_stopping (old.lines + 1))
+      (plain_after (events.Look lba sectors) plain)
 
-is_planned : (lba sectors : ℕ) (old : RigState) (middle : SteppedVolume) (plain : PlainState) (plan : PlanState) → ShowsPlain old plain
+is_planned : (lba sectors : ℕ) (old : RigState) (middle : SteppedVolume) (plain : PlainState) (plan : PlanState)
+    → ShowsPlain old plain
     → StepsVolume (Look lba sectors) (told.Planned plan) old.volume middle → IsPlanned lba sectors plan old middle plain
 is_planned lba sectors old middle plain plan h of =
     let rig : RigState = rig_of middle old.objects old.puts old.is_stopping (old.lines + 1) in
     elim (step_of_plain h.epoch (Look lba sectors) (told.Planned plan) plain old.volume middle (volume_shown old plain h)
     (no_room_needed old.volume.volume.log.commits.disk.budget h.pending.told) of) [
       | inl s ↦
-          let tells = subst (λ e. Tells told_receipt old.volume.volume (told.Planned plan) (plain_reply plain e)) s.asks s.tells in
+          let tells = subst (λ e. Tells told_receipt old.volume.volume (told.Planned plan) (plain_reply plain e))
+          s.asks s.tells in
           record {
             bytes = tells.0;
             is = tells.1;
@@ -214,9 +237,12 @@ is_planned lba sectors old middle plain plan h of =
     ]
 
 -- and after it was given back
-given_back : (lba sectors : ℕ) (old : RigState) (middle volume : SteppedVolume) (plain : PlainState) (plan : PlanState) (reply : Reply Kept)
-    → ShowsPlain old plain → StepsVolume (Look lba sectors) (told.Planned plan) old.volume middle → StepsVolume (Release plan) reply middle volume
-    → ShowsPlain (rig_of middle old.objects old.puts old.is_stopping (old.lines + 1)) (plain_after (events.Look lba sectors) plain)
+given_back : (lba sectors : ℕ) (old : RigState) (middle volume : SteppedVolume) (plain : PlainState) (plan : PlanState)
+    (reply : Reply Kept)
+    → ShowsPlain old plain → StepsVolume (Look lba sectors) (told.Planned plan) old.volume middle
+    → StepsVolume (Release plan) reply middle volume
+    → ShowsPlain (rig_of middle old.objects old.puts old.is_stopping (old.lines + 1))
+    (plain_after (events.Look lba sectors) plain)
     → ShowsPlain (rig_of volume old.objects old.puts old.is_stopping (old.lines + 1))
     (plain_after (events.Release plan.objects) (plain_after (events.Look lba sectors) plain))
 given_back lba sectors old middle volume plain plan reply h of back shown =
@@ -230,12 +256,15 @@ given_back lba sectors old middle volume plain plan reply h of back shown =
     (no_room_needed middle.volume.log.commits.disk.budget shown.pending.told) back) [
       | inl s ↦
           goes_on_with between volume (old.lines + 1) (Release plan) reply (events.Release plan.objects) looked shown back
-          (subst (λ e. ShowsVolume shown.epoch volume.volume (plain_after e looked)) s.asks s.now) (windows_stay looked next released) (omega arith) young
+          (subst (λ e. ShowsVolume shown.epoch volume.volume (plain_after e looked)) s.asks s.now)
+          (windows_stay looked next released) (omega arith) young
       | inr n ↦ absurd (let e = n.may in cc)
     ]
 
-pub read_shows : (lba sectors : ℕ) (old : RigState) (middle volume : SteppedVolume) (plain : PlainState) (plan : PlanState) (reply : Reply Kept)
-    → ShowsPlain old plain → StepsVolume (Look lba sectors) (told.Planned plan) old.volume middle → StepsVolume (Release plan) reply middle volume
+pub read_shows : (lba sectors : ℕ) (old : RigState) (middle volume : SteppedVolume) (plain : PlainState) (plan : PlanState)
+    (reply : Reply Kept)
+    → ShowsPlain old plain → StepsVolume (Look lba sectors) (told.Planned plan) old.volume middle
+    → StepsVolume (Release plan) reply middle volume
     → (now : PlainState) × ShowsPlain (rig_of volume old.objects old.puts old.is_stopping (old.lines + 1)) now
 read_shows lba sectors old middle volume plain plan reply h of back =
     let planned = is_planned lba sectors old middle plain plan h of in (
@@ -251,7 +280,8 @@ told_here : (G : Type 0) (P : Medium → Type 0) (rows : List Row) (moments : Li
 told_here G P rows [] entries is has known = absurd has
 told_here G P rows (now ∷ past) entries is has known = subst (λ e. IfSome e (λ list. G)) is known
 
-pub read_planned : (lba sectors : ℕ) (old : RigState) (middle volume : SteppedVolume) (plan : PlanState) (reply : Reply Kept) (held : Vec ℕ)
+pub read_planned : (lba sectors : ℕ) (old : RigState) (middle volume : SteppedVolume) (plan : PlanState) (reply : Reply Kept)
+    (held : Vec ℕ)
     → IsOnDisk old.volume.volume.log → StepsVolume (Look lba sectors) (told.Planned plan) old.volume middle
     → StepsVolume (Release plan) reply middle volume → GivesNoOther plan held.items
     → AnswersRead lba sectors (answers.Sectors held) old (rig_of volume old.objects old.puts old.is_stopping (old.lines + 1))
@@ -261,7 +291,8 @@ read_planned lba sectors old middle volume plan reply held on_disk of back only 
     let event : PlainEvent = events.Look lba sectors in
     let planned = is_planned lba sectors old middle plain plan h of in
     let bytes : List ℕ = planned.bytes in
-    let gives = told_here (Gives plan bytes) _ log.rows log.commits.disk.moments log.entries on_disk.entries h.pending.pending planned.gives in (
+    let gives = told_here (Gives plan bytes) _ log.rows log.commits.disk.moments log.entries on_disk.entries h.pending.pending
+    planned.gives in (
       subst (λ r. SaysReply r (answers.Sectors held)) (sym planned.is) (held, refl, sym (only bytes gives)),
       subst (λ r. ShowsPlain rig (released_by r (plain_after event plain))) (sym planned.is)
           (given_back lba sectors old middle volume plain plan reply h of back planned.now),

@@ -1,5 +1,6 @@
 -- A line is refused as its command is, and a write out of range as the plain volume refuses it.
-use Rattle.std.proofs.Common.{◌≡◌, ℕ, ◌+◌, ◌*◌, ◌/◌, ◌≤◌, Bool, false, cond, not, ◌&&◌, List, [], ◌∷◌, ◌++◌, length, replicate, refl, sym, ◌∙◌, ap, subst, arith}
+use Rattle.std.proofs.Common.{◌≡◌, ℕ, ◌+◌, ◌*◌, ◌/◌, ◌≤◌, Bool, false, cond, not, ◌&&◌, List, [], ◌∷◌, ◌++◌, length, replicate}
+use Rattle.std.proofs.Common.{refl, sym, ◌∙◌, ap, subst, arith}
 use Rattle.std.specs.Prelude.{Option, Some, is_some, option_map, unwrap_or, Result, Ok, Err, IfErr, if◌then◌else◌}
 use Rattle.std.specs.List.{sum_by}
 use Rattle.std.proofs.lemmas.List.{length-replicate}
@@ -13,7 +14,8 @@ use Rattle.plain_disk.specs.declared.event.PlainEvent.TheVariants as events
 use Rattle.plain_disk.specs.declared.event.PlainReply.{PlainReply}
 use Rattle.plain_disk.specs.declared.event.PlainReply.TheVariants as replies
 use Rattle.plain_disk.specs.Cache.{passes_entry, cache_after_entry}
-use Rattle.plain_disk.specs.Entries.{reply_of_full, batch_refusal, has_room_for, cache_for, commits_are_made, room_reply, enter_reply, after_entering}
+use Rattle.plain_disk.specs.Entries.{reply_of_full, batch_refusal, has_room_for, cache_for, commits_are_made, room_reply}
+use Rattle.plain_disk.specs.Entries.{enter_reply, after_entering}
 use Rattle.plain_disk.specs.State.{PlainState, unsealed_entries}
 use Rattle.replay_script.specs.declared.command.Command.{Command}
 use Rattle.replay_script.specs.Grammar.{Spells}
@@ -58,7 +60,8 @@ range_refuses plain entry out =
 sectors_of : (sectors byte : ℕ) → length (replicate (512 * sectors) byte) / 512 ≡ sectors
 sectors_of sectors byte = (let e = length-replicate (512 * sectors) byte in omega (arith, e))
 
-pub write_range : (old : RigState) (lba sectors byte : ℕ) (geometry : Geometry) → geometry ≡ old.volume.volume.objects.batch.geometry
+pub write_range : (old : RigState) (lba sectors byte : ℕ) (geometry : Geometry)
+    → geometry ≡ old.volume.volume.objects.batch.geometry
     → may_transfer geometry lba sectors ≡ false
     → AnswersEvent (events.Write lba (replicate (512 * sectors) byte)) answers.Range old
     (rig_of old.volume old.objects old.puts old.is_stopping (old.lines + 1))
@@ -66,7 +69,8 @@ write_range old lba sectors byte geometry is out plain h =
     let body : List ℕ = replicate (512 * sectors) byte in
     let entry : Entry = entries.Write lba body in
     let far : is_in_range plain.geometry entry ≡ false =
-    ap (may_transfer plain.geometry lba) (sectors_of sectors byte) ∙ ap (λ (g : Geometry). may_transfer g lba sectors) (sym (is ∙ h.shows.objects.geometry)) ∙ out in
+    ap (may_transfer plain.geometry lba) (sectors_of sectors byte)
+    ∙ ap (λ (g : Geometry). may_transfer g lba sectors) (sym (is ∙ h.shows.objects.geometry)) ∙ out in
     let both = range_refuses plain entry far in
     let rig : RigState = rig_of old.volume old.objects old.puts old.is_stopping (old.lines + 1) in (
       subst (λ r. SaysReply r answers.Range) (sym both.0) refl,
@@ -84,19 +88,24 @@ bad_line state line command NotAllowed short spelled unfit = (short, (command, s
 bad_line state line command Letters short spelled unfit = (short, (command, spelled, unfit.0, unfit.1))
 bad_line state line command TooLong short spelled unfit = absurd unfit
 
-refused_line : (line : List ℕ) (command : Command) (rig : Option RigState) (before after : List ℕ) (refusal : Refusal) → length line ≤ 65536
+refused_line : (line : List ℕ) (command : Command) (rig : Option RigState) (before after : List ℕ) (refusal : Refusal)
+    → length line ≤ 65536
     → Spells line command → after ≡ before → IsUnanswered rig command refusal → IsRefused line rig before after refusal
 refused_line line command rig before after (Bad reason) short spelled same h =
     (same, λ state shown. bad_line state line command reason short spelled (h state shown))
 refused_line line command rig before after OutOfMemory short spelled same h = tt
 
-pub refused_as : {T : Type 0} (line : List ℕ) (command : Command) (rig : Option RigState) (before after : List ℕ) (result : Result T Refusal)
-    → length line ≤ 65536 → Spells line command → after ≡ before → IfErr result (IsUnanswered rig command) → IfErr result (IsRefused line rig before after)
+pub refused_as : {T : Type 0} (line : List ℕ) (command : Command) (rig : Option RigState) (before after : List ℕ)
+    (result : Result T Refusal)
+    → length line ≤ 65536 → Spells line command → after ≡ before → IfErr result (IsUnanswered rig command)
+    → IfErr result (IsRefused line rig before after)
 refused_as line command rig before after (Ok done) short spelled same h = tt
-refused_as line command rig before after (Err refusal) short spelled same h = refused_line line command rig before after refusal short spelled same h
+refused_as line command rig before after (Err refusal) short spelled same h =
+    refused_line line command rig before after refusal short spelled same h
 
 -- the line of a command that was answered is answered by the text that tells it
-pub answered_line : (line : List ℕ) (command : Command) (answer : Answer) (text : List ℕ) (old new : Option RigState) (before after : List ℕ)
+pub answered_line : (line : List ℕ) (command : Command) (answer : Answer) (text : List ℕ) (old new : Option RigState)
+    (before after : List ℕ)
     → length line ≤ 65536 → Spells line command → AnswersCommand command answer old new → TellsAnswer answer text
     → after ≡ before ++ (text ++ 10 ∷ []) → AnswersLine line old new before after
 answered_line line command answer text old new before after short spelled h tells is state shown =

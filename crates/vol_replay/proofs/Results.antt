@@ -1,5 +1,6 @@
 -- What the answers of small tests tell.
-use Rattle.std.proofs.Common.{◌≡◌, ℕ, ◌+◌, ◌<◌, ◌≤◌, ◌^◌, ◌⊎◌, true, false, List, [], ◌∷◌, ◌++◌, length, take, refl, sym, ◌∙◌, ap, subst, inl, inr, arith, append-nil, length-append}
+use Rattle.std.proofs.Common.{◌≡◌, ℕ, ◌+◌, ◌<◌, ◌≤◌, ◌^◌, ◌⊎◌, true, false, List, [], ◌∷◌, ◌++◌, length, take, refl, sym, ◌∙◌, ap}
+use Rattle.std.proofs.Common.{subst, inl, inr, arith, append-nil, length-append}
 use Rattle.std.specs.Prelude.{Option, Some, None, Result, Ok, Err, OnOk, OnErr, is_err, IfSome, count_by, ◌==◌}
 use Rattle.std.specs.Io.KnownBytes.{Appends, Consumes, IsAtEnd}
 use Rattle.std.proofs.lemmas.Bool.{cases_lt}
@@ -26,19 +27,22 @@ at_success (Ok x) e p = p
 at_success (Err x) e p = cc
 
 -- nothing was counted where there is none
-pub not_counted : {T E : Type 0} (r : Result T E) → is_err r ≡ false → (before now : ℕ) → Counts (is_err r) before now → now ≡ before
+pub not_counted : {T E : Type 0} (r : Result T E) → is_err r ≡ false → (before now : ℕ) → Counts (is_err r) before now
+    → now ≡ before
 not_counted (Ok x) e before now counts = counts
 not_counted (Err x) e before now counts = cc
 
 -- one was counted at an error
-pub one_counted : {T E : Type 0} (r : Result T E) → is_err r ≡ true → (before now : ℕ) → Counts (is_err r) before now → CountsOne before now
+pub one_counted : {T E : Type 0} (r : Result T E) → is_err r ≡ true → (before now : ℕ) → Counts (is_err r) before now
+    → CountsOne before now
 one_counted (Ok x) e before now counts = cc
 one_counted (Err x) e before now counts = counts
 
 -- answers that were handed over before a bad line end by no fault of reading
 pub bad_line_is_told : (old new : Option (List ℕ)) (answers : List ℕ) (number : ℕ) (reason : Reason) (result : Outcome)
     → IsHandedOver old new answers (BadLine number reason) result → result ≡ ReadFault → ⊥
-bad_line_is_told old new answers number reason result (inl e) is = (let f : BadLine number reason ≡ ReadFault = sym e.0 ∙ is in cc)
+bad_line_is_told old new answers number reason result (inl e) is =
+    (let f : BadLine number reason ≡ ReadFault = sym e.0 ∙ is in cc)
 bad_line_is_told old new answers number reason result (inr e) is = (let f : WriteFault ≡ ReadFault = sym e.0 ∙ is in cc)
 
 -- a list that is empty by its test
@@ -47,12 +51,14 @@ is_nothing [] e = refl
 is_nothing (x ∷ xs) e = absurd (grind arith)
 
 -- where nothing was run, nothing was written for the script that the source had
-pub nothing_for_source : (old out : Option (List ℕ)) → IfSome old (λ script. (text : List ℕ) × Appends out out text × IsFrontOfTranscript script text)
+pub nothing_for_source : (old out : Option (List ℕ)) → IfSome old (λ script. (text : List ℕ) × Appends out out text
+    × IsFrontOfTranscript script text)
 nothing_for_source None out = tt
 nothing_for_source (Some script) out = ([], appends_nothing out, nothing_written script)
 
 -- a script past its limit goes on as it likes
-transcript_of_longer : (front left text : List ℕ) (ending : Ending) → 2 ^ 24 < length front → IsTranscript front text ending → IsTranscript (front ++ left) text ending
+transcript_of_longer : (front left text : List ℕ) (ending : Ending) → 2 ^ 24 < length front → IsTranscript front text ending
+    → IsTranscript (front ++ left) text ending
 unfolding line_after
 transcript_of_longer front left text ending long (inl t) = absurd (omega (arith, t.0, long))
 transcript_of_longer front left text ending long (inr t) =
@@ -63,17 +69,27 @@ transcript_of_longer front left text ending long (inr t) =
       t.2 ∙ ap (λ bytes. Stopped (1 + count_by (λ b. b == 10) bytes) TooLong) (sym same),
     )
 
-front_of_longer : (front left text : List ℕ) → 2 ^ 24 < length front → IsFrontOfTranscript front text → IsFrontOfTranscript (front ++ left) text
-front_of_longer front left text long t = record { rest = t.rest; ending = t.ending; transcript = transcript_of_longer front left (text ++ t.rest) t.ending long t.transcript }
+front_of_longer : (front left text : List ℕ) → 2 ^ 24 < length front → IsFrontOfTranscript front text
+    → IsFrontOfTranscript (front ++ left) text
+front_of_longer front left text long t =
+    record {
+      rest = t.rest;
+      ending = t.ending;
+      transcript = transcript_of_longer front left (text ++ t.rest) t.ending long
+          t.transcript;
+    }
 
-written_of_longer : (front left text : List ℕ) (outcome : Outcome) → 2 ^ 24 < length front → IsWritten front text outcome → IsWritten (front ++ left) text outcome
+written_of_longer : (front left text : List ℕ) (outcome : Outcome) → 2 ^ 24 < length front → IsWritten front text outcome
+    → IsWritten (front ++ left) text outcome
 written_of_longer front left text (Done rig) long t = (t.0, transcript_of_longer front left text (AllAnswered t.0) long t.1, t.2)
-written_of_longer front left text (BadLine number reason) long t = transcript_of_longer front left text (Stopped number reason) long t
+written_of_longer front left text (BadLine number reason) long t =
+    transcript_of_longer front left text (Stopped number reason) long t
 written_of_longer front left text ReadFault long t = front_of_longer front left text long t
 written_of_longer front left text WriteFault long t = front_of_longer front left text long t
 written_of_longer front left text OutOfMemory long t = front_of_longer front left text long t
 
-written_by_length : (front left text : List ℕ) (outcome : Outcome) → (length front ≤ 2 ^ 24 → left ≡ []) → IsWritten front text outcome
+written_by_length : (front left text : List ℕ) (outcome : Outcome) → (length front ≤ 2 ^ 24 → left ≡ [])
+    → IsWritten front text outcome
     → (2 ^ 24 < length front) ⊎ (length front ≤ 2 ^ 24) → IsWritten (front ++ left) text outcome
 written_by_length front left text outcome end w (inl long) = written_of_longer front left text outcome long w
 written_by_length front left text outcome end w (inr short) =
@@ -81,7 +97,8 @@ written_by_length front left text outcome end w (inr short) =
     subst P (sym (ap (λ xs. front ++ xs) (end short) ∙ append-nil front)) w
 
 -- what was written for the bytes that were read was written for the script that the source had
-pub written_for_source : (old now out_old out_new : Option (List ℕ)) (bytes : List ℕ) (outcome : Outcome) → Consumes old now bytes → (length bytes ≤ 2 ^ 24 → IsAtEnd now)
+pub written_for_source : (old now out_old out_new : Option (List ℕ)) (bytes : List ℕ) (outcome : Outcome) → Consumes old now bytes
+    → (length bytes ≤ 2 ^ 24 → IsAtEnd now)
     → (text : List ℕ) × Appends out_old out_new text × IsWritten bytes text outcome
     → IfSome old (λ script. (text : List ℕ) × Appends out_old out_new text × IsWritten script text outcome)
 written_for_source None now out_old out_new bytes outcome read end w = tt

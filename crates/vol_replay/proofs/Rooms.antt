@@ -22,12 +22,14 @@ use Rattle.vol_replay.specs.Answers.{SaysReply, SaysCounts}
 use Rattle.vol_replay.specs.Bench.{is_counted, AnswersEvent, AnswersAsked, IsUntouched}
 use Rattle.vol_replay.specs.Rig.{RigState, rig_of, script_uuid, ShowsPlain}
 use Rattle.vol_replay.proofs.Says.{says_reply, lacks_unsaid, counted_asks, counted_reply}
-use Rattle.vol_replay.proofs.Stepped.{ShowsVolume, volume_shown, HasRoomForEvent, StepsVolume, step_of_plain, bytes_kept, on_its_way, goes_on}
+use Rattle.vol_replay.proofs.Stepped.{ShowsVolume, volume_shown, HasRoomForEvent, StepsVolume, step_of_plain, bytes_kept}
+use Rattle.vol_replay.proofs.Stepped.{on_its_way, goes_on}
 use Rattle.vol_replay.proofs.Windows.{quiet_windows}
 
 -- ---- a volume that only has more room
 
-pub untouched_volume : (epoch : ℕ) (old new : SteppedVolume) (plain : PlainState) → ShowsVolume epoch old.volume plain → IsUntouched old new
+pub untouched_volume : (epoch : ℕ) (old new : SteppedVolume) (plain : PlainState) → ShowsVolume epoch old.volume plain
+    → IsUntouched old new
     → ShowsVolume epoch new.volume plain
 untouched_volume epoch old new plain h of =
     let disk : DiskState = new.volume.log.commits.disk in
@@ -35,14 +37,17 @@ untouched_volume epoch old new plain h of =
     record {
       shows = of.shows plain h.shows;
       pending = subst (λ (v : VolumeState). ShowsPending v.log plain.cache) (sym of.volume)
-          (still_shows_pending old.volume.log log plain.cache plain.cache h.pending (record { same_number = refl; same_body = refl; same_unfinished = refl }) refl
+          (still_shows_pending old.volume.log log plain.cache plain.cache h.pending
+          (record { same_number = refl; same_body = refl; same_unfinished = refl }) refl
           (of.told h.pending.told) (λ spent. of.fuse ∙ spent) refl);
-      own = subst (HasOwnCommits epoch) (sym of.volume) (record { last = h.own.last; unfinished = h.own.unfinished; in_range = h.own.in_range });
+      own = subst (HasOwnCommits epoch) (sym of.volume)
+          (record { last = h.own.last; unfinished = h.own.unfinished; in_range = h.own.in_range });
       uuid_is = subst (λ (v : VolumeState). v.objects.uploads.uuid ≡ script_uuid) (sym of.volume) h.uuid_is;
     }
 
 -- the rig, after some lines more
-pub untouched_rig : (old : RigState) (volume : SteppedVolume) (lines : ℕ) (plain : PlainState) → old.lines ≤ lines → ShowsPlain old plain
+pub untouched_rig : (old : RigState) (volume : SteppedVolume) (lines : ℕ) (plain : PlainState) → old.lines ≤ lines
+    → ShowsPlain old plain
     → IsUntouched old.volume volume → ShowsPlain (rig_of volume old.objects old.puts old.is_stopping lines) plain
 untouched_rig old volume lines plain later h of =
     let now = untouched_volume h.epoch old.volume volume plain (volume_shown old plain h) of in
@@ -95,7 +100,8 @@ later_rig old lines plain later h = record {
 }
 
 -- where memory ran out in a step, the rig shows what it showed, a line later
-pub no_step_rig : (old : RigState) (volume : SteppedVolume) (plain : PlainState) (event : Event Kept) (reply : Reply Kept) → (h : ShowsPlain old plain)
+pub no_step_rig : (old : RigState) (volume : SteppedVolume) (plain : PlainState) (event : Event Kept) (reply : Reply Kept)
+    → (h : ShowsPlain old plain)
     → StepsVolume event reply old.volume volume → ShowsVolume h.epoch volume.volume plain
     → ShowsPlain (rig_of volume old.objects old.puts old.is_stopping (old.lines + 1)) plain
 no_step_rig old volume plain event reply h of now = record {
@@ -110,7 +116,8 @@ no_step_rig old volume plain event reply h of now = record {
   stopping = h.stopping;
   puts = h.puts;
   put_objects = h.put_objects;
-  bytes = bytes_kept old.volume.volume volume.volume old.puts of.bytes (on_its_way old.volume.volume plain old.puts h.shows h.puts)
+  bytes = bytes_kept old.volume.volume volume.volume old.puts of.bytes
+      (on_its_way old.volume.volume plain old.puts h.shows h.puts)
       (on_its_way volume.volume plain old.puts now.shows h.puts) h.bytes;
   stored = h.stored;
   young = record {
@@ -124,17 +131,20 @@ no_step_rig old volume plain event reply h of now = record {
 -- ---- an event that hands out counts
 
 -- the rig after the step, and what its reply tells
-pub record CountsOn (event : Event Kept) (reply : Reply Kept) (old : RigState) (middle volume : SteppedVolume) (plain : PlainState) : Type 0 where
+pub record CountsOn (event : Event Kept) (reply : Reply Kept) (old : RigState) (middle volume : SteppedVolume)
+    (plain : PlainState) : Type 0 where
   pub asked : PlainEvent
   pub asks : Asks told_receipt old.volume.volume event asked
   pub says : (answer : Answer) → SaysCounts reply answer → SaysReply (plain_reply plain asked) answer
   pub now : ShowsPlain (rig_of volume old.objects old.puts old.is_stopping (old.lines + 1)) (plain_after asked plain)
 
 pub counts_on : (event : Event Kept) (reply : Reply Kept) (old : RigState) (middle volume : SteppedVolume) (plain : PlainState)
-    → is_counted event ≡ true → IsUntouched old.volume middle → HasRoomForEvent event middle.volume → StepsVolume event reply middle volume
+    → is_counted event ≡ true → IsUntouched old.volume middle → HasRoomForEvent event middle.volume
+    → StepsVolume event reply middle volume
     → ShowsPlain old plain
     → CountsOn event reply old middle volume plain
-    ⊎ (ShowsPlain (rig_of volume old.objects old.puts old.is_stopping (old.lines + 1)) plain × ((answer : Answer) → SaysCounts reply answer → ⊥))
+    ⊎ (ShowsPlain (rig_of volume old.objects old.puts old.is_stopping (old.lines + 1)) plain
+    × ((answer : Answer) → SaysCounts reply answer → ⊥))
 counts_on event reply old middle volume plain is of room steps h =
     let ready : RigState = rig_of middle old.objects old.puts old.is_stopping old.lines in
     let before : ShowsPlain ready plain = untouched_rig old middle old.lines plain (omega arith) h of in
@@ -144,15 +154,23 @@ counts_on event reply old middle volume plain is of room steps h =
         asks = counted_asks event s.asked middle.volume old.volume.volume is s.asks;
         says = λ answer says. says_reply middle.volume reply (plain_reply plain s.asked) answer s.tells
             (counted_reply event s.asked middle.volume plain is s.asks) says;
-        now = goes_on ready volume event reply s.asked plain before steps s.now (quiet_windows event s.asked middle.volume plain is s.asks h.shows.valid);
+        now = goes_on ready volume event reply s.asked plain before steps s.now
+            (quiet_windows event s.asked middle.volume plain is s.asks h.shows.valid);
       })
-      | inr n ↦ inr (no_step_rig ready volume plain event reply before steps n.now, λ answer says. lacks_unsaid reply answer n.lacks says)
+      | inr n ↦ inr (
+        no_step_rig ready volume plain event reply before steps n.now,
+        λ answer says. lacks_unsaid reply answer
+            n.lacks says,
+      )
     ]
 
 -- the rig shows some plain volume then
-pub counted_shows : (event : Event Kept) (reply : Reply Kept) (old : RigState) (middle volume : SteppedVolume) (plain : PlainState)
-    → is_counted event ≡ true → IsUntouched old.volume middle → HasRoomForEvent event middle.volume → StepsVolume event reply middle volume
-    → ShowsPlain old plain → (now : PlainState) × ShowsPlain (rig_of volume old.objects old.puts old.is_stopping (old.lines + 1)) now
+pub counted_shows : (event : Event Kept) (reply : Reply Kept) (old : RigState) (middle volume : SteppedVolume)
+    (plain : PlainState)
+    → is_counted event ≡ true → IsUntouched old.volume middle → HasRoomForEvent event middle.volume
+    → StepsVolume event reply middle volume
+    → ShowsPlain old plain → (now : PlainState)
+    × ShowsPlain (rig_of volume old.objects old.puts old.is_stopping (old.lines + 1)) now
 counted_shows event reply old middle volume plain is of room steps h =
     elim (counts_on event reply old middle volume plain is of room steps h) [
       | inl s ↦ (plain_after s.asked plain, s.now)
@@ -160,8 +178,10 @@ counted_shows event reply old middle volume plain is of room steps h =
     ]
 
 -- and the answer says what the plain volume replies
-pub counted_answers : (event : Event Kept) (reply : Reply Kept) (old : RigState) (middle volume : SteppedVolume) (result : Result Answer AllocError)
-    → is_counted event ≡ true → IsUntouched old.volume middle → HasRoomForEvent event middle.volume → StepsVolume event reply middle volume
+pub counted_answers : (event : Event Kept) (reply : Reply Kept) (old : RigState) (middle volume : SteppedVolume)
+    (result : Result Answer AllocError)
+    → is_counted event ≡ true → IsUntouched old.volume middle → HasRoomForEvent event middle.volume
+    → StepsVolume event reply middle volume
     → IfOk result (SaysCounts reply)
     → IfOk result (λ answer. AnswersAsked event answer old (rig_of volume old.objects old.puts old.is_stopping (old.lines + 1)))
 counted_answers event reply old middle volume (Err error) is of room steps says = tt

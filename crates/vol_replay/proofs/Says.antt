@@ -15,11 +15,13 @@ use Rattle.plain_disk.specs.declared.event.PlainReply.{PlainReply}
 use Rattle.plain_disk.specs.declared.event.PlainReply.TheVariants as replies
 use Rattle.plain_disk.specs.Cache.{PlainCache, passes_commit, passes_entry}
 use Rattle.plain_disk.specs.State.{PlainState, unsealed_entries}
-use Rattle.plain_disk.specs.Entries.{reply_of_full, batch_refusal, has_room_for, cache_for, commits_are_made, room_reply, enter_reply}
+use Rattle.plain_disk.specs.Entries.{reply_of_full, batch_refusal, has_room_for, cache_for, commits_are_made, room_reply}
+use Rattle.plain_disk.specs.Entries.{enter_reply}
 use Rattle.plain_disk.specs.Objects.{is_busy, has_unsealed, is_under_way}
 use Rattle.plain_disk.specs.Step.{plain_reply}
 use Rattle.vol_core.specs.declared.event.Event.{Event}
-use Rattle.vol_core.specs.declared.event.Event.TheVariants.{Write, Zero, Flush, Look, Release, Seal, TakeJob, JobDone, JobFailed, Status}
+use Rattle.vol_core.specs.declared.event.Event.TheVariants.{Write, Zero, Flush, Look, Release, Seal, TakeJob, JobDone, JobFailed}
+use Rattle.vol_core.specs.declared.event.Event.TheVariants.{Status}
 use Rattle.vol_core.specs.declared.reply.Refusal.{Refusal}
 use Rattle.vol_core.specs.declared.reply.Refusal.TheVariants as refusals
 use Rattle.vol_core.specs.declared.reply.Reply.{Reply}
@@ -66,7 +68,8 @@ full_counts None = tt
 full_counts (Some (full.Sectors sectors)) = tt
 full_counts (Some (full.Entries count)) = tt
 
-refusal_counts : (b : Bool) (found : Option Full) → IfSome (if b then option_map reply_of_full found else Some replies.Range) IsCountReply
+refusal_counts : (b : Bool) (found : Option Full) → IfSome (if b then option_map reply_of_full found else Some replies.Range)
+    IsCountReply
 refusal_counts true found = full_counts found
 refusal_counts false found = tt
 
@@ -79,7 +82,8 @@ entry_counts : (plain : PlainState) (entry : Entry) → IsCountReply (enter_repl
 entry_counts plain entry =
     let unsealed : List Entry = unsealed_entries plain in
     unwrapped_counts (batch_refusal plain entry) (room_reply plain (cache_for plain entry) entry)
-    (refusal_counts (is_in_range plain.geometry entry) (fullness plain.geometry.batch (sum_by data_sectors unsealed) (length unsealed)))
+    (refusal_counts (is_in_range plain.geometry entry) (fullness plain.geometry.batch (sum_by data_sectors unsealed)
+    (length unsealed)))
     (room_counts plain (cache_for plain entry) entry)
 
 pub done_counts : (plain : PlainState) (job : Option ℕ) → IsCountReply (plain_reply plain (events.JobDone job))
@@ -87,7 +91,8 @@ done_counts plain job = either_counts (is_under_way job plain.window) _ _ tt tt
 
 -- ---- what is said
 
-says_refusal : (why : Refusal) (reply : PlainReply) (answer : Answer) → TellsRefusal why reply → SaysRefusal why answer → SaysReply reply answer
+says_refusal : (why : Refusal) (reply : PlainReply) (answer : Answer) → TellsRefusal why reply → SaysRefusal why answer
+    → SaysReply reply answer
 says_refusal refusals.Range reply answer tells says = subst (λ r. SaysReply r answer) (sym tells) says
 says_refusal (refusals.Full (full.Sectors sectors)) reply answer tells says = subst (λ r. SaysReply r answer) (sym tells) says
 says_refusal (refusals.Full (full.Entries count)) reply answer tells says = subst (λ r. SaysReply r answer) (sym tells) says
@@ -109,7 +114,8 @@ says_reply volume (told.Done frontier) plain answer tells counts says = subst (�
 says_reply volume (told.NotDone job receipt) plain answer tells counts says = subst (λ r. SaysReply r answer) (sym tells) says
 says_reply volume told.Returned plain answer tells counts says = absurd (subst IsCountReply tells counts)
 says_reply volume (told.NotReturned job) plain answer tells counts says = subst (λ r. SaysReply r answer) (sym tells) says
-says_reply volume (told.Told writes sealed frontier checkpoint) plain answer tells counts says = subst (λ r. SaysReply r answer) (sym tells) says
+says_reply volume (told.Told writes sealed frontier checkpoint) plain answer tells counts says =
+    subst (λ r. SaysReply r answer) (sym tells) says
 says_reply volume told.Range plain answer tells counts says = subst (λ r. SaysReply r answer) (sym tells) says
 says_reply volume told.Nothing plain answer tells counts says = subst (λ r. SaysReply r answer) (sym tells) says
 says_reply volume told.Busy plain answer tells counts says = subst (λ r. SaysReply r answer) (sym tells) says
@@ -117,7 +123,8 @@ says_reply volume told.Fault plain answer tells counts says = subst (λ r. SaysR
 says_reply volume told.OutOfMemory plain answer tells counts says = absurd tells
 
 -- nothing is answered where memory lacks
-lacks_by : (why : Refusal) (entry : Entry) (answer : Answer) → lacks_memory {R = Kept} (told.NotEntered entry why) ≡ true → SaysRefusal why answer → ⊥
+lacks_by : (why : Refusal) (entry : Entry) (answer : Answer) → lacks_memory {R = Kept} (told.NotEntered entry why) ≡ true
+    → SaysRefusal why answer → ⊥
 lacks_by refusals.Range entry answer lacks says = cc
 lacks_by (refusals.Full why) entry answer lacks says = cc
 lacks_by (refusals.NoRoom lacking left) entry answer lacks says = cc
@@ -145,7 +152,8 @@ counted_asks TakeJob asked volume other is asks = cc
 counted_asks (JobDone job receipt) asked volume other is asks = cc
 counted_asks (JobFailed job) asked volume other is asks = cc
 
-pub counted_reply : (event : Event Kept) (asked : PlainEvent) (volume : VolumeState) (plain : PlainState) → is_counted event ≡ true
+pub counted_reply : (event : Event Kept) (asked : PlainEvent) (volume : VolumeState) (plain : PlainState)
+    → is_counted event ≡ true
     → Asks told_receipt volume event asked → IsCountReply (plain_reply plain asked)
 counted_reply (Write lba body) asked volume plain is asks =
     subst (λ e. IsCountReply (plain_reply plain e)) (sym asks) (entry_counts plain (entries.Write lba body))
@@ -154,7 +162,8 @@ counted_reply (Zero lba sectors) asked volume plain is asks =
 counted_reply Flush asked volume plain is asks =
     subst (λ e. IsCountReply (plain_reply plain e)) (sym asks) (either_counts (passes_commit plain.cache) _ _ tt tt)
 counted_reply Seal asked volume plain is asks =
-    subst (λ e. IsCountReply (plain_reply plain e)) (sym asks) (either_counts (has_unsealed plain) _ _ (either_counts (is_busy plain) _ _ tt tt) tt)
+    subst (λ e. IsCountReply (plain_reply plain e)) (sym asks)
+    (either_counts (has_unsealed plain) _ _ (either_counts (is_busy plain) _ _ tt tt) tt)
 counted_reply Status asked volume plain is asks = subst (λ e. IsCountReply (plain_reply plain e)) (sym asks) tt
 counted_reply (Look lba sectors) asked volume plain is asks = cc
 counted_reply (Release plan) asked volume plain is asks = cc

@@ -39,7 +39,8 @@ rig_stops rig plain h on_disk =
       logged = h.shows.logged;
       committed =
           subst (λ (g : Geometry). HasCommitted (owner_at h.epoch) g volume.log) h.shows.objects.geometry
-          (subst (λ (u : List ℕ). HasCommitted (record { uuid = u; epoch = h.epoch }) volume.objects.batch.geometry volume.log) h.uuid_is h.own);
+          (subst (λ (u : List ℕ). HasCommitted (record { uuid = u; epoch = h.epoch }) volume.objects.batch.geometry volume.log)
+          h.uuid_is h.own);
       on_disk = on_disk;
     }
 
@@ -55,7 +56,8 @@ ends_past plain number valid from to =
 -- a commit that is found is not before the last one, nor past the entries
 later_found : (size end count : ℕ) (last found : PlainCommit) (unfinished : Option PlainCommit) → Some found ≡ unfinished
     → IfSome unfinished (IsLaterCommit size end count last) → IsLaterCommit size end count last found
-later_found size end count last found unfinished is later = subst (λ u. IfSome u (IsLaterCommit size end count last)) (sym is) later
+later_found size end count last found unfinished is later =
+    subst (λ u. IfSome u (IsLaterCommit size end count last)) (sym is) later
 
 found_within : (end count : ℕ) (log : PlainLog) (found : PlainCommit) → IsPlainLog end count log → IsFoundCommit found log
     → (log.last.head.seq ≤ found.head.seq) × (found.head.seq ≤ count)
@@ -67,11 +69,13 @@ found_within end count log found valid (inr is) =
 
 -- ---- the whole
 
-now_as : (P Q : Medium → Type 0) (moments : List Medium) → ((medium : Medium) → P medium → Q medium) → HoldsNow P moments → HoldsNow Q moments
+now_as : (P Q : Medium → Type 0) (moments : List Medium) → ((medium : Medium) → P medium → Q medium) → HoldsNow P moments
+    → HoldsNow Q moments
 now_as P Q [] follows holds = tt
 now_as P Q (now ∷ past) follows holds = follows now holds
 
-pub kept_by_rig : (rig : RigState) (plain : PlainState) → (h : ShowsPlain rig plain) → IsOnDisk rig.volume.volume.log → IsKeptByRig h.epoch rig plain
+pub kept_by_rig : (rig : RigState) (plain : PlainState) → (h : ShowsPlain rig plain) → IsOnDisk rig.volume.volume.log
+    → IsKeptByRig h.epoch rig plain
 kept_by_rig rig plain h on_disk =
     let valid = h.shows.valid in
     record {
@@ -89,7 +93,8 @@ kept_by_rig rig plain h on_disk =
           let is = leaves left may in
           let within = found_within (frontier_end plain) (history_length plain) plain.cache.log is.0 valid.log is.1 in
           (is.0, within.0, within.1, is.2))
-          (left_has_commit (owner_at h.epoch) h.shows.data_at rig.volume.volume.log plain count (rig_stops rig plain h on_disk) ends.0 ends.1);
+          (left_has_commit (owner_at h.epoch) h.shows.data_at rig.volume.volume.log plain count (rig_stops rig plain h on_disk)
+          ends.0 ends.1);
       store = λ puts objects are left.
           let has = left_has_objects script_uuid h.epoch plain puts objects valid are left in
           let sealed = recovers_sealed plain (landed_in objects script_uuid) valid in
@@ -98,6 +103,8 @@ kept_by_rig rig plain h on_disk =
     }
 
 -- and so of the same rig
-pub kept_as : (rig seen : RigState) (plain : PlainState) → rig ≡ seen → (h : ShowsPlain seen plain) → IsOnDisk rig.volume.volume.log
+pub kept_as : (rig seen : RigState) (plain : PlainState) → rig ≡ seen → (h : ShowsPlain seen plain)
+    → IsOnDisk rig.volume.volume.log
     → IsKeptByRig h.epoch seen plain
-kept_as rig seen plain same h on_disk = kept_by_rig seen plain h (subst (λ (r : RigState). IsOnDisk r.volume.volume.log) same on_disk)
+kept_as rig seen plain same h on_disk =
+    kept_by_rig seen plain h (subst (λ (r : RigState). IsOnDisk r.volume.volume.log) same on_disk)

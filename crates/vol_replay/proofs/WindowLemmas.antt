@@ -1,5 +1,6 @@
 -- The objects under way beside the open objects of a window, and what the steps of puts make of both.
-use Rattle.std.proofs.Common.{◌≡◌, ℕ, ◌<◌, ◌≤◌, ◌==◌, ◌⊎◌, nat_eq, nat_lt, Bool, true, false, cond, ◌&&◌, ◌||◌, List, [], ◌∷◌, map, refl, sym, ◌∙◌, ap, subst, inl, inr, arith}
+use Rattle.std.proofs.Common.{◌≡◌, ℕ, ◌<◌, ◌≤◌, ◌==◌, ◌⊎◌, nat_eq, nat_lt, Bool, true, false, cond, ◌&&◌, ◌||◌, List, [], ◌∷◌}
+use Rattle.std.proofs.Common.{map, refl, sym, ◌∙◌, ap, subst, inl, inr, arith}
 use Rattle.std.specs.Prelude.{Some, None, option_map, find, IsTrue}
 use Rattle.std.specs.List.{All, AllByRecursion, list_any, filter}
 use Rattle.std.proofs.Math.Bool.{or-true, or-false, and-false}
@@ -15,7 +16,8 @@ use Rattle.vol_replay.specs.Rig.{AreUnderWay, IsFirstUnderWay}
 
 numbers_by : (object : OpenObject) (objects : List OpenObject) (puts : List PutView) (b : Bool)
     → ((more : List PutView) → AreUnderWay objects more
-    → map (λ (put : PutView). put.number) more ≡ map (λ (o : OpenObject). o.number) (filter (λ (o : OpenObject). o.was_started) objects))
+    → map (λ (put : PutView). put.number) more ≡ map (λ (o : OpenObject). o.number)
+    (filter (λ (o : OpenObject). o.was_started) objects))
     → IsFirstUnderWay b object puts (AreUnderWay objects)
     → map (λ (put : PutView). put.number) puts
     ≡ map (λ (o : OpenObject). o.number)
@@ -34,7 +36,8 @@ under_way_numbers (object ∷ objects) puts are = numbers_by object objects puts
 -- ---- a number that is open
 
 -- it is above the lower end, and not above the last
-pub open_above : (n low : ℕ) (objects : List OpenObject) (last : ℕ) → Ascends low objects last → list_any (has_number n) objects ≡ true
+pub open_above : (n low : ℕ) (objects : List OpenObject) (last : ℕ) → Ascends low objects last
+    → list_any (has_number n) objects ≡ true
     → (low < n) × (n ≤ last)
 open_above n low [] last ascends is = cc
 open_above n low (object ∷ objects) last ascends is =
@@ -53,7 +56,8 @@ pub started_is_open : (n : ℕ) (objects : List OpenObject) → is_started n obj
 started_is_open n [] is = cc
 started_is_open n (object ∷ objects) is =
     let more = started_is_open n objects in
-    elim (has_number n object) as (λ b. ((b && object.is_started) || is_started n objects) ≡ true → (b || list_any (has_number n) objects) ≡ true) [
+    elim (has_number n object) as (λ b. ((b && object.is_started) || is_started n objects) ≡ true
+    → (b || list_any (has_number n) objects) ≡ true) [
       | true ↦ λ i. refl
       | false ↦ λ i. more i
     ] is
@@ -74,7 +78,8 @@ ready_is_open n test (object ∷ objects) is =
     ] is
 
 -- none is started up to the lower end
-none_started : (n low : ℕ) (objects : List OpenObject) (last : ℕ) → n ≤ low → Ascends low objects last → is_started n objects ≡ false
+none_started : (n low : ℕ) (objects : List OpenObject) (last : ℕ) → n ≤ low → Ascends low objects last
+    → is_started n objects ≡ false
 none_started n low [] last below ascends = refl
 none_started n low (object ∷ objects) last below ascends =
     let above = ascends.0 in
@@ -89,7 +94,8 @@ marked_numbers k n started [] = refl
 marked_numbers k n started (object ∷ objects) =
     let changed : OpenObject = record object { is_started = started; was_started = object.was_started || started } in
     let rest = marked_numbers k n started objects in
-    elim (has_number n object) as (λ b. list_any (has_number k) (cond b (changed ∷ objects) (object ∷ with_started n started objects))
+    elim (has_number n object) as (λ b. list_any (has_number k)
+    (cond b (changed ∷ objects) (object ∷ with_started n started objects))
     ≡ list_any (has_number k) (object ∷ objects)) [
       | true ↦ refl
       | false ↦ ap (λ b. has_number k object || b) rest
@@ -111,7 +117,8 @@ without_others k n (object ∷ objects) other =
           rw not_here (ap (λ b. has_number k object || b) rest)
     ]
 
-pub without_own : (n low : ℕ) (objects : List OpenObject) (last : ℕ) → Ascends low objects last → list_any (has_number n) (without n objects) ≡ false
+pub without_own : (n low : ℕ) (objects : List OpenObject) (last : ℕ) → Ascends low objects last
+    → list_any (has_number n) (without n objects) ≡ false
 without_own n low [] last ascends = refl
 without_own n low (object ∷ objects) last ascends =
     let rest = without_own n object.number objects last ascends.1 in
@@ -132,7 +139,8 @@ StartsPast n [] = Unit {0}
 StartsPast n (put ∷ puts) = n < put.number
 
 past_by : (n : ℕ) (object : OpenObject) (objects : List OpenObject) (puts : List PutView) (b : Bool) → n < object.number
-    → ((more : List PutView) → AreUnderWay objects more → StartsPast n more) → IsFirstUnderWay b object puts (AreUnderWay objects) → StartsPast n puts
+    → ((more : List PutView) → AreUnderWay objects more → StartsPast n more) → IsFirstUnderWay b object puts (AreUnderWay objects)
+    → StartsPast n puts
 past_by n object objects [] true above more are = absurd are
 past_by n object objects (put ∷ puts) true above more are = omega (arith, are.0, above)
 past_by n object objects puts false above more are = more puts are
@@ -180,7 +188,8 @@ skips_done : (n : ℕ) → Skips n (without_put n)
 skips_done n put more less = (let below : nat_lt put.number n ≡ true = lt-ltb put.number n less in rw below refl)
 
 -- so an object of a lower number stays in front
-later_by : (n : ℕ) (object : OpenObject) (objects changed : List OpenObject) (puts : List PutView) (change : List PutView → List PutView) (b : Bool)
+later_by : (n : ℕ) (object : OpenObject) (objects changed : List OpenObject) (puts : List PutView) (change : List PutView
+    → List PutView) (b : Bool)
     → object.number < n → Skips n change → ((more : List PutView) → AreUnderWay objects more → AreUnderWay changed (change more))
     → IsFirstUnderWay b object puts (AreUnderWay objects) → IsFirstUnderWay b object (change puts) (AreUnderWay changed)
 later_by n object objects changed [] change true less skips more are = absurd are
@@ -213,7 +222,8 @@ begun_first : (n : ℕ) (bytes : List ℕ) (object : OpenObject) (objects : List
     → AreUnderWay (marked_object true object ∷ objects) (out_put n bytes ∷ puts)
 begun_first n bytes object objects puts is are = rw (or-true object.was_started) (sym is, refl, are)
 
-begun_here : (n : ℕ) (bytes : List ℕ) (object : OpenObject) (objects : List OpenObject) (last : ℕ) (puts : List PutView) (b : Bool)
+begun_here : (n : ℕ) (bytes : List ℕ) (object : OpenObject) (objects : List OpenObject) (last : ℕ)
+    (puts : List PutView) (b : Bool)
     → object.number ≡ n → Ascends object.number objects last → IsFirstUnderWay b object puts (AreUnderWay objects)
     → AreUnderWay (marked_object true object ∷ objects) (with_begun n bytes puts)
 begun_here n bytes object objects last [] true is ascends are = absurd are
@@ -226,8 +236,10 @@ begun_here n bytes object objects last puts false is ascends are =
     subst (AreUnderWay (marked_object true object ∷ objects)) (sym (leaves_past n bytes puts past).begun)
     (begun_first n bytes object objects puts is are)
 
-pub begun_under_way : (n : ℕ) (bytes : List ℕ) (low : ℕ) (objects : List OpenObject) (last : ℕ) (puts : List PutView) → Ascends low objects last
-    → list_any (has_number n) objects ≡ true → AreUnderWay objects puts → AreUnderWay (with_started n true objects) (with_begun n bytes puts)
+pub begun_under_way : (n : ℕ) (bytes : List ℕ) (low : ℕ) (objects : List OpenObject) (last : ℕ) (puts : List PutView)
+    → Ascends low objects last
+    → list_any (has_number n) objects ≡ true → AreUnderWay objects puts
+    → AreUnderWay (with_started n true objects) (with_begun n bytes puts)
 begun_under_way n bytes low [] last puts ascends is are = cc
 begun_under_way n bytes low (object ∷ objects) last puts ascends is are =
     elim (first_or_later n low object objects last ascends is) [
@@ -238,13 +250,15 @@ begun_under_way n bytes low (object ∷ objects) last puts ascends is are =
           let not_here : nat_eq object.number n ≡ false = later.0 in
           let rest = λ (more : List PutView) (are_ : AreUnderWay objects more).
           begun_under_way n bytes object.number objects last more ascends.1 later.2 are_ in
-          rw not_here (later_by n object objects (with_started n true objects) puts (with_begun n bytes) object.was_started later.1
+          rw not_here (later_by n object objects (with_started n true objects) puts (with_begun n bytes)
+          object.was_started later.1
           (skips_begun n bytes) rest are)
     ]
 
 -- ---- a put fails
 
-failed_here : (n : ℕ) (object : OpenObject) (objects : List OpenObject) (last : ℕ) (puts : List PutView) (b : Bool) → object.number ≡ n
+failed_here : (n : ℕ) (object : OpenObject) (objects : List OpenObject) (last : ℕ) (puts : List PutView) (b : Bool)
+    → object.number ≡ n
     → object.was_started ≡ b → Ascends object.number objects last → IsFirstUnderWay b object puts (AreUnderWay objects)
     → AreUnderWay (marked_object false object ∷ objects) (with_failed n puts)
 failed_here n object objects last [] true is was ascends are = absurd are
@@ -258,7 +272,8 @@ failed_here n object objects last puts false is was ascends are =
     (rw was are)
 
 pub failed_under_way : (n low : ℕ) (objects : List OpenObject) (last : ℕ) (puts : List PutView) → Ascends low objects last
-    → list_any (has_number n) objects ≡ true → AreUnderWay objects puts → AreUnderWay (with_started n false objects) (with_failed n puts)
+    → list_any (has_number n) objects ≡ true → AreUnderWay objects puts
+    → AreUnderWay (with_started n false objects) (with_failed n puts)
 failed_under_way n low [] last puts ascends is are = cc
 failed_under_way n low (object ∷ objects) last puts ascends is are =
     elim (first_or_later n low object objects last ascends is) [
@@ -267,14 +282,17 @@ failed_under_way n low (object ∷ objects) last puts ascends is are =
           rw here (failed_here n object objects last puts object.was_started same refl ascends.1 are)
       | inr later ↦
           let not_here : nat_eq object.number n ≡ false = later.0 in
-          rw not_here (later_by n object objects (with_started n false objects) puts (with_failed n) object.was_started later.1 (skips_failed n)
+          rw not_here (later_by n object objects (with_started n false objects) puts (with_failed n) object.was_started later.1
+          (skips_failed n)
           (λ more are_. failed_under_way n object.number objects last more ascends.1 later.2 are_) are)
     ]
 
 -- ---- a put is done
 
-done_here : (n : ℕ) (object : OpenObject) (objects : List OpenObject) (last : ℕ) (puts : List PutView) (b : Bool) → object.number ≡ n
-    → Ascends object.number objects last → IsFirstUnderWay b object puts (AreUnderWay objects) → AreUnderWay objects (without_put n puts)
+done_here : (n : ℕ) (object : OpenObject) (objects : List OpenObject) (last : ℕ) (puts : List PutView) (b : Bool)
+    → object.number ≡ n
+    → Ascends object.number objects last → IsFirstUnderWay b object puts (AreUnderWay objects)
+    → AreUnderWay objects (without_put n puts)
 done_here n object objects last [] true is ascends are = absurd are
 done_here n object objects last (put ∷ puts) true is ascends are =
     let not_below : nat_lt put.number n ≡ false = le-ltb put.number n (omega (arith, are.0, is)) in
@@ -294,7 +312,8 @@ done_under_way n low (object ∷ objects) last puts ascends is are =
           rw here (done_here n object objects last puts object.was_started same ascends.1 are)
       | inr later ↦
           let not_here : nat_eq object.number n ≡ false = later.0 in
-          rw not_here (later_by n object objects (without n objects) puts (without_put n) object.was_started later.1 (skips_done n)
+          rw not_here (later_by n object objects (without n objects) puts (without_put n) object.was_started later.1
+          (skips_done n)
           (λ more are_. done_under_way n object.number objects last more ascends.1 later.2 are_) are)
     ]
 
@@ -328,7 +347,8 @@ out_first n low object objects last put puts ascends number out more =
           let not_below : nat_lt put.number n ≡ false = le-ltb put.number n (omega (arith, number, greater)) in
           let not_there : nat_eq put.number n ≡ false = ne_eqb put.number n (λ e. omega (arith, e, number, greater)) in
           let not_here : nat_eq object.number n ≡ false = ne_eqb object.number n (λ e. omega (arith, e, greater)) in
-          let none : is_started n objects ≡ false = none_started n object.number objects last (omega (arith, greater)) ascends.1 in
+          let none : is_started n objects ≡ false = none_started n object.number objects last (omega (arith, greater))
+          ascends.1 in
           rw (not_below, not_there, not_here, none) refl
     ]
 
@@ -336,7 +356,8 @@ not_started : (started was : Bool) → was ≡ false → (IsTrue started → IsT
 not_started true was never keeps = (let e = keeps refl in cc)
 not_started false was never keeps = refl
 
-out_by : (n low : ℕ) (object : OpenObject) (objects : List OpenObject) (last : ℕ) (puts : List PutView) (b : Bool) → object.was_started ≡ b
+out_by : (n low : ℕ) (object : OpenObject) (objects : List OpenObject) (last : ℕ) (puts : List PutView) (b : Bool)
+    → object.was_started ≡ b
     → Ascends low (object ∷ objects) last → (IsTrue object.is_started → IsTrue object.was_started)
     → ((more : List PutView) → AreUnderWay objects more → is_put_out (put_of n more) ≡ is_started n objects)
     → IsFirstUnderWay b object puts (AreUnderWay objects) → is_put_out (put_of n puts) ≡ is_started n (object ∷ objects)
@@ -359,7 +380,8 @@ out_if_started n low (object ∷ objects) last puts ascends starts are =
 
 -- ---- what holds of each put
 
-pub all_begun : (P : PutView → Type 0) (n : ℕ) (bytes : List ℕ) (puts : List PutView) → P (out_put n bytes) → AllByRecursion P puts
+pub all_begun : (P : PutView → Type 0) (n : ℕ) (bytes : List ℕ) (puts : List PutView) → P (out_put n bytes)
+    → AllByRecursion P puts
     → AllByRecursion P (with_begun n bytes puts)
 all_begun P n bytes [] one all = (one, tt)
 all_begun P n bytes (put ∷ puts) one all =
@@ -367,13 +389,16 @@ all_begun P n bytes (put ∷ puts) one all =
     elim (nat_lt put.number n) as (λ b. AllByRecursion P (cond b (put ∷ with_begun n bytes puts)
     (cond (put.number == n) (out_put n bytes ∷ puts) (out_put n bytes ∷ put ∷ puts)))) [
       | true ↦ (all.0, more)
-      | false ↦ elim (put.number == n) as (λ c. AllByRecursion P (cond c (out_put n bytes ∷ puts) (out_put n bytes ∷ put ∷ puts))) [
-        | true ↦ (one, all.1)
-        | false ↦ (one, all)
-      ]
+      | false ↦
+          let out = out_put n bytes in
+          elim (put.number == n) as (λ c. AllByRecursion P (cond c (out ∷ puts) (out ∷ put ∷ puts))) [
+            | true ↦ (one, all.1)
+            | false ↦ (one, all)
+          ]
     ]
 
-pub all_failed : (P : PutView → Type 0) (n : ℕ) (puts : List PutView) → ((put : PutView) → P put → P (record put { is_out = false }))
+pub all_failed : (P : PutView → Type 0) (n : ℕ) (puts : List PutView)
+    → ((put : PutView) → P put → P (record put { is_out = false }))
     → AllByRecursion P puts → AllByRecursion P (with_failed n puts)
 all_failed P n [] keeps all = tt
 all_failed P n (put ∷ puts) keeps all =
@@ -387,21 +412,25 @@ all_failed P n (put ∷ puts) keeps all =
       ]
     ]
 
-pub all_without : (P : PutView → Type 0) (n : ℕ) (puts : List PutView) → AllByRecursion P puts → AllByRecursion P (without_put n puts)
+pub all_without : (P : PutView → Type 0) (n : ℕ) (puts : List PutView) → AllByRecursion P puts
+    → AllByRecursion P (without_put n puts)
 all_without P n [] all = tt
 all_without P n (put ∷ puts) all =
     let more = all_without P n puts all.1 in
-    elim (nat_lt put.number n) as (λ b. AllByRecursion P (cond b (put ∷ without_put n puts) (cond (put.number == n) puts (put ∷ puts)))) [
+    elim (nat_lt put.number n) as (λ b. AllByRecursion P
+    (cond b (put ∷ without_put n puts) (cond (put.number == n) puts (put ∷ puts)))) [
       | true ↦ (all.0, more)
       | false ↦ elim (put.number == n) as (λ c. AllByRecursion P (cond c puts (put ∷ puts))) [ true ↦ all.1 | false ↦ all ]
     ]
 
 -- so of that of a number
-pub all_at : (P : PutView → Type 0) (n : ℕ) (puts : List PutView) (put : PutView) → put_of n puts ≡ Some put → AllByRecursion P puts → P put
+pub all_at : (P : PutView → Type 0) (n : ℕ) (puts : List PutView) (put : PutView) → put_of n puts ≡ Some put
+    → AllByRecursion P puts → P put
 all_at P n [] put is all = cc
 all_at P n (first ∷ puts) put is all =
     let more = λ (i : put_of n puts ≡ Some put). all_at P n puts put i all.1 in
-    elim (nat_lt first.number n) as (λ b. cond b (put_of n puts) (cond (first.number == n) (Some first) None) ≡ Some put → P put) [
+    let here = cond (first.number == n) (Some first) None in
+    elim (nat_lt first.number n) as (λ b. cond b (put_of n puts) here ≡ Some put → P put) [
       | true ↦ λ i. more i
       | false ↦ elim (first.number == n) as (λ c. cond c (Some first) None ≡ Some put → P put) [
         | true ↦ λ i. (let e : first ≡ put = cc in subst P e all.0)

@@ -1,5 +1,6 @@
 -- The events that hand out counts leave the objects under way.
-use Rattle.std.proofs.Common.{◌≡◌, ℕ, ◌+◌, nat_eq, Bool, true, false, cond, not, ◌&&◌, ◌||◌, List, [], ◌∷◌, ◌++◌, refl, sym, ◌∙◌, ap, subst, arith}
+use Rattle.std.proofs.Common.{◌≡◌, ℕ, ◌+◌, nat_eq, Bool, true, false, cond, not, ◌&&◌, ◌||◌, List, [], ◌∷◌, ◌++◌, refl, sym, ◌∙◌}
+use Rattle.std.proofs.Common.{ap, subst, arith}
 use Rattle.std.specs.List.{list_any}
 use Rattle.std.proofs.Math.Bool.{or-false}
 use Rattle.std.proofs.lemmas.Bool.{eq-eqb, ne_eqb}
@@ -13,7 +14,8 @@ use Rattle.plain_disk.specs.Objects.{has_unsealed, is_busy, end_of_next}
 use Rattle.plain_disk.specs.Step.{plain_after}
 use Rattle.plain_disk.specs.Valid.{IsPlainVolume}
 use Rattle.vol_core.specs.declared.event.Event.{Event}
-use Rattle.vol_core.specs.declared.event.Event.TheVariants.{Write, Zero, Flush, Look, Release, Seal, TakeJob, JobDone, JobFailed, Status}
+use Rattle.vol_core.specs.declared.event.Event.TheVariants.{Write, Zero, Flush, Look, Release, Seal, TakeJob, JobDone, JobFailed}
+use Rattle.vol_core.specs.declared.event.Event.TheVariants.{Status}
 use Rattle.vol_core.specs.Volume.{VolumeState}
 use Rattle.vol_core.specs.Events.{Asks}
 use Rattle.vol_replay.specs.Bench.{is_counted}
@@ -30,11 +32,13 @@ entered_by first objects entered_ [] true more are = absurd are
 entered_by first objects entered_ (put ∷ puts) true more are = (are.0, are.1, more puts are.2)
 entered_by first objects entered_ puts false more are = more puts are
 
-entered_under_way : (object : OpenObject) (objects : List OpenObject) (puts : List PutView) → object.was_started ≡ false → AreUnderWay objects puts
+entered_under_way : (object : OpenObject) (objects : List OpenObject) (puts : List PutView) → object.was_started ≡ false
+    → AreUnderWay objects puts
     → AreUnderWay (objects ++ object ∷ []) puts
 entered_under_way object [] puts never are = rw never are
 entered_under_way object (first ∷ objects) puts never are =
-    entered_by first objects (objects ++ object ∷ []) puts first.was_started (λ more are_. entered_under_way object objects more never are_) are
+    entered_by first objects (objects ++ object ∷ []) puts first.was_started
+    (λ more are_. entered_under_way object objects more never are_) are
 
 entered_numbers : (k : ℕ) (object : OpenObject) (objects : List OpenObject)
     → list_any (has_number k) (objects ++ object ∷ []) ≡ (list_any (has_number k) objects || has_number k object)
@@ -53,7 +57,13 @@ neither false b is = (refl, is)
 
 entered_keeps : (window : WindowState) → KeepsUnderWay window (entered (window.last + 1) false window)
 entered_keeps window =
-    let object : OpenObject = record { number = window.last + 1; is_checkpoint = false; is_started = false; was_started = false } in
+    let object : OpenObject = record {
+      number = window.last + 1;
+      is_checkpoint = false;
+      is_started =
+          false;
+      was_started = false;
+    } in
     let objects : List OpenObject = window.objects in
     record {
       under_way = λ puts are. entered_under_way object objects puts refl are;
@@ -66,7 +76,8 @@ entered_keeps window =
           record { was_entered = omega (arith, most, other); not_open = parts.0 };
       forth = λ number positive is.
           let most = is.was_entered in
-          let other : nat_eq (window.last + 1) number ≡ false = ne_eqb (window.last + 1) number (λ same. omega (arith, same, most)) in
+          let other : nat_eq (window.last + 1) number ≡ false =
+          ne_eqb (window.last + 1) number (λ same. omega (arith, same, most)) in
           record {
             was_entered = omega (arith, most);
             not_open = entered_numbers number object objects ∙ ap (λ b. b || has_number number object) is.not_open ∙ other;
@@ -75,12 +86,14 @@ entered_keeps window =
 
 -- ---- events
 
-seal_keeps : (plain : PlainState) (seals : Bool) (sealed : PlainState) → sealed.window ≡ entered (plain.window.last + 1) false plain.window
+seal_keeps : (plain : PlainState) (seals : Bool) (sealed : PlainState)
+    → sealed.window ≡ entered (plain.window.last + 1) false plain.window
     → KeepsUnderWay plain.window (cond seals sealed plain).window
 seal_keeps plain true sealed is = subst (KeepsUnderWay plain.window) (sym is) (entered_keeps plain.window)
 seal_keeps plain false sealed is = same_under_way plain.window
 
-pub quiet_windows : (event : Event Kept) (asked : PlainEvent) (volume : VolumeState) (plain : PlainState) → is_counted event ≡ true
+pub quiet_windows : (event : Event Kept) (asked : PlainEvent) (volume : VolumeState) (plain : PlainState)
+    → is_counted event ≡ true
     → Asks told_receipt volume event asked → IsPlainVolume plain → KeepsUnderWay plain.window (plain_after asked plain).window
 quiet_windows (Write lba body) asked volume plain is asks valid =
     subst (λ e. KeepsUnderWay plain.window (plain_after e plain).window) (sym asks) (same_under_way plain.window)

@@ -11,7 +11,9 @@ use Rattle.vol_core.specs.declared.reply.Refusal.TheVariants as refusals
 use Rattle.vol_core.specs.declared.reply.Reply.{Reply}
 use Rattle.vol_core.specs.declared.reply.Reply.TheVariants as told
 use Rattle.vol_replay.specs.declared.answer.Answer.{Answer}
-use Rattle.vol_replay.specs.declared.answer.Answer.TheVariants.{Created, Entries, Sectors, Sealed, Put, Done, Failed, Counts, Stopping, Mounted, BatchFull, EntriesFull, NoRoom, Range, Nothing, Busy, Fault}
+use Rattle.vol_replay.specs.declared.answer.Answer.TheVariants.{Created, Entries, Sectors, Sealed, Put, Done, Failed, Counts}
+use Rattle.vol_replay.specs.declared.answer.Answer.TheVariants.{Stopping, Mounted, BatchFull, EntriesFull, NoRoom, Range, Nothing}
+use Rattle.vol_replay.specs.declared.answer.Answer.TheVariants.{Busy, Fault}
 
 -- the text that tells an answer
 abbrev pub TellsAnswer : Answer → List ℕ → Type 0
@@ -64,8 +66,8 @@ SaysRefusal (refusals.NoRoom lacking left) answer = answer ≡ NoRoom lacking le
 SaysRefusal refusals.Fault answer = answer ≡ Fault
 SaysRefusal refusals.OutOfMemory answer = ⊥
 
--- The answer that says a reply of the volume which hands out no more than counts. Nothing is said of the others but that they are no want
--- of memory.
+-- The answer that says a reply of the volume which hands out no more than counts. Nothing is said of the others but that they are
+-- no want of memory.
 abbrev pub SaysCounts : {R : Type 0} → Reply R → Answer → Type 0
 SaysCounts (told.Entered count) answer = answer ≡ Entries count
 SaysCounts (told.NotEntered entry why) answer = SaysRefusal why answer

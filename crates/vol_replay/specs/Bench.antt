@@ -27,7 +27,8 @@ use Rattle.vol_replay.specs.Rig.{RigState, ShowsPlain}
 -- the answer says the plain volume's reply to an event, and the rig shows what that leaves
 abbrev pub AnswersEvent : PlainEvent → Answer → (old new : RigState) → Type 0
 AnswersEvent event answer old new =
-    (plain : PlainState) → ShowsPlain old plain → SaysReply (plain_reply plain event) answer × ShowsPlain new (plain_after event plain)
+    (plain : PlainState) → ShowsPlain old plain → SaysReply (plain_reply plain event) answer
+    × ShowsPlain new (plain_after event plain)
 
 -- an event of a volume that hands nothing out but counts, and leaves the puts alone
 abbrev pub is_counted : Event Kept → Bool
@@ -55,7 +56,8 @@ AnswersRead lba sectors answer old new =
 -- the put of an object failed, which the answer tells
 abbrev pub FailsPut : (number : ℕ) → Answer → (old new : RigState) → Type 0
 FailsPut number answer old new =
-    (plain : PlainState) → ShowsPlain old plain → (answer ≡ Failed number) × ShowsPlain new (plain_after (events.JobFailed (Some number)) plain)
+    (plain : PlainState) → ShowsPlain old plain → (answer ≡ Failed number)
+    × ShowsPlain new (plain_after (events.JobFailed (Some number)) plain)
 
 -- nothing of a volume has changed but the room on its device
 pub record IsUntouched (old new : SteppedVolume) : Type 0 where
@@ -75,12 +77,13 @@ StopsAfter calls old new = (plain : PlainState) → ShowsPlain old plain → Sho
 abbrev pub IsMountTold : Numbers → (old mounted : PlainState) → Answer → Type 0
 IsMountTold landed old mounted answer = answer ≡ Mounted (history_length mounted) (recovered_number landed old)
 
--- the machine was stopped, where the writes met these fates and these letters say what has landed, and the volume was mounted with its
--- cache, or without it
+-- the machine was stopped, where the writes met these fates and these letters say what has landed, and the volume was mounted
+-- with its cache, or without it
 abbrev pub MountsKeptRig : List Fate → (letters : List ℕ) → Answer → (old new : RigState) → Type 0
 MountsKeptRig fates letters answer old new =
     (plain : PlainState) → ShowsPlain old plain
-    → IsMountTold (landed_by plain.window letters) plain (mounted_kept (landed_by plain.window letters) (map is_kept fates) plain) answer
+    → IsMountTold (landed_by plain.window letters) plain (mounted_kept (landed_by plain.window letters) (map is_kept fates) plain)
+    answer
     × ShowsPlain new (mounted_kept (landed_by plain.window letters) (map is_kept fates) plain)
 
 abbrev pub MountsLostRig : (letters : List ℕ) → Answer → (old new : RigState) → Type 0

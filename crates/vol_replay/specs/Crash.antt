@@ -54,7 +54,8 @@ LandsAs false put old new = new ≡ old
 abbrev pub Lands : List PutView → (letters : List ℕ) → (old new : Objects) → Type 0
 Lands [] letters old new = new ≡ old
 Lands (put ∷ puts) [] old new = new ≡ old
-Lands (put ∷ puts) (letter ∷ letters) old new = (middle : Objects) × LandsAs (letter == 121) put old middle × Lands puts letters middle new
+Lands (put ∷ puts) (letter ∷ letters) old new = (middle : Objects) × LandsAs (letter == 121) put old middle
+    × Lands puts letters middle new
 
 -- ---- volumes
 
@@ -77,7 +78,8 @@ pub record MayMountStored (geometry : Geometry) (objects : Objects) : Type 0 whe
   pub stored : IsStored script_uuid geometry plain number (Some objects)
   pub low : (value : ℕ) → IsWornStored script_uuid geometry epoch (Some objects) value → ⊥
 
--- A device and a store may be mounted: they have a plain volume in an epoch, nothing is pending on the device, and no number is too great.
+-- A device and a store may be mounted: they have a plain volume in an epoch, nothing is pending on the device, and no number is
+-- too great.
 pub record MayMountLeft (geometry : Geometry) (objects : Objects) (disk : DiskState) : Type 0 where
   pub plain : PlainState
   pub found : PlainCommit
@@ -96,9 +98,10 @@ pub record RemovesNumbers (number : ℕ) (old new : Objects) : Type 0 where
   pub gone : (n : ℕ) → number < n → n < 2 ^ 64 → found new (name_of script_uuid n) ≡ None
   pub none : (n : ℕ) → found old (name_of script_uuid n) ≡ None → found new (name_of script_uuid n) ≡ None
 
--- a volume of a script was mounted in an epoch, on a device that fails no call and has nothing pending, and the objects past the first missing
--- number were removed
-pub record IsMountedVolume (geometry : Geometry) (epoch : ℕ) (objects : Objects) (mounted : MountedState) (after : Objects) : Type 0 where
+-- a volume of a script was mounted in an epoch, on a device that fails no call and has nothing pending, and the objects past the
+-- first missing number were removed
+pub record IsMountedVolume (geometry : Geometry) (epoch : ℕ) (objects : Objects) (mounted : MountedState) (after : Objects) :
+    Type 0 where
   pub volume : IsOfVolume script_uuid geometry epoch mounted
   pub described : HasVolume script_uuid geometry epoch after
   pub removed : RemovesNumbers mounted.number objects after

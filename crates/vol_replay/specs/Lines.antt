@@ -57,11 +57,13 @@ IsUnanswered old command OutOfMemory = Unit {0}
 abbrev pub AnswersLine : List ℕ → (old new : Option RigState) → (before after : List ℕ) → Type 0
 AnswersLine line old new before after =
     (state : State) → ShowsState old state
-    → (answer : List ℕ) × (next : State) × IsAnswered state line answer next × ShowsState new next × (after ≡ before ++ (answer ++ 10 ∷ []))
+    → (answer : List ℕ) × (next : State) × IsAnswered state line answer next × ShowsState new next
+    × (after ≡ before ++ (answer ++ 10 ∷ []))
 
 -- the line was not answered: a bad one left the answers as they were
 abbrev pub IsRefused : List ℕ → Option RigState → (before after : List ℕ) → Refusal → Type 0
-IsRefused line old before after (Bad reason) = (after ≡ before) × ((state : State) → ShowsState old state → IsBad state line reason)
+IsRefused line old before after (Bad reason) = (after ≡ before)
+    × ((state : State) → ShowsState old state → IsBad state line reason)
 IsRefused line old before after OutOfMemory = Unit {0}
 
 -- how the error that a line gives is told

@@ -28,7 +28,8 @@ use Rattle.vol_replay.specs.Puts.{PutView}
 
 -- ---- what is seen
 
--- a volume and its store, the objects under way, whether its device was told to stop since the last mount, and how many lines it answered
+-- a volume and its store, the objects under way, whether its device was told to stop since the last mount, and how many lines it
+-- answered
 pub record RigState : Type 0 where
   pub volume : SteppedVolume
   pub objects : Objects
@@ -78,19 +79,22 @@ HasBytesOfObject plain put = IsObjectOf (expected_of_plain plain) plain put.numb
 pub record HasStored (plain : PlainState) (objects : Objects) : Type 0 where
   pub first : IsCheckpointOf (expected_of_plain plain) objects 1 0 (λ k. None)
   pub acknowledged : (number : ℕ) → 1 < number → IsAcknowledged plain.window number
-      → (bytes : List ℕ) × (found objects (name_of script_uuid number) ≡ Some bytes) × IsObjectOf (expected_of_plain plain) plain number bytes
-  pub none_else : (number : ℕ) → (0 < number → IsAcknowledged plain.window number → ⊥) → found objects (name_of script_uuid number) ≡ None
+      → (bytes : List ℕ) × (found objects (name_of script_uuid number) ≡ Some bytes)
+      × IsObjectOf (expected_of_plain plain) plain number bytes
+  pub none_else : (number : ℕ) → (0 < number → IsAcknowledged plain.window number → ⊥)
+      → found objects (name_of script_uuid number) ≡ None
 
--- the numbers of a volume that has answered so many lines: each adds an entry and an object at most, and makes two steps and four commits at
--- most
+-- the numbers of a volume that has answered so many lines: each adds an entry and an object at most, and makes two steps and four
+-- commits at most
 pub record IsYoung (rig : RigState) (plain : PlainState) : Type 0 where
   pub entries : history_length plain ≤ rig.lines
   pub objects : plain.window.last ≤ 1 + rig.lines
   pub commits : rig.volume.volume.log.commits.number ≤ 4 * rig.lines
   pub steps : rig.volume.steps ≤ 2 * rig.lines
 
--- The rig shows a plain volume: its volume does, with the pending writes of the plain cache, and commits in the epoch that the store has as
--- the newest of the volume; the objects under way are the plain volume's, and the store has those that are acknowledged.
+-- The rig shows a plain volume: its volume does, with the pending writes of the plain cache, and commits in the epoch that the
+-- store has as the newest of the volume; the objects under way are the plain volume's, and the store has those that are
+-- acknowledged.
 pub record ShowsPlain (rig : RigState) (plain : PlainState) : Type 0 where
   pub shows : Shows rig.volume.volume plain
   pub pending : ShowsPending rig.volume.volume.log plain.cache
@@ -109,14 +113,15 @@ pub record ShowsPlain (rig : RigState) (plain : PlainState) : Type 0 where
 
 -- ---- stops
 
--- Whatever a stop leaves of the device reads as a commit of the plain volume in this epoch, wherever the objects end that a mount finds, from
--- the frontier on; and whatever it leaves of the store has the plain volume's objects up to the one before the first missing number, from the
--- frontier on.
+-- Whatever a stop leaves of the device reads as a commit of the plain volume in this epoch, wherever the objects end that a mount
+-- finds, from the frontier on; and whatever it leaves of the store has the plain volume's objects up to the one before the first
+-- missing number, from the frontier on.
 pub record IsKeptByRig (epoch : ℕ) (rig : RigState) (plain : PlainState) : Type 0 where
   pub device : (number : ℕ) → frontier_of plain ≤ number → number ≤ plain.window.last
       → HoldsNow (λ now. (left : List ℕ) → MayLeave now left
       → (found : PlainCommit) × (plain.cache.log.last.head.seq ≤ found.head.seq) × (found.head.seq ≤ history_length plain)
-      × HasCommit (record { uuid = script_uuid; epoch = epoch }) plain found (end_of_object number plain) left) rig.volume.volume.log.commits.disk.moments
+      × HasCommit (record { uuid = script_uuid; epoch = epoch }) plain found (end_of_object number plain) left)
+      rig.volume.volume.log.commits.disk.moments
   pub store : (puts : ℕ → Option (PutState × List ℕ)) (objects : Objects) → ArePuts (expected_of_plain plain) plain puts
       → MayBeLeft script_uuid epoch plain puts objects
       → HasObjects script_uuid plain (recovered_number (landed_in objects script_uuid) plain) objects

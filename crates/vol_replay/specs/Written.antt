@@ -13,8 +13,8 @@ ShowsState None (Some plain) = ⊥
 ShowsState (Some rig) None = ⊥
 ShowsState (Some rig) (Some plain) = ShowsPlain rig plain
 
--- The whole transcript where each line was answered, and the rig shows what it leaves; the answers before a bad line; and a front of the
--- transcript after a fault or where memory ran out.
+-- The whole transcript where each line was answered, and the rig shows what it leaves; the answers before a bad line; and a front
+-- of the transcript after a fault or where memory ran out.
 abbrev pub IsWritten : List ℕ → List ℕ → Outcome → Type 0
 IsWritten script text (Done rig) = (state : State) × IsTranscript script text (AllAnswered state) × ShowsState rig state
 IsWritten script text (BadLine number reason) = IsTranscript script text (Stopped number reason)

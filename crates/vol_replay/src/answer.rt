@@ -32,7 +32,8 @@ pub(crate) enum Answer {
     },
     /// The device passes this many calls more.
     Stopping(u64),
-    /// A volume was mounted: how many entries it has, and the number of the object before the first missing one.
+    /// A volume was mounted: how many entries it has, and the number of the object before the first missing
+    /// one.
     Mounted {
         entries: u64,
         number: u64,
@@ -63,7 +64,8 @@ pub(crate) fn push_counted(
 
 // Appends words and two counts.
 fn push_two(answers: &mut Vec<u8>, words: &[u8], first: u64, second: u64) -> Result<(), AllocError>
-    ensures { OnOk result (answers.new.items ≡ answers.old.items ++ (words.now ++ decimal first ++ codes " " ++ decimal second)) }
+    ensures { OnOk result (answers.new.items ≡ answers.old.items
+        ++ (words.now ++ decimal first ++ codes " " ++ decimal second)) }
 {
     push_counted(answers, words, first)?;
     push_counted(answers, b" ", second)
@@ -71,7 +73,8 @@ fn push_two(answers: &mut Vec<u8>, words: &[u8], first: u64, second: u64) -> Res
 
 // Appends the text of an answer.
 fn push_text(answers: &mut Vec<u8>, answer: &Answer) -> Result<(), AllocError>
-    ensures { OnOk result ((text : List ℕ) × TellsAnswer answer.now text × (answers.new.items ≡ answers.old.items ++ text)) }
+    ensures { OnOk result ((text : List ℕ) × TellsAnswer answer.now text
+        × (answers.new.items ≡ answers.old.items ++ text)) }
 {
     match answer {
         Answer::Created(sectors) => push_counted(answers, b"new ", *sectors),
@@ -128,7 +131,8 @@ fn answer_of_refusal(refusal: &Refusal) -> Result<Answer, AllocError>
     }
 }
 
-/// The answer that tells a reply of the volume to an event that hands nothing out but counts. The one error is out of memory.
+/// The answer that tells a reply of the volume to an event that hands nothing out but counts. The one error
+/// is out of memory.
 pub(crate) fn answer_of<R: Receipt>(reply: &Reply<R>) -> Result<Answer, AllocError>
     ensures { IfOk result (SaysCounts reply.now) }
 {

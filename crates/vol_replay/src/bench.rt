@@ -1,4 +1,5 @@
-ghost use Rattle.std.specs.Prelude.{◌≡◌, ◌+◌, ◌*◌, ◌^◌, ◌<◌, ◌≤◌, [], true, false, is_some, length, replicate, IsTrue, IfOk, OnOk, Some, None};
+ghost use Rattle.std.specs.Prelude.{◌≡◌, ◌+◌, ◌*◌, ◌^◌, ◌<◌, ◌≤◌, [], true, false, is_some, length};
+ghost use Rattle.std.specs.Prelude.{replicate, IsTrue, IfOk, OnOk, Some, None};
 ghost use Rattle.lsvd_base.specs.Limits.{is_within_limits};
 ghost use Rattle.lsvd_device.specs.Memory.{HasRoom};
 ghost use Rattle.upload_window.specs.Window.{is_started};
@@ -6,7 +7,8 @@ ghost use Rattle.plain_disk.specs.declared.event.PlainEvent.TheVariants as event
 ghost use Rattle.plain_disk.specs.State.{PlainState, created_volume};
 ghost use Rattle.vol_core.specs.Step.{most_of_step};
 ghost use Rattle.transcript.specs.Letters.{under_way};
-ghost use Rattle.vol_replay.specs.Bench.{AnswersEvent, is_counted, AnswersAsked, AnswersRead, FailsPut, IsUntouched, StopsAfter, MountsKeptRig, MountsLostRig};
+ghost use Rattle.vol_replay.specs.Bench.{AnswersEvent, is_counted, AnswersAsked, AnswersRead, FailsPut};
+ghost use Rattle.vol_replay.specs.Bench.{IsUntouched, StopsAfter, MountsKeptRig, MountsLostRig};
 ghost use Rattle.vol_replay.specs.Rig.{rig_of, ShowsPlain, IsKeptByRig};
 
 use crate::answer::{Answer, answer_of};
@@ -23,8 +25,8 @@ use std::alloc::{AllocError, Global};
 use std::marker::Model;
 use vol_core::{Event, Reply};
 
-// The writes and syncs that a step asks for at most: those of a commit that makes first what was left of another, and those of a record
-// and of the pad before it.
+// The writes and syncs that a step asks for at most: those of a commit that makes first what was left of
+// another, and those of a record and of the pad before it.
 const STEP_CALLS: u64 = 7 + 2;
 
 // The bytes that they write beside a record's data.
@@ -53,11 +55,13 @@ impl Model for Bench {
 
     ghost view = { λ b. rig_of b.volume b.store b.puts.list b.is_stopping b.lines };
 
-    ghost invariant = { λ b. (plain : PlainState) × ShowsPlain (rig_of b.volume b.store b.puts.list b.is_stopping b.lines) plain };
+    ghost invariant = { λ b. (plain : PlainState)
+        × ShowsPlain (rig_of b.volume b.store b.puts.list b.is_stopping b.lines) plain };
 }
 
 impl Bench {
-    /// A volume that was just created, whose geometry is within the limits (a condition). The one error is out of memory.
+    /// A volume that was just created, whose geometry is within the limits (a condition). The one error is
+    /// out of memory.
     pub(crate) fn new(alloc: Global, geometry: Geometry) -> Result<Bench, AllocError>
         requires { IsTrue (is_within_limits geometry) }
         ensures shows { IfOk result (λ bench. ShowsPlain bench (created_volume geometry)) }
@@ -84,7 +88,8 @@ impl Bench {
         byte: u8,
     ) -> Result<Answer, AllocError>
         requires { self.old.lines < 2 ^ 40 }
-        ensures ok { IfOk result (λ answer. AnswersEvent (events.Write lba (replicate (512 * sectors) byte)) answer self.old self.new) }
+        ensures ok { IfOk result (λ answer. AnswersEvent (events.Write lba (replicate (512 * sectors) byte))
+            answer self.old self.new) }
         ensures lines { self.new.lines ≤ self.old.lines + 1 }
     {
         if !self.volume.geometry().may_transfer(lba, sectors) {
@@ -165,7 +170,8 @@ impl Bench {
 
     /// Whether the put of this number is out.
     pub(crate) fn is_out(&self, number: u64) -> bool
-        ensures { (plain : PlainState) → ShowsPlain self.now plain → result ≡ is_started number plain.window.objects }
+        ensures { (plain : PlainState) → ShowsPlain self.now plain
+            → result ≡ is_started number plain.window.objects }
     {
         self.puts.is_out(number)
     }
@@ -173,8 +179,10 @@ impl Bench {
     /// Makes the put of this number, which is out (a condition).
     pub(crate) fn finish_put(&mut self, alloc: Global, number: u64) -> Result<Answer, AllocError>
         requires lines { self.old.lines < 2 ^ 40 }
-        requires out { (plain : PlainState) → ShowsPlain self.old plain → IsTrue (is_started number plain.window.objects) }
-        ensures ok { IfOk result (λ answer. AnswersEvent (events.JobDone (Some number)) answer self.old self.new) }
+        requires out { (plain : PlainState) → ShowsPlain self.old plain
+            → IsTrue (is_started number plain.window.objects) }
+        ensures ok { IfOk result (λ answer. AnswersEvent (events.JobDone (Some number)) answer self.old
+            self.new) }
         ensures lines { self.new.lines ≤ self.old.lines + 1 }
     {
         self.lines += 1;
@@ -189,7 +197,8 @@ impl Bench {
     /// Fails the put of this number, which is out (a condition).
     pub(crate) fn fail_put(&mut self, number: u64) -> Result<Answer, AllocError>
         requires lines { self.old.lines < 2 ^ 40 }
-        requires out { (plain : PlainState) → ShowsPlain self.old plain → IsTrue (is_started number plain.window.objects) }
+        requires out { (plain : PlainState) → ShowsPlain self.old plain
+            → IsTrue (is_started number plain.window.objects) }
         ensures ok { IfOk result (λ answer. FailsPut number answer self.old self.new) }
         ensures lines { self.new.lines ≤ self.old.lines + 1 }
     {
@@ -229,7 +238,8 @@ impl Bench {
         self.is_stopping
     }
 
-    /// Lets the device pass `calls` calls more, and fail each later one. It was not told so since the last mount (a condition).
+    /// Lets the device pass `calls` calls more, and fail each later one. It was not told so since the last
+    /// mount (a condition).
     pub(crate) fn stop(&mut self, calls: u64) -> Answer
         requires lines { self.old.lines < 2 ^ 40 }
         requires once { (plain : PlainState) → ShowsPlain self.old plain → plain.cache.left ≡ None }
@@ -252,13 +262,15 @@ impl Bench {
 
     /// How many objects are under way.
     pub(crate) fn under_way(&self) -> usize
-        ensures { (plain : PlainState) → ShowsPlain self.now plain → result ≡ length (under_way plain.window) }
+        ensures { (plain : PlainState) → ShowsPlain self.now plain
+            → result ≡ length (under_way plain.window) }
     {
         self.puts.len()
     }
 
-    /// Stops the machine, where each write that was not synced meets its fate, and each object under way with the letter `y` has landed,
-    /// and mounts the volume with its cache. The fates are as many as `pending` says (a condition).
+    /// Stops the machine, where each write that was not synced meets its fate, and each object under way with
+    /// the letter `y` has landed, and mounts the volume with its cache. The fates are as many as `pending`
+    /// says (a condition).
     pub(crate) fn crash_keep(
         mut self,
         alloc: Global,
@@ -266,7 +278,8 @@ impl Bench {
         letters: &[u8],
     ) -> Result<(Bench, Answer), AllocError>
         requires lines { self.lines < 2 ^ 40 }
-        requires fates { (plain : PlainState) → ShowsPlain self plain → length fates.now ≡ length plain.cache.pending }
+        requires fates { (plain : PlainState) → ShowsPlain self plain
+            → length fates.now ≡ length plain.cache.pending }
         ensures ok { IfOk result (λ made. MountsKeptRig fates.now letters.now made.1 self made.0) }
         ensures lines { IfOk result (λ made. made.0.lines ≤ self.lines + 1) }
     {
@@ -296,7 +309,8 @@ impl Bench {
 
     /// What is so of every volume with its store, as a fact for the proofs of callers. Nothing is done.
     pub(crate) fn stands(&self)
-        ensures { (plain : PlainState) → (shows : ShowsPlain self.now plain) → IsKeptByRig shows.epoch self.now plain }
+        ensures { (plain : PlainState) → (shows : ShowsPlain self.now plain)
+            → IsKeptByRig shows.epoch self.now plain }
     {
         self.volume.is_ordered();
     }
@@ -304,7 +318,8 @@ impl Bench {
 
 // Makes room on the device of a volume for what an event may ask for.
 fn make_room(volume: &mut ScriptVolume, event: &Event<MemReceipt>) -> Result<(), AllocError>
-    ensures room { OnOk result (HasRoom (most_of_step event.now).changes (most_of_step event.now).bytes volume.new.volume.log.commits.disk.budget) }
+    ensures room { OnOk result (HasRoom (most_of_step event.now).changes (most_of_step event.now).bytes
+        volume.new.volume.log.commits.disk.budget) }
     ensures same { IsUntouched volume.old volume.new }
 {
     let bytes = match event {
@@ -316,7 +331,8 @@ fn make_room(volume: &mut ScriptVolume, event: &Event<MemReceipt>) -> Result<(),
 
 // Goes on with a volume that was mounted, and one line more.
 fn go_on(alloc: Global, mounted: MountedVolume, store: MemStore, lines: u64) -> (Bench, Answer)
-    requires shows { (plain : PlainState) × ShowsPlain (rig_of mounted.volume store [] false (lines + 1)) plain }
+    requires shows { (plain : PlainState)
+        × ShowsPlain (rig_of mounted.volume store [] false (lines + 1)) plain }
     requires lines { lines < 2 ^ 40 }
     ensures bench { result.0 ≡ rig_of mounted.volume store [] false (lines + 1) }
     ensures answer { result.1 ≡ Answer.Mounted mounted.entries mounted.number }

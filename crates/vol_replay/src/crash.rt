@@ -55,8 +55,8 @@ pub(crate) fn blank_disk(alloc: Global, len: u64) -> Result<FuseDisk<MemDisk>, A
     Ok(disk)
 }
 
-/// What a stop of the machine leaves of a disk, where each write that was not synced has met its fate: it has no fuse, and room for a
-/// mount. The fates are as many as `pending` says (a condition).
+/// What a stop of the machine leaves of a disk, where each write that was not synced has met its fate: it has
+/// no fuse, and room for a mount. The fates are as many as `pending` says (a condition).
 pub(crate) fn stopped_disk(
     alloc: Global,
     disk: &FuseDisk<MemDisk>,
@@ -74,8 +74,9 @@ pub(crate) fn stopped_disk(
     Ok(left)
 }
 
-/// The volume of a script that is just created, on a blank disk (a condition), in an empty store (a condition). The
-/// geometry is within the limits, and its log is the disk's (conditions). The one error is out of memory.
+/// The volume of a script that is just created, on a blank disk (a condition), in an empty store (a
+/// condition). The geometry is within the limits, and its log is the disk's (conditions). The one error is
+/// out of memory.
 pub(crate) fn create_volume(
     alloc: Global,
     disk: FuseDisk<MemDisk>,
@@ -100,8 +101,8 @@ pub(crate) fn create_volume(
     }
 }
 
-/// Mounts the volume of a script with its cache, which device and store have (a condition), on a device that fails no call (a condition).
-/// The one error is out of memory.
+/// Mounts the volume of a script with its cache, which device and store have (a condition), on a device that
+/// fails no call (a condition). The one error is out of memory.
 pub(crate) fn mount_again(
     alloc: Global,
     disk: FuseDisk<MemDisk>,
@@ -109,9 +110,11 @@ pub(crate) fn mount_again(
 ) -> Result<MountedVolume, AllocError>
     requires fails_none { FailsNone (mount_cost 0) disk }
     requires may { (geometry : Geometry) × MayMountLeft geometry store.old disk }
-    ensures ok { IfOk result (λ mounted. OfVolume script_uuid (log_of disk.size) (Some store.old) (λ geometry epoch.
+    ensures ok { IfOk result (λ mounted. OfVolume script_uuid (log_of disk.size) (Some store.old)
+        (λ geometry epoch.
         IsMountedVolume geometry epoch store.old mounted store.new)) }
-    ensures mounts { IfOk result (λ mounted. OfVolume script_uuid (log_of disk.size) (Some store.old) (λ geometry epoch.
+    ensures mounts { IfOk result (λ mounted. OfVolume script_uuid (log_of disk.size) (Some store.old)
+        (λ geometry epoch.
         MountsLeft script_uuid geometry epoch (Some store.old) disk mounted)) }
     ensures number { IfOk result (NumbersNextCommit (log_of disk.size) disk) }
 {
@@ -126,8 +129,8 @@ pub(crate) fn mount_again(
     }
 }
 
-/// Mounts the volume of a script without its cache, which the store has (a condition), on a blank disk whose log is the volume's
-/// (conditions). The one error is out of memory.
+/// Mounts the volume of a script without its cache, which the store has (a condition), on a blank disk whose
+/// log is the volume's (conditions). The one error is out of memory.
 pub(crate) fn mount_anew(
     alloc: Global,
     disk: FuseDisk<MemDisk>,
@@ -135,10 +138,13 @@ pub(crate) fn mount_anew(
 ) -> Result<MountedVolume, AllocError>
     requires blank { IsBlankDisk disk.size disk }
     requires fails_none { FailsNone format_cost disk }
-    requires may { (geometry : Geometry) × (geometry.log ≡ log_of disk.size) × MayMountStored geometry store.old }
-    ensures ok { IfOk result (λ mounted. OfVolume script_uuid (log_of disk.size) (Some store.old) (λ geometry epoch.
+    requires may { (geometry : Geometry) × (geometry.log ≡ log_of disk.size)
+        × MayMountStored geometry store.old }
+    ensures ok { IfOk result (λ mounted. OfVolume script_uuid (log_of disk.size) (Some store.old)
+        (λ geometry epoch.
         IsMountedVolume geometry (epoch + 1) store.old mounted store.new)) }
-    ensures mounts { IfOk result (λ mounted. OfVolume script_uuid (log_of disk.size) (Some store.old) (λ geometry epoch.
+    ensures mounts { IfOk result (λ mounted. OfVolume script_uuid (log_of disk.size) (Some store.old)
+        (λ geometry epoch.
         MountsStored script_uuid geometry (Some store.old) mounted)) }
     ensures number { IfOk result (λ mounted. mounted.volume.volume.log.commits.number ≡ 0) }
 {
@@ -185,7 +191,8 @@ pub(crate) fn put_object(
     object: &ObjectBytes,
 ) -> Result<MemReceipt, AllocError>
     ensures put { OnOk result (IsPut (name_of script_uuid number) object.now store.old store.new) }
-    ensures receipt { IfOk result (λ receipt. (receipt.name ≡ name_of script_uuid number) × (receipt.bytes ≡ object.now)) }
+    ensures receipt { IfOk result (λ receipt. (receipt.name ≡ name_of script_uuid number)
+        × (receipt.bytes ≡ object.now)) }
     ensures err { OnErr result (store.new ≡ store.old) }
 {
     let name = ObjName {

@@ -1,6 +1,7 @@
 ghost use Rattle.std.specs.Prelude.{◌≡◌, IfOk, IsTrue, length, map};
 ghost use Rattle.std.specs.List.{list_all};
-ghost use Rattle.transcript.specs.Letters.{is_letter, is_object_letter, is_dash, fits_writes, fits_objects, fate_of, fates_of};
+ghost use Rattle.transcript.specs.Letters.{is_letter, is_object_letter, is_dash, fits_writes, fits_objects};
+ghost use Rattle.transcript.specs.Letters.{fate_of, fates_of};
 
 use lsvd_device::Fate;
 use std::alloc::{AllocError, Global};
@@ -19,7 +20,8 @@ pub(crate) fn fits_objects(count: usize, word: &[u8]) -> bool
     is_dash(word) || (word.len() == count && word.iter().all(|b| is_object_letter(*b)))
 }
 
-/// The fates of `pending` writes that were not synced, which the word fits (a condition). The one error is out of memory.
+/// The fates of `pending` writes that were not synced, which the word fits (a condition). The one error is
+/// out of memory.
 pub(crate) fn fates_of(alloc: Global, word: &[u8], pending: usize) -> Result<Vec<Fate>, AllocError>
     requires { IsTrue (fits_writes pending word.now) }
     ensures fates { IfOk result (λ fates. fates.items ≡ fates_of pending word.now) }

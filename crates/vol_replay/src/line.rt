@@ -1,7 +1,8 @@
 ghost use Rattle.std.specs.Prelude.{◌≡◌, false, ◌+◌, ◌^◌, ◌<◌, ◌≤◌, IsTrue, IfOk, IfErr, OnOk, Some, None};
 ghost use Rattle.lsvd_base.specs.Limits.{is_within_limits};
 ghost use Rattle.replay_script.specs.Grammar.{Fits};
-ghost use Rattle.vol_replay.specs.Lines.{AnswersCommand, IsUnanswered, AnswersLine, IsRefused, is_crash, refusal_of, lines_of};
+ghost use Rattle.vol_replay.specs.Lines.{AnswersCommand, IsUnanswered, AnswersLine, IsRefused, is_crash};
+ghost use Rattle.vol_replay.specs.Lines.{refusal_of, lines_of};
 ghost use Rattle.vol_replay.specs.declared.line.Refusal.TheVariants as refusals;
 
 use crate::answer::{Answer, push_answer};
@@ -43,7 +44,8 @@ impl From<LineError> for Refusal {
 // Tells the device of a volume to stop.
 fn stop(bench: &mut Bench, calls: u64) -> Result<Answer, Refusal>
     requires { bench.old.lines < 2 ^ 40 }
-    ensures ok { IfOk result (λ answer. AnswersCommand (Command.Stop calls) answer (Some bench.old) (Some bench.new)) }
+    ensures ok { IfOk result (λ answer. AnswersCommand (Command.Stop calls) answer (Some bench.old)
+        (Some bench.new)) }
     ensures refused { IfErr result (IsUnanswered (Some bench.old) (Command.Stop calls)) }
     ensures lines { bench.new.lines ≤ bench.old.lines + 1 }
 {
@@ -56,7 +58,8 @@ fn stop(bench: &mut Bench, calls: u64) -> Result<Answer, Refusal>
 // Makes the put of an object.
 fn finish_put(alloc: Global, bench: &mut Bench, number: u64) -> Result<Answer, Refusal>
     requires { bench.old.lines < 2 ^ 40 }
-    ensures ok { IfOk result (λ answer. AnswersCommand (Command.JobDone number) answer (Some bench.old) (Some bench.new)) }
+    ensures ok { IfOk result (λ answer. AnswersCommand (Command.JobDone number) answer (Some bench.old)
+        (Some bench.new)) }
     ensures refused { IfErr result (IsUnanswered (Some bench.old) (Command.JobDone number)) }
     ensures lines { bench.new.lines ≤ bench.old.lines + 1 }
 {
@@ -69,7 +72,8 @@ fn finish_put(alloc: Global, bench: &mut Bench, number: u64) -> Result<Answer, R
 // Fails the put of an object.
 fn fail_put(bench: &mut Bench, number: u64) -> Result<Answer, Refusal>
     requires { bench.old.lines < 2 ^ 40 }
-    ensures ok { IfOk result (λ answer. AnswersCommand (Command.JobFailed number) answer (Some bench.old) (Some bench.new)) }
+    ensures ok { IfOk result (λ answer. AnswersCommand (Command.JobFailed number) answer (Some bench.old)
+        (Some bench.new)) }
     ensures refused { IfErr result (IsUnanswered (Some bench.old) (Command.JobFailed number)) }
     ensures lines { bench.new.lines ≤ bench.old.lines + 1 }
 {
@@ -87,7 +91,8 @@ fn crash_keep(
     objects: &[u8],
 ) -> Result<(Bench, Answer), Refusal>
     requires { bench.lines < 2 ^ 40 }
-    ensures ok { IfOk result (λ made. AnswersCommand (Command.CrashKeep device.now objects.now) made.1 (Some bench) (Some made.0)) }
+    ensures ok { IfOk result (λ made. AnswersCommand (Command.CrashKeep device.now objects.now) made.1
+        (Some bench) (Some made.0)) }
     ensures refused { IfErr result (IsUnanswered (Some bench) (Command.CrashKeep device.now objects.now)) }
     ensures lines { IfOk result (λ made. made.0.lines ≤ bench.lines + 1) }
 {
@@ -107,7 +112,8 @@ fn crash_lost(
     objects: &[u8],
 ) -> Result<(Bench, Answer), Refusal>
     requires { bench.lines < 2 ^ 40 }
-    ensures ok { IfOk result (λ made. AnswersCommand (Command.CrashLost device.now objects.now) made.1 (Some bench) (Some made.0)) }
+    ensures ok { IfOk result (λ made. AnswersCommand (Command.CrashLost device.now objects.now) made.1
+        (Some bench) (Some made.0)) }
     ensures refused { IfErr result (IsUnanswered (Some bench) (Command.CrashLost device.now objects.now)) }
     ensures lines { IfOk result (λ made. made.0.lines ≤ bench.lines + 1) }
 {
@@ -126,7 +132,8 @@ fn write(
     byte: u8,
 ) -> Result<Answer, Refusal>
     requires { bench.old.lines < 2 ^ 40 }
-    ensures ok { IfOk result (λ answer. AnswersCommand (Command.Write lba sectors byte) answer (Some bench.old) (Some bench.new)) }
+    ensures ok { IfOk result (λ answer. AnswersCommand (Command.Write lba sectors byte) answer
+        (Some bench.old) (Some bench.new)) }
     ensures refused { IfErr result (IsUnanswered (Some bench.old) (Command.Write lba sectors byte)) }
     ensures lines { bench.new.lines ≤ bench.old.lines + 1 }
 {
@@ -136,7 +143,8 @@ fn write(
 // Zeroes sectors.
 fn zero(bench: &mut Bench, lba: u64, sectors: u64) -> Result<Answer, Refusal>
     requires { bench.old.lines < 2 ^ 40 }
-    ensures ok { IfOk result (λ answer. AnswersCommand (Command.Zero lba sectors) answer (Some bench.old) (Some bench.new)) }
+    ensures ok { IfOk result (λ answer. AnswersCommand (Command.Zero lba sectors) answer (Some bench.old)
+        (Some bench.new)) }
     ensures refused { IfErr result (IsUnanswered (Some bench.old) (Command.Zero lba sectors)) }
     ensures lines { bench.new.lines ≤ bench.old.lines + 1 }
 {
@@ -146,7 +154,8 @@ fn zero(bench: &mut Bench, lba: u64, sectors: u64) -> Result<Answer, Refusal>
 // Reads sectors.
 fn read(alloc: Global, bench: &mut Bench, lba: u64, sectors: u64) -> Result<Answer, Refusal>
     requires { bench.old.lines < 2 ^ 40 }
-    ensures ok { IfOk result (λ answer. AnswersCommand (Command.Read lba sectors) answer (Some bench.old) (Some bench.new)) }
+    ensures ok { IfOk result (λ answer. AnswersCommand (Command.Read lba sectors) answer (Some bench.old)
+        (Some bench.new)) }
     ensures refused { IfErr result (IsUnanswered (Some bench.old) (Command.Read lba sectors)) }
     ensures lines { bench.new.lines ≤ bench.old.lines + 1 }
 {
@@ -156,7 +165,8 @@ fn read(alloc: Global, bench: &mut Bench, lba: u64, sectors: u64) -> Result<Answ
 // Makes each entry so far durable.
 fn flush(bench: &mut Bench) -> Result<Answer, Refusal>
     requires { bench.old.lines < 2 ^ 40 }
-    ensures ok { IfOk result (λ answer. AnswersCommand Command.Flush answer (Some bench.old) (Some bench.new)) }
+    ensures ok { IfOk result (λ answer. AnswersCommand Command.Flush answer (Some bench.old)
+        (Some bench.new)) }
     ensures refused { IfErr result (IsUnanswered (Some bench.old) Command.Flush) }
     ensures lines { bench.new.lines ≤ bench.old.lines + 1 }
 {
@@ -166,7 +176,8 @@ fn flush(bench: &mut Bench) -> Result<Answer, Refusal>
 // Seals the next object.
 fn seal(bench: &mut Bench) -> Result<Answer, Refusal>
     requires { bench.old.lines < 2 ^ 40 }
-    ensures ok { IfOk result (λ answer. AnswersCommand Command.Seal answer (Some bench.old) (Some bench.new)) }
+    ensures ok { IfOk result (λ answer. AnswersCommand Command.Seal answer (Some bench.old)
+        (Some bench.new)) }
     ensures refused { IfErr result (IsUnanswered (Some bench.old) Command.Seal) }
     ensures lines { bench.new.lines ≤ bench.old.lines + 1 }
 {
@@ -176,7 +187,8 @@ fn seal(bench: &mut Bench) -> Result<Answer, Refusal>
 // Begins the put of the lowest ready object.
 fn begin_put(bench: &mut Bench) -> Result<Answer, Refusal>
     requires { bench.old.lines < 2 ^ 40 }
-    ensures ok { IfOk result (λ answer. AnswersCommand Command.TakeJob answer (Some bench.old) (Some bench.new)) }
+    ensures ok { IfOk result (λ answer. AnswersCommand Command.TakeJob answer (Some bench.old)
+        (Some bench.new)) }
     ensures refused { IfErr result (IsUnanswered (Some bench.old) Command.TakeJob) }
     ensures lines { bench.new.lines ≤ bench.old.lines + 1 }
 {
@@ -186,14 +198,16 @@ fn begin_put(bench: &mut Bench) -> Result<Answer, Refusal>
 // Tells the counts.
 fn status(bench: &mut Bench) -> Result<Answer, Refusal>
     requires { bench.old.lines < 2 ^ 40 }
-    ensures ok { IfOk result (λ answer. AnswersCommand Command.Status answer (Some bench.old) (Some bench.new)) }
+    ensures ok { IfOk result (λ answer. AnswersCommand Command.Status answer (Some bench.old)
+        (Some bench.new)) }
     ensures refused { IfErr result (IsUnanswered (Some bench.old) Command.Status) }
     ensures lines { bench.new.lines ≤ bench.old.lines + 1 }
 {
     Ok(bench.status()?)
 }
 
-// Answers a command that is one step of a volume: all but a crash (a condition), and `new`, which is not allowed where there is one.
+// Answers a command that is one step of a volume: all but a crash (a condition), and `new`, which is not
+// allowed where there is one.
 fn answer_step(alloc: Global, bench: &mut Bench, command: Command) -> Result<Answer, Refusal>
     requires lines { bench.old.lines < 2 ^ 40 }
     requires goes_on { is_crash command ≡ false }
@@ -232,7 +246,8 @@ fn go_on(alloc: Global, mut bench: Bench, command: Command) -> Result<(Bench, An
     }
 }
 
-// Answers a command where there is a volume, which is left then. After a line that is not answered there is none.
+// Answers a command where there is a volume, which is left then. After a line that is not answered there is
+// none.
 fn answer_on(alloc: Global, bench: Bench, command: Command) -> Result<(Bench, Answer), Refusal>
     requires { bench.lines < 2 ^ 40 }
     ensures ok { IfOk result (λ made. AnswersCommand command made.1 (Some bench) (Some made.0)) }
@@ -274,7 +289,8 @@ fn answer_first(alloc: Global, command: Command) -> Result<(Bench, Answer), Refu
     }
 }
 
-// Answers a command, and hands back the volume that it leaves. After a line that is not answered there is none.
+// Answers a command, and hands back the volume that it leaves. After a line that is not answered there is
+// none.
 fn answer_command(
     alloc: Global,
     bench: Option<Bench>,
@@ -309,7 +325,8 @@ fn answer_in_place(
     Ok(answer)
 }
 
-/// Answers one line, and appends the answer with its newline. Fewer than 2^40 lines were answered (a condition).
+/// Answers one line, and appends the answer with its newline. Fewer than 2^40 lines were answered (a
+/// condition).
 pub(crate) fn answer_line(
     alloc: Global,
     bench: &mut Option<Bench>,

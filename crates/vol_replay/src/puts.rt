@@ -1,6 +1,8 @@
-ghost use Rattle.std.specs.Prelude.{◌≡◌, ◌+◌, ◌≤◌, ◌<◌, [], false, true, length, is_ok, if◌then◌else◌, IfOk, OnOk, MatchOption, Some};
+ghost use Rattle.std.specs.Prelude.{◌≡◌, ◌+◌, ◌≤◌, ◌<◌, [], false, true, length, is_ok, if◌then◌else◌, IfOk};
+ghost use Rattle.std.specs.Prelude.{OnOk, MatchOption, Some};
 ghost use Rattle.std.specs.List.{slice_get, insert, remove};
-ghost use Rattle.vol_replay.specs.Puts.{put_of, is_put_out, with_begun, with_failed, without_put, IsPutOut, IsJobTaken};
+ghost use Rattle.vol_replay.specs.Puts.{put_of, is_put_out, with_begun, with_failed, without_put, IsPutOut};
+ghost use Rattle.vol_replay.specs.Puts.{IsJobTaken};
 ghost use Rattle.vol_replay.specs.Places.{place_of_put, stands_at_place};
 
 use lsvd_base::ObjectBytes;
@@ -31,7 +33,11 @@ impl Model for Put {
 
     ghost use Rattle.vol_replay.specs.Held.{bytes_held, is_held_out, IsHeldFor};
 
-    ghost view = { λ p. record { number = p.number; bytes = bytes_held p.held; is_out = is_held_out p.held } };
+    ghost view = { λ p. record {
+      number = p.number;
+      bytes = bytes_held p.held;
+      is_out = is_held_out p.held;
+    } };
 
     ghost invariant = { λ p. IsHeldFor p.number p.held };
 }
@@ -215,12 +221,13 @@ impl Puts {
         self.list[place].object().share()
     }
 
-    /// The put of this number, which is out (a condition), failed: takes its job. The object stays under way. The one error is out of
-    /// memory, after which nothing changed.
+    /// The put of this number, which is out (a condition), failed: takes its job. The object stays under way.
+    /// The one error is out of memory, after which nothing changed.
     pub(crate) fn fail(&mut self, number: u64) -> Result<Option<Job>, AllocError>
         requires { is_put_out (put_of number self.old.list) ≡ true }
         ensures ok { IfOk result (λ job. IsJobTaken number job self.old.list) }
-        ensures list { self.new.list ≡ (if is_ok result then with_failed number self.old.list else self.old.list) }
+        ensures list { self.new.list ≡ (if is_ok result then with_failed number self.old.list else
+            self.old.list) }
     {
         let object = self.object(number)?;
         let place = self.place_of(number);
@@ -229,7 +236,8 @@ impl Puts {
         Ok(put.into_job())
     }
 
-    /// The put of this number, which is out (a condition), is done: takes its job. The object is under way no more.
+    /// The put of this number, which is out (a condition), is done: takes its job. The object is under way no
+    /// more.
     pub(crate) fn finish(&mut self, number: u64) -> Option<Job>
         requires { is_put_out (put_of number self.old.list) ≡ true }
         ensures job { IsJobTaken number result self.old.list }

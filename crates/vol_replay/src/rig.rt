@@ -27,10 +27,11 @@ impl Rig {
         Rig { bench }
     }
 
-    /// What is so of every rig, as a fact for the proofs of callers: whatever a stop leaves of its device and its store has the entries
-    /// that were flushed, and those of the objects. Nothing is done.
+    /// What is so of every rig, as a fact for the proofs of callers: whatever a stop leaves of its device and
+    /// its store has the entries that were flushed, and those of the objects. Nothing is done.
     pub fn stands(&self)
-        ensures { (plain : PlainState) → (shows : ShowsPlain self.now plain) → IsKeptByRig shows.epoch self.now plain }
+        ensures { (plain : PlainState) → (shows : ShowsPlain self.now plain)
+            → IsKeptByRig shows.epoch self.now plain }
     {
         self.bench.stands();
     }

@@ -37,7 +37,8 @@ pub fn replay<I: Source, O: Sink>(alloc: Global, source: &mut I, sink: &mut O) -
 
 // Writes the answers to a script that was read, up to its end or past its limit.
 fn run_script<O: Sink>(alloc: Global, script: &[u8], sink: &mut O) -> Outcome
-    ensures transcript { (text : List ℕ) × Appends (O.contents sink.old) (O.contents sink.new) text × IsWritten script.now text result }
+    ensures transcript { (text : List ℕ) × Appends (O.contents sink.old) (O.contents sink.new) text
+        × IsWritten script.now text result }
     ensures within { IsDone result → length script.now ≤ 2 ^ 24 }
     ensures no_read { result ≢ Outcome.ReadFault }
     ensures count { Counts (ends_by_write_fault result) (O.faults sink.old) (O.faults sink.new) }
@@ -55,7 +56,8 @@ fn run_script<O: Sink>(alloc: Global, script: &[u8], sink: &mut O) -> Outcome
 // Writes the answers to the lines of a script, up to its end or the first bad line.
 fn run_lines<O: Sink>(alloc: Global, script: &[u8], sink: &mut O) -> Outcome
     requires { length script.now ≤ 2 ^ 24 }
-    ensures transcript { (text : List ℕ) × Appends (O.contents sink.old) (O.contents sink.new) text × IsWritten script.now text result }
+    ensures transcript { (text : List ℕ) × Appends (O.contents sink.old) (O.contents sink.new) text
+        × IsWritten script.now text result }
     ensures no_read { result ≢ Outcome.ReadFault }
     ensures count { Counts (ends_by_write_fault result) (O.faults sink.old) (O.faults sink.new) }
 {
@@ -94,7 +96,8 @@ fn done(bench: Option<Bench>) -> Outcome
 
 // Writes the answers where there are many of them.
 fn flush_full<O: Sink>(sink: &mut O, answers: &mut Vec<u8>) -> Result<(), Failed>
-    ensures ok { OnOk result (MovesOn (O.contents sink.old) (O.contents sink.new) answers.old.items answers.new.items) }
+    ensures ok { OnOk result (MovesOn (O.contents sink.old) (O.contents sink.new) answers.old.items
+        answers.new.items) }
     ensures err { OnErr result (TakesFront (O.contents sink.old) (O.contents sink.new) answers.old.items) }
     ensures count { Counts (is_err result) (O.faults sink.old) (O.faults sink.new) }
 {

@@ -19,7 +19,8 @@ one_more state count end last old mid new before is =
     subst (λ n. AreClients state n old new) one (mid, before, end, last, is)
 
 -- a count of links that were given
-pub given_more : (given clients now next : ℕ) → now ≡ given_with given clients → next ≡ counted_with now 1 → next ≡ given_with given (clients + 1)
+pub given_more : (given clients now next : ℕ) → now ≡ given_with given clients → next ≡ counted_with now 1
+    → next ≡ given_with given (clients + 1)
 given_more given clients now next before one =
     let more : suc clients ≡ clients + 1 = omega arith in
     subst (λ n. next ≡ given_with given n) more (one ∙ ap (λ g. counted_with g 1) before)
@@ -27,7 +28,12 @@ given_more given clients now next before one =
 -- what a listener is after a client came
 pub gave_one : (old new : ListenerState) → new ≡ record old { given = counted_with old.given 1 }
     → (new.given ≡ counted_with old.given 1) × (new.closed ≡ old.closed) × (new.faults ≡ old.faults)
-gave_one old new is = (ap (λ (l : ListenerState). l.given) is, ap (λ (l : ListenerState). l.closed) is, ap (λ (l : ListenerState). l.faults) is)
+gave_one old new is = (
+  ap (λ (l : ListenerState). l.given) is,
+  ap (λ (l : ListenerState). l.closed) is,
+  ap
+      (λ (l : ListenerState). l.faults) is,
+)
 
 -- ---- their history
 
@@ -38,9 +44,14 @@ record Adds (old new : Moment) : Type 0 where
   leaves : LeavesRoom old new
 
 unchanged : (old new : Moment) → new ≡ old → Adds old new
-unchanged old new same = record { added = []; grows = subst (Grows [] old) (sym same) (grows_nothing old); leaves = stays_leaves old new same }
+unchanged old new same = record {
+  added = [];
+  grows = subst (Grows [] old) (sym same) (grows_nothing old);
+  leaves = stays_leaves old new same;
+}
 
-client_adds : {R : Type 0} (state : R → ReceiptState) → SessionGrows state → (end : SessionEnd) (last : LinkBytes) (old new : Moment)
+client_adds : {R : Type 0} (state : R → ReceiptState) → SessionGrows state
+    → (end : SessionEnd) (last : LinkBytes) (old new : Moment)
     → IsClient state end last old new → Adds old new
 client_adds state sessions end last old new is = by_session is.1
   where
@@ -50,7 +61,8 @@ client_adds state sessions end last old new is = by_session is.1
         let grown = sessions end entered.0 last old new entered.2 in
         record { added = entered_in entered.2.exchanges ++ grown.0; grows = grown.2; leaves = grown.3 }
 
-clients_add : {R : Type 0} (state : R → ReceiptState) → SessionGrows state → (count : ℕ) (old new : Moment) → AreClients state count old new → Adds old new
+clients_add : {R : Type 0} (state : R → ReceiptState) → SessionGrows state → (count : ℕ) (old new : Moment)
+    → AreClients state count old new → Adds old new
 clients_add state sessions zero old new same = unchanged old new same
 clients_add state sessions (suc count) old new clients =
     let before = clients_add state sessions count old clients.0 clients.1 in

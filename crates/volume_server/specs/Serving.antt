@@ -74,4 +74,5 @@ EndsLane share lane = EndsAt share lane.served lane.end
 -- clients add entries to the history of their volume, and nothing else becomes of it
 abbrev pub ClientsGrow : {R : Type 0} → (R → ReceiptState) → Type 0
 ClientsGrow state =
-    (count : ℕ) (old new : Moment) → AreClients state count old new → ((added : List Entry) × Grows added old new) × LeavesRoom old new
+    (count : ℕ) (old new : Moment) → AreClients state count old new → ((added : List Entry) × Grows added old new)
+    × LeavesRoom old new

@@ -3,8 +3,8 @@ ghost use Rattle.volume_server.specs.Serving.{ClientsGrow};
 use lsvd_objstore::Receipt;
 use nbd_session::a_session_adds_what_it_entered;
 
-/// A law: the history of a volume goes on from one client to the next, and nothing else becomes of the volume. One that had room for calls
-/// of its owner before has room after.
+/// A law: the history of a volume goes on from one client to the next, and nothing else becomes of the
+/// volume. One that had room for calls of its owner before has room after.
 pub fn clients_add_to_one_history<R: Receipt>()
     ensures { ClientsGrow R.state }
 {

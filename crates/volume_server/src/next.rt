@@ -19,18 +19,29 @@ pub enum Next<K: Connection + Drop> {
     Failed,
 }
 
-/// Waits for the next client and serves it until its session ends, and hands its link back. What the link still held back of the last
-/// replies was sent, unless that failed: then the client misses them, as where its connection broke.
+/// Waits for the next client and serves it until its session ends, and hands its link back. What the link
+/// still held back of the last replies was sent, unless that failed: then the client misses them, as where
+/// its connection broke.
 pub fn serve_next<D: Disk, R: Receipt, S: Store<Receipt = R>, L: Listener>(
     alloc: Global,
     owner: &mut Owner<D, R>,
     listener: &mut L,
     store: &mut S,
 ) -> Next<L::Link>
-    ensures next { GivesNext result (record { given = L.given listener.old; closed = L.closed listener.old; faults = L.faults listener.old })
-        (record { given = L.given listener.new; closed = L.closed listener.new; faults = L.faults listener.new }) }
-    ensures serves { ServesNext R.state (λ link. record { left = L.Link.remaining link; sent = L.Link.contents link }) result
-        (record { volume = owner.old; store = S.state store.old }) (record { volume = owner.new; store = S.state store.new }) }
+    ensures next { GivesNext result (record {
+      given = L.given listener.old;
+      closed = L.closed listener.old;
+      faults = L.faults listener.old;
+    })
+        (record {
+          given = L.given listener.new;
+          closed = L.closed listener.new;
+          faults = L.faults listener.new;
+        }) }
+    ensures serves { ServesNext R.state
+        (λ link. record { left = L.Link.remaining link; sent = L.Link.contents link }) result
+        (record { volume = owner.old; store = S.state store.old })
+        (record { volume = owner.new; store = S.state store.new }) }
 {
     let mut link = match listener.accept() {
         Ok(Some(link)) => link,

@@ -47,10 +47,20 @@ pub fn serve_lane<D: Disk, R: Receipt, S: Store<Receipt = R>, L: Listener>(
     store: &mut S,
     share: u64,
 ) -> Lane
-    ensures given { GivesClients result (record { given = L.given listener.old; closed = L.closed listener.old; faults = L.faults listener.old })
-        (record { given = L.given listener.new; closed = L.closed listener.new; faults = L.faults listener.new }) }
+    ensures given { GivesClients result
+        (record {
+          given = L.given listener.old;
+          closed = L.closed listener.old;
+          faults = L.faults listener.old;
+        })
+        (record {
+          given = L.given listener.new;
+          closed = L.closed listener.new;
+          faults = L.faults listener.new;
+        }) }
     ensures end { EndsLane share result }
-    ensures clients { AreClients R.state result.served (record { volume = owner.old; store = S.state store.old })
+    ensures clients { AreClients R.state result.served
+        (record { volume = owner.old; store = S.state store.old })
         (record { volume = owner.new; store = S.state store.new }) }
 {
     for served in 0..share {
@@ -67,9 +77,9 @@ pub fn serve_lane<D: Disk, R: Receipt, S: Store<Receipt = R>, L: Listener>(
     }
 }
 
-/// Serves a volume to clients, one after the other, until so many were served, or the listener gives none, and gives the volume back. No
-/// put of an object is under way, and no plan of a read is out (a condition), as when it was just created or mounted; and so it is of the
-/// volume that is given back.
+/// Serves a volume to clients, one after the other, until so many were served, or the listener gives none,
+/// and gives the volume back. No put of an object is under way, and no plan of a read is out (a condition),
+/// as when it was just created or mounted; and so it is of the volume that is given back.
 pub fn serve_volume<D: Disk, R: Receipt, S: Store<Receipt = R>, L: Listener>(
     alloc: Global,
     volume: Volume<D, R>,
@@ -78,10 +88,20 @@ pub fn serve_volume<D: Disk, R: Receipt, S: Store<Receipt = R>, L: Listener>(
     sessions: u64,
 ) -> Closing<D, R>
     requires { IsIdle volume.volume }
-    ensures given { GivesClients result.lane (record { given = L.given listener.old; closed = L.closed listener.old; faults = L.faults listener.old })
-        (record { given = L.given listener.new; closed = L.closed listener.new; faults = L.faults listener.new }) }
+    ensures given { GivesClients result.lane
+        (record {
+          given = L.given listener.old;
+          closed = L.closed listener.old;
+          faults = L.faults listener.old;
+        })
+        (record {
+          given = L.given listener.new;
+          closed = L.closed listener.new;
+          faults = L.faults listener.new;
+        }) }
     ensures end { EndsLane sessions result.lane }
-    ensures clients { AreClients R.state result.lane.served (record { volume = volume; store = S.state store.old })
+    ensures clients { AreClients R.state result.lane.served
+        (record { volume = volume; store = S.state store.old })
         (record { volume = result.volume; store = S.state store.new }) }
     ensures idle { IsIdle result.volume.volume }
 {

@@ -7,4 +7,5 @@ pub copy_from_slice-requires : goal.copy_from_slice-requires
 copy_from_slice-requires c =
     let text =
     c.as_bytes.ensures.value ∙ c.encode_lower-text.ensures.text ∙ ap (hyphenated_text lower) c.hyphenated.ensures in
-    ap (λ bytes. length (take 36 (drop 4 bytes))) c.write_u32.ensures ∙ sym (length-uuid_text c.args.export.now) ∙ sym (ap length text)
+    ap (λ bytes. length (take 36 (drop 4 bytes))) c.write_u32.ensures ∙ sym (length-uuid_text c.args.export.now)
+    ∙ sym (ap length text)

@@ -14,4 +14,5 @@ returns-clause-found c =
     let size = c.read_u32-name_size.result in
     let same : 4 + size - 4 ≡ size = omega arith in
     asks_for content _ _ size c.from-count.result (λ i. omega (arith, c.type_inv.content i)) c.read_u32-name_size.ensures
-    (c.from-count.ensures ∙ c.read_u16.ensures) (omega arith) (ap (λ n. take n (drop 4 content)) same) (take_rest content (6 + size))
+    (c.from-count.ensures ∙ c.read_u16.ensures) (omega arith) (ap (λ n. take n (drop 4 content)) same)
+    (take_rest content (6 + size))

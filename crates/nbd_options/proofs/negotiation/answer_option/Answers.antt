@@ -14,7 +14,8 @@ pub returns-in_err-answer-clause-bytes : goal.returns-in_err-answer-clause-bytes
 returns-in_err-answer-clause-bytes g c =
     let p = err_from_is_err_and c.from_residual-in_err-answer.result c.from_residual-in_err-answer.ensures.1 in
     let head = c.in_ok-head.ensures.bytes in
-    rw (p.1, p.2) (data_broken c.args.export.now c.args.zeroes _ _ _ _ _ head.0 c.in_ok-head.head head.1 head.2 c.in_err-answer.field-0.0
+    rw (p.1, p.2) (data_broken c.args.export.now c.args.zeroes _ _ _ _ _ head.0 c.in_ok-head.head head.1 head.2
+    c.in_err-answer.field-0.0
     c.in_err-answer.ensures.bytes
     (sym (g.met.K.Link.one_output c.read_to_answer.new.link) ∙ c.read_to_answer.ensures.other ∙ c.read_option_head.ensures.other
     ∙ g.met.K.Link.one_output c.args.link.now))
@@ -22,7 +23,8 @@ returns-in_err-answer-clause-bytes g c =
 pub returns-in_err-write_answer-clause-bytes : goal.returns-in_err-write_answer-clause-bytes
 returns-in_err-write_answer-clause-bytes g c =
     let p = err_from_is_err_and c.from_residual-in_err-write_answer.result c.from_residual-in_err-write_answer.ensures.1 in
-    let read = has_read c.args.export.now _ _ _ (g.K.Source.remaining c.write_answer.new.link) c.in_ok-head.head c.in_ok-answer.answer
+    let read = has_read c.args.export.now _ _ _ (g.K.Source.remaining c.write_answer.new.link) c.in_ok-head.head
+    c.in_ok-answer.answer
     c.in_ok-head.ensures.bytes c.in_ok-answer.ensures.bytes
     (sym (g.met.K.Link.one_input c.write_answer.new.link) ∙ c.write_answer.ensures.other
     ∙ g.met.K.Link.one_input c.read_to_answer.new.link) in
@@ -34,7 +36,8 @@ returns-in_err-write_answer-clause-bytes g c =
 
 pub returns-clause-bytes : goal.returns-clause-bytes
 returns-clause-bytes g c =
-    let read = has_read c.args.export.now _ _ _ (g.K.Source.remaining c.write_answer.new.link) c.in_ok-head.head c.in_ok-answer.answer
+    let read = has_read c.args.export.now _ _ _ (g.K.Source.remaining c.write_answer.new.link) c.in_ok-head.head
+    c.in_ok-answer.answer
     c.in_ok-head.ensures.bytes c.in_ok-answer.ensures.bytes
     (sym (g.met.K.Link.one_input c.write_answer.new.link) ∙ c.write_answer.ensures.other
     ∙ g.met.K.Link.one_input c.read_to_answer.new.link) in

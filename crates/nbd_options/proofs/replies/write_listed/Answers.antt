@@ -10,7 +10,8 @@ use Rattle.nbd_options.proofs.replies.write_listed.Goals as goal
 pub returns-in_err-write_option_reply-clause-bytes : goal.returns-in_err-write_option_reply-clause-bytes
 returns-in_err-write_option_reply-clause-bytes g c =
     let P : List ℕ → Type 0 = λ bytes.
-    WritesMessage {T = Unit {0}} bytes (g.K.Sink.contents c.args.link.now) (g.K.Sink.contents c.write_option_reply.new.link) (Err c.in_err-write_option_reply.field-0.0) in
+    WritesMessage {T = Unit {0}} bytes (g.K.Sink.contents c.args.link.now) (g.K.Sink.contents c.write_option_reply.new.link)
+    (Err c.in_err-write_option_reply.field-0.0) in
     tells_no_more (option_reply_bytes c.args.option 2 (named_export c.args.export.now)) (acknowledgement c.args.option) _ _
     c.from_residual.result _ c.from_residual.ensures.1
     (subst P (ap (option_reply_bytes c.args.option 2) c.named_export.ensures) c.in_err-write_option_reply.ensures.bytes)

@@ -18,7 +18,8 @@ pub returns-in_err-write : goal.returns-in_err-write
 returns-in_err-write g c = λ content is.
     let p = err_from_is_err_and c.from_residual.result c.from_residual.ensures.1 in
     let kept = is_kept content c.args.body c.in-Some.body c.sectors.result c.in-Some.is is c.sectors.ensures in
-    let fits = subst (λ (b : Option (List ℕ)). IfSome b (WriteFits c.args.owner.now.volume.objects.batch.geometry c.args.lba)) c.in-Some.is c.requires.fits in
+    let fits = subst (λ (b : Option (List ℕ)). IfSome b (WriteFits c.args.owner.now.volume.objects.batch.geometry c.args.lba))
+    c.in-Some.is c.requires.fits in
     rw (p.1, p.2) (
       [],
       not_written c.args.owner.now.volume.objects.batch.geometry c.args.lba content _ _ c.args.is_durable _ _ _ kept
@@ -28,5 +29,6 @@ returns-in_err-write g c = λ content is.
 pub returns : goal.returns
 returns g c = λ content is.
     let kept = is_kept content c.args.body c.in-Some.body c.sectors.result c.in-Some.is is c.sectors.ensures in
-    entered_and_flushed _ c.args.is_durable _ _ _ _ (written c.args.lba content _ _ _ _ kept c.if-sectors-eq0.false c.in_ok-write.ensures.call)
+    entered_and_flushed _ c.args.is_durable _ _ _ _ (written c.args.lba content _ _ _ _ kept c.if-sectors-eq0.false
+    c.in_ok-write.ensures.call)
     (c.flush_if-2.ensures (g.S.Store.state c.write.new.store))

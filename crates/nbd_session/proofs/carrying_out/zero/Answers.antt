@@ -19,5 +19,6 @@ returns-in_err-zero g c =
 
 pub returns : goal.returns
 returns g c =
-    entered_and_flushed _ c.args.is_durable _ _ _ _ (zeroed c.args.lba c.args.sectors _ _ c.if-sectors-eq0.false c.in_ok-zero.ensures.call)
+    entered_and_flushed _ c.args.is_durable _ _ _ _ (zeroed c.args.lba c.args.sectors _ _ c.if-sectors-eq0.false
+    c.in_ok-zero.ensures.call)
     (c.flush_if-2.ensures (g.S.Store.state c.zero.new.store))

@@ -10,7 +10,8 @@ loop-filled-preserved g c =
     let filled = c.loop-filled.filled in
     let count = c.in_ok-count.count in
     let within = c.loop-filled.invariant.within in
-    let P : List ℕ → Type 0 = λ bytes. Consumes (g.K.Source.remaining c.args.link.now) (g.K.Source.remaining c.read.new.self) bytes in
+    let P : List ℕ → Type 0 = λ bytes. Consumes (g.K.Source.remaining c.args.link.now)
+    (g.K.Source.remaining c.read.new.self) bytes in
     record {
       read =
           subst P (sym (filled_more buf c.read.new.buf filled (length buf - filled) count within (search rules)))

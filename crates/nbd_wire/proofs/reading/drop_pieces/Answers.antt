@@ -16,7 +16,8 @@ loop-left-preserved g c =
     let read = c.in_ok-read_data.ensures.bytes in
     let whole : length c.read_data.new.buf ≡ c.min-end.result = search rules in
     let P : ℕ → Type 0 = λ n.
-    IsPartRead c.args.size (c.loop-left.left - n) (g.K.Source.remaining c.args.link.now) (g.K.Source.remaining c.read_data.new.link) in
+    IsPartRead c.args.size (c.loop-left.left - n) (g.K.Source.remaining c.args.link.now)
+    (g.K.Source.remaining c.read_data.new.link) in
     record {
       part = subst P (read.1 ∙ whole) (part_more _ _ _ _ _ _ c.loop-left.invariant.part (omega (arith, read.1, whole)) read.3);
       other = search rules;

@@ -14,4 +14,5 @@ returns-in_err-write_all-clause-bytes g c =
       | else-zeroes w ↦ front_of_export _ _ _ _ _ c.export_with_zeros-bytes.ensures w.if-zeroes.false w.end-is
     ] in
     let P : List ℕ → Type 0 = λ xs. WritesFront xs (g.K.Sink.contents c.args.link.now) (g.K.Sink.contents c.write_all.new.sink) in
-    tells_fault c.from_residual.result _ _ _ c.from_residual.ensures.1 (subst P part (whole_front _ _ _ c.in_err-write_all.ensures.front))
+    tells_fault c.from_residual.result _ _ _ c.from_residual.ensures.1
+    (subst P part (whole_front _ _ _ c.in_err-write_all.ensures.front))

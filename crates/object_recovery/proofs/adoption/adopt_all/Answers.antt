@@ -35,26 +35,33 @@ loop-reached-preserved g c =
     let told = (g.S.Store.state c.args.store.now).objects in
     let before = c.loop-reached.invariant in
     let state = g.S.Store.state c.loop-reached.store in
-    let after = same_store state (g.S.Store.state c.adopt_next.new.store) c.in_ok-adopt_next.ensures.unchanged c.in_ok-adopt_next.ensures.faults in
+    let after = same_store state (g.S.Store.state c.adopt_next.new.store) c.in_ok-adopt_next.ensures.unchanged
+    c.in_ok-adopt_next.ensures.faults in
     let adopts : AdoptsNext Tells state.objects old new = rw c.in-Adopted.is at c.in_ok-adopt_next.ensures.next in
     let here = subst (λ (s : StoreState). AdoptsNext Tells s.objects old new) before.same adopts in
     let is = before.list in
     let of_volume = sym (same_volume begun old is.uuid_is is.geometry_is) in
-    let next : new.uploads.window.last ≡ old.uploads.window.last + 1 = ap (λ (w : WindowState). w.last) adopts.adopted.uploads.window in
+    let next : new.uploads.window.last ≡ old.uploads.window.last + 1 =
+    ap (λ (w : WindowState). w.last) adopts.adopted.uploads.window in
     let wide : (expected_of_volume begun).sectors < 2 ^ 64 = grind (arith, nat_tests, c.requires.limits) in
     record {
       list =
-          list_more begun.uploads.uuid begun.batch.geometry old.uploads.window.last old.uploads.queue.end adopts.end adopts.rows adopts.receipt old new is adopts.adopted;
+          list_more begun.uploads.uuid begun.batch.geometry old.uploads.window.last old.uploads.queue.end adopts.end adopts.rows
+          adopts.receipt old new is adopts.adopted;
       places =
-          places_more begun.batch.geometry.sectors adopts.end adopts.rows (next_of old) adopts.receipt old.uploads.queue new.uploads.queue
-          adopts.order.receipts (ap (λ (sizes : Geometry). sizes.sectors) is.geometry_is) adopts.read adopts.adopted.uploads.settled before.places;
+          places_more begun.batch.geometry.sectors adopts.end adopts.rows (next_of old) adopts.receipt old.uploads.queue
+          new.uploads.queue
+          adopts.order.receipts (ap (λ (sizes : Geometry). sizes.sectors) is.geometry_is) adopts.read
+          adopts.adopted.uploads.settled before.places;
       from = omega (arith, next, before.from);
       same = after ∙ before.same;
       streams = λ tells.
-          told_more told (expected_of_volume begun) Tells begun.uploads.uuid begun.batch.geometry old.uploads.queue.end begun old new wide
+          told_more told (expected_of_volume begun) Tells begun.uploads.uuid begun.batch.geometry old.uploads.queue.end begun
+          old new wide
           of_volume is tells here (before.streams tells);
       good = λ tells.
-          told_good told (expected_of_volume begun) Tells begun.uploads.uuid begun.batch.geometry begun old new of_volume is tells here (before.good tells);
+          told_good told (expected_of_volume begun) Tells begun.uploads.uuid begun.batch.geometry begun old new of_volume is tells
+          here (before.good tells);
     }
 
 -- ---- where there is no next object
@@ -62,35 +69,41 @@ loop-reached-preserved g c =
 pub returns-in-Missing-clause-places : goal.returns-in-Missing-clause-places
 returns-in-Missing-clause-places g c =
     let none = rw c.in-Missing.is at c.in_ok-adopt_next.ensures.next in
-    subst (λ (new : ObjLogState). HasPlacesInside c.args.log.now.batch.geometry.sectors new.uploads.queue) (sym none.0) c.loop-reached.invariant.places
+    subst (λ (new : ObjLogState). HasPlacesInside c.args.log.now.batch.geometry.sectors new.uploads.queue) (sym none.0)
+    c.loop-reached.invariant.places
 
 pub returns-in-Missing-clause-streams : goal.returns-in-Missing-clause-streams
 returns-in-Missing-clause-streams g c = λ tells.
     let none = rw c.in-Missing.is at c.in_ok-adopt_next.ensures.next in
     subst (λ new. IfSome (g.S.Store.state c.args.store.now).objects
-    (λ objects. KeepsStreams (expected_of_volume c.args.log.now) objects c.args.log.now new)) (sym none.0) (c.loop-reached.invariant.streams tells)
+    (λ objects. KeepsStreams (expected_of_volume c.args.log.now) objects c.args.log.now new)) (sym none.0)
+    (c.loop-reached.invariant.streams tells)
 
 pub returns-in-Missing-clause-good : goal.returns-in-Missing-clause-good
 returns-in-Missing-clause-good g c = λ tells.
     let none = rw c.in-Missing.is at c.in_ok-adopt_next.ensures.next in
     subst (λ new. IfSome (g.S.Store.state c.args.store.now).objects
-    (λ objects. KeepsGood (expected_of_volume c.args.log.now) objects c.args.log.now new)) (sym none.0) (c.loop-reached.invariant.good tells)
+    (λ objects. KeepsGood (expected_of_volume c.args.log.now) objects c.args.log.now new)) (sym none.0)
+    (c.loop-reached.invariant.good tells)
 
 -- ---- where the next object is left
 
 pub returns-in-Left-clause-places : goal.returns-in-Left-clause-places
 returns-in-Left-clause-places g c =
     let left = rw c.in-Left.is at c.in_ok-adopt_next.ensures.next in
-    subst (λ (new : ObjLogState). HasPlacesInside c.args.log.now.batch.geometry.sectors new.uploads.queue) (sym left.0) c.loop-reached.invariant.places
+    subst (λ (new : ObjLogState). HasPlacesInside c.args.log.now.batch.geometry.sectors new.uploads.queue) (sym left.0)
+    c.loop-reached.invariant.places
 
 pub returns-in-Left-clause-streams : goal.returns-in-Left-clause-streams
 returns-in-Left-clause-streams g c = λ tells.
     let left = rw c.in-Left.is at c.in_ok-adopt_next.ensures.next in
     subst (λ new. IfSome (g.S.Store.state c.args.store.now).objects
-    (λ objects. KeepsStreams (expected_of_volume c.args.log.now) objects c.args.log.now new)) (sym left.0) (c.loop-reached.invariant.streams tells)
+    (λ objects. KeepsStreams (expected_of_volume c.args.log.now) objects c.args.log.now new)) (sym left.0)
+    (c.loop-reached.invariant.streams tells)
 
 pub returns-in-Left-clause-good : goal.returns-in-Left-clause-good
 returns-in-Left-clause-good g c = λ tells.
     let left = rw c.in-Left.is at c.in_ok-adopt_next.ensures.next in
     subst (λ new. IfSome (g.S.Store.state c.args.store.now).objects
-    (λ objects. KeepsGood (expected_of_volume c.args.log.now) objects c.args.log.now new)) (sym left.0) (c.loop-reached.invariant.good tells)
+    (λ objects. KeepsGood (expected_of_volume c.args.log.now) objects c.args.log.now new)) (sym left.0)
+    (c.loop-reached.invariant.good tells)

@@ -13,9 +13,11 @@ pub adopt-requires-clause-fit : goal.adopt-requires-clause-fit
 adopt-requires-clause-fit g c =
     let receipt = g.S.Receipt.Receipt.state c.in-Some.receipt in
     let expected = c.expected_next-expected.result in
-    let low : expected.sectors < 2 ^ 63 = grind (arith, nat_tests, ap (λ (e : Expected). e.sectors) c.expected_next-expected.ensures, c.requires.limits) in
+    let low : expected.sectors < 2 ^ 63 = grind
+    (arith, nat_tests, ap (λ (e : Expected). e.sectors) c.expected_next-expected.ensures, c.requires.limits) in
     let read = subst (IsNextRead receipt expected) c.in-Data.is c.in_ok-reached.ensures.next in
-    subst FitObject (sym c.as_slice.ensures.value) (data_fits receipt expected c.in-Data.object.rows.items c.in-Data.object.end low read.0)
+    subst FitObject (sym c.as_slice.ensures.value) (data_fits receipt expected c.in-Data.object.rows.items c.in-Data.object.end
+    low read.0)
 
 pub returns-in-Left-clause-next : goal.returns-in-Left-clause-next
 returns-in-Left-clause-next g c =
@@ -49,6 +51,7 @@ returns-in_ok-adopt-in-Data-clause-next g c =
       named = omega (arith, is.1);
       read = is.0;
       adopted =
-          subst (λ list. HasAdoptedObject list end receipt c.args.log.now c.adopt.new.self) c.as_slice.ensures.value c.in_ok-adopt-in-Data.ensures.adopted;
+          subst (λ list. HasAdoptedObject list end receipt c.args.log.now c.adopt.new.self) c.as_slice.ensures.value
+          c.in_ok-adopt-in-Data.ensures.adopted;
       stored = λ tells. stored_as told (next_of c.args.log.now) receipt rows end finds (tells c.in-Some.receipt) is.0;
     }

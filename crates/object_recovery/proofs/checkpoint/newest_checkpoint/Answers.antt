@@ -21,7 +21,8 @@ returns-in-Some-clause-newest g c = λ tells.
     found_newest (g.S.Store.state c.args.store.now).objects geometry c.args.names.now index name c.in-Some.end (omega arith)
     (sym c.index-names-left.is)
     (subst (λ o. IfSome o (λ objects. HasNoneFrom geometry objects c.args.names.now (index + 1))) state
-    (subst (λ n. IfSome told (λ objects. HasNoneFrom geometry objects c.args.names.now n)) more (c.loop-left.invariant.none tells)))
+    (subst (λ n. IfSome told (λ objects. HasNoneFrom geometry objects c.args.names.now n)) more
+    (c.loop-left.invariant.none tells)))
     (subst (λ o. IfSome o (λ objects. IsCheckpointNamed geometry objects name (Some c.in-Some.end))) state
     ((rw c.in-Some.is at c.in_ok-end.ensures.end) tells))
 
@@ -32,14 +33,17 @@ loop-left-preserved g c =
     let geometry = c.args.geometry.now in
     let name = c.index-names-left.result in
     let old = g.S.Store.state c.loop-left.store in
-    let after = same_store old (g.S.Store.state c.checkpoint_end.new.store) c.in_ok-end.ensures.unchanged c.in_ok-end.ensures.faults in
+    let after = same_store old (g.S.Store.state c.checkpoint_end.new.store) c.in_ok-end.ensures.unchanged
+    c.in_ok-end.ensures.faults in
     record {
       inside = omega (arith, c.loop-left.invariant.inside);
       same = after ∙ c.loop-left.invariant.same;
       none = λ tells.
-          subst (λ (s : StoreState). IfSome s.objects (λ objects. HasNoneFrom geometry objects c.args.names.now index)) (sym after)
+          subst (λ (s : StoreState). IfSome s.objects (λ objects. HasNoneFrom geometry objects c.args.names.now index))
+          (sym after)
           (none_more old.objects geometry c.args.names.now index name (omega arith) (sym c.index-names-left.is)
-          (subst (λ n. IfSome old.objects (λ objects. HasNoneFrom geometry objects c.args.names.now n)) more (c.loop-left.invariant.none tells))
+          (subst (λ n. IfSome old.objects (λ objects. HasNoneFrom geometry objects c.args.names.now n)) more
+          (c.loop-left.invariant.none tells))
           ((rw c.in_default.is at c.in_ok-end.ensures.end) tells));
     }
 
@@ -48,6 +52,8 @@ returns-clause-none g c = λ tells is.
     let geometry = c.args.geometry.now in
     let last : c.loop-left.left ≡ 0 = omega arith in
     found_none (g.S.Store.state c.args.store.now).objects geometry c.args.names.now
-    (subst (λ (s : StoreState). IfSome s.objects (λ objects. HasNoneFrom geometry objects c.args.names.now 0)) c.loop-left.invariant.same
-    (subst (λ n. IfSome (g.S.Store.state c.loop-left.store).objects (λ objects. HasNoneFrom geometry objects c.args.names.now n)) last
+    (subst (λ (s : StoreState). IfSome s.objects (λ objects. HasNoneFrom geometry objects c.args.names.now 0))
+    c.loop-left.invariant.same
+    (subst (λ n. IfSome (g.S.Store.state c.loop-left.store).objects (λ objects. HasNoneFrom geometry objects c.args.names.now n))
+    last
     (c.loop-left.invariant.none tells)))

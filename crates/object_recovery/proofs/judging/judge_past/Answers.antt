@@ -34,9 +34,11 @@ loop-name-preserved g c =
             same = after ∙ before.same;
             stays = λ none. before.stays (now.stays none);
             judged = λ tells.
-                told_judged told volume names gap c.loop-name.refused w.in_ok-refused.refused index name c.loop-name-test.true (sym c.name-item.is)
+                told_judged told volume names gap c.loop-name.refused w.in_ok-refused.refused index name c.loop-name-test.true
+                (sym c.name-item.is)
                 (c.is_past.ensures.0 w.if-is_past.true)
-                (subst (λ (s : StoreState). IfSome s.objects (λ objects. IsJudgedAlone volume objects name.number c.loop-name.refused w.in_ok-refused.refused)) before.same
+                (subst (λ (s : StoreState). IfSome s.objects (λ objects. IsJudgedAlone volume objects name.number
+                c.loop-name.refused w.in_ok-refused.refused)) before.same
                 (now.judged tells)) (before.judged tells);
           })
       | else-is_past w ↦
@@ -54,4 +56,5 @@ returns-clause-judged g c = λ tells.
     let told = (g.S.Store.state c.args.store.now).objects in
     let names = c.args.names.now in
     told_end told c.args.volume.now names c.args.gap.now c.loop-name.refused (subst IsUuid c.as_slice.ensures c.is_uuid.ensures)
-    (subst (λ n. IfSome told (IsJudgedBy c.args.volume.now names c.args.gap.now n c.loop-name.refused)) (omega arith) (c.loop-name.invariant.judged tells))
+    (subst (λ n. IfSome told (IsJudgedBy c.args.volume.now names c.args.gap.now n c.loop-name.refused)) (omega arith)
+    (c.loop-name.invariant.judged tells))

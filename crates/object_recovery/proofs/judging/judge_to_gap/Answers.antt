@@ -16,14 +16,17 @@ loop-reached-init g c = record {
 pub loop-reached-preserved : goal.loop-reached-preserved
 loop-reached-preserved g c =
     let old = g.S.Store.state c.loop-reached.store in
-    let after = same_store old (g.S.Store.state c.judge_next.new.store) c.in_ok-next.ensures.unchanged c.in_ok-next.ensures.faults in
+    let after = same_store old (g.S.Store.state c.judge_next.new.store) c.in_ok-next.ensures.unchanged
+    c.in_ok-next.ensures.faults in
     let before = c.loop-reached.invariant in
     record {
       same = after ∙ before.same;
       stays = λ none. before.stays ((rw c.in-Some.is at c.in_ok-next.ensures.stays) none);
       reached = λ tells.
-          told_both (g.S.Store.state c.args.store.now).objects c.args.volume.now c.args.from c.loop-reached.reached c.in-Some.next (before.reached tells)
-          (subst (λ (s : StoreState). IfSome s.objects (λ objects. IsJudgedNext c.args.volume.now objects c.loop-reached.reached (Some c.in-Some.next))) before.same
+          told_both (g.S.Store.state c.args.store.now).objects c.args.volume.now c.args.from c.loop-reached.reached c.in-Some.next
+          (before.reached tells)
+          (subst (λ (s : StoreState). IfSome s.objects (λ objects. IsJudgedNext c.args.volume.now objects c.loop-reached.reached
+          (Some c.in-Some.next))) before.same
           ((rw c.in-Some.is at c.in_ok-next.ensures.judged) tells));
     }
 

@@ -13,7 +13,8 @@ pub returns-then-header-ne0-clause-bad : goal.returns-then-header-ne0-clause-bad
 returns-then-header-ne0-clause-bad g c =
     let receipt = g.S.Receipt.Receipt.state c.args.receipt.now in
     subst (IsWhyNotRead receipt c.args.expected.now) (sym c.bad_object.ensures)
-    (why_no_checkpoint receipt c.args.expected.now c.args.bytes.now.items c.args.header.now c.requires (search rules) (search rules))
+    (why_no_checkpoint receipt c.args.expected.now c.args.bytes.now.items c.args.header.now c.requires (search rules)
+    (search rules))
 
 pub read_rows-requires-clause-header : goal.read_rows-requires-clause-header
 read_rows-requires-clause-header g c =
@@ -40,8 +41,10 @@ returns-in-Err-Bad-clause-bad g c =
     let long : 512 * front_sectors header ≤ length bytes =
     omega (arith, c.as_slice.ensures.len, c.in_ok-read_up_to.ensures.count, c.front_sectors.ensures) in
     let before = c.args.bytes.now.items in
-    let same : take (length before) bytes ≡ before = ap (take (length before)) c.as_slice.ensures.value ∙ c.in_ok-read_up_to.ensures.kept in
-    subst (IsWhyNotRead receipt c.args.expected.now) {x = BadObject c.args.expected.now.number c.in-Err-Bad.reason} (sym c.bad_object-in-Err-Bad.ensures)
+    let same : take (length before) bytes ≡ before = ap (take (length before)) c.as_slice.ensures.value
+    ∙ c.in_ok-read_up_to.ensures.kept in
+    subst (IsWhyNotRead receipt c.args.expected.now) {x = BadObject c.args.expected.now.number c.in-Err-Bad.reason}
+    (sym c.bad_object-in-Err-Bad.ensures)
     (why_no_rows receipt c.args.expected.now bytes header c.in-Err-Bad.reason
     (subst (AreFirstOf receipt.told) (sym c.as_slice.ensures.value) c.in_ok-read_up_to.ensures.first)
     (longer_header before bytes receipt.size c.args.expected.now header c.requires.few same c.requires.header_is) long

@@ -13,7 +13,8 @@ returns-in-None-clause-judged g c = λ tells.
     let volume = c.expected_of_list-volume.result in
     let names = c.args.names.now in
     let gap = c.in_ok-gap.gap in
-    let after = same_store (g.S.Store.state c.args.store.now) (g.S.Store.state c.reach_gap.new.store) c.in_ok-gap.ensures.unchanged c.in_ok-gap.ensures.faults in
+    let after = same_store (g.S.Store.state c.args.store.now) (g.S.Store.state c.reach_gap.new.store)
+    c.in_ok-gap.ensures.unchanged c.in_ok-gap.ensures.faults in
     told_rest told c.args.log.now volume names c.args.left gap None c.expected_of_list-volume.ensures
     (subst (StaysRefused gap.refused) c.in-None.is c.in_ok-refusal.ensures.stays)
     (c.in_ok-gap.ensures.gap tells)
@@ -27,7 +28,8 @@ returns-in-Some-clause-refused g c = λ tells.
     let names = c.args.names.now in
     let gap = c.in_ok-gap.gap in
     let refusal = c.in-Some.refusal in
-    let after = same_store (g.S.Store.state c.args.store.now) (g.S.Store.state c.reach_gap.new.store) c.in_ok-gap.ensures.unchanged c.in_ok-gap.ensures.faults in
+    let after = same_store (g.S.Store.state c.args.store.now) (g.S.Store.state c.reach_gap.new.store)
+    c.in_ok-gap.ensures.unchanged c.in_ok-gap.ensures.faults in
     told_refusal told c.args.log.now names c.args.left refusal c.into.result c.into.ensures
     (told_rest told c.args.log.now volume names c.args.left gap (Some refusal) c.expected_of_list-volume.ensures
     (subst (StaysRefused gap.refused) c.in-Some.is c.in_ok-refusal.ensures.stays)

@@ -27,12 +27,15 @@ returns-in_err-base-clause-refused g c = λ tells.
     let names = c.as_slice-2.result.now in
     let is_uuid : IsUuid c.args.uuid = subst IsUuid (c.as_slice.ensures ∙ c.into_bytes.ensures) c.is_uuid.ensures in
     let listed =
-    same_store (g.S.Store.state c.args.store.now) (g.S.Store.state c.list.new.self) c.in_ok-names.ensures.unchanged c.in_ok-names.ensures.count in
+    same_store (g.S.Store.state c.args.store.now) (g.S.Store.state c.list.new.self) c.in_ok-names.ensures.unchanged
+    c.in_ok-names.ensures.count in
     let lists =
-    subst (λ list. IfSome told (λ objects. Lists c.args.uuid objects list)) (sym c.as_slice-2.ensures) c.in_ok-names.ensures.listed in
+    subst (λ list. IfSome told (λ objects. Lists c.args.uuid objects list)) (sym c.as_slice-2.ensures)
+    c.in_ok-names.ensures.listed in
     let error = c.in_err-base.field-0.0 in
     let volume = expected_of c.args.uuid c.args.geometry in
-    passed_on (λ e. IfSome told (λ objects. IsRefused volume objects e)) c.from_residual-in_err-base.result error c.from_residual-in_err-base.ensures.1
+    passed_on (λ e. IfSome told (λ objects. IsRefused volume objects e)) c.from_residual-in_err-base.result error
+    c.from_residual-in_err-base.ensures.1
     (newest_refused told c.args.uuid c.args.geometry names error is_uuid lists c.in_err-base.ensures.answer
     (λ same. subst (λ (s : StoreState). IfSome s.objects (HasNoneAmong c.args.geometry names)) listed
     (c.in_err-base.ensures.none tells (error_of error errors.NoCheckpoint same))))
@@ -45,21 +48,28 @@ returns-in_err-log-clause-refused g c = λ tells.
     let names = c.as_slice-2.result.now in
     let is_uuid : IsUuid uuid = subst IsUuid (c.as_slice.ensures ∙ c.into_bytes.ensures) c.is_uuid.ensures in
     let listed =
-    same_store (g.S.Store.state c.args.store.now) (g.S.Store.state c.list.new.self) c.in_ok-names.ensures.unchanged c.in_ok-names.ensures.count in
-    let lists = subst (λ list. IfSome told (λ objects. Lists uuid objects list)) (sym c.as_slice-2.ensures) c.in_ok-names.ensures.listed in
+    same_store (g.S.Store.state c.args.store.now) (g.S.Store.state c.list.new.self) c.in_ok-names.ensures.unchanged
+    c.in_ok-names.ensures.count in
+    let lists = subst (λ list. IfSome told (λ objects. Lists uuid objects list)) (sym c.as_slice-2.ensures)
+    c.in_ok-names.ensures.listed in
     let base = c.in_ok-base.base in
     let newest = newest_told told uuid geometry names base.number base.end is_uuid lists
-    (subst (λ (s : StoreState). IfSome s.objects (IsNewestAmong geometry names base.number base.end)) listed (c.in_ok-base.ensures.newest tells)) in
+    (subst (λ (s : StoreState). IfSome s.objects (IsNewestAmong geometry names base.number base.end)) listed
+    (c.in_ok-base.ensures.newest tells)) in
     let volume = expected_of uuid geometry in
     let after =
     same_store (g.S.Store.state c.list.new.self) (g.S.Store.state c.newest_checkpoint.new.store)
     c.in_ok-base.ensures.unchanged c.in_ok-base.ensures.faults ∙ listed in
-    let given = subst (λ list. IfSome told (λ objects. Lists uuid objects list)) (sym c.as_slice-3.ensures) c.in_ok-names.ensures.listed in
+    let given = subst (λ list. IfSome told (λ objects. Lists uuid objects list)) (sym c.as_slice-3.ensures)
+    c.in_ok-names.ensures.listed in
     let error = c.in_err-log.field-0.0 in
     let Begun = IsBegun uuid geometry base.number base.end c.as_slice-3.result.now in
-    passed_on (λ e. IfSome told (λ objects. IsRefused volume objects e)) c.from_residual-in_err-log.result error c.from_residual-in_err-log.ensures.1
-    (told_begun told uuid geometry base.number base.end c.as_slice-3.result.now (λ objects. IsRefused volume objects error) newest given
-    (subst (λ (s : StoreState). IfSome s.objects (λ objects. Begun objects → IsRefused volume objects error)) after (c.in_err-log.ensures.refused tells)))
+    passed_on (λ e. IfSome told (λ objects. IsRefused volume objects e)) c.from_residual-in_err-log.result error
+    c.from_residual-in_err-log.ensures.1
+    (told_begun told uuid geometry base.number base.end c.as_slice-3.result.now (λ objects. IsRefused volume objects error)
+    newest given
+    (subst (λ (s : StoreState). IfSome s.objects (λ objects. Begun objects → IsRefused volume objects error)) after
+    (c.in_err-log.ensures.refused tells)))
 
 pub returns-clause-names : goal.returns-clause-names
 returns-clause-names g c =
@@ -67,7 +77,8 @@ returns-clause-names g c =
     record {
       of_volume = subst (λ u. AreNamesOf u c.in_ok-names.names) (sym uuid_is) c.in_ok-names.ensures.names;
       listed =
-          subst (λ u. IfSome (g.S.Store.state c.args.store.now).objects (λ objects. Lists u objects c.in_ok-names.names)) (sym uuid_is)
+          subst (λ u. IfSome (g.S.Store.state c.args.store.now).objects (λ objects. Lists u objects c.in_ok-names.names))
+          (sym uuid_is)
           c.in_ok-names.ensures.listed;
     }
 
@@ -83,11 +94,14 @@ newest g c tells =
     let names = c.as_slice-2.result.now in
     let is_uuid : IsUuid uuid = subst IsUuid (c.as_slice.ensures ∙ c.into_bytes.ensures) c.is_uuid.ensures in
     let listed =
-    same_store (g.S.Store.state c.args.store.now) (g.S.Store.state c.list.new.self) c.in_ok-names.ensures.unchanged c.in_ok-names.ensures.count in
-    let lists = subst (λ list. IfSome told (λ objects. Lists uuid objects list)) (sym c.as_slice-2.ensures) c.in_ok-names.ensures.listed in
+    same_store (g.S.Store.state c.args.store.now) (g.S.Store.state c.list.new.self) c.in_ok-names.ensures.unchanged
+    c.in_ok-names.ensures.count in
+    let lists = subst (λ list. IfSome told (λ objects. Lists uuid objects list)) (sym c.as_slice-2.ensures)
+    c.in_ok-names.ensures.listed in
     let base = c.in_ok-base.base in
     newest_told told uuid geometry names base.number base.end is_uuid lists
-    (subst (λ (s : StoreState). IfSome s.objects (IsNewestAmong geometry names base.number base.end)) listed (c.in_ok-base.ensures.newest tells))
+    (subst (λ (s : StoreState). IfSome s.objects (IsNewestAmong geometry names base.number base.end)) listed
+    (c.in_ok-base.ensures.newest tells))
 
 pub returns-clause-checkpoint : goal.returns-clause-checkpoint
 returns-clause-checkpoint g c = λ tells.
@@ -104,16 +118,19 @@ recovers g c tells begun =
     let uuid = c.args.uuid in
     let geometry = c.args.geometry in
     let listed =
-    same_store (g.S.Store.state c.args.store.now) (g.S.Store.state c.list.new.self) c.in_ok-names.ensures.unchanged c.in_ok-names.ensures.count in
+    same_store (g.S.Store.state c.args.store.now) (g.S.Store.state c.list.new.self) c.in_ok-names.ensures.unchanged
+    c.in_ok-names.ensures.count in
     let base = c.in_ok-base.base in
     let log = c.in_ok-log.log in
     let after =
     same_store (g.S.Store.state c.list.new.self) (g.S.Store.state c.newest_checkpoint.new.store)
     c.in_ok-base.ensures.unchanged c.in_ok-base.ensures.faults ∙ listed in
-    let given_names = subst (λ list. IfSome told (λ objects. Lists uuid objects list)) (sym c.as_slice-3.ensures) c.in_ok-names.ensures.listed in
+    let given_names = subst (λ list. IfSome told (λ objects. Lists uuid objects list)) (sym c.as_slice-3.ensures)
+    c.in_ok-names.ensures.listed in
     told_begun told uuid geometry base.number base.end c.as_slice-3.result.now
     (λ objects. Recovers (expected_of uuid geometry) base.number objects log) begun given_names
-    (subst (λ (s : StoreState). IfSome s.objects (λ objects. IsBegun uuid geometry base.number base.end c.as_slice-3.result.now objects
+    (subst (λ (s : StoreState). IfSome s.objects (λ objects. IsBegun uuid geometry base.number base.end
+    c.as_slice-3.result.now objects
     → Recovers (expected_of uuid geometry) base.number objects log)) after (c.in_ok-log.ensures.recovers tells))
 
 pub returns-clause-recovered : goal.returns-clause-recovered
@@ -121,7 +138,8 @@ returns-clause-recovered g c = λ tells.
     let volume = expected_of c.args.uuid c.args.geometry in
     let base = c.in_ok-base.base.number in
     let log = c.in_ok-log.log in
-    told_so (λ objects. Recovers volume base objects log) (λ objects. log.uploads.window.last + 1 < 2 ^ 64 - 1 → IsRecoveredOf volume objects log) (g.S.Store.state c.args.store.now).objects (λ objects is. is.recovered)
+    told_so (λ objects. Recovers volume base objects log) (λ objects. log.uploads.window.last + 1 < 2 ^ 64 - 1
+    → IsRecoveredOf volume objects log) (g.S.Store.state c.args.store.now).objects (λ objects is. is.recovered)
     (let at = goal.at.returns-clause-recovered g c in recovers g at.In_ok-log tells (newest g at.In_ok-base tells))
 
 pub returns-clause-no_longer : goal.returns-clause-no_longer
@@ -129,7 +147,8 @@ returns-clause-no_longer g c = λ tells.
     let volume = expected_of c.args.uuid c.args.geometry in
     let base = c.in_ok-base.base.number in
     let log = c.in_ok-log.log in
-    told_so (λ objects. Recovers volume base objects log) (λ objects. IsNoLonger volume objects log.uploads.window.last) (g.S.Store.state c.args.store.now).objects (λ objects is. is.no_longer)
+    told_so (λ objects. Recovers volume base objects log) (λ objects. IsNoLonger volume objects log.uploads.window.last)
+    (g.S.Store.state c.args.store.now).objects (λ objects is. is.no_longer)
     (let at = goal.at.returns-clause-no_longer g c in recovers g at.In_ok-log tells (newest g at.In_ok-base tells))
 
 pub returns-clause-landed : goal.returns-clause-landed
@@ -137,7 +156,8 @@ returns-clause-landed g c = λ tells.
     let volume = expected_of c.args.uuid c.args.geometry in
     let base = c.in_ok-base.base.number in
     let log = c.in_ok-log.log in
-    told_so (λ objects. Recovers volume base objects log) (λ objects. HaveLanded objects c.args.uuid base log.uploads.window.last) (g.S.Store.state c.args.store.now).objects (λ objects is. is.landed)
+    told_so (λ objects. Recovers volume base objects log) (λ objects. HaveLanded objects c.args.uuid base log.uploads.window.last)
+    (g.S.Store.state c.args.store.now).objects (λ objects is. is.landed)
     (let at = goal.at.returns-clause-landed g c in recovers g at.In_ok-log tells (newest g at.In_ok-base tells))
 
 pub returns-clause-good : goal.returns-clause-good
@@ -145,7 +165,8 @@ returns-clause-good g c = λ tells.
     let volume = expected_of c.args.uuid c.args.geometry in
     let base = c.in_ok-base.base.number in
     let log = c.in_ok-log.log in
-    told_so (λ objects. Recovers volume base objects log) (λ objects. AreAllGood volume objects base) (g.S.Store.state c.args.store.now).objects (λ objects is. is.good)
+    told_so (λ objects. Recovers volume base objects log) (λ objects. AreAllGood volume objects base)
+    (g.S.Store.state c.args.store.now).objects (λ objects is. is.good)
     (let at = goal.at.returns-clause-good g c in recovers g at.In_ok-log tells (newest g at.In_ok-base tells))
 
 pub returns-clause-past : goal.returns-clause-past
@@ -153,5 +174,6 @@ returns-clause-past g c = λ tells.
     let volume = expected_of c.args.uuid c.args.geometry in
     let base = c.in_ok-base.base.number in
     let log = c.in_ok-log.log in
-    told_so (λ objects. Recovers volume base objects log) (λ objects. AreNamedWholePast volume objects log.uploads.window.last) (g.S.Store.state c.args.store.now).objects (λ objects is. is.past)
+    told_so (λ objects. Recovers volume base objects log) (λ objects. AreNamedWholePast volume objects log.uploads.window.last)
+    (g.S.Store.state c.args.store.now).objects (λ objects is. is.past)
     (let at = goal.at.returns-clause-past g c in recovers g at.In_ok-log tells (newest g at.In_ok-base tells))

@@ -24,7 +24,8 @@ adopt_all-requires-clause-list g c =
     made.batch made.uuid made.window made.frontier made.end made.sealed made.settled made.log).list
 
 pub adopt_all-requires-clause-places : goal.adopt_all-requires-clause-places
-adopt_all-requires-clause-places g c = no_places c.new-log.result.batch.geometry.sectors c.new-log.result.uploads.queue c.new-log.ensures.settled
+adopt_all-requires-clause-places g c = no_places c.new-log.result.batch.geometry.sectors c.new-log.result.uploads.queue
+    c.new-log.ensures.settled
 
 pub returns-in_err-left-clause-refused : goal.returns-in_err-left-clause-refused
 returns-in_err-left-clause-refused g c = λ tells.
@@ -32,7 +33,8 @@ returns-in_err-left-clause-refused g c = λ tells.
     let volume = expected_of c.args.uuid c.args.geometry in
     let Begun = IsBegun c.args.uuid c.args.geometry c.args.base.now.number c.args.base.now.end c.args.names.now in
     let error = c.in_err-left.field-0.0 in
-    passed_on (λ e. IfSome told (λ objects. Begun objects → IsRefused volume objects e)) c.from_residual.result error c.from_residual.ensures.1
+    passed_on (λ e. IfSome told (λ objects. Begun objects → IsRefused volume objects e)) c.from_residual.result error
+    c.from_residual.ensures.1
     (told_failed told volume Begun error c.in_err-left.ensures.answer)
 
 pub returns-in_err-judge_rest-clause-refused : goal.returns-in_err-judge_rest-clause-refused
@@ -45,20 +47,26 @@ returns-in_err-judge_rest-clause-refused g c = λ tells.
     let volume = expected_of uuid geometry in
     let made = c.new-log.ensures in
     let begun = c.new-log.result in
-    let new = new_list uuid geometry base.number base.end begun made.batch made.uuid made.window made.frontier made.end made.sealed made.settled made.log in
+    let new = new_list uuid geometry base.number base.end begun made.batch made.uuid made.window made.frontier made.end
+    made.sealed made.settled made.log in
     let wide : geometry.sectors < 2 ^ 64 = grind (arith, nat_tests, c.requires) in
     let log = c.adopt_all.new.log in
     let done = c.in_ok-left.ensures in
     let list =
     subst (λ u. IsListUpTo u geometry log.uploads.window.last log.uploads.queue.end log) new.list.uuid_is
-    (subst (λ (sizes : Geometry). IsListUpTo begun.uploads.uuid sizes log.uploads.window.last log.uploads.queue.end log) new.list.geometry_is done.list) in
-    let after = same_store (g.S.Store.state c.args.store.now) (g.S.Store.state c.adopt_all.new.store) done.unchanged done.faults in
+    (subst (λ (sizes : Geometry). IsListUpTo begun.uploads.uuid sizes log.uploads.window.last log.uploads.queue.end log)
+    new.list.geometry_is done.list) in
+    let after = same_store (g.S.Store.state c.args.store.now) (g.S.Store.state c.adopt_all.new.store) done.unchanged
+    done.faults in
     let error = c.in_err-judge_rest.field-0.0 in
     let left = c.in_ok-left.left in
-    passed_on (λ e. IfSome told (λ objects. IsBegun uuid geometry base.number base.end names objects → IsRefused volume objects e))
+    passed_on (λ e. IfSome told (λ objects. IsBegun uuid geometry base.number base.end names objects
+    → IsRefused volume objects e))
     c.from_residual-in_err-judge_rest.result error c.from_residual-in_err-judge_rest.ensures.1
-    (told_refuses uuid geometry base.number base.end begun log names left wide new list told error (done.streams tells) (done.good tells) (done.ended tells)
-    (subst (λ (s : StoreState). IfSome s.objects (λ objects. RefusesRest objects log names left error)) after (c.in_err-judge_rest.ensures.refused tells)))
+    (told_refuses uuid geometry base.number base.end begun log names left wide new list told error (done.streams tells)
+    (done.good tells) (done.ended tells)
+    (subst (λ (s : StoreState). IfSome s.objects (λ objects. RefusesRest objects log names left error)) after
+    (c.in_err-judge_rest.ensures.refused tells)))
 
 pub returns-clause-recovers : goal.returns-clause-recovers
 returns-clause-recovers g c = λ tells.
@@ -69,19 +77,25 @@ returns-clause-recovers g c = λ tells.
     let names = c.args.names.now in
     let made = c.new-log.ensures in
     let begun = c.new-log.result in
-    let new = new_list uuid geometry base.number base.end begun made.batch made.uuid made.window made.frontier made.end made.sealed made.settled made.log in
+    let new = new_list uuid geometry base.number base.end begun made.batch made.uuid made.window made.frontier made.end
+    made.sealed made.settled made.log in
     let wide : geometry.sectors < 2 ^ 64 = grind (arith, nat_tests, c.requires) in
     let log = c.adopt_all.new.log in
     let done = c.in_ok-left.ensures in
     let list =
     subst (λ u. IsListUpTo u geometry log.uploads.window.last log.uploads.queue.end log) new.list.uuid_is
-    (subst (λ (sizes : Geometry). IsListUpTo begun.uploads.uuid sizes log.uploads.window.last log.uploads.queue.end log) new.list.geometry_is done.list) in
-    let after = same_store (g.S.Store.state c.args.store.now) (g.S.Store.state c.adopt_all.new.store) done.unchanged done.faults in
+    (subst (λ (sizes : Geometry). IsListUpTo begun.uploads.uuid sizes log.uploads.window.last log.uploads.queue.end log)
+    new.list.geometry_is done.list) in
+    let after = same_store (g.S.Store.state c.args.store.now) (g.S.Store.state c.adopt_all.new.store) done.unchanged
+    done.faults in
     let left = c.in_ok-left.left in
-    told_recovers uuid geometry base.number base.end begun log names left wide new list told (done.streams tells) (done.good tells) (done.ended tells)
-    (subst (λ (s : StoreState). IfSome s.objects (λ objects. JudgesRest objects log names left None)) after (c.in_ok-judge_rest.ensures.judged tells))
+    told_recovers uuid geometry base.number base.end begun log names left wide new list told (done.streams tells)
+    (done.good tells) (done.ended tells)
+    (subst (λ (s : StoreState). IfSome s.objects (λ objects. JudgesRest objects log names left None)) after
+    (c.in_ok-judge_rest.ensures.judged tells))
 
 pub returns-clause-places : goal.returns-clause-places
 returns-clause-places g c =
     let geometry_is = ap (λ (b : BatchState). b.geometry) c.new-log.ensures.batch in
-    subst (λ (sizes : Geometry). HasPlacesInside sizes.sectors c.adopt_all.new.log.uploads.queue) geometry_is c.in_ok-left.ensures.places
+    subst (λ (sizes : Geometry). HasPlacesInside sizes.sectors c.adopt_all.new.log.uploads.queue) geometry_is
+    c.in_ok-left.ensures.places

@@ -20,7 +20,8 @@ loop-name-preserved c =
     elim c.if-is_past.branch [
       | then-is_past w ↦
           rw w.greatest-is (subst (λ list. IsGreatestNumber list c.args.least name.number) (sym more)
-          (greatest_with (take index names) name c.args.least greatest c.loop-name.invariant (c.is_past.ensures.0 w.if-is_past.true)))
+          (greatest_with (take index names) name c.args.least greatest c.loop-name.invariant
+          (c.is_past.ensures.0 w.if-is_past.true)))
       | else-is_past w ↦
           rw w.greatest-is (subst (λ list. IsGreatestNumber list c.args.least greatest) (sym more)
           (greatest_still (take index names) name c.args.least greatest c.loop-name.invariant (λ kind.
@@ -33,4 +34,5 @@ loop-name-preserved c =
 pub returns : goal.returns
 returns c =
     let names = c.args.names.now in
-    subst (λ list. IsGreatestNumber list c.args.least c.loop-name.greatest) (take_all c.loop-name.name-index names (omega arith)) c.loop-name.invariant
+    subst (λ list. IsGreatestNumber list c.args.least c.loop-name.greatest) (take_all c.loop-name.name-index names (omega arith))
+    c.loop-name.invariant

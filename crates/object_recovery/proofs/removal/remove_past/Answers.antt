@@ -14,8 +14,10 @@ returns-in_err-remove-clause-some g c =
     let names = c.args.names.now in
     let number = c.args.number in
     let name = c.name-item.result in
-    becomes_both (RemovesFirst names number c.loop-name.name-index) (Removes (λ other. other ≡ name)) (Removes (IsListedPast names number))
-    (g.S.Store.state c.args.store.now).objects (g.S.Store.state c.loop-name.store).objects (g.S.Store.state c.remove.new.store).objects
+    becomes_both (RemovesFirst names number c.loop-name.name-index) (Removes (λ other. other ≡ name))
+    (Removes (IsListedPast names number))
+    (g.S.Store.state c.args.store.now).objects (g.S.Store.state c.loop-name.store).objects
+    (g.S.Store.state c.remove.new.store).objects
     (λ x y z. some_more names number c.loop-name.name-index name x y z c.loop-name-test.true (sym c.name-item.is)
     (c.is_past.ensures.0 c.if-is_past.true))
     c.loop-name.invariant.first c.remove.ensures.some
@@ -31,7 +33,8 @@ loop-name-preserved g c =
     elim c.if-is_past.branch [
       | then-is_past+in_ok-remove w ↦
           let last = (g.S.Store.state w.remove.new.store).objects in
-          let both = becomes_with (Removes (λ other. other ≡ name)) (IsRemoved name) mid last w.remove.ensures.some w.in_ok-remove.ensures.removed in
+          let both = becomes_with (Removes (λ other. other ≡ name)) (IsRemoved name) mid last w.remove.ensures.some
+          w.in_ok-remove.ensures.removed in
           rw w.store-is (record {
             faults = w.in_ok-remove.ensures.faults ∙ c.loop-name.invariant.faults;
             first =

@@ -10,5 +10,6 @@ returns-then-words-word_count-clause-refused c =
 
 pub returns-clause-refused : goal.returns-clause-refused
 returns-clause-refused c =
-    rw c.ok_or-2.ensures.value (misspelt_name _ c.in_ok-name.name c.in_ok-form_of.field-0 (found_name _ c.name_of.result _ _ c.in_ok-name.ensures.value c.name_of.ensures.found)
+    rw c.ok_or-2.ensures.value (misspelt_name _ c.in_ok-name.name c.in_ok-form_of.field-0
+    (found_name _ c.name_of.result _ _ c.in_ok-name.ensures.value c.name_of.ensures.found)
     (omega (arith, length-map {A = Bor (List ℕ)} {B = List ℕ})) c.in_ok-form_of.ensures.none)

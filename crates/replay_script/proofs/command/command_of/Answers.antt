@@ -8,12 +8,14 @@ use Rattle.std.proofs.lemmas.Iterator.Splits.{YieldsList-from_slice_split}
 use Rattle.replay_script.proofs.command.command_of.Goals as goal
 
 -- what the words of the line spell, the line spells
-line_found : (line : List ℕ) (words : List (List ℕ)) (read : Result Command LineError) → words ≡ words_of line → IfOk read (Spell words) → IfOk read (Spells line)
+line_found : (line : List ℕ) (words : List (List ℕ)) (read : Result Command LineError) → words ≡ words_of line
+    → IfOk read (Spell words) → IfOk read (Spells line)
 line_found line words (Ok command) e (spelled, fits) = record { words = sym e ∙ spelled; fits = fits }
 line_found line words (Err error) e none = tt
 
 -- as the words of the line are refused, the line is
-line_refused : (line : List ℕ) (words : List (List ℕ)) (read : Result Command LineError) → words ≡ words_of line → IfErr read (AreRefusedAs words) → IfErr read (IsRefusedAs line)
+line_refused : (line : List ℕ) (words : List (List ℕ)) (read : Result Command LineError) → words ≡ words_of line
+    → IfErr read (AreRefusedAs words) → IfErr read (IsRefusedAs line)
 line_refused line words (Ok command) e none = tt
 line_refused line words (Err error) e refused = refused line (sym e)
 
@@ -21,7 +23,8 @@ words_read : (c : goal.After-drop-words) → map (λ (word : Bor (List ℕ)). wo
 words_read c =
     ap (map (λ (word : Bor (List ℕ)). word.now)) c.deref.ensures.value
     ∙ map_from_collect {E = AllocError} (Ok c.in_ok-words.words) c.in_ok-words.ensures.ran
-    (YieldsList-from_slice_split _ _ c.args.line.now c.split.ensures.rest c.split.ensures.done c.split.ensures.closure (λ x r q k. search (rules, tests)))
+    (YieldsList-from_slice_split _ _ c.args.line.now c.split.ensures.rest c.split.ensures.done c.split.ensures.closure
+    (λ x r q k. search (rules, tests)))
 
 pub returns-clause-found : goal.returns-clause-found
 returns-clause-found c = line_found c.args.line.now _ c.command_from.result (words_read c) c.command_from.ensures.found

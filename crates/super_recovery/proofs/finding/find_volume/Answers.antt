@@ -10,13 +10,15 @@ pub returns-in_err-volume-clause-refused : goal.returns-in_err-volume-clause-ref
 returns-in_err-volume-clause-refused g c = λ tells.
     let told = (g.S.Store.state c.args.store.now).objects in
     let error = c.in_err-volume.field-0.0 in
-    passed_on (λ e. IfSome told (λ objects. IsRefused c.args.uuid objects e)) c.from_residual.result error c.from_residual.ensures.1
+    passed_on (λ e. IfSome told (λ objects. IsRefused c.args.uuid objects e)) c.from_residual.result error
+    c.from_residual.ensures.1
     (told_refused told c.args.uuid error (c.in_err-volume.ensures.why tells))
 
 pub returns-in_err-epoch-clause-refused : goal.returns-in_err-epoch-clause-refused
 returns-in_err-epoch-clause-refused g c = λ tells.
     let told = (g.S.Store.state c.args.store.now).objects in
-    let same = same_objects (g.S.Store.state c.args.store.now) (g.S.Store.state c.find_super.new.store) c.in_ok-volume.ensures.unchanged in
+    let same = same_objects (g.S.Store.state c.args.store.now) (g.S.Store.state c.find_super.new.store)
+    c.in_ok-volume.ensures.unchanged in
     let error = c.in_err-epoch.field-0.0 in
     passed_on (λ e. IfSome told (λ objects. IsRefused c.args.uuid objects e)) c.from_residual-in_err-epoch.result error
     c.from_residual-in_err-epoch.ensures.1
@@ -26,6 +28,8 @@ returns-in_err-epoch-clause-refused g c = λ tells.
 pub returns-clause-found : goal.returns-clause-found
 returns-clause-found g c = λ tells.
     let told = (g.S.Store.state c.args.store.now).objects in
-    let same = same_objects (g.S.Store.state c.args.store.now) (g.S.Store.state c.find_super.new.store) c.in_ok-volume.ensures.unchanged in
-    told_found told c.args.uuid (record { volume = c.in_ok-volume.volume; epoch = c.in_ok-epoch.epoch }) (c.in_ok-volume.ensures.says tells)
+    let same = same_objects (g.S.Store.state c.args.store.now) (g.S.Store.state c.find_super.new.store)
+    c.in_ok-volume.ensures.unchanged in
+    told_found told c.args.uuid (record { volume = c.in_ok-volume.volume; epoch = c.in_ok-epoch.epoch })
+    (c.in_ok-volume.ensures.says tells)
     (subst (λ held. IfSome held (HasNewestEpoch c.args.uuid c.in_ok-epoch.epoch)) same (c.in_ok-epoch.ensures.newest tells))

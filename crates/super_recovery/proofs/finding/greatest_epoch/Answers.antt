@@ -10,9 +10,11 @@ loop-name-preserved c =
     let name = c.name-item.result in
     let more : take (index + 1) names ≡ take index names ++ name ∷ [] =
     take_more names index name (omega arith) ∙ ap (λ n. take index names ++ n ∷ []) (sym c.name-item.is) in
-    subst (λ list. IsGreatestIn list c.greatest_with-greatest.result) (sym more) (c.greatest_with-greatest.ensures (take index names) c.loop-name.invariant)
+    subst (λ list. IsGreatestIn list c.greatest_with-greatest.result) (sym more)
+    (c.greatest_with-greatest.ensures (take index names) c.loop-name.invariant)
 
 pub returns : goal.returns
 returns c =
     let names = c.args.names.now in
-    subst (λ list. IsGreatestIn list c.loop-name.greatest) (take_all c.loop-name.name-index names (omega arith)) c.loop-name.invariant
+    subst (λ list. IsGreatestIn list c.loop-name.greatest) (take_all c.loop-name.name-index names (omega arith))
+    c.loop-name.invariant

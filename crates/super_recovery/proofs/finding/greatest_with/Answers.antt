@@ -10,7 +10,8 @@ pub returns-then-ne : goal.returns-then-ne
 returns-then-ne c = λ names is. with_other names c.args.name.now c.args.greatest (search rules) is
 
 pub returns-in-Some : goal.returns-in-Some
-returns-in-Some c = λ names is. with_lower names c.args.name.now c.in-Some.number c.if-name-number.true (subst (IsGreatestIn names) c.in-Some.is is)
+returns-in-Some c = λ names is. with_lower names c.args.name.now c.in-Some.number c.if-name-number.true
+    (subst (IsGreatestIn names) c.in-Some.is is)
 
 pub returns-in_default : goal.returns-in_default
 returns-in_default c =
@@ -18,7 +19,8 @@ returns-in_default c =
     let greater : IfSome c.args.greatest (λ number. number < c.args.name.now.number) =
     elim c.in_default.branch [
       | in_default-via-in-Some+else-name-number w ↦
-          subst (λ greatest. IfSome greatest (λ number. number < c.args.name.now.number)) (sym w.in-Some.is) w.if-name-number.false
+          subst (λ greatest. IfSome greatest (λ number. number < c.args.name.now.number)) (sym w.in-Some.is)
+          w.if-name-number.false
       | in_default-via-in_default w ↦ search rules
     ] in
     λ names is. with_greater names c.args.name.now c.args.greatest kind greater is

@@ -16,4 +16,5 @@ pub returns-clause-ok : goal.returns-clause-ok
 returns-clause-ok g c =
     let old = (g.S.Store.state c.args.store.now).objects in
     let new = (g.S.Store.state c.put.new.self).objects in
-    puts_super c.args.volume.now c.super_name.result c.in_ok-bytes.bytes c.in_ok-bytes.ensures c.super_name.ensures.is old new c.in_ok-put.ensures.put
+    puts_super c.args.volume.now c.super_name.result c.in_ok-bytes.bytes c.in_ok-bytes.ensures c.super_name.ensures.is old new
+    c.in_ok-put.ensures.put

@@ -21,8 +21,10 @@ use Rattle.vol_mount.proofs.ExtentLemmas.{extent_of}
 use Rattle.vol_mount.proofs.RecoveryLemmas.{last_landed, on_err}
 use Rattle.vol_mount.proofs.OutcomeLemmas.{counts_none_left}
 use Rattle.vol_mount.proofs.CostLemmas.{costs_nothing}
-use Rattle.vol_mount.proofs.LeftLemmas.{why_left_too, why_left_faulted, faults_refuse_no_left, why_left_opened, opens_without_store, opening_keeps, opening_refuses_none}
-use Rattle.vol_mount.proofs.KeptLemmas.{completing_keeps, completing_costs, last_is, kept_shows_some, kept_is_small, kept_of_volume, numbers_next, mounts_left}
+use Rattle.vol_mount.proofs.LeftLemmas.{why_left_too, why_left_faulted, faults_refuse_no_left, why_left_opened}
+use Rattle.vol_mount.proofs.LeftLemmas.{opens_without_store, opening_keeps, opening_refuses_none}
+use Rattle.vol_mount.proofs.KeptLemmas.{completing_keeps, completing_costs, last_is, kept_shows_some, kept_is_small}
+use Rattle.vol_mount.proofs.KeptLemmas.{kept_of_volume, numbers_next, mounts_left}
 use Rattle.vol_mount.proofs.kept.mount_with_cache.Given as given
 use Rattle.vol_mount.proofs.kept.mount_with_cache.Goals.{In_ok-log, In_err-log, In-Ok-complete, After-assemble}
 use Rattle.vol_mount.proofs.kept.mount_with_cache.Goals as goal
@@ -31,13 +33,15 @@ use Rattle.vol_mount.proofs.kept.mount_with_cache.Goals as goal
 
 pub returns-in-Err-clause-why : goal.returns-in-Err-clause-why
 returns-in-Err-clause-why g c = λ tells.
-    why_left_too c.in-Err.error c.args.uuid c.args.geometry c.args.epoch (g.S.Store.state c.args.store.now).objects (g.D.Disk.state c.args.disk)
+    why_left_too c.in-Err.error c.args.uuid c.args.geometry c.args.epoch (g.S.Store.state c.args.store.now).objects
+    (g.D.Disk.state c.args.disk)
     (c.in-Err.ensures.why tells)
 
 pub returns-in-Err-clause-err_costs : goal.returns-in-Err-clause-err_costs
 returns-in-Err-clause-err_costs g c =
     let old = g.D.Disk.state c.args.disk in
-    subst (λ made. CostsMount c.args.geometry.log made old old) (sym (ap not c.in-Err.ensures.no_fault)) (costs_nothing c.args.geometry old old refl)
+    subst (λ made. CostsMount c.args.geometry.log made old old) (sym (ap not c.in-Err.ensures.no_fault))
+    (costs_nothing c.args.geometry old old refl)
 
 -- ---- the log was not opened
 
@@ -45,7 +49,8 @@ why_opened : (g : given.Over) (c : In_err-log g)
     → IsWhyNotOpened c.args.uuid c.args.geometry c.args.epoch c.in-Ok.recovered.log.uploads.queue.end c.greatest_number.result
     (g.D.Disk.state c.args.disk) c.in_err-log.field-0.0.1
 why_opened g c =
-    subst (λ end. IsWhyNotOpened c.args.uuid c.args.geometry c.args.epoch end c.greatest_number.result (g.D.Disk.state c.args.disk)
+    subst (λ end. IsWhyNotOpened c.args.uuid c.args.geometry c.args.epoch end c.greatest_number.result
+    (g.D.Disk.state c.args.disk)
     c.in_err-log.field-0.0.1)
     (c.end.ensures ∙ ap (λ (l : ObjLogState). l.uploads.queue.end) c.log.ensures) c.in_err-log.ensures.why
 
@@ -55,9 +60,11 @@ returns-in_err-log-clause-why g c = λ tells.
     let old = g.D.Disk.state c.args.disk in
     let error = c.in_err-log.field-0.0 in
     let before = (goal.at.returns-in_err-log-clause-why g c).In_err-log in
-    passed_on (λ e. IsWhyNotLeft c.args.uuid c.args.geometry c.args.epoch told old e.1) c.from_residual.result error c.from_residual.ensures.1
+    passed_on (λ e. IsWhyNotLeft c.args.uuid c.args.geometry c.args.epoch told old e.1) c.from_residual.result error
+    c.from_residual.ensures.1
     (why_left_opened error.1 c.args.uuid c.args.geometry c.args.epoch told c.in-Ok.recovered.log c.greatest_number.result old
-    (extent_of c.args.uuid c.args.geometry told c.in-Ok.recovered c.greatest_number.result c.in-Ok.ensures.list (c.in-Ok.ensures.told tells)
+    (extent_of c.args.uuid c.args.geometry told c.in-Ok.recovered c.greatest_number.result c.in-Ok.ensures.list
+    (c.in-Ok.ensures.told tells)
     c.in-Ok.ensures.names c.greatest_number.ensures)
     (why_opened g before))
 
@@ -67,16 +74,20 @@ returns-in_err-log-clause-no_refusal g c = λ tells.
     let old = g.D.Disk.state c.args.disk in
     let error = c.in_err-log.field-0.0 in
     let before = (goal.at.returns-in_err-log-clause-no_refusal g c).In_err-log in
-    passed_on (λ e. RefusesNoneLeft c.args.uuid c.args.geometry c.args.epoch told old e.1) c.from_residual.result error c.from_residual.ensures.1
-    (opening_refuses_none c.args.uuid c.args.geometry c.args.epoch told old c.requires.size c.requires.log c.requires.is_disk c.requires.limits
+    passed_on (λ e. RefusesNoneLeft c.args.uuid c.args.geometry c.args.epoch told old e.1) c.from_residual.result error
+    c.from_residual.ensures.1
+    (opening_refuses_none c.args.uuid c.args.geometry c.args.epoch told old c.requires.size c.requires.log c.requires.is_disk
+    c.requires.limits
     c.in-Ok.recovered.log
-    c.in-Ok.recovered.checkpoint c.in-Ok.ensures.list (c.in-Ok.ensures.told tells) error.1 c.greatest_number.result (why_opened g before))
+    c.in-Ok.recovered.checkpoint c.in-Ok.ensures.list (c.in-Ok.ensures.told tells) error.1 c.greatest_number.result
+    (why_opened g before))
 
 pub returns-in_err-log-clause-some : goal.returns-in_err-log-clause-some
 returns-in_err-log-clause-some g c =
     let old = g.S.Store.state c.args.store.now in
     let new = g.S.Store.state c.recover_list.new.store in
-    on_err (Becomes (MayRemovePast (TellsBytes g.S.Receipt.Receipt.state) (expected_of c.args.uuid c.args.geometry)) old.objects new.objects)
+    on_err (Becomes (MayRemovePast (TellsBytes g.S.Receipt.Receipt.state) (expected_of c.args.uuid c.args.geometry)) old.objects
+    new.objects)
     c.from_residual.result
     (may_leave_same (TellsBytes g.S.Receipt.Receipt.state) c.args.uuid c.args.geometry old.objects new.objects
     (same_objects old new c.in-Ok.ensures.unchanged))
@@ -86,13 +97,16 @@ returns-in_err-log-clause-err_stops g c = λ tells.
     let told = (g.S.Store.state c.args.store.now).objects in
     let old = g.D.Disk.state c.args.disk in
     let error = c.in_err-log.field-0.0 in
-    passed_on (λ e. KeepsLeft c.args.uuid c.args.geometry c.args.epoch told old (g.D.Disk.state e.0)) c.from_residual.result error c.from_residual.ensures.1
-    (opening_keeps c.args.uuid c.args.geometry c.args.epoch told old c.requires.size c.requires.log c.requires.is_disk (g.D.Disk.state error.0)
+    passed_on (λ e. KeepsLeft c.args.uuid c.args.geometry c.args.epoch told old (g.D.Disk.state e.0)) c.from_residual.result error
+    c.from_residual.ensures.1
+    (opening_keeps c.args.uuid c.args.geometry c.args.epoch told old c.requires.size c.requires.log c.requires.is_disk
+    (g.D.Disk.state error.0)
     c.in_err-log.ensures.settled)
 
 pub returns-in_err-log-clause-err_costs : goal.returns-in_err-log-clause-err_costs
 returns-in_err-log-clause-err_costs g c =
-    passed_on (λ e. CostsMount c.args.geometry.log (not (is_device_fault e.1)) (g.D.Disk.state c.args.disk) (g.D.Disk.state e.0)) c.from_residual.result
+    passed_on (λ e. CostsMount c.args.geometry.log (not (is_device_fault e.1)) (g.D.Disk.state c.args.disk) (g.D.Disk.state e.0))
+    c.from_residual.result
     c.in_err-log.field-0.0 c.from_residual.ensures.1 c.in_err-log.ensures.costs
 
 pub returns-in_err-log-clause-faults : goal.returns-in_err-log-clause-faults
@@ -100,19 +114,23 @@ returns-in_err-log-clause-faults g c =
     let error = c.in_err-log.field-0.0 in
     let before = (goal.at.returns-in_err-log-clause-faults g c).In_err-log in
     let none =
-    opens_without_store error.1 c.args.uuid c.args.geometry c.args.epoch c.in-Ok.recovered.log.uploads.queue.end c.greatest_number.result
+    opens_without_store error.1 c.args.uuid c.args.geometry c.args.epoch c.in-Ok.recovered.log.uploads.queue.end
+    c.greatest_number.result
     (g.D.Disk.state c.args.disk) (why_opened g before) in
-    counts_none_left c.from_residual.result error (g.S.Store.state c.args.store.now).faults (g.S.Store.state c.recover_list.new.store).faults
+    counts_none_left c.from_residual.result error (g.S.Store.state c.args.store.now).faults
+    (g.S.Store.state c.recover_list.new.store).faults
     c.from_residual.ensures.1 none c.in-Ok.ensures.faults
 
 pub returns-in_err-log-clause-is_disk : goal.returns-in_err-log-clause-is_disk
 returns-in_err-log-clause-is_disk g c =
-    passed_on (λ e. IsDisk (g.D.Disk.state e.0)) c.from_residual.result c.in_err-log.field-0.0 c.from_residual.ensures.1 c.in_err-log.ensures.is_disk
+    passed_on (λ e. IsDisk (g.D.Disk.state e.0)) c.from_residual.result c.in_err-log.field-0.0 c.from_residual.ensures.1
+    c.in_err-log.ensures.is_disk
 
 -- ---- it was opened
 
 opened : (g : given.Over) (c : In_ok-log g)
-    → IsOpenedOf c.args.uuid c.args.geometry c.args.epoch c.in-Ok.recovered.log.uploads.queue.end (g.D.Disk.state c.args.disk) c.in_ok-log.log
+    → IsOpenedOf c.args.uuid c.args.geometry c.args.epoch c.in-Ok.recovered.log.uploads.queue.end (g.D.Disk.state c.args.disk)
+    c.in_ok-log.log
 opened g c =
     subst (λ end. IsOpenedOf c.args.uuid c.args.geometry c.args.epoch end (g.D.Disk.state c.args.disk) c.in_ok-log.log)
     (c.end.ensures ∙ ap (λ (l : ObjLogState). l.uploads.queue.end) c.log.ensures) c.in_ok-log.ensures.ok
@@ -127,12 +145,14 @@ list_low g c =
 
 pub returns-in-Err-complete-clause-why : goal.returns-in-Err-complete-clause-why
 returns-in-Err-complete-clause-why g c = λ tells.
-    why_left_faulted c.in-Err-complete.error c.args.uuid c.args.geometry c.args.epoch (g.S.Store.state c.args.store.now).objects (g.D.Disk.state c.args.disk)
+    why_left_faulted c.in-Err-complete.error c.args.uuid c.args.geometry c.args.epoch (g.S.Store.state c.args.store.now).objects
+    (g.D.Disk.state c.args.disk)
     c.in-Err-complete.ensures.err
 
 pub returns-in-Err-complete-clause-no_refusal : goal.returns-in-Err-complete-clause-no_refusal
 returns-in-Err-complete-clause-no_refusal g c = λ tells.
-    faults_refuse_no_left c.in-Err-complete.error c.args.uuid c.args.geometry c.args.epoch (g.S.Store.state c.args.store.now).objects
+    faults_refuse_no_left c.in-Err-complete.error c.args.uuid c.args.geometry c.args.epoch
+    (g.S.Store.state c.args.store.now).objects
     (g.D.Disk.state c.args.disk) c.in-Err-complete.ensures.err
 
 pub returns-in-Err-complete-clause-some : goal.returns-in-Err-complete-clause-some
@@ -148,7 +168,8 @@ returns-in-Err-complete-clause-some g c =
     may_leave_less (TellsBytes g.S.Receipt.Receipt.state) c.args.uuid c.args.geometry last old.objects new.objects
     (λ tells. last_landed c.args.uuid c.args.geometry old.objects list c.in-Ok.recovered.checkpoint
     (list_low g (goal.at.returns-in-Err-complete-clause-some g c).In_ok-log) (c.in-Ok.ensures.told tells))
-    (becomes_from (Removes (IsPastOf c.args.uuid last)) old.objects middle.objects new.objects (same_objects old middle c.in-Ok.ensures.unchanged)
+    (becomes_from (Removes (IsPastOf c.args.uuid last)) old.objects middle.objects new.objects
+    (same_objects old middle c.in-Ok.ensures.unchanged)
     some)
 
 pub returns-in-Err-complete-clause-err_stops : goal.returns-in-Err-complete-clause-err_stops
@@ -157,7 +178,8 @@ returns-in-Err-complete-clause-err_stops g c = λ tells.
     let old = g.D.Disk.state c.args.disk in
     let before = (goal.at.returns-in-Err-complete-clause-err_stops g c).In_ok-log in
     subst (λ disk. KeepsLeft c.args.uuid c.args.geometry c.args.epoch told old disk) (sym c.into_disk.ensures.same)
-    (completing_keeps c.args.uuid c.args.geometry c.args.epoch c.in-Ok.recovered.log c.in-Ok.recovered.checkpoint told old c.in_ok-log.log c.requires.limits
+    (completing_keeps c.args.uuid c.args.geometry c.args.epoch c.in-Ok.recovered.log c.in-Ok.recovered.checkpoint told old
+    c.in_ok-log.log c.requires.limits
     c.requires.size c.requires.log c.requires.is_disk c.in-Ok.ensures.list (opened g before) (c.in-Ok.ensures.told tells)
     c.complete.new.log.commits.disk
     c.in-Err-complete.ensures.stops)
@@ -168,7 +190,8 @@ returns-in-Err-complete-clause-err_costs g c =
     let before = (goal.at.returns-in-Err-complete-clause-err_costs g c).In_ok-log in
     let made = not (is_device_fault c.in-Err-complete.error) in
     subst (λ disk. CostsMount c.args.geometry.log made old disk) (sym c.into_disk.ensures.same)
-    (completing_costs c.args.uuid c.args.geometry c.args.epoch c.in-Ok.recovered.log.uploads.queue.end old c.complete.new.log.commits.disk c.in_ok-log.log made
+    (completing_costs c.args.uuid c.args.geometry c.args.epoch c.in-Ok.recovered.log.uploads.queue.end old
+    c.complete.new.log.commits.disk c.in_ok-log.log made
     (opened g before) c.in-Err-complete.ensures.calls)
 
 -- ---- it was completed
@@ -178,15 +201,20 @@ assemble-requires-clause-shows g c =
     let before = (goal.at.assemble-requires-clause-shows g c).In_ok-log in
     subst (λ checkpoint. (plain : PlainState) × Shows (volume_of c.in-Ok-complete.objects c.complete.new.log [] checkpoint) plain)
     (sym c.checkpoint-checkpoint.ensures)
-    (kept_shows_some c.args.uuid c.args.geometry c.args.epoch c.in-Ok.recovered.log c.in-Ok.recovered.checkpoint (g.D.Disk.state c.args.disk) c.in_ok-log.log
-    c.complete.new.log c.in-Ok-complete.objects c.requires.limits c.in-Ok.ensures.list (opened g before) c.in-Ok-complete.ensures.ok)
+    (kept_shows_some c.args.uuid c.args.geometry c.args.epoch c.in-Ok.recovered.log c.in-Ok.recovered.checkpoint
+    (g.D.Disk.state c.args.disk) c.in_ok-log.log
+    c.complete.new.log c.in-Ok-complete.objects c.requires.limits c.in-Ok.ensures.list (opened g before)
+    c.in-Ok-complete.ensures.ok)
 
 pub assemble-requires-clause-small : goal.assemble-requires-clause-small
 assemble-requires-clause-small g c =
     let before = (goal.at.assemble-requires-clause-small g c).In_ok-log in
-    subst (λ checkpoint. IsSmall (volume_of c.in-Ok-complete.objects c.complete.new.log [] checkpoint) 0) (sym c.checkpoint-checkpoint.ensures)
-    (kept_is_small c.args.uuid c.args.geometry c.args.epoch c.in-Ok.recovered.log c.in-Ok.recovered.checkpoint (g.D.Disk.state c.args.disk) c.in_ok-log.log
-    c.complete.new.log c.in-Ok-complete.objects c.requires.limits c.in-Ok.ensures.list (opened g before) c.in-Ok-complete.ensures.ok (list_low g before))
+    subst (λ checkpoint. IsSmall (volume_of c.in-Ok-complete.objects c.complete.new.log [] checkpoint) 0)
+    (sym c.checkpoint-checkpoint.ensures)
+    (kept_is_small c.args.uuid c.args.geometry c.args.epoch c.in-Ok.recovered.log c.in-Ok.recovered.checkpoint
+    (g.D.Disk.state c.args.disk) c.in_ok-log.log
+    c.complete.new.log c.in-Ok-complete.objects c.requires.limits c.in-Ok.ensures.list (opened g before)
+    c.in-Ok-complete.ensures.ok (list_low g before))
 
 assembled : (g : given.Over) (c : After-assemble g)
     → c.assemble.result ≡ mounted_of c.in-Ok-complete.objects c.complete.new.log c.in-Ok.recovered.checkpoint
@@ -196,16 +224,21 @@ pub returns-in-Ok-complete-clause-volume : goal.returns-in-Ok-complete-clause-vo
 returns-in-Ok-complete-clause-volume g c =
     let at = goal.at.returns-in-Ok-complete-clause-volume g c in
     subst (IsOfVolume c.args.uuid c.args.geometry c.args.epoch) (sym (assembled g at.After-assemble))
-    (kept_of_volume c.args.uuid c.args.geometry c.args.epoch c.in-Ok.recovered.log c.in-Ok.recovered.checkpoint (g.D.Disk.state c.args.disk) c.in_ok-log.log
-    c.complete.new.log c.in-Ok-complete.objects c.requires.limits c.in-Ok.ensures.list (opened g at.In_ok-log) c.in-Ok-complete.ensures.ok)
+    (kept_of_volume c.args.uuid c.args.geometry c.args.epoch c.in-Ok.recovered.log c.in-Ok.recovered.checkpoint
+    (g.D.Disk.state c.args.disk) c.in_ok-log.log
+    c.complete.new.log c.in-Ok-complete.objects c.requires.limits c.in-Ok.ensures.list (opened g at.In_ok-log)
+    c.in-Ok-complete.ensures.ok)
 
 pub returns-in-Ok-complete-clause-mounts : goal.returns-in-Ok-complete-clause-mounts
 returns-in-Ok-complete-clause-mounts g c = λ tells.
     let at = goal.at.returns-in-Ok-complete-clause-mounts g c in
     let told = (g.S.Store.state c.args.store.now).objects in
-    subst (MountsLeft c.args.uuid c.args.geometry c.args.epoch told (g.D.Disk.state c.args.disk)) (sym (assembled g at.After-assemble))
-    (mounts_left c.args.uuid c.args.geometry c.args.epoch c.in-Ok.recovered.log c.in-Ok.recovered.checkpoint (g.D.Disk.state c.args.disk) c.in_ok-log.log
-    c.complete.new.log c.in-Ok-complete.objects c.requires.limits c.in-Ok.ensures.list (opened g at.In_ok-log) c.in-Ok-complete.ensures.ok told
+    subst (MountsLeft c.args.uuid c.args.geometry c.args.epoch told (g.D.Disk.state c.args.disk))
+    (sym (assembled g at.After-assemble))
+    (mounts_left c.args.uuid c.args.geometry c.args.epoch c.in-Ok.recovered.log c.in-Ok.recovered.checkpoint
+    (g.D.Disk.state c.args.disk) c.in_ok-log.log
+    c.complete.new.log c.in-Ok-complete.objects c.requires.limits c.in-Ok.ensures.list (opened g at.In_ok-log)
+    c.in-Ok-complete.ensures.ok told
     c.requires.size c.requires.log c.requires.is_disk (c.in-Ok.ensures.told tells))
 
 pub returns-in-Ok-complete-clause-removed : goal.returns-in-Ok-complete-clause-removed
@@ -216,10 +249,13 @@ returns-in-Ok-complete-clause-removed g c =
     let new = g.S.Store.state c.complete.new.store in
     let last = c.in-Ok.recovered.log.uploads.window.last in
     let number =
-    last_is c.args.uuid c.args.geometry c.args.epoch c.in-Ok.recovered.log c.in-Ok.recovered.checkpoint (g.D.Disk.state c.args.disk) c.in_ok-log.log
-    c.complete.new.log c.in-Ok-complete.objects c.requires.limits c.in-Ok.ensures.list (opened g at.In_ok-log) c.in-Ok-complete.ensures.ok in
+    last_is c.args.uuid c.args.geometry c.args.epoch c.in-Ok.recovered.log c.in-Ok.recovered.checkpoint
+    (g.D.Disk.state c.args.disk) c.in_ok-log.log
+    c.complete.new.log c.in-Ok-complete.objects c.requires.limits c.in-Ok.ensures.list (opened g at.In_ok-log)
+    c.in-Ok-complete.ensures.ok in
     let removed =
-    becomes_from (RemovesAllPast c.args.uuid last) old.objects middle.objects new.objects (same_objects old middle c.in-Ok.ensures.unchanged)
+    becomes_from (RemovesAllPast c.args.uuid last) old.objects middle.objects new.objects
+    (same_objects old middle c.in-Ok.ensures.unchanged)
     (subst (λ uuid. Becomes (RemovesAllPast uuid last) middle.objects new.objects) c.in-Ok.ensures.list.list.uuid_is
     c.in-Ok-complete.ensures.removed) in
     subst (λ n. Becomes (RemovesAllPast c.args.uuid n) old.objects new.objects)
@@ -231,7 +267,8 @@ returns-in-Ok-complete-clause-stops g c = λ tells.
     let told = (g.S.Store.state c.args.store.now).objects in
     let old = g.D.Disk.state c.args.disk in
     subst (λ m. KeepsLeft c.args.uuid c.args.geometry c.args.epoch told old (disk_of m)) (sym (assembled g at.After-assemble))
-    (completing_keeps c.args.uuid c.args.geometry c.args.epoch c.in-Ok.recovered.log c.in-Ok.recovered.checkpoint told old c.in_ok-log.log c.requires.limits
+    (completing_keeps c.args.uuid c.args.geometry c.args.epoch c.in-Ok.recovered.log c.in-Ok.recovered.checkpoint told old
+    c.in_ok-log.log c.requires.limits
     c.requires.size c.requires.log c.requires.is_disk c.in-Ok.ensures.list (opened g at.In_ok-log) (c.in-Ok.ensures.told tells)
     c.complete.new.log.commits.disk c.in-Ok-complete.ensures.stops)
 
@@ -240,12 +277,15 @@ returns-in-Ok-complete-clause-costs g c =
     let at = goal.at.returns-in-Ok-complete-clause-costs g c in
     let old = g.D.Disk.state c.args.disk in
     subst (λ m. CostsMount c.args.geometry.log true old (disk_of m)) (sym (assembled g at.After-assemble))
-    (completing_costs c.args.uuid c.args.geometry c.args.epoch c.in-Ok.recovered.log.uploads.queue.end old c.complete.new.log.commits.disk c.in_ok-log.log true
+    (completing_costs c.args.uuid c.args.geometry c.args.epoch c.in-Ok.recovered.log.uploads.queue.end old
+    c.complete.new.log.commits.disk c.in_ok-log.log true
     (opened g at.In_ok-log) c.in-Ok-complete.ensures.calls)
 
 pub returns-in-Ok-complete-clause-number : goal.returns-in-Ok-complete-clause-number
 returns-in-Ok-complete-clause-number g c =
     let at = goal.at.returns-in-Ok-complete-clause-number g c in
     subst (NumbersNextCommit c.args.geometry.log (g.D.Disk.state c.args.disk)) (sym (assembled g at.After-assemble))
-    (numbers_next c.args.uuid c.args.geometry c.args.epoch c.in-Ok.recovered.log c.in-Ok.recovered.checkpoint (g.D.Disk.state c.args.disk) c.in_ok-log.log
-    c.complete.new.log c.in-Ok-complete.objects c.requires.limits c.in-Ok.ensures.list (opened g at.In_ok-log) c.in-Ok-complete.ensures.ok)
+    (numbers_next c.args.uuid c.args.geometry c.args.epoch c.in-Ok.recovered.log c.in-Ok.recovered.checkpoint
+    (g.D.Disk.state c.args.disk) c.in_ok-log.log
+    c.complete.new.log c.in-Ok-complete.objects c.requires.limits c.in-Ok.ensures.list (opened g at.In_ok-log)
+    c.in-Ok-complete.ensures.ok)

@@ -29,7 +29,8 @@ returns-in_err-put_epoch-clause-why g c = λ tells.
     let before = (goal.at.returns-in_err-put_epoch-clause-why g c).After-from_residual-in_err-put_epoch in
     passed_on (IsWhyLost c.args.uuid c.args.geometry c.args.epoch told) c.from_residual-in_err-put_epoch.result error
     c.from_residual-in_err-put_epoch.ensures.1
-    (why_lost_too error c.args.uuid c.args.geometry c.args.epoch told (why_faulted error c.args.uuid c.args.geometry told (faulted g before)))
+    (why_lost_too error c.args.uuid c.args.geometry c.args.epoch told
+    (why_faulted error c.args.uuid c.args.geometry told (faulted g before)))
 
 pub returns-in_err-put_epoch-clause-no_refusal : goal.returns-in_err-put_epoch-clause-no_refusal
 returns-in_err-put_epoch-clause-no_refusal g c = λ tells.
@@ -44,7 +45,8 @@ pub returns-in_err-put_epoch-clause-refused : goal.returns-in_err-put_epoch-clau
 returns-in_err-put_epoch-clause-refused g c =
     let error = of_super c.in_err-put_epoch.field-0.0 in
     let before = (goal.at.returns-in_err-put_epoch-clause-refused g c).After-from_residual-in_err-put_epoch in
-    passed_on (λ e. refuses e ≡ true → (g.S.Store.state c.put_epoch.new.store).objects ≡ (g.S.Store.state c.args.store.now).objects)
+    passed_on (λ e. refuses e ≡ true → (g.S.Store.state c.put_epoch.new.store).objects
+    ≡ (g.S.Store.state c.args.store.now).objects)
     c.from_residual-in_err-put_epoch.result error c.from_residual-in_err-put_epoch.ensures.1
     (λ is. let none : refuses error ≡ false = faults_refuse_none error (faulted g before) in cc)
 
@@ -71,9 +73,11 @@ returns-in_err-put_epoch-clause-no_fault g c =
 
 pub returns-in_err-put_epoch-clause-faults : goal.returns-in_err-put_epoch-clause-faults
 returns-in_err-put_epoch-clause-faults g c =
-    counts_same c.from_residual-in_err-put_epoch.result (of_super c.in_err-put_epoch.field-0.0) (g.S.Store.state c.args.store.now).faults
+    counts_same c.from_residual-in_err-put_epoch.result (of_super c.in_err-put_epoch.field-0.0)
+    (g.S.Store.state c.args.store.now).faults
     (g.S.Store.state c.put_epoch.new.store).faults c.from_residual-in_err-put_epoch.ensures.1
-    (put_counts c.in_err-put_epoch.field-0.0 (g.S.Store.state c.args.store.now).faults (g.S.Store.state c.recover_alone.new.store).faults
+    (put_counts c.in_err-put_epoch.field-0.0 (g.S.Store.state c.args.store.now).faults
+    (g.S.Store.state c.recover_alone.new.store).faults
     (g.S.Store.state c.put_epoch.new.store).faults c.in_ok-recovered.ensures.faults c.in_err-put_epoch.ensures.faults)
 
 -- ---- it was put
@@ -81,6 +85,8 @@ returns-in_err-put_epoch-clause-faults g c =
 pub returns-clause-begun : goal.returns-clause-begun
 returns-clause-begun g c =
     let last = c.in_ok-recovered.recovered.0.uploads.window.last in
-    becomes_both (RemovesAllPast c.args.uuid last) (PutsEpoch c.args.uuid (c.args.epoch + 1)) (BeginsEpoch c.args.uuid last (c.args.epoch + 1))
-    (g.S.Store.state c.args.store.now).objects (g.S.Store.state c.recover_alone.new.store).objects (g.S.Store.state c.put_epoch.new.store).objects
+    becomes_both (RemovesAllPast c.args.uuid last) (PutsEpoch c.args.uuid (c.args.epoch + 1))
+    (BeginsEpoch c.args.uuid last (c.args.epoch + 1))
+    (g.S.Store.state c.args.store.now).objects (g.S.Store.state c.recover_alone.new.store).objects
+    (g.S.Store.state c.put_epoch.new.store).objects
     (λ old middle new removed put. (middle, removed, put)) c.in_ok-recovered.ensures.removed c.in_ok-put_epoch.ensures.ok

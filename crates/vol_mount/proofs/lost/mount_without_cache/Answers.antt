@@ -18,26 +18,31 @@ use Rattle.vol_mount.proofs.lost.mount_without_cache.Goals.{In-Ok-format}
 use Rattle.vol_mount.proofs.lost.mount_without_cache.Goals as goal
 
 formatted : (g : given.Over) (c : In-Ok-format g)
-    → IsFormattedLog c.args.uuid (c.args.epoch + 1) c.in-Ok.recovered.0.uploads.queue.end (g.D.Disk.state c.args.disk) c.in-Ok-format.log
+    → IsFormattedLog c.args.uuid (c.args.epoch + 1) c.in-Ok.recovered.0.uploads.queue.end (g.D.Disk.state c.args.disk)
+    c.in-Ok-format.log
 formatted g c =
-    subst₂ (λ uuid end. IsFormattedLog uuid (c.args.epoch + 1) end (g.D.Disk.state c.args.disk) c.in-Ok-format.log) c.into_bytes.ensures c.end.ensures
+    subst₂ (λ uuid end. IsFormattedLog uuid (c.args.epoch + 1) end (g.D.Disk.state c.args.disk) c.in-Ok-format.log)
+    c.into_bytes.ensures c.end.ensures
     c.in-Ok-format.ensures.ok
 
 pub assemble-requires-clause-shows : goal.assemble-requires-clause-shows
 assemble-requires-clause-shows g c =
-    lost_shows_some c.args.uuid c.args.geometry (c.args.epoch + 1) c.in-Ok.recovered.0 c.in-Ok.recovered.1 (g.D.Disk.state c.args.disk) c.in-Ok-format.log
+    lost_shows_some c.args.uuid c.args.geometry (c.args.epoch + 1) c.in-Ok.recovered.0 c.in-Ok.recovered.1
+    (g.D.Disk.state c.args.disk) c.in-Ok-format.log
     c.requires.limits c.requires.log c.in-Ok.ensures.list (formatted g c)
 
 pub assemble-requires-clause-small : goal.assemble-requires-clause-small
 assemble-requires-clause-small g c =
-    lost_is_small c.args.uuid c.args.geometry (c.args.epoch + 1) c.in-Ok.recovered.0 c.in-Ok.recovered.1 (g.D.Disk.state c.args.disk) c.in-Ok-format.log
+    lost_is_small c.args.uuid c.args.geometry (c.args.epoch + 1) c.in-Ok.recovered.0 c.in-Ok.recovered.1
+    (g.D.Disk.state c.args.disk) c.in-Ok-format.log
     c.requires.limits c.requires.log c.in-Ok.ensures.list (formatted g c) c.args.epoch c.in-Ok.ensures.low
 
 pub returns-in-Ok-format-clause-volume : goal.returns-in-Ok-format-clause-volume
 returns-in-Ok-format-clause-volume g c =
     let before = (goal.at.returns-in-Ok-format-clause-volume g c).In-Ok-format in
     subst (IsOfVolume c.args.uuid c.args.geometry (c.args.epoch + 1)) (sym c.assemble.ensures)
-    (lost_of_volume c.args.uuid c.args.geometry (c.args.epoch + 1) c.in-Ok.recovered.0 c.in-Ok.recovered.1 (g.D.Disk.state c.args.disk) c.in-Ok-format.log
+    (lost_of_volume c.args.uuid c.args.geometry (c.args.epoch + 1) c.in-Ok.recovered.0 c.in-Ok.recovered.1
+    (g.D.Disk.state c.args.disk) c.in-Ok-format.log
     c.requires.limits c.requires.log c.in-Ok.ensures.list (formatted g before))
 
 pub returns-in-Ok-format-clause-mounts : goal.returns-in-Ok-format-clause-mounts
@@ -45,7 +50,8 @@ returns-in-Ok-format-clause-mounts g c = λ tells.
     let before = (goal.at.returns-in-Ok-format-clause-mounts g c).In-Ok-format in
     let told = (g.S.Store.state c.args.store.now).objects in
     subst (MountsStored c.args.uuid c.args.geometry told) (sym c.assemble.ensures)
-    (mounts_stored c.args.uuid c.args.geometry (c.args.epoch + 1) c.in-Ok.recovered.0 c.in-Ok.recovered.1 (g.D.Disk.state c.args.disk) c.in-Ok-format.log
+    (mounts_stored c.args.uuid c.args.geometry (c.args.epoch + 1) c.in-Ok.recovered.0 c.in-Ok.recovered.1
+    (g.D.Disk.state c.args.disk) c.in-Ok-format.log
     c.requires.limits c.requires.log c.in-Ok.ensures.list (formatted g before) told (c.in-Ok.ensures.told tells))
 
 pub returns-in-Ok-format-clause-begun : goal.returns-in-Ok-format-clause-begun
@@ -56,14 +62,16 @@ returns-in-Ok-format-clause-begun g c =
 
 pub returns-in-Ok-format-clause-number : goal.returns-in-Ok-format-clause-number
 returns-in-Ok-format-clause-number g c =
-    subst (λ (m : MountedState). m.volume.volume.log.commits.number ≡ 0) (sym c.assemble.ensures) c.in-Ok-format.ensures.ok.commits.same_number
+    subst (λ (m : MountedState). m.volume.volume.log.commits.number ≡ 0) (sym c.assemble.ensures)
+    c.in-Ok-format.ensures.ok.commits.same_number
 
 pub returns-in-Err-format-clause-some : goal.returns-in-Err-format-clause-some
 returns-in-Err-format-clause-some g c =
     let list = c.in-Ok.recovered.0 in
     may_have_begun (TellsBytes g.S.Receipt.Receipt.state) c.args.uuid c.args.geometry list.uploads.window.last (c.args.epoch + 1)
     (g.S.Store.state c.args.store.now).objects (g.S.Store.state c.begin_epoch.new.store).objects
-    (λ tells. last_landed c.args.uuid c.args.geometry (g.S.Store.state c.args.store.now).objects list c.in-Ok.recovered.1 c.in-Ok.ensures.low.last
+    (λ tells. last_landed c.args.uuid c.args.geometry (g.S.Store.state c.args.store.now).objects list c.in-Ok.recovered.1
+    c.in-Ok.ensures.low.last
     (c.in-Ok.ensures.told tells))
     c.in-Ok.ensures.begun
 
@@ -74,7 +82,8 @@ returns-in-Err-format-clause-err_costs g c =
     let costs : CostsNewLog c.args.uuid (c.args.epoch + 1) false old new = record {
       end = c.end.result;
       calls =
-          subst (λ uuid. Costs format_cost (format_calls (first_body uuid (c.args.epoch + 1) c.end.result)) false old new) c.into_bytes.ensures
+          subst (λ uuid. Costs format_cost (format_calls (first_body uuid (c.args.epoch + 1) c.end.result)) false old new)
+          c.into_bytes.ensures
           c.in-Err-format.ensures.err;
     } in
     subst (λ error. FailsToFormat c.args.uuid (c.args.epoch + 1) (is_device_fault error) old new) (sym c.into.ensures) costs

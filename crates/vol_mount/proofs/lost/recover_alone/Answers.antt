@@ -14,7 +14,8 @@ use Rattle.vol_mount.specs.Refusals.{of_recovery, IsFirstGreat, IsWhyLost, refus
 use Rattle.vol_mount.specs.Steps.{AreLow, IsFault, IsRecoveredFrom}
 use Rattle.vol_mount.proofs.StoreLemmas.{same_objects, becomes_from, may_leave_same, may_leave_less}
 use Rattle.vol_mount.proofs.ExtentLemmas.{extent_of}
-use Rattle.vol_mount.proofs.RecoveryLemmas.{why_lost_too, removal_faults, faults_refuse_none, why_faulted, no_device_fault, last_landed, counts_on, on_err}
+use Rattle.vol_mount.proofs.RecoveryLemmas.{why_lost_too, removal_faults, faults_refuse_none, why_faulted, no_device_fault}
+use Rattle.vol_mount.proofs.RecoveryLemmas.{last_landed, counts_on, on_err}
 use Rattle.vol_mount.proofs.lost.recover_alone.Given as given
 use Rattle.vol_mount.proofs.lost.recover_alone.Goals.{After-end, In_default, After-from_residual-in_err-remove_past}
 use Rattle.vol_mount.proofs.lost.recover_alone.Goals as goal
@@ -33,7 +34,8 @@ returns-in-Some-clause-why g c = λ tells.
       greatest,
       recovered.log.uploads.queue.end,
       subst (λ end. IsFirstGreat (c.args.epoch ∷ greatest ∷ end ∷ []) c.in-Some.value) (end_is g at) c.in-Some.ensures.some,
-      extent_of c.args.uuid c.args.geometry told recovered greatest c.in_ok-recovered.ensures.list (c.in_ok-recovered.ensures.told tells)
+      extent_of c.args.uuid c.args.geometry told recovered greatest c.in_ok-recovered.ensures.list
+          (c.in_ok-recovered.ensures.told tells)
           c.in_ok-recovered.ensures.names c.greatest_number.ensures,
     )
 
@@ -59,7 +61,8 @@ list_low g c =
     }
 
 pub returns-clause-low : goal.returns-clause-low
-returns-clause-low g c = subst (AreLow c.args.epoch) (sym c.into_log.ensures) (list_low g (goal.at.returns-clause-low g c).In_default)
+returns-clause-low g c = subst (AreLow c.args.epoch) (sym c.into_log.ensures)
+    (list_low g (goal.at.returns-clause-low g c).In_default)
 
 -- ---- the removal failed
 
@@ -73,7 +76,8 @@ returns-in_err-remove_past-clause-why g c = λ tells.
     let before = (goal.at.returns-in_err-remove_past-clause-why g c).After-from_residual-in_err-remove_past in
     passed_on (IsWhyLost c.args.uuid c.args.geometry c.args.epoch told) c.from_residual-in_err-remove_past.result error
     c.from_residual-in_err-remove_past.ensures.1
-    (why_lost_too error c.args.uuid c.args.geometry c.args.epoch told (why_faulted error c.args.uuid c.args.geometry told (faulted g before)))
+    (why_lost_too error c.args.uuid c.args.geometry c.args.epoch told
+    (why_faulted error c.args.uuid c.args.geometry told (faulted g before)))
 
 pub returns-in_err-remove_past-clause-no_refusal : goal.returns-in_err-remove_past-clause-no_refusal
 returns-in_err-remove_past-clause-no_refusal g c = λ tells.
@@ -88,7 +92,8 @@ pub returns-in_err-remove_past-clause-refused : goal.returns-in_err-remove_past-
 returns-in_err-remove_past-clause-refused g c =
     let error = of_recovery c.in_err-remove_past.field-0.0 in
     let before = (goal.at.returns-in_err-remove_past-clause-refused g c).After-from_residual-in_err-remove_past in
-    passed_on (λ e. refuses e ≡ true → (g.S.Store.state c.remove_past.new.store).objects ≡ (g.S.Store.state c.args.store.now).objects)
+    passed_on (λ e. refuses e ≡ true → (g.S.Store.state c.remove_past.new.store).objects
+    ≡ (g.S.Store.state c.args.store.now).objects)
     c.from_residual-in_err-remove_past.result error c.from_residual-in_err-remove_past.ensures.1
     (λ is. let none : refuses error ≡ false = faults_refuse_none error (faulted g before) in cc)
 
@@ -102,7 +107,8 @@ returns-in_err-remove_past-clause-some g c =
     let some =
     subst (λ uuid. Becomes (Removes (IsPastOf uuid last)) middle.objects new.objects) c.in_ok-recovered.ensures.list.list.uuid_is
     c.in_err-remove_past.ensures.some in
-    on_err (Becomes (MayRemovePast (TellsBytes g.S.Receipt.Receipt.state) (expected_of c.args.uuid c.args.geometry)) old.objects new.objects)
+    on_err (Becomes (MayRemovePast (TellsBytes g.S.Receipt.Receipt.state) (expected_of c.args.uuid c.args.geometry)) old.objects
+    new.objects)
     c.from_residual-in_err-remove_past.result
     (may_leave_less (TellsBytes g.S.Receipt.Receipt.state) c.args.uuid c.args.geometry last old.objects new.objects
     (λ tells. last_landed c.args.uuid c.args.geometry old.objects list c.in_ok-recovered.recovered.checkpoint
@@ -112,14 +118,16 @@ returns-in_err-remove_past-clause-some g c =
 
 pub returns-in_err-remove_past-clause-no_fault : goal.returns-in_err-remove_past-clause-no_fault
 returns-in_err-remove_past-clause-no_fault g c =
-    passed_on (λ e. is_device_fault e ≡ false) c.from_residual-in_err-remove_past.result (of_recovery c.in_err-remove_past.field-0.0)
+    passed_on (λ e. is_device_fault e ≡ false) c.from_residual-in_err-remove_past.result
+    (of_recovery c.in_err-remove_past.field-0.0)
     c.from_residual-in_err-remove_past.ensures.1
     (no_device_fault c.in_err-remove_past.field-0.0)
 
 pub returns-in_err-remove_past-clause-faults : goal.returns-in_err-remove_past-clause-faults
 returns-in_err-remove_past-clause-faults g c =
     counts_on c.from_residual-in_err-remove_past.result c.in_err-remove_past.field-0.0 (g.S.Store.state c.args.store.now).faults
-    (g.S.Store.state c.recover_list.new.store).faults (g.S.Store.state c.remove_past.new.store).faults c.from_residual-in_err-remove_past.ensures.1
+    (g.S.Store.state c.recover_list.new.store).faults (g.S.Store.state c.remove_past.new.store).faults
+    c.from_residual-in_err-remove_past.ensures.1
     c.in_ok-recovered.ensures.faults c.in_err-remove_past.ensures.faults
 
 -- ---- they were removed

@@ -10,18 +10,21 @@ use Rattle.vol_mount.specs.declared.error.MountError.TheVariants.{Worn}
 use Rattle.vol_mount.specs.Refusals.{IsFirstGreat}
 use Rattle.vol_mount.proofs.OpenLemmas.{IsNotOpened, not_loaded, not_taken, not_opened, worn_left, opened_of}
 use Rattle.vol_mount.proofs.opening.open_log.Given as given
-use Rattle.vol_mount.proofs.opening.open_log.Goals.{After-into, After-into_disk, After-into-in-Err-open, After-into_disk-in-Some-worn_number}
+use Rattle.vol_mount.proofs.opening.open_log.Goals.{After-into, After-into_disk, After-into-in-Err-open}
+use Rattle.vol_mount.proofs.opening.open_log.Goals.{After-into_disk-in-Some-worn_number}
 use Rattle.vol_mount.proofs.opening.open_log.Goals as goal
 
 -- ---- the commits were not loaded
 
 load_failed : (g : given.Over) (c : After-into g)
-    → IsNotOpened c.args.known.now.uuid c.args.known.now.geometry c.args.known.now.epoch c.args.known.now.end c.args.known.now.greatest c.into.result (g.D.Disk.state c.args.disk) (g.D.Disk.state c.in-Err.disk)
+    → IsNotOpened c.args.known.now.uuid c.args.known.now.geometry c.args.known.now.epoch c.args.known.now.end
+    c.args.known.now.greatest c.into.result (g.D.Disk.state c.args.disk) (g.D.Disk.state c.in-Err.disk)
 load_failed g c =
     let old : DiskState = g.D.Disk.state c.args.disk in
     let new : DiskState = g.D.Disk.state c.in-Err.disk in
     let fails : FailsToLoad c.in-Err.error old new = c.in-Err.ensures.err in
-    not_loaded c.args.known.now.uuid c.args.known.now.geometry c.args.known.now.epoch c.args.known.now.end c.args.known.now.greatest old c.requires.log c.in-Err.error c.into.result new c.into.ensures fails
+    not_loaded c.args.known.now.uuid c.args.known.now.geometry c.args.known.now.epoch c.args.known.now.end
+    c.args.known.now.greatest old c.requires.log c.in-Err.error c.into.result new c.into.ensures fails
     c.in-Err.ensures.err_settled
 
 pub returns-in-Err-clause-why : goal.returns-in-Err-clause-why
@@ -36,11 +39,14 @@ returns-in-Err-clause-costs g c = (load_failed g c).costs
 -- ---- the last commit is refused
 
 refused : (g : given.Over) (c : After-into_disk g)
-    → IsNotOpened c.args.known.now.uuid c.args.known.now.geometry c.args.known.now.epoch c.args.known.now.end c.args.known.now.greatest c.in-Some.error (g.D.Disk.state c.args.disk) (g.D.Disk.state c.into_disk.result)
+    → IsNotOpened c.args.known.now.uuid c.args.known.now.geometry c.args.known.now.epoch c.args.known.now.end
+    c.args.known.now.greatest c.in-Some.error (g.D.Disk.state c.args.disk) (g.D.Disk.state c.into_disk.result)
 refused g c =
-    not_taken c.args.known.now.uuid c.args.known.now.geometry c.args.known.now.epoch c.args.known.now.end c.args.known.now.greatest
+    not_taken c.args.known.now.uuid c.args.known.now.geometry c.args.known.now.epoch c.args.known.now.end
+    c.args.known.now.greatest
     (g.D.Disk.state c.args.disk) c.requires.log c.in-Ok.commits c.in-Ok.ensures.ok
-    c.in-Ok.ensures.costs c.in-Ok.ensures.settled c.in-Some.error (g.D.Disk.state c.into_disk.result) c.into_disk.ensures.same c.in-Some.ensures.some
+    c.in-Ok.ensures.costs c.in-Ok.ensures.settled c.in-Some.error (g.D.Disk.state c.into_disk.result) c.into_disk.ensures.same
+    c.in-Some.ensures.some
 
 pub returns-in-Some-clause-why : goal.returns-in-Some-clause-why
 returns-in-Some-clause-why g c = (refused g c).why
@@ -54,14 +60,18 @@ returns-in-Some-clause-costs g c = (refused g c).costs
 -- ---- the log was not opened
 
 open_failed : (g : given.Over) (c : After-into-in-Err-open g)
-    → IsNotOpened c.args.known.now.uuid c.args.known.now.geometry c.args.known.now.epoch c.args.known.now.end c.args.known.now.greatest c.into-in-Err-open.result (g.D.Disk.state c.args.disk)
+    → IsNotOpened c.args.known.now.uuid c.args.known.now.geometry c.args.known.now.epoch c.args.known.now.end
+    c.args.known.now.greatest c.into-in-Err-open.result (g.D.Disk.state c.args.disk)
     (g.D.Disk.state c.into_disk-in-Err-open.result)
 open_failed g c =
     let commits : CommitsState = c.in-Ok.commits in
-    let bad : IsBadLog c.args.known.now.geometry commits.body commits.disk.moments c.in-Err-open.error = c.in-Err-open.ensures.bad in
-    let reads : AreReadOnly (2 * entry_count commits.body) (opens_without_fault c.in-Err-open.error) commits c.in-Err-open.commits =
+    let bad : IsBadLog c.args.known.now.geometry commits.body commits.disk.moments c.in-Err-open.error =
+    c.in-Err-open.ensures.bad in
+    let reads : AreReadOnly (2 * entry_count commits.body) (opens_without_fault c.in-Err-open.error) commits
+    c.in-Err-open.commits =
     c.in-Err-open.ensures.err in
-    not_opened c.args.known.now.uuid c.args.known.now.geometry c.args.known.now.epoch c.args.known.now.end c.args.known.now.greatest
+    not_opened c.args.known.now.uuid c.args.known.now.geometry c.args.known.now.epoch c.args.known.now.end
+    c.args.known.now.greatest
     (g.D.Disk.state c.args.disk) c.requires.log commits c.in-Ok.ensures.ok c.in-Ok.ensures.costs
     c.in-Ok.ensures.settled c.in-Ok.ensures.crash_safe c.in-Err-open.error c.into-in-Err-open.result c.in-Err-open.commits
     (g.D.Disk.state c.into_disk-in-Err-open.result) c.into-in-Err-open.ensures c.into_disk-in-Err-open.ensures.same bad reads
@@ -78,14 +88,18 @@ returns-in-Err-open-clause-costs g c = (open_failed g c).costs
 -- ---- it was opened, and is worn out or not
 
 worn : (g : given.Over) (c : After-into_disk-in-Some-worn_number g)
-    → IsNotOpened c.args.known.now.uuid c.args.known.now.geometry c.args.known.now.epoch c.args.known.now.end c.args.known.now.greatest
+    → IsNotOpened c.args.known.now.uuid c.args.known.now.geometry c.args.known.now.epoch c.args.known.now.end
+    c.args.known.now.greatest
     (Worn c.in-Some-worn_number.value) (g.D.Disk.state c.args.disk) (g.D.Disk.state c.into_disk-in-Some-worn_number.result)
 worn g c =
-    worn_left c.args.known.now.uuid c.args.known.now.geometry c.args.known.now.epoch c.args.known.now.end c.args.known.now.greatest
+    worn_left c.args.known.now.uuid c.args.known.now.geometry c.args.known.now.epoch c.args.known.now.end
+    c.args.known.now.greatest
     (g.D.Disk.state c.args.disk) c.requires.log c.in-Ok.commits c.in-Ok.ensures.ok
-    c.in-Ok.ensures.costs c.in-Ok.ensures.settled c.in-Ok-open.log c.in-Ok-open.ensures.ok c.in-Some-worn_number.value c.max-count.result
+    c.in-Ok.ensures.costs c.in-Ok.ensures.settled c.in-Ok-open.log c.in-Ok-open.ensures.ok c.in-Some-worn_number.value
+    c.max-count.result
     (g.D.Disk.state c.into_disk-in-Some-worn_number.result) c.into_disk-in-Some-worn_number.ensures.same (search rules)
-    (subst (λ n. IsFirstGreat (n ∷ c.args.known.now.epoch ∷ c.args.known.now.greatest ∷ c.max-count.result ∷ []) c.in-Some-worn_number.value)
+    (subst (λ n. IsFirstGreat (n ∷ c.args.known.now.epoch ∷ c.args.known.now.greatest ∷ c.max-count.result ∷ [])
+    c.in-Some-worn_number.value)
     c.number.ensures c.in-Some-worn_number.ensures.some)
 
 pub returns-in-Some-worn_number-clause-why : goal.returns-in-Some-worn_number-clause-why
@@ -100,9 +114,11 @@ returns-in-Some-worn_number-clause-costs g c = (worn g c).costs
 pub returns-in-None-clause-ok : goal.returns-in-None-clause-ok
 returns-in-None-clause-ok g c =
     let taken = c.in_default.ensures.none in
-    opened_of c.args.known.now.uuid c.args.known.now.geometry c.args.known.now.epoch c.args.known.now.end c.args.known.now.greatest
+    opened_of c.args.known.now.uuid c.args.known.now.geometry c.args.known.now.epoch c.args.known.now.end
+    c.args.known.now.greatest
     (g.D.Disk.state c.args.disk) c.requires.log c.in-Ok.commits c.in-Ok.ensures.ok
     c.in-Ok.ensures.costs c.in-Ok.ensures.settled c.in-Ok-open.log c.in-Ok-open.ensures.ok c.max-count.result taken.0 taken.1
     c.refusal_of.ensures.may_stand (search rules)
-    (subst (λ n. All (λ k. k < max_number) (n ∷ c.args.known.now.epoch ∷ c.args.known.now.greatest ∷ c.max-count.result ∷ [])) c.number.ensures
+    (subst (λ n. All (λ k. k < max_number) (n ∷ c.args.known.now.epoch ∷ c.args.known.now.greatest ∷ c.max-count.result ∷ []))
+    c.number.ensures
     c.in-None.ensures.none)

@@ -9,14 +9,16 @@ pub returns-in_err-recovered-clause-why : goal.returns-in_err-recovered-clause-w
 returns-in_err-recovered-clause-why g c = λ tells.
     let told = (g.S.Store.state c.args.store.now).objects in
     let error = c.in_err-recovered.field-0.0 in
-    passed_on (IsWhyNotStored c.args.uuid c.args.geometry told) c.from_residual.result (of_recovery error) c.from_residual.ensures.1
+    passed_on (IsWhyNotStored c.args.uuid c.args.geometry told) c.from_residual.result (of_recovery error)
+    c.from_residual.ensures.1
     (why_of error c.args.uuid c.args.geometry told (c.in_err-recovered.ensures.refused tells))
 
 pub returns-in_err-recovered-clause-no_refusal : goal.returns-in_err-recovered-clause-no_refusal
 returns-in_err-recovered-clause-no_refusal g c = λ tells.
     let told = (g.S.Store.state c.args.store.now).objects in
     let error = c.in_err-recovered.field-0.0 in
-    passed_on (RefusesNoneStored c.args.uuid c.args.geometry told) c.from_residual.result (of_recovery error) c.from_residual.ensures.1
+    passed_on (RefusesNoneStored c.args.uuid c.args.geometry told) c.from_residual.result (of_recovery error)
+    c.from_residual.ensures.1
     (no_refusal_of error c.args.uuid c.args.geometry told (c.in_err-recovered.ensures.refused tells))
 
 pub returns-then-checkpoint-eq0-clause-why : goal.returns-then-checkpoint-eq0-clause-why
@@ -26,11 +28,13 @@ returns-then-checkpoint-eq0-clause-why g c = λ tells.
 
 pub returns-then-checkpoint-eq0-clause-no_refusal : goal.returns-then-checkpoint-eq0-clause-no_refusal
 returns-then-checkpoint-eq0-clause-no_refusal g c = λ tells.
-    only_none_refuses c.args.uuid c.args.geometry (g.S.Store.state c.args.store.now).objects c.in_ok-recovered.recovered.checkpoint c.requires
+    only_none_refuses c.args.uuid c.args.geometry (g.S.Store.state c.args.store.now).objects
+    c.in_ok-recovered.recovered.checkpoint c.requires
     (sym c.checkpoint.ensures ∙ c.if-checkpoint-eq0.true) (c.in_ok-recovered.ensures.checkpoint tells)
 
 pub returns-clause-told : goal.returns-clause-told
 returns-clause-told g c = λ tells.
     recovered_from c.args.uuid c.args.geometry (g.S.Store.state c.args.store.now).objects
     c.in_ok-recovered.recovered.log c.in_ok-recovered.recovered.checkpoint (c.in_ok-recovered.ensures.checkpoint tells)
-    (c.in_ok-recovered.ensures.landed tells) (c.in_ok-recovered.ensures.no_longer tells) (c.in_ok-recovered.ensures.recovered tells)
+    (c.in_ok-recovered.ensures.landed tells) (c.in_ok-recovered.ensures.no_longer tells)
+    (c.in_ok-recovered.ensures.recovered tells)

@@ -16,12 +16,14 @@ returns-in-Err-clause-moments g c =
     let new = (g.S.Store.state c.prepare.new.store).objects in
     stands_none_or_new c.args.uuid c.args.geometry old new c.requires.limits c.a_volume_is_created.ensures
     c.a_stopped_store_has_the_objects.ensures
-    (becomes_so (PutsNoSuper c.args.uuid c.args.geometry) (PutsSome c.args.uuid c.args.geometry) old new (λ a b so. inl so) c.in-Err.ensures.no_super)
+    (becomes_so (PutsNoSuper c.args.uuid c.args.geometry) (PutsSome c.args.uuid c.args.geometry) old new (λ a b so. inl so)
+    c.in-Err.ensures.no_super)
 
 -- ---- the whole volume was put
 
 made : (g : given.Over) (c : In-Ok-complete g)
-    → Becomes (PutsVolume c.args.uuid c.args.geometry) (g.S.Store.state c.args.store.now).objects (g.S.Store.state c.complete.new.store).objects
+    → Becomes (PutsVolume c.args.uuid c.args.geometry) (g.S.Store.state c.args.store.now).objects
+    (g.S.Store.state c.complete.new.store).objects
 made g c =
     all_put c.args.uuid c.args.geometry (g.S.Store.state c.args.store.now).objects (g.S.Store.state c.prepare.new.store).objects
     (g.S.Store.state c.complete.new.store).objects c.in_default.ensures.ok c.in-Ok-complete.ensures.ok
@@ -31,7 +33,8 @@ returns-in-Ok-complete-clause-made g c = made g c
 
 pub returns-in-Ok-complete-clause-stands : goal.returns-in-Ok-complete-clause-stands
 returns-in-Ok-complete-clause-stands g c =
-    stands_new c.args.uuid c.args.geometry (g.S.Store.state c.args.store.now).objects (g.S.Store.state c.complete.new.store).objects
+    stands_new c.args.uuid c.args.geometry (g.S.Store.state c.args.store.now).objects
+    (g.S.Store.state c.complete.new.store).objects
     c.requires.limits c.a_volume_is_created.ensures c.a_stopped_store_has_the_objects.ensures (made g c)
 
 pub returns-in-Ok-complete-clause-moments : goal.returns-in-Ok-complete-clause-moments
@@ -40,19 +43,22 @@ returns-in-Ok-complete-clause-moments g c =
     let new = (g.S.Store.state c.complete.new.store).objects in
     stands_none_or_new c.args.uuid c.args.geometry old new c.requires.limits c.a_volume_is_created.ensures
     c.a_stopped_store_has_the_objects.ensures
-    (becomes_so (PutsVolume c.args.uuid c.args.geometry) (PutsSome c.args.uuid c.args.geometry) old new (λ a b so. inr so) (made g c))
+    (becomes_so (PutsVolume c.args.uuid c.args.geometry) (PutsSome c.args.uuid c.args.geometry) old new (λ a b so. inr so)
+    (made g c))
 
 -- ---- the super object was not acknowledged
 
 some : (g : given.Over) (c : After-into_disk g)
-    → Becomes (PutsSome c.args.uuid c.args.geometry) (g.S.Store.state c.args.store.now).objects (g.S.Store.state c.complete.new.store).objects
+    → Becomes (PutsSome c.args.uuid c.args.geometry) (g.S.Store.state c.args.store.now).objects
+    (g.S.Store.state c.complete.new.store).objects
 some g c =
     some_put c.args.uuid c.args.geometry (g.S.Store.state c.args.store.now).objects (g.S.Store.state c.prepare.new.store).objects
     (g.S.Store.state c.complete.new.store).objects c.in_default.ensures.ok c.in-Err-complete.ensures.err
 
 pub returns-in-Err-complete-clause-moments : goal.returns-in-Err-complete-clause-moments
 returns-in-Err-complete-clause-moments g c =
-    stands_none_or_new c.args.uuid c.args.geometry (g.S.Store.state c.args.store.now).objects (g.S.Store.state c.complete.new.store).objects
+    stands_none_or_new c.args.uuid c.args.geometry (g.S.Store.state c.args.store.now).objects
+    (g.S.Store.state c.complete.new.store).objects
     c.requires.limits c.a_volume_is_created.ensures c.a_stopped_store_has_the_objects.ensures (some g c)
 
 pub returns-in-Err-complete-clause-err : goal.returns-in-Err-complete-clause-err

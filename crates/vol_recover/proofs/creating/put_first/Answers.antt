@@ -14,10 +14,12 @@ pub returns-in_err-put-clause-err : goal.returns-in_err-put-clause-err
 returns-in_err-put-clause-err g c =
     let old = g.S.Store.state c.args.store.now in
     let new = g.S.Store.state c.put.new.self in
-    let name : c.first_name.result ≡ name_of c.args.uuid 1 = c.first_name.ensures.is ∙ ap (λ (u : List ℕ). name_of u 1) c.into_bytes.ensures in
+    let name : c.first_name.result ≡ name_of c.args.uuid 1 = c.first_name.ensures.is
+    ∙ ap (λ (u : List ℕ). name_of u 1) c.into_bytes.ensures in
     let error = c.in_err-put.field-0.0 in
     let e = c.in_err-put.ensures in
-    on_error (Becomes (MayBecome (PutsFirst c.args.uuid c.args.geometry.now)) old.objects new.objects) c.from_residual-in_err-put.result
+    on_error (Becomes (MayBecome (PutsFirst c.args.uuid c.args.geometry.now)) old.objects new.objects)
+    c.from_residual-in_err-put.result
     (after_error c.args.uuid c.args.geometry.now c.in_ok-object.object error old new c.in_ok-object.ensures
     (λ same. subst (λ n. Becomes (MayBePut n c.in_ok-object.object) old.objects new.objects) name
     (e.failed (error_of error store_errors.Failed same)))
@@ -27,6 +29,7 @@ pub returns-clause-ok : goal.returns-clause-ok
 returns-clause-ok g c =
     let old = (g.S.Store.state c.args.store.now).objects in
     let new = (g.S.Store.state c.put.new.self).objects in
-    let name : c.first_name.result ≡ name_of c.args.uuid 1 = c.first_name.ensures.is ∙ ap (λ (u : List ℕ). name_of u 1) c.into_bytes.ensures in
+    let name : c.first_name.result ≡ name_of c.args.uuid 1 = c.first_name.ensures.is
+    ∙ ap (λ (u : List ℕ). name_of u 1) c.into_bytes.ensures in
     puts_first c.args.uuid c.args.geometry.now c.in_ok-object.object old new c.in_ok-object.ensures
     (subst (λ n. Becomes (IsPut n c.in_ok-object.object) old new) name c.in_ok-put.ensures.put)

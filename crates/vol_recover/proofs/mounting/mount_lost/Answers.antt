@@ -10,7 +10,8 @@ use Rattle.vol_mount.specs.Mounted.{IsOfVolume, disk_of}
 use Rattle.vol_mount.specs.Mounting.{MountsStored}
 use Rattle.vol_mount.specs.Refusals.{is_device_fault}
 use Rattle.vol_recover.specs.Mounting.{IsOfSomeVolume, FailsToFormatIn}
-use Rattle.vol_recover.proofs.MountLemmas.{IsTheVolume, ok_of_volume, err_of_volume, of_some_volume, none_begun, no_epoch_begun, may_begin}
+use Rattle.vol_recover.proofs.MountLemmas.{IsTheVolume, ok_of_volume, err_of_volume, of_some_volume, none_begun, no_epoch_begun}
+use Rattle.vol_recover.proofs.MountLemmas.{may_begin}
 use Rattle.vol_recover.proofs.Results.{counted_objects, counted_then, ok_so, err_so, if_error}
 use Rattle.vol_recover.proofs.mounting.mount_lost.Given as given
 use Rattle.vol_recover.proofs.mounting.mount_lost.Goals as goal
@@ -31,7 +32,8 @@ returns-then-not-is_within_limits-clause-some g c =
 
 pub returns-in-Err-clause-left : goal.returns-in-Err-clause-left
 returns-in-Err-clause-left g c tells geometry epoch log_is has =
-    no_epoch_begun (TellsBytes g.S.Receipt.Receipt.state) (expected_of c.args.uuid geometry) (epoch + 1) (g.S.Store.state c.args.store.now)
+    no_epoch_begun (TellsBytes g.S.Receipt.Receipt.state) (expected_of c.args.uuid geometry) (epoch + 1)
+    (g.S.Store.state c.args.store.now)
     (g.S.Store.state c.describe.new.store) c.in-Err.ensures.unchanged
 
 pub returns-then-not-is_within_limits-clause-left : goal.returns-then-not-is_within_limits-clause-left
@@ -45,7 +47,8 @@ returns-then-not-is_within_limits-clause-left g c tells geometry epoch log_is ha
 -- ---- the volume that was described was mounted, or not
 
 the_volume : (g : given.Over) (c : After-mount_without_cache g) → TellsBytes g.S.Receipt.Receipt.state
-    → IsTheVolume c.args.uuid (log_of (g.D.Disk.state c.args.disk).size) (g.S.Store.state c.args.store.now).objects c.in-Ok.described.geometry
+    → IsTheVolume c.args.uuid (log_of (g.D.Disk.state c.args.disk).size) (g.S.Store.state c.args.store.now).objects
+    c.in-Ok.described.geometry
     c.in-Ok.described.epoch
 the_volume g c tells =
     let objects = (g.S.Store.state c.args.store.now).objects in
@@ -54,7 +57,8 @@ the_volume g c tells =
 
 unchanged : (g : given.Over) (c : After-mount_without_cache g)
     → (g.S.Store.state c.describe.new.store).objects ≡ (g.S.Store.state c.args.store.now).objects
-unchanged g c = counted_objects (g.S.Store.state c.args.store.now) (g.S.Store.state c.describe.new.store) c.in-Ok.ensures.unchanged
+unchanged g c = counted_objects (g.S.Store.state c.args.store.now) (g.S.Store.state c.describe.new.store)
+    c.in-Ok.ensures.unchanged
 
 pub returns-clause-some_volume : goal.returns-clause-some_volume
 returns-clause-some_volume g c =
@@ -62,7 +66,8 @@ returns-clause-some_volume g c =
     let geometry = c.in-Ok.described.geometry in
     let epoch = c.in-Ok.described.epoch + 1 in
     ok_so (IsOfVolume c.args.uuid geometry epoch) (IsOfSomeVolume c.args.uuid log) c.mount_without_cache.result
-    (of_some_volume c.args.uuid log geometry epoch (c.in-Ok.ensures.log ∙ c.log_sectors.ensures) (sym c.if-not-is_within_limits.ensures))
+    (of_some_volume c.args.uuid log geometry epoch (c.in-Ok.ensures.log ∙ c.log_sectors.ensures)
+    (sym c.if-not-is_within_limits.ensures))
     c.mount_without_cache.ensures.volume
 
 pub returns-clause-volume : goal.returns-clause-volume
@@ -71,7 +76,8 @@ returns-clause-volume g c tells =
     let after = (g.S.Store.state c.describe.new.store).objects in
     let described = c.in-Ok.described in
     ok_of_volume c.args.uuid (log_of (g.D.Disk.state c.args.disk).size) old after described.geometry described.epoch
-    (λ objects geometry epoch mounted. IsOfVolume c.args.uuid geometry (epoch + 1) mounted) c.mount_without_cache.result (the_volume g c tells) (unchanged g c)
+    (λ objects geometry epoch mounted. IsOfVolume c.args.uuid geometry (epoch + 1) mounted) c.mount_without_cache.result
+    (the_volume g c tells) (unchanged g c)
     c.mount_without_cache.ensures.volume
 
 pub returns-clause-mounts : goal.returns-clause-mounts
@@ -80,19 +86,22 @@ returns-clause-mounts g c tells =
     let after = (g.S.Store.state c.describe.new.store).objects in
     let described = c.in-Ok.described in
     ok_of_volume c.args.uuid (log_of (g.D.Disk.state c.args.disk).size) old after described.geometry described.epoch
-    (λ objects geometry epoch mounted. MountsStored c.args.uuid geometry objects mounted) c.mount_without_cache.result (the_volume g c tells) (unchanged g c)
+    (λ objects geometry epoch mounted. MountsStored c.args.uuid geometry objects mounted) c.mount_without_cache.result
+    (the_volume g c tells) (unchanged g c)
     (c.mount_without_cache.ensures.mounts tells)
 
 pub returns-clause-costs : goal.returns-clause-costs
 returns-clause-costs g c =
     let disk = g.D.Disk.state c.args.disk in
     let epoch = c.in-Ok.described.epoch + 1 in
-    ok_so (λ mounted. CostsNewLog c.args.uuid epoch true disk (disk_of mounted)) _ c.mount_without_cache.result (λ mounted costs. (epoch, costs))
+    ok_so (λ mounted. CostsNewLog c.args.uuid epoch true disk (disk_of mounted)) _ c.mount_without_cache.result
+    (λ mounted costs. (epoch, costs))
     c.mount_without_cache.ensures.costs
 
 pub returns-clause-some : goal.returns-clause-some
 returns-clause-some g c =
-    may_begin (TellsBytes g.S.Receipt.Receipt.state) (expected_of c.args.uuid c.in-Ok.described.geometry) (c.in-Ok.described.epoch + 1)
+    may_begin (TellsBytes g.S.Receipt.Receipt.state) (expected_of c.args.uuid c.in-Ok.described.geometry)
+    (c.in-Ok.described.epoch + 1)
     (λ mounted. mounted.number) c.mount_without_cache.result (g.S.Store.state c.args.store.now).objects
     (g.S.Store.state c.describe.new.store).objects (g.S.Store.state c.mount_without_cache.new.store).objects (unchanged g c)
     c.mount_without_cache.ensures.begun c.mount_without_cache.ensures.some

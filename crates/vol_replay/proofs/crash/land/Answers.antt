@@ -12,9 +12,11 @@ loop-put-preserved c =
     let first : iter_rest (zip_first c.into_iter-put-iterator.result) ≡ puts = search rules in
     let second : iter_rest (zip_second c.into_iter-put-iterator.result) ≡ letters = search rules in
     let turn =
-    zip_turn puts letters c.loop-put.yielded c.into_iter-put-iterator.result c.loop-put.put-iterator c.next.new.self _ first second
+    zip_turn puts letters c.loop-put.yielded c.into_iter-put-iterator.result c.loop-put.put-iterator c.next.new.self _
+    first second
     c.loop-put.yielded_by _ c.in-Some.is c.next.ensures.steps in
-    lands_next puts letters c.loop-put.yielded (c.in-Some.put, c.in-Some.letter) c.in-Some.put.now c.in-Some.letter.now c.args.store.now
+    lands_next puts letters c.loop-put.yielded (c.in-Some.put, c.in-Some.letter) c.in-Some.put.now c.in-Some.letter.now
+    c.args.store.now
     c.loop-put.store c.land_as.new.store turn c.loop-put.invariant c.in_ok-land_as.ensures
 
 pub returns : goal.returns

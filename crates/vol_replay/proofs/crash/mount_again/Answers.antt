@@ -21,12 +21,14 @@ prove-unreachable-requires c =
     let error = c.in-Err.failed.1 in
     let e = c.in-Err.ensures in
     let may = c.requires.may in
-    let why = subst (λ (u : List ℕ). OfVolume u (log_of disk.size) old (λ g n. IsWhyFor (λ h m. IsWhyNotLeft u h m old disk) g n error)) uuid
+    let why = subst (λ (u : List ℕ). OfVolume u (log_of disk.size) old (λ g n. IsWhyFor (λ h m. IsWhyNotLeft u h m old disk) g n
+    error)) uuid
     (e.why_volume (λ receipt. refl)) in
     let none = subst (λ (u : List ℕ). OfVolume u (log_of disk.size) old (λ g n. RefusesNoneLeft u g n old disk error)) uuid
     (e.no_refusal (λ receipt. refl)) in
     let lacks : error ≡ OutOfMemory =
-    only_memory_left may.0 c.args.store.now disk c.in-Err.failed.0 error c.requires.fails_none may.1 why none e.err_costs e.faults in
+    only_memory_left may.0 c.args.store.now disk c.in-Err.failed.0 error c.requires.fails_none may.1 why none e.err_costs
+    e.faults in
     elim c.match-matches.branch [
       | in-OutOfMemory w ↦ (let same = sym w.matches-is ∙ c.if-prove.true in cc)
       | in_default w ↦ w.in_default.not-OutOfMemory lacks
@@ -42,9 +44,11 @@ returns-in-Ok-clause-ok c =
     let e = c.in-Ok.ensures in
     let may = c.requires.may in
     mounted_again may.0 disk mounted old new c.requires.fails_none may.1
-    (subst (λ (u : List ℕ). OfVolume u (log_of disk.size) (Some old) (λ g n. IsOfVolume u g n mounted)) uuid (e.volume (λ receipt. refl)))
+    (subst (λ (u : List ℕ). OfVolume u (log_of disk.size) (Some old) (λ g n. IsOfVolume u g n mounted)) uuid
+    (e.volume (λ receipt. refl)))
     (subst (λ (u : List ℕ). Becomes (RemovesAllPast u mounted.number) (Some old) (Some new)) uuid e.removed)
-    (subst (λ (u : List ℕ). OfVolume u (log_of disk.size) (Some old) (λ g n. KeepsLeft u g n (Some old) disk (disk_of mounted))) uuid
+    (subst (λ (u : List ℕ). OfVolume u (log_of disk.size) (Some old) (λ g n. KeepsLeft u g n (Some old) disk (disk_of mounted)))
+    uuid
     (e.stops (λ receipt. refl))) e.costs e.synced
 
 pub returns-in-Ok-clause-mounts : goal.returns-in-Ok-clause-mounts

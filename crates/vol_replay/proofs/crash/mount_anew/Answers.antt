@@ -23,13 +23,15 @@ prove-unreachable-requires c =
     let error = c.in-Err.failed.1 in
     let e = c.in-Err.ensures in
     let may = c.requires.may in
-    let why = subst (λ (u : List ℕ). OfVolume u (log_of disk.size) old (λ g n. IsWhyFor (λ h m. IsWhyLost u h m old) g n error)) uuid
+    let why = subst (λ (u : List ℕ). OfVolume u (log_of disk.size) old (λ g n. IsWhyFor (λ h m. IsWhyLost u h m old) g n error))
+    uuid
     (e.why_volume (λ receipt. refl)) in
     let none = subst (λ (u : List ℕ). OfVolume u (log_of disk.size) old (λ g n. RefusesNoneStored u g old error)) uuid
     (e.no_refusal (λ receipt. refl)) in
     let format = subst (λ (u : List ℕ). FailsToFormatIn u (is_device_fault error) disk c.in-Err.failed.0) uuid e.err_costs in
     let lacks : error ≡ OutOfMemory =
-    only_memory_anew may.0 c.args.store.now disk c.in-Err.failed.0 error c.requires.fails_none may.1 may.2 why none format e.faults in
+    only_memory_anew may.0 c.args.store.now disk c.in-Err.failed.0 error c.requires.fails_none may.1 may.2 why none format
+    e.faults in
     elim c.match-matches.branch [
       | in-OutOfMemory w ↦ (let same = sym w.matches-is ∙ c.if-prove.true in cc)
       | in_default w ↦ w.in_default.not-OutOfMemory lacks
@@ -44,8 +46,10 @@ returns-in-Ok-clause-ok c =
     let new = c.mount_lost.new.store in
     let e = c.in-Ok.ensures in
     mounted_anew disk mounted old new c.requires.fails_none c.requires.blank
-    (subst (λ (u : List ℕ). OfVolume u (log_of disk.size) (Some old) (λ g n. IsOfVolume u g (n + 1) mounted)) uuid (e.volume (λ receipt. refl)))
-    (subst (λ (u : List ℕ). OfVolume u (log_of disk.size) (Some old) (λ g n. Becomes (BeginsEpoch u mounted.number (n + 1)) (Some old) (Some new))) uuid
+    (subst (λ (u : List ℕ). OfVolume u (log_of disk.size) (Some old) (λ g n. IsOfVolume u g (n + 1) mounted)) uuid
+    (e.volume (λ receipt. refl)))
+    (subst (λ (u : List ℕ). OfVolume u (log_of disk.size) (Some old) (λ g n. Becomes (BeginsEpoch u mounted.number (n + 1))
+    (Some old) (Some new))) uuid
     (e.begun (λ receipt. refl)))
     (subst (λ (u : List ℕ). (n : ℕ) × CostsNewLog u n true disk (disk_of mounted)) uuid e.costs) e.synced
 

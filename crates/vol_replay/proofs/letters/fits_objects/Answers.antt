@@ -8,6 +8,8 @@ use Rattle.vol_replay.proofs.letters.fits_objects.Goals as goal
 
 pub returns-then-word-count : goal.returns-then-word-count
 returns-then-word-count c =
-    let all = all_from_yields_List is_object_letter _ _ c.all.result c.all.ensures.ran (YieldsList-from_slice c.args.word.now cc) (λ x b q k. search (rules, tests)) in
-    fits_by_letters (is_dash c.args.word.now) (list_all is_object_letter c.args.word.now) c.all.result c.args.word.now c.args.count (search rules)
+    let all = all_from_yields_List is_object_letter _ _ c.all.result c.all.ensures.ran (YieldsList-from_slice c.args.word.now cc)
+    (λ x b q k. search (rules, tests)) in
+    fits_by_letters (is_dash c.args.word.now) (list_all is_object_letter c.args.word.now) c.all.result c.args.word.now
+    c.args.count (search rules)
     c.if-word-count.true all

@@ -10,5 +10,6 @@ returns-in-Some-clause-ok c =
 
 pub returns-in-None-clause-ok : goal.returns-in-None-clause-ok
 returns-in-None-clause-ok c =
-    subst (λ bench. IfOk c.answer_first.result (λ made. AnswersCommand c.args.command made.1 bench (Some made.0))) (sym c.in-None.is)
+    subst (λ bench. IfOk c.answer_first.result (λ made. AnswersCommand c.args.command made.1 bench (Some made.0)))
+    (sym c.in-None.is)
     c.answer_first.ensures.ok

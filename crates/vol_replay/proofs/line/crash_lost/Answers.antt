@@ -3,7 +3,8 @@ use Rattle.std.specs.Prelude.{IsTrue}
 use Rattle.transcript.specs.Letters.{is_dash, fits_objects}
 use Rattle.vol_replay.proofs.Commands.{fit_lost, unfit_word, unfit_lost, lost_command}
 use Rattle.vol_replay.proofs.line.crash_lost.Goals as goal
-use Rattle.vol_replay.proofs.line.crash_lost.Goals.{then-not-is_dash-via-then-not-is_dash, then-not-is_dash-via-else-not-is_dash+then-not-fits_objects}
+use Rattle.vol_replay.proofs.line.crash_lost.Goals.{then-not-is_dash-via-then-not-is_dash}
+use Rattle.vol_replay.proofs.line.crash_lost.Goals.{then-not-is_dash-via-else-not-is_dash+then-not-fits_objects}
 
 pub returns-then-not-is_dash-clause-refused : goal.returns-then-not-is_dash-clause-refused
 returns-then-not-is_dash-clause-refused c =
@@ -13,7 +14,8 @@ returns-then-not-is_dash-clause-refused c =
       | then-not-is_dash-via-then-not-is_dash w ↦
           unfit_word device objects c.args.bench (sym c.is_dash.ensures ∙ w.if-not-is_dash.true)
       | then-not-is_dash-via-else-not-is_dash+then-not-fits_objects w ↦
-          unfit_lost device objects w.under_way.result c.args.bench (sym w.fits_objects.ensures ∙ w.if-not-fits_objects.true) w.under_way.ensures
+          unfit_lost device objects w.under_way.result c.args.bench (sym w.fits_objects.ensures ∙ w.if-not-fits_objects.true)
+          w.under_way.ensures
     ]
 
 pub returns-clause-ok : goal.returns-clause-ok

@@ -6,9 +6,11 @@ returns-then-not-is_out-clause-refused c =
     done_not_allowed c.args.number c.is_out.result c.args.bench.now c.if-not-is_out.true c.is_out.ensures
 
 pub finish_put-requires-clause-out : goal.finish_put-requires-clause-out
-finish_put-requires-clause-out c = put_is_out c.args.number c.is_out.result c.args.bench.now c.if-not-is_out.false c.is_out.ensures
+finish_put-requires-clause-out c = put_is_out c.args.number c.is_out.result c.args.bench.now c.if-not-is_out.false
+    c.is_out.ensures
 
 pub returns-clause-ok : goal.returns-clause-ok
 returns-clause-ok c =
     done_command c.args.number c.in_ok-finish_put.field-0 c.args.bench.now c.finish_put.new.self
-    (put_is_out c.args.number c.is_out.result c.args.bench.now c.if-not-is_out.false c.is_out.ensures) c.in_ok-finish_put.ensures.ok
+    (put_is_out c.args.number c.is_out.result c.args.bench.now c.if-not-is_out.false c.is_out.ensures)
+    c.in_ok-finish_put.ensures.ok

@@ -2,7 +2,8 @@ use Rattle.vol_replay.proofs.Commands.{stop_command, stop_not_allowed, told_once
 use Rattle.vol_replay.proofs.line.stop.Goals as goal
 
 pub returns-then-is_stopping-clause-refused : goal.returns-then-is_stopping-clause-refused
-returns-then-is_stopping-clause-refused c = stop_not_allowed c.args.calls c.is_stopping.result c.args.bench.now c.if-is_stopping.true c.is_stopping.ensures
+returns-then-is_stopping-clause-refused c = stop_not_allowed c.args.calls c.is_stopping.result c.args.bench.now
+    c.if-is_stopping.true c.is_stopping.ensures
 
 pub stop-requires-clause-once : goal.stop-requires-clause-once
 stop-requires-clause-once c = told_once c.is_stopping.result c.args.bench.now c.if-is_stopping.false c.is_stopping.ensures

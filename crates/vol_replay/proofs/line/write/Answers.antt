@@ -6,5 +6,7 @@ use Rattle.vol_replay.proofs.line.write.Goals as goal
 
 pub returns-clause-ok : goal.returns-clause-ok
 returns-clause-ok c =
-    event_command (commands.Write c.args.lba c.args.sectors c.args.byte) (events.Write c.args.lba (replicate (512 * c.args.sectors) c.args.byte)) c.in_ok-write.field-0 c.args.bench.now c.write.new.self
+    event_command (commands.Write c.args.lba c.args.sectors c.args.byte)
+    (events.Write c.args.lba (replicate (512 * c.args.sectors) c.args.byte)) c.in_ok-write.field-0 c.args.bench.now
+    c.write.new.self
     (λ plain text next shown steps. steps) c.in_ok-write.ensures.ok

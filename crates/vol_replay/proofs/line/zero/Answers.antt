@@ -5,5 +5,6 @@ use Rattle.vol_replay.proofs.line.zero.Goals as goal
 
 pub returns-clause-ok : goal.returns-clause-ok
 returns-clause-ok c =
-    event_command (commands.Zero c.args.lba c.args.sectors) (events.Zero c.args.lba c.args.sectors) c.in_ok-zero.field-0 c.args.bench.now c.zero.new.self
+    event_command (commands.Zero c.args.lba c.args.sectors) (events.Zero c.args.lba c.args.sectors) c.in_ok-zero.field-0
+    c.args.bench.now c.zero.new.self
     (λ plain text next shown steps. steps) c.in_ok-zero.ensures.ok

@@ -8,7 +8,8 @@ pub returns-in-Err-Bad-clause-transcript : goal.returns-in-Err-Bad-clause-transc
 returns-in-Err-Bad-clause-transcript g c =
     let refused = rw c.in-Err-Bad.field-0-is at c.in-Err-Bad.ensures.refused in
     let handed = rw (c.in-Err-Bad.reason-is, c.as_slice.ensures.value, refused.0) at c.hand_over.ensures.handed in
-    written_stopped _ _ _ _ _ _ _ c.split_line.result.1.now c.loop-rest.number c.in-Err-Bad.reason c.loop-rest.bench c.hand_over.result
+    written_stopped _ _ _ _ _ _ _ c.split_line.result.1.now c.loop-rest.number c.in-Err-Bad.reason c.loop-rest.bench
+    c.hand_over.result
     c.requires c.loop-rest.invariant.run c.split_line.ensures.line refused.1 handed
 
 pub returns-in-Err-Bad-clause-no_read : goal.returns-in-Err-Bad-clause-no_read
@@ -36,7 +37,8 @@ loop-rest-preserved g c = record {
       (at_success c.flush_full.result (sym c.if-is_err.ensures.value) c.flush_full.ensures.ok);
   counted = omega (arith, c.loop-rest.invariant.counted, c.split_line.ensures.shorter);
   young = omega (arith, c.loop-rest.invariant.young, c.answer_line.ensures.lines);
-  none = not_counted c.flush_full.result (sym c.if-is_err.ensures.value) _ _ c.flush_full.ensures.count ∙ c.loop-rest.invariant.none;
+  none = not_counted c.flush_full.result (sym c.if-is_err.ensures.value) _ _ c.flush_full.ensures.count
+      ∙ c.loop-rest.invariant.none;
 }
 
 pub returns-clause-transcript : goal.returns-clause-transcript

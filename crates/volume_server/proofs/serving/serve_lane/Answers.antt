@@ -12,5 +12,6 @@ loop-served-preserved g c =
       given = given_more (g.L.Listener.given c.args.listener.now) c.loop-served.served _ _ c.loop-served.invariant.given gave.0;
       closed = gave.1 ∙ c.loop-served.invariant.closed;
       faults = gave.2 ∙ c.loop-served.invariant.faults;
-      clients = one_more g.R.Receipt.state c.loop-served.served _ _ _ _ _ c.loop-served.invariant.clients c.in-Served.ensures.serves;
+      clients = one_more g.R.Receipt.state c.loop-served.served _ _ _ _ _ c.loop-served.invariant.clients
+          c.in-Served.ensures.serves;
     }

@@ -12,7 +12,8 @@ returns c =
     let to : ℕ = c.self.inside.to in
     let shown : bytes_between bytes from to ≡ c.args.self.now.waiting = ap (λ (s : BufferState). s.waiting) c.self.view_is in
     let long : length new ≡ c.self.inside.bytes.len = c.put_at.auto.bytes ∙ c.as_mut_slice.ensures.len in
-    ap (λ (xs : List ℕ). bytes_between xs from (to + length piece)) (take_at new (drop (length new) bytes) c.self.inside.bytes.len long)
+    ap (λ (xs : List ℕ). bytes_between xs from (to + length piece))
+    (take_at new (drop (length new) bytes) c.self.inside.bytes.len long)
     ∙ c.put_at.ensures from c.self.invariant.0
     ∙ ap (λ (xs : List ℕ). bytes_between xs from to ++ piece) c.as_mut_slice.ensures.value
     ∙ ap (λ (xs : List ℕ). xs ++ piece) shown

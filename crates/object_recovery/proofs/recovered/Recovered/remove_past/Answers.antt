@@ -22,8 +22,10 @@ returns-clause-removed g c =
     let number = found.log.uploads.window.last in
     let old = (g.S.Store.state c.args.store.now).objects in
     let new = (g.S.Store.state c.remove_past.new.store).objects in
-    let number_is : c.last.result ≡ number = c.last.ensures ∙ ap (λ (r : RecoveredState). r.log.uploads.window.last) c.self.view_is in
-    let names_is : c.as_slice.result.now ≡ found.names = c.as_slice.ensures ∙ ap (λ (r : RecoveredState). r.names) c.self.view_is in
+    let number_is : c.last.result ≡ number = c.last.ensures
+    ∙ ap (λ (r : RecoveredState). r.log.uploads.window.last) c.self.view_is in
+    let names_is : c.as_slice.result.now ≡ found.names = c.as_slice.ensures
+    ∙ ap (λ (r : RecoveredState). r.names) c.self.view_is in
     let First : List ObjName → ℕ → Type 0 = λ names n. Becomes (RemovesFirst names n (length names)) old new in
     ok_so (First c.as_slice.result.now c.last.result) (Becomes (RemovesAllPast uuid number) old new) c.remove_past.result
     (λ first. all_removed uuid found.names number old new c.requires.of_volume c.requires.listed
@@ -37,7 +39,8 @@ returns-clause-some g c =
     let new = (g.S.Store.state c.remove_past.new.store).objects in
     let number_is : c.last.result ≡ found.log.uploads.window.last =
     c.last.ensures ∙ ap (λ (r : RecoveredState). r.log.uploads.window.last) c.self.view_is in
-    let names_is : c.as_slice.result.now ≡ found.names = c.as_slice.ensures ∙ ap (λ (r : RecoveredState). r.names) c.self.view_is in
+    let names_is : c.as_slice.result.now ≡ found.names = c.as_slice.ensures
+    ∙ ap (λ (r : RecoveredState). r.names) c.self.view_is in
     let Some_of : List ObjName → ℕ → Type 0 = λ names n. Becomes (Removes (IsListedPast names n)) old new in
     some_removed found.log.uploads.uuid found.names found.log.uploads.window.last old new c.requires.of_volume
     (subst (Some_of found.names) number_is (subst (λ names. Some_of names c.last.result) names_is c.remove_past.ensures.some))

@@ -26,7 +26,8 @@ invariant_of-self-2 c =
       commits = c.step.ensures.numbers.commits;
     } in
     let known = c.self.invariant in
-    counted_shows c.args.event c.step.result old c.make_room.new.volume c.step.new.self known.0 c.requires.counted c.make_room.ensures.same
+    counted_shows c.args.event c.step.result old c.make_room.new.volume c.step.new.self known.0 c.requires.counted
+    c.make_room.ensures.same
     c.in_ok-make_room.ensures.room of known.1
 
 pub returns-clause-ok : goal.returns-clause-ok
@@ -43,5 +44,6 @@ returns-clause-ok c =
     } in
     let now : RigState = rig_of c.step.new.self inside.store inside.puts.list inside.is_stopping (inside.lines + 1) in
     subst (λ r. IfOk c.answer_of.result (λ answer. AnswersAsked c.args.event answer r now)) c.self.view_is
-    (counted_answers c.args.event c.step.result old c.make_room.new.volume c.step.new.self c.answer_of.result c.requires.counted c.make_room.ensures.same
+    (counted_answers c.args.event c.step.result old c.make_room.new.volume c.step.new.self c.answer_of.result c.requires.counted
+    c.make_room.ensures.same
     c.in_ok-make_room.ensures.room of c.answer_of.ensures)

@@ -26,7 +26,8 @@ invariant_of-self-in_default c =
     } in
     let known = c.self.invariant in (
       plain_after events.TakeJob known.0,
-      (begun_none old c.step.new.self c.step.result c.reserve.new.self.list c.reserve.ensures.list c.in_default.not-Taken of known.0 known.1).1,
+      (begun_none old c.step.new.self c.step.result c.reserve.new.self.list c.reserve.ensures.list c.in_default.not-Taken of
+          known.0 known.1).1,
     )
 
 pub returns-in_default : goal.returns-in_default
@@ -61,9 +62,11 @@ invariant_of-self-2 c =
       commits = c.in-Taken.ensures.numbers.commits;
     } in
     let known = c.self.invariant in
-    let same = c.begin.ensures ∙ ap (λ puts. with_begun c.in-Taken.job.name.number c.in-Taken.job.bytes puts) c.in_ok-reserve.ensures.list in (
+    let same = c.begin.ensures ∙ ap (λ puts. with_begun c.in-Taken.job.name.number c.in-Taken.job.bytes puts)
+    c.in_ok-reserve.ensures.list in (
       plain_after events.TakeJob known.0,
-      (begun_some old c.step.new.self c.in-Taken.job c.name.result.now.number c.begin.new.self.list (ap (λ (n : ObjName). n.number) c.name.ensures) same
+      (begun_some old c.step.new.self c.in-Taken.job c.name.result.now.number c.begin.new.self.list
+          (ap (λ (n : ObjName). n.number) c.name.ensures) same
           c.is_ordered.ensures.uploads of known.0 known.1).1,
     )
 
@@ -80,7 +83,9 @@ returns-clause-ok c =
       commits = c.in-Taken.ensures.numbers.commits;
     } in
     let now : RigState = rig_of c.step.new.self inside.store c.begin.new.self.list inside.is_stopping (inside.lines + 1) in
-    let same = c.begin.ensures ∙ ap (λ puts. with_begun c.in-Taken.job.name.number c.in-Taken.job.bytes puts) c.in_ok-reserve.ensures.list in
+    let same = c.begin.ensures ∙ ap (λ puts. with_begun c.in-Taken.job.name.number c.in-Taken.job.bytes puts)
+    c.in_ok-reserve.ensures.list in
     subst (λ r. AnswersEvent events.TakeJob (answers.Put c.name.result.now.number) r now) c.self.view_is
-    (begun_some old c.step.new.self c.in-Taken.job c.name.result.now.number c.begin.new.self.list (ap (λ (n : ObjName). n.number) c.name.ensures) same
+    (begun_some old c.step.new.self c.in-Taken.job c.name.result.now.number c.begin.new.self.list
+    (ap (λ (n : ObjName). n.number) c.name.ensures) same
     c.is_ordered.ensures.uploads of)

@@ -27,7 +27,8 @@ mount_again-requires-clause-may c =
     let before = (goal.at.mount_again-requires-clause-may c).In_ok-land in
     let known = c.self.invariant in (
       known.0.geometry,
-      may_mount_again (inside before) known.0 c.args.fates.now c.args.letters.now c.land.new.store c.in_ok-disk.disk known.1 (was before),
+      may_mount_again (inside before) known.0 c.args.fates.now c.args.letters.now c.land.new.store c.in_ok-disk.disk known.1
+          (was before),
     )
 
 pub go_on-requires-clause-shows : goal.go_on-requires-clause-shows
@@ -36,7 +37,8 @@ go_on-requires-clause-shows c =
     let known = c.self.invariant in
     let e = c.in_ok-mounted.ensures in (
       _,
-      (rig_again (inside before) known.0 c.args.fates.now c.args.letters.now c.land.new.store c.mount_again.new.store c.in_ok-disk.disk
+      (rig_again (inside before) known.0 c.args.fates.now c.args.letters.now c.land.new.store c.mount_again.new.store
+          c.in_ok-disk.disk
           c.in_ok-mounted.mounted known.1 (was before) e.ok e.mounts e.number).1,
     )
 
@@ -44,7 +46,10 @@ pub returns-clause-ok : goal.returns-clause-ok
 returns-clause-ok c = λ plain h.
     let before = (goal.at.returns-clause-ok c).In_ok-land in
     let e = c.in_ok-mounted.ensures in
-    told_by (inside before) c.args.letters.now plain _ c.in_ok-mounted.mounted c.mount_again.new.store c.go_on.result.1 c.go_on.result.0
+    told_by (inside before) c.args.letters.now plain _ c.in_ok-mounted.mounted c.mount_again.new.store c.go_on.result.1
+    c.go_on.result.0
     c.go_on.ensures.bench c.go_on.ensures.answer
-    (rig_again (inside before) plain c.args.fates.now c.args.letters.now c.land.new.store c.mount_again.new.store c.in_ok-disk.disk
-    c.in_ok-mounted.mounted (subst (λ (r : RigState). ShowsPlain r plain) (sym c.self.view_is) h) (was before) e.ok e.mounts e.number)
+    (rig_again (inside before) plain c.args.fates.now c.args.letters.now c.land.new.store c.mount_again.new.store
+    c.in_ok-disk.disk
+    c.in_ok-mounted.mounted (subst (λ (r : RigState). ShowsPlain r plain) (sym c.self.view_is) h) (was before) e.ok
+    e.mounts e.number)

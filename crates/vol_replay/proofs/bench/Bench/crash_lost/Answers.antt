@@ -35,8 +35,10 @@ go_on-requires-clause-shows c =
     let known = c.self.invariant in
     let e = c.in_ok-mounted.ensures in (
       _,
-      (rig_anew rig known.0 c.args.letters.now c.land.new.store c.mount_anew.new.store c.in_ok-mounted.mounted (log_of c.in_ok-disk.disk.size) known.1
-          (was before) (log_anew rig known.0 c.geometry-log.result (log_of c.in_ok-disk.disk.size) known.1 c.geometry-log.ensures (sectors before)) e.ok
+      (rig_anew rig known.0 c.args.letters.now c.land.new.store c.mount_anew.new.store c.in_ok-mounted.mounted
+          (log_of c.in_ok-disk.disk.size) known.1
+          (was before) (log_anew rig known.0 c.geometry-log.result (log_of c.in_ok-disk.disk.size) known.1 c.geometry-log.ensures
+          (sectors before)) e.ok
           e.mounts e.number).1,
     )
 
@@ -46,8 +48,11 @@ returns-clause-ok c = λ plain h.
     let rig : RigState = inside before in
     let shown = subst (λ (r : RigState). ShowsPlain r plain) (sym c.self.view_is) h in
     let e = c.in_ok-mounted.ensures in
-    told_by rig c.args.letters.now plain _ c.in_ok-mounted.mounted c.mount_anew.new.store c.go_on.result.1 c.go_on.result.0 c.go_on.ensures.bench
+    told_by rig c.args.letters.now plain _ c.in_ok-mounted.mounted c.mount_anew.new.store c.go_on.result.1 c.go_on.result.0
+    c.go_on.ensures.bench
     c.go_on.ensures.answer
-    (rig_anew rig plain c.args.letters.now c.land.new.store c.mount_anew.new.store c.in_ok-mounted.mounted (log_of c.in_ok-disk.disk.size) shown
-    (was before) (log_anew rig plain c.geometry-log.result (log_of c.in_ok-disk.disk.size) shown c.geometry-log.ensures (sectors before)) e.ok e.mounts
+    (rig_anew rig plain c.args.letters.now c.land.new.store c.mount_anew.new.store c.in_ok-mounted.mounted
+    (log_of c.in_ok-disk.disk.size) shown
+    (was before) (log_anew rig plain c.geometry-log.result (log_of c.in_ok-disk.disk.size) shown c.geometry-log.ensures
+    (sectors before)) e.ok e.mounts
     e.number)

@@ -45,7 +45,8 @@ invariant_of-self-2 c =
     let taken = taken_job n c.in_ok-job.field-0 c.in-Some.job inside.puts.list c.in-Some.is c.in_ok-job.ensures.ok in (
       plain_after (events.JobFailed (Some n)) known.0,
       (failed_answers n old c.step.new.self c.in-Some.job c.step.result c.fail.new.self.list
-          (λ plain h. c.requires.out plain (subst (λ r. ShowsPlain r plain) c.self.view_is h)) taken.0 taken.1 c.in_ok-job.ensures.list of known.0 known.1).1,
+          (λ plain h. c.requires.out plain (subst (λ r. ShowsPlain r plain) c.self.view_is h)) taken.0 taken.1
+          c.in_ok-job.ensures.list of known.0 known.1).1,
     )
 
 pub returns-clause-ok : goal.returns-clause-ok
@@ -65,4 +66,5 @@ returns-clause-ok c =
     let taken = taken_job n c.in_ok-job.field-0 c.in-Some.job inside.puts.list c.in-Some.is c.in_ok-job.ensures.ok in
     subst (λ r. FailsPut n (answers.Failed n) r now) c.self.view_is
     (failed_answers n old c.step.new.self c.in-Some.job c.step.result c.fail.new.self.list
-    (λ plain h. c.requires.out plain (subst (λ r. ShowsPlain r plain) c.self.view_is h)) taken.0 taken.1 c.in_ok-job.ensures.list of)
+    (λ plain h. c.requires.out plain (subst (λ r. ShowsPlain r plain) c.self.view_is h)) taken.0 taken.1
+    c.in_ok-job.ensures.list of)

@@ -39,7 +39,8 @@ invariant_of-self-2 c =
       number = taken.0;
       job_out = taken.1;
     } in
-    done_shows n old c.step.new.self c.put_object.new.store job receipt c.step.result c.finish.new.self.list c.self.invariant.0 made
+    done_shows n old c.step.new.self c.put_object.new.store job receipt c.step.result c.finish.new.self.list
+    c.self.invariant.0 made
     c.finish.ensures.list of c.self.invariant.1
 
 pub returns-clause-ok : goal.returns-clause-ok
@@ -67,7 +68,9 @@ returns-clause-ok c =
       number = taken.0;
       job_out = taken.1;
     } in
-    let now : RigState = rig_of c.step.new.self c.put_object.new.store c.finish.new.self.list inside.is_stopping (inside.lines + 1) in
+    let now : RigState = rig_of c.step.new.self c.put_object.new.store c.finish.new.self.list inside.is_stopping
+    (inside.lines + 1) in
     subst (λ r. IfOk c.answer_of.result (λ answer. AnswersEvent (events.JobDone (Some n)) answer r now)) c.self.view_is
-    (done_answers n old c.step.new.self c.put_object.new.store job receipt c.step.result c.finish.new.self.list c.answer_of.result made
+    (done_answers n old c.step.new.self c.put_object.new.store job receipt c.step.result c.finish.new.self.list
+    c.answer_of.result made
     c.finish.ensures.list of c.answer_of.ensures)

@@ -6,4 +6,5 @@ use Rattle.vol_replay.proofs.bench.Bench.is_out.Goals as goal
 
 pub returns : goal.returns
 returns c = λ plain h.
-    c.is_out.ensures ∙ ap (λ (r : RigState). is_put_out (put_of c.args.number r.puts)) c.self.view_is ∙ out_listed c.args.number c.args.self.now plain h
+    c.is_out.ensures ∙ ap (λ (r : RigState). is_put_out (put_of c.args.number r.puts)) c.self.view_is
+    ∙ out_listed c.args.number c.args.self.now plain h

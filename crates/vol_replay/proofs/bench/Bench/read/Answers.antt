@@ -41,7 +41,8 @@ returns-in_default c =
     let now : RigState = rig_of c.step.new.self inside.store inside.puts.list inside.is_stopping (inside.lines + 1) in
     record {
       ok = subst (λ r. IfOk c.answer_of.result (λ answer. AnswersRead c.args.lba c.args.sectors answer r now)) c.self.view_is
-          (read_refused c.args.lba c.args.sectors old c.step.new.self c.step.result c.answer_of.result c.in_default.not-Planned of c.answer_of.ensures);
+          (read_refused c.args.lba c.args.sectors old c.step.new.self c.step.result c.answer_of.result c.in_default.not-Planned of
+          c.answer_of.ensures);
       lines = (let same = ap (λ (r : RigState). r.lines) c.self.view_is in omega (arith, same));
     }
 
@@ -80,9 +81,14 @@ invariant_of-self-2 c =
       bytes = c.step-2.ensures.bytes;
       commits = c.step-2.ensures.numbers.commits;
     } in
-    let store : c.fetch.new.store ≡ inside.store = ap (λ (s : StoreState). unwrap_or s.objects inside.store) c.fetch.ensures.unchanged in
-    let shown = read_shows c.args.lba c.args.sectors old c.step.new.self c.step-2.new.self c.self.invariant.0 plan c.step-2.result c.self.invariant.1 of back in
-    (shown.0, subst (λ objects. ShowsPlain (rig_of c.step-2.new.self objects inside.puts.list inside.is_stopping (inside.lines + 1)) shown.0) (sym store) shown.1)
+    let store : c.fetch.new.store ≡ inside.store =
+    ap (λ (s : StoreState). unwrap_or s.objects inside.store) c.fetch.ensures.unchanged in
+    let shown = read_shows c.args.lba c.args.sectors old c.step.new.self c.step-2.new.self c.self.invariant.0 plan c.step-2.result
+    c.self.invariant.1 of back in (
+      shown.0,
+      subst (λ objects. ShowsPlain (rig_of c.step-2.new.self objects inside.puts.list inside.is_stopping
+          (inside.lines + 1)) shown.0) (sym store) shown.1,
+    )
 
 pub returns-clause-ok : goal.returns-clause-ok
 returns-clause-ok c =
@@ -105,12 +111,16 @@ returns-clause-ok c =
       bytes = c.step-2.ensures.bytes;
       commits = c.step-2.ensures.numbers.commits;
     } in
-    let store : c.fetch.new.store ≡ inside.store = ap (λ (s : StoreState). unwrap_or s.objects inside.store) c.fetch.ensures.unchanged in
+    let store : c.fetch.new.store ≡ inside.store =
+    ap (λ (s : StoreState). unwrap_or s.objects inside.store) c.fetch.ensures.unchanged in
     let held : Vec ℕ = with_items c.in_ok-bytes.bytes c.fetch.new.buf in
-    let gives = fetched c.fetch.result plan c.fetch.new.buf held.items c.fetch.ensures.count (c.fetch.ensures.one (λ receipt. refl)) (all_of c.in_ok-bytes.bytes.len c.fetch.new.buf _ (omega (arith, c.fetch.auto.buf, c.as_mut_slice.ensures.len))) in
+    let gives = fetched c.fetch.result plan c.fetch.new.buf held.items c.fetch.ensures.count
+    (c.fetch.ensures.one (λ receipt. refl))
+    (all_of c.in_ok-bytes.bytes.len c.fetch.new.buf _ (omega (arith, c.fetch.auto.buf, c.as_mut_slice.ensures.len))) in
     let shown : AnswersRead c.args.lba c.args.sectors (answers.Sectors held) old
     (rig_of c.step-2.new.self inside.store inside.puts.list inside.is_stopping (inside.lines + 1)) =
-    read_planned c.args.lba c.args.sectors old c.step.new.self c.step-2.new.self plan c.step-2.result held c.is_ordered.ensures.on_disk of back gives in
+    read_planned c.args.lba c.args.sectors old c.step.new.self c.step-2.new.self plan c.step-2.result held
+    c.is_ordered.ensures.on_disk of back gives in
     subst (λ objects. AnswersRead c.args.lba c.args.sectors (answers.Sectors held) c.args.self.now
     (rig_of c.step-2.new.self objects inside.puts.list inside.is_stopping (inside.lines + 1))) (sym store)
     (subst (λ r. AnswersRead c.args.lba c.args.sectors (answers.Sectors held) r

@@ -4,4 +4,5 @@ use Rattle.vol_replay.proofs.Rooms.{answers_event}
 use Rattle.vol_replay.proofs.bench.Bench.seal.Goals as goal
 
 pub returns-clause-ok : goal.returns-clause-ok
-returns-clause-ok c = answers_event Seal events.Seal c.args.self.now c.answer.new.self c.answer.result (λ other asks. asks) c.answer.ensures.ok
+returns-clause-ok c = answers_event Seal events.Seal c.args.self.now c.answer.new.self c.answer.result (λ other asks. asks)
+    c.answer.ensures.ok

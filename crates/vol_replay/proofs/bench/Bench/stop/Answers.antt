@@ -15,10 +15,12 @@ invariant_of-self c =
     let volume : SteppedVolume = c.with_disk.new.self in
     let plain : PlainState = c.self.invariant.0 in
     let shown : ShowsPlain old plain = c.self.invariant.1 in
-    let budget : volume.volume.log.commits.disk.budget ≡ with_new_fuse (Some c.args.calls) inside.volume.volume.log.commits.disk.budget = search rules in (
+    let budget : volume.volume.log.commits.disk.budget ≡ with_new_fuse (Some c.args.calls)
+    inside.volume.volume.log.commits.disk.budget = search rules in (
       stopping_after_calls c.args.calls plain,
       stopping_rig c.args.calls old volume plain shown
-          (c.requires.once plain (subst (λ (r : RigState). ShowsPlain r plain) c.self.view_is shown)) c.with_disk.ensures.rest (c.with_disk.ensures.shows plain) budget,
+          (c.requires.once plain (subst (λ (r : RigState). ShowsPlain r plain) c.self.view_is shown)) c.with_disk.ensures.rest
+          (c.with_disk.ensures.shows plain) budget,
     )
 
 pub returns-clause-stops : goal.returns-clause-stops
@@ -26,6 +28,7 @@ returns-clause-stops c = λ plain h.
     let inside = c.self.inside in
     let old : RigState = rig_of inside.volume inside.store inside.puts.list inside.is_stopping inside.lines in
     let volume : SteppedVolume = c.with_disk.new.self in
-    let budget : volume.volume.log.commits.disk.budget ≡ with_new_fuse (Some c.args.calls) inside.volume.volume.log.commits.disk.budget = search rules in
+    let budget : volume.volume.log.commits.disk.budget ≡ with_new_fuse (Some c.args.calls)
+    inside.volume.volume.log.commits.disk.budget = search rules in
     stopping_rig c.args.calls old volume plain (subst (λ (r : RigState). ShowsPlain r plain) (sym c.self.view_is) h)
     (c.requires.once plain h) c.with_disk.ensures.rest (c.with_disk.ensures.shows plain) budget

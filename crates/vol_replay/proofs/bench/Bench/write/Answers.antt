@@ -13,10 +13,13 @@ returns-then-not-may_transfer-clause-ok c =
     let inside = c.self.inside in
     let old : RigState = rig_of inside.volume inside.store inside.puts.list inside.is_stopping inside.lines in
     let now : RigState = rig_of inside.volume inside.store inside.puts.list inside.is_stopping (inside.lines + 1) in
-    subst (λ r. AnswersEvent (events.Write c.args.lba (replicate (512 * c.args.sectors) c.args.byte)) answers.Range r now) c.self.view_is
-    (write_range old c.args.lba c.args.sectors c.args.byte c.geometry.result c.geometry.ensures (sym c.if-not-may_transfer.ensures))
+    subst (λ r. AnswersEvent (events.Write c.args.lba (replicate (512 * c.args.sectors) c.args.byte)) answers.Range r now)
+    c.self.view_is
+    (write_range old c.args.lba c.args.sectors c.args.byte c.geometry.result c.geometry.ensures
+    (sym c.if-not-may_transfer.ensures))
 
 pub returns-clause-ok : goal.returns-clause-ok
 returns-clause-ok c =
-    answers_event (Write c.args.lba c.in_ok-body.body) (events.Write c.args.lba (replicate (512 * c.args.sectors) c.args.byte)) c.args.self.now c.answer.new.self c.answer.result
+    answers_event (Write c.args.lba c.in_ok-body.body) (events.Write c.args.lba (replicate (512 * c.args.sectors) c.args.byte))
+    c.args.self.now c.answer.new.self c.answer.result
     (λ other asks. asks ∙ ap (events.Write c.args.lba) c.in_ok-body.ensures) c.answer.ensures.ok

@@ -19,7 +19,8 @@ keep-requires-clause-place c =
     elim c.if-is_at.branch [
       | then-is_at w ↦
           let within = (begun_again_at n place c.args.job.bytes puts at (sym stands ∙ w.if-is_at.true)).0 in
-          let list : length c.if-is_at.self.list ≡ length w.take.new.self.list = ap (λ (p : PutsState). length p.list) w.self-is in
+          let list : length c.if-is_at.self.list ≡ length w.take.new.self.list =
+          ap (λ (p : PutsState). length p.list) w.self-is in
           omega (arith, within, list, ap length w.take.ensures.list, length-remove puts place within)
       | else-is_at w ↦
           let list : length c.if-is_at.self.list ≡ length puts = ap (λ (p : PutsState). length p.list) w.self-is in
@@ -40,8 +41,10 @@ returns c =
     elim c.if-is_at.branch [
       | then-is_at w ↦
           let list : c.if-is_at.self.list ≡ remove puts place = ap (λ (p : PutsState). p.list) w.self-is ∙ w.take.ensures.list in
-          kept ∙ ap (λ xs. insert xs place (out_put n bytes)) list ∙ (begun_again_at n place bytes puts at (sym stands ∙ w.if-is_at.true)).1
+          kept ∙ ap (λ xs. insert xs place (out_put n bytes)) list
+          ∙ (begun_again_at n place bytes puts at (sym stands ∙ w.if-is_at.true)).1
       | else-is_at w ↦
           let list : c.if-is_at.self.list ≡ puts = ap (λ (p : PutsState). p.list) w.self-is in
-          kept ∙ ap (λ xs. insert xs place (out_put n bytes)) list ∙ (begun_first_at n place bytes puts at (sym stands ∙ w.if-is_at.false)).1
+          kept ∙ ap (λ xs. insert xs place (out_put n bytes)) list
+          ∙ (begun_first_at n place bytes puts at (sym stands ∙ w.if-is_at.false)).1
     ]

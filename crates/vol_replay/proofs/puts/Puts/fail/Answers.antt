@@ -18,6 +18,8 @@ pub returns-clause-list : goal.returns-clause-list
 returns-clause-list c =
     let puts : List PutView = c.args.self.now.list in
     let place : ℕ = c.place_of-place.result in
-    c.keep.ensures ∙ ap (λ xs. insert xs place c.failed.result) c.take-put.ensures.list ∙ ap (λ x. insert (remove puts place) place x) c.failed.ensures
-    ∙ ap (λ k. insert (remove puts k) k (record { number = c.args.number; bytes = c.in_ok-object.object; is_out = _ })) c.place_of-place.ensures
+    c.keep.ensures ∙ ap (λ xs. insert xs place c.failed.result) c.take-put.ensures.list
+    ∙ ap (λ x. insert (remove puts place) place x) c.failed.ensures
+    ∙ ap (λ k. insert (remove puts k) k (record { number = c.args.number; bytes = c.in_ok-object.object; is_out = _ }))
+    c.place_of-place.ensures
     ∙ failed_there c.args.number c.in_ok-object.object puts c.in_ok-object.ensures

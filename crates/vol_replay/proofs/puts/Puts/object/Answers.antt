@@ -7,7 +7,8 @@ use Rattle.vol_replay.proofs.puts.Puts.object.Goals as goal
 pub index-requires : goal.index-requires
 index-requires c =
     let s = stands_out c.args.number c.args.self.now.list c.requires in
-    let same : length c.self.inside.list.items ≡ length c.args.self.now.list = ap (λ (p : PutsState). length p.list) c.self.view_is in
+    let same : length c.self.inside.list.items ≡ length c.args.self.now.list =
+    ap (λ (p : PutsState). length p.list) c.self.view_is in
     omega (arith, same, s.within, c.place_of-place.ensures, c.self.inside.list.ok.0)
 
 pub returns : goal.returns

@@ -4,4 +4,5 @@ use Rattle.vol_replay.proofs.rig.Rig.stands.Goals as goal
 
 pub returns : goal.returns
 returns c = λ plain.
-    subst (λ (r : RigState). (shows : ShowsPlain r plain) → IsKeptByRig shows.epoch r plain) c.self.view_is (c.stands.ensures plain)
+    subst (λ (r : RigState). (shows : ShowsPlain r plain) → IsKeptByRig shows.epoch r plain) c.self.view_is
+    (c.stands.ensures plain)
