@@ -39,8 +39,7 @@ pub fn tell_all(rt: &HostRuntime) -> Result<(), TestError> {
         "Names of objects: the volume's uuid in its bytes, the kind, the number, and the name printed again",
     )?;
     for text in NAMES {
-        let name = ObjName::parse(text).ok_or(TestError::Refused)?;
-        tell_name(rt, &name)?;
+        tell_name(rt, text)?;
     }
     head(rt, "Texts, and whether they are no names")?;
     for text in OTHERS {
@@ -49,15 +48,16 @@ pub fn tell_all(rt: &HostRuntime) -> Result<(), TestError> {
     Ok(())
 }
 
-fn tell_name(rt: &HostRuntime, name: &ObjName) -> Result<(), TestError> {
+fn tell_name(rt: &HostRuntime, text: &str) -> Result<(), TestError> {
+    let name = ObjName::parse(text).ok_or(TestError::Refused)?;
     let uuid = hex::encode(rt.alloc(), name.uuid.as_bytes().as_slice())?;
-    let text = name.print(rt.alloc())?;
+    let printed = name.print(rt.alloc())?;
     println!(rt;
         "  {} {:?} {} {}",
         uuid.as_str(),
         name.kind,
         name.number,
-        text.as_str()
+        printed.as_str()
     )?;
     Ok(())
 }
