@@ -8,14 +8,12 @@
 mod creating;
 mod error;
 mod help;
-mod mem_world;
 mod program;
 mod quiet_world;
 mod real_world;
 mod refusal;
 mod report;
 mod serving;
-mod shared;
 mod world;
 
 use help::answer_help;
