@@ -18,6 +18,13 @@ def check(name, holds, *what):
         print(f"{name}: no", *what)
 
 
+def create(program, folder, store, cache, sectors, log, max_write, batch):
+    words = ["create", "--store", f"{folder}/{store}", "--cache", f"{folder}/{cache}", "--uuid", UUID]
+    words += ["--sectors", str(sectors), "--log", str(log), "--max-write", str(max_write), "--batch", str(batch)]
+    done = subprocess.run([program, *words], capture_output=True, text=True)
+    check("the creation", (done.returncode, done.stdout, done.stderr) == (0, f"created {UUID}\n", ""), done)
+
+
 class Client:
     """A client of NBD on a Unix socket, which enters the export and makes one request after the other."""
 
