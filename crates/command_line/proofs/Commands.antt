@@ -34,7 +34,8 @@ has_helped name rules old new text plain arg rule has adds local is helped =
     has_one_more name rules old new arg rule has adds (ap (λ (a : Arg). a.global) helped ∙ local) (ap rule_of helped ∙ is)
 
 -- and has a default too
-pub has_defaulted : (name : Text) (rules : List Rule) (old new : Command) (text value : Bor Text) (plain helped arg : Arg) (option : Text)
+pub has_defaulted : (name : Text) (rules : List Rule) (old new : Command) (text value : Bor Text) (plain helped arg : Arg)
+    (option : Text)
     → HasRules name rules old → AddsArg old arg new → plain.global ≡ false → rule_of plain ≡ rule_named option
     → helped ≡ record plain { help = Some text } → arg ≡ record helped { default_vals = One value }
     → HasRules name (rules ++ rule_for (optional option (Some value.now)) ∷ []) new

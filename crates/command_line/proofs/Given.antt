@@ -1,5 +1,6 @@
 -- Words that give a command its options are taken, and clap finds the values that they give.
-use Rattle.std.proofs.Common.{◌≡◌, ◌⊎◌, ◌∙◌, Bool, true, false, inl, inr, List, [], ◌∷◌, ◌++◌, Some, None, ap, append-nil, append_assoc, codes, refl, subst, sym}
+use Rattle.std.proofs.Common.{◌≡◌, ◌⊎◌, ◌∙◌, Bool, true, false, inl, inr, List, [], ◌∷◌, ◌++◌, Some, None, ap, append-nil}
+use Rattle.std.proofs.Common.{append_assoc, codes, refl, subst, sym}
 use Rattle.std.specs.Prelude.{fold}
 use Rattle.std.specs.List.{All, flat_map, list_all}
 use Rattle.std.specs.Str.{bytes_eq}
@@ -7,12 +8,15 @@ use Rattle.std.proofs.lemmas.List.Elements.{All-head, All-tail}
 use Rattle.std.proofs.lemmas.Slice.Eq.{bytes_eq-Decides}
 use Rattle.clap.specs.Walk.{Held, Text, Walk, arg_by_long, first_of, rows_after, walk_from, walked, with_default}
 use Rattle.clap.specs.Faults.{walk_fault}
-use Rattle.command_line.specs.Options.{AreOptionsOf, EachOnce, Given, IsOptionOf, MayEnd, alone, apart, has_option, joined, kind_named, name_in, option_name, option_words, value_of}
+use Rattle.command_line.specs.Options.{AreOptionsOf, EachOnce, Given, IsOptionOf, MayEnd, alone, apart, has_option, joined}
+use Rattle.command_line.specs.Options.{kind_named, name_in, option_name, option_words, value_of}
 use Rattle.command_line.proofs.Leaves.{end_faults, ends_as, leaf_faults, once_before}
 use Rattle.command_line.proofs.Rows.{value_at_end}
 use Rattle.command_line.proofs.Rules.{Found, Known, a_flag, an_option, built_flag, found_by_long, help, nothing, rules_for}
-use Rattle.command_line.proofs.Turns.{ComesTo, Names, Turns, held_for, leaf_for, nothing_comes, turn_flag, turn_joined, turn_name, turn_value, value_comes}
-use Rattle.command_line.proofs.Words.{IsName, dashes, is_name, joined_no_dashes, long_alone, long_joined, name_from_test, no_dashes, stands_plain}
+use Rattle.command_line.proofs.Turns.{ComesTo, Names, Turns, held_for, leaf_for, nothing_comes, turn_flag, turn_joined, turn_name}
+use Rattle.command_line.proofs.Turns.{turn_value, value_comes}
+use Rattle.command_line.proofs.Words.{IsName, dashes, is_name, joined_no_dashes, long_alone, long_joined, name_from_test}
+use Rattle.command_line.proofs.Words.{no_dashes, stands_plain}
 
 -- each option of the command has a name
 abbrev pub HasNames : Known → Type 0
@@ -26,7 +30,8 @@ has_names (option ∷ rest) all name valued named =
     go : (well same : Bool) → is_name (option_name option) ≡ well → bytes_eq (option_name option) name ≡ same
         → (list_all (λ other. is_name (option_name other)) rest ≡ true → HasNames rest) → IsName name
     go false same e f more = let bad : false ≡ true = rw e at all in cc
-    go true true e f more = subst IsName ((bytes_eq-Decides (option_name option) name).0 f) (name_from_test (option_name option) e)
+    go true true e f more = subst IsName ((bytes_eq-Decides (option_name option) name).0 f)
+        (name_from_test (option_name option) e)
     go true false e f more = more (rw e at all) name valued (rw f at named)
 
 names_of : (known : Known) (name : Text) → kind_named known name ≡ Some true → Names known name
@@ -107,7 +112,8 @@ module _ (command : Text) (known : Known) (well_named : HasNames known) where
       walks_on _ _ _ words options turns (next (held_for (before ++ alone name ∷ []) None)
       (nothing_comes known (before ++ alone name ∷ [])))
 
-  walks : (more : List Given) (before : List Given) (h : Held) (ending : List Text) → ComesTo known h before → All (IsOptionOf known) more
+  walks : (more : List Given) (before : List Given) (h : Held) (ending : List Text) → ComesTo known h before
+      → All (IsOptionOf known) more
       → EachOnce (before ++ more) → IsEnding ending → Walks (walk_from h) (flat_map option_words more ++ ending) (before ++ more)
   walks [] before h ending comes each once ends =
       subst (λ (options : List Given). Walks (walk_from h) ending options) (sym (append-nil before))
@@ -124,24 +130,29 @@ module _ (command : Text) (known : Known) (well_named : HasNames known) where
       (walks_option h before given (flat_map option_words more ++ ending) (before ++ given ∷ more) comes
       (All-head (IsOptionOf known) given more each) (once_before before given more once) next)
 
-  walks_all : (options : List Given) (words : List Text) → AreOptionsOf known options → MayEnd (flat_map option_words options) words
+  walks_all : (options : List Given) (words : List Text) → AreOptionsOf known options
+      → MayEnd (flat_map option_words options) words
       → Walks (walk_from (held_for [] None)) words options
   walks_all options words are (inl whole) =
-      subst (λ (ws : List Text). Walks (walk_from (held_for [] None)) ws options) (append-nil (flat_map option_words options) ∙ sym whole)
+      subst (λ (ws : List Text). Walks (walk_from (held_for [] None)) ws options) (append-nil (flat_map option_words options)
+      ∙ sym whole)
       (walks options [] (held_for [] None) [] (nothing_comes known []) are.each are.once (inl refl))
   walks_all options words are (inr whole) =
       subst (λ (ws : List Text). Walks (walk_from (held_for [] None)) ws options) (sym whole)
       (walks options [] (held_for [] None) (dashes ∷ []) (nothing_comes known []) are.each are.once (inr refl))
 
-  pub given_is_taken : (options : List Given) (words : List Text) → AreOptionsOf known options → MayEnd (flat_map option_words options) words
+  pub given_is_taken : (options : List Given) (words : List Text) → AreOptionsOf known options
+      → MayEnd (flat_map option_words options) words
       → leaf_faults command known (walk_from (held_for [] None)) words ≡ []
   unfolding walk_fault
   given_is_taken options words are end =
       let all = walks_all options words are end in
-      let last = end_faults command known (fold (walked (rules_for known) []) (walk_from (held_for [] None)) words) options all.comes in
+      let last = end_faults command known (fold (walked (rules_for known) []) (walk_from (held_for [] None)) words) options
+      all.comes in
       rw all.quiet (last ∙ ap ends_as are.required)
 
-  pub given_is_found : (options : List Given) (words : List Text) → AreOptionsOf known options → MayEnd (flat_map option_words options) words
+  pub given_is_found : (options : List Given) (words : List Text) → AreOptionsOf known options
+      → MayEnd (flat_map option_words options) words
       → (id : Text) → first_of id (rows_after (rules_for known) [] words) ≡ value_of known options id
   given_is_found options words are end id =
       let all = walks_all options words are end in

@@ -1,5 +1,6 @@
 -- The words that the options of a command make, and how clap refuses all others.
-use Rattle.std.proofs.Common.{◌≡◌, ◌⊎◌, ◌∙◌, ◌||◌, ℕ, Bool, true, false, not, inl, inr, List, [], ◌∷◌, ◌++◌, Option, Some, None, ap, ap₂, append_assoc, length, refl, subst, sym}
+use Rattle.std.proofs.Common.{◌≡◌, ◌⊎◌, ◌∙◌, ◌||◌, ℕ, Bool, true, false, not, inl, inr, List, [], ◌∷◌, ◌++◌, Option, Some, None}
+use Rattle.std.proofs.Common.{ap, ap₂, append_assoc, length, refl, subst, sym}
 use Rattle.std.specs.Prelude.{IfSome, if◌then◌else◌, slice_get}
 use Rattle.std.specs.List.{All, flat_map}
 use Rattle.std.specs.Str.{bytes_eq, chars}
@@ -7,15 +8,19 @@ use Rattle.std.proofs.lemmas.List.Elements.{All-cons}
 use Rattle.std.proofs.lemmas.List.Folds.{list_any-append}
 use Rattle.std.proofs.lemmas.Slice.Eq.{bytes_eq-Decides}
 use Rattle.clap.specs.Lexer.{long_of, short_of}
-use Rattle.clap.specs.Walk.{Held, Rule, Text, Waiting, Walk, arg_by_long, arg_by_short, idle, option, positional, settled, subcommand_met, walk_from}
+use Rattle.clap.specs.Walk.{Held, Rule, Text, Waiting, Walk, arg_by_long, arg_by_short, idle, option, positional, settled}
+use Rattle.clap.specs.Walk.{subcommand_met, walk_from}
 use Rattle.clap.specs.Kinds.{Kinds, or_else}
 use Rattle.clap.specs.Faults.{flags_fault, long_fault, settle_fault, short_fault, turn_fault, walk_fault}
-use Rattle.clap.specs.declared.error.kind.ErrorKind.TheVariants.{DisplayHelp, MissingRequiredArgument, TooManyValues, UnknownArgument}
-use Rattle.command_line.specs.Options.{CommandOption, EachOnce, Given, IsOptionOf, MayEnd, has_option, has_required, name_in, option_words}
+use Rattle.clap.specs.declared.error.kind.ErrorKind.TheVariants.{DisplayHelp, MissingRequiredArgument, TooManyValues}
+use Rattle.clap.specs.declared.error.kind.ErrorKind.TheVariants.{UnknownArgument}
+use Rattle.command_line.specs.Options.{CommandOption, EachOnce, Given, IsOptionOf, MayEnd, has_option, has_required, name_in}
+use Rattle.command_line.specs.Options.{option_words}
 use Rattle.command_line.proofs.Levels.{faults_from}
 use Rattle.command_line.proofs.Refusals.{IsRefusal, refusal_first}
 use Rattle.command_line.proofs.Rows.{given_at_end, lacks_required, rows_at_end}
-use Rattle.command_line.proofs.Rules.{Known, built_flag, built_help, built_value, found_by_short, no_defaults_fault, nothing_by_index, rows_for, rules_for}
+use Rattle.command_line.proofs.Rules.{Known, built_flag, built_help, built_value, found_by_short, no_defaults_fault}
+use Rattle.command_line.proofs.Rules.{nothing_by_index, rows_for, rules_for}
 use Rattle.command_line.proofs.Turns.{ComesTo, held_for, leaf_for, no_flag_fault, no_flag_met}
 use Rattle.command_line.proofs.Words.{IsPlain, dashes}
 
@@ -72,7 +77,8 @@ module _ (command : Text) (known : Known) (before : List Given) (pending : Optio
   waits waiting = record (walk_from h) { waiting = waiting }
 
   -- a long name that is no option's
-  pub no_option_refused : (found : Option Rule) (value : Option Text) → MayRefuse settling → (found ≡ None) ⊎ (found ≡ Some built_help)
+  pub no_option_refused : (found : Option Rule) (value : Option Text) → MayRefuse settling → (found ≡ None)
+      ⊎ (found ≡ Some built_help)
       → IsRefusal (long_fault (rules_for known) false found value h)
   no_option_refused found value settles (inl none) = rw none (inl (UnknownArgument, refl))
   no_option_refused found None settles (inr is) = rw is (after_first settling _ settles (inl (DisplayHelp, refl)))
@@ -96,16 +102,19 @@ module _ (command : Text) (known : Known) (before : List Given) (pending : Optio
       → IsRefusal (long_fault (rules_for known) false found (Some value) h)
   joined_flag_refused name found value is = rw is (inl (TooManyValues, refl))
 
-  short_refused : (rest : Text) (next : Held → Kinds) (found : Option Rule) → MayRefuse settling → IfSome found (λ rule. rule ≡ built_help)
+  short_refused : (rest : Text) (next : Held → Kinds) (found : Option Rule) → MayRefuse settling
+      → IfSome found (λ rule. rule ≡ built_help)
       → IsRefusal (short_fault (rules_for known) false found rest h next)
   short_refused rest next None settles is = inl (UnknownArgument, refl)
-  short_refused rest next (Some rule) settles is = rw is (refusal_first _ _ (after_first settling _ settles (inl (DisplayHelp, refl))))
+  short_refused rest next (Some rule) settles is =
+      rw is (refusal_first _ _ (after_first settling _ settles (inl (DisplayHelp, refl))))
 
   flags_refused : (flags : Text) (x : ℕ) → MayRefuse settling → slice_get (chars flags) 0 ≡ Some x
       → IsRefusal (flags_fault (rules_for known) false (length flags) flags 0 h)
   unfolding flags_fault chars
   flags_refused [] x settles first = let bad : None ≡ Some x = first in cc
-  flags_refused (y ∷ ys) x settles first = rw first (short_refused _ _ (arg_by_short (rules_for known) x) settles (found_by_short known x))
+  flags_refused (y ∷ ys) x settles first =
+      rw first (short_refused _ _ (arg_by_short (rules_for known) x) settles (found_by_short known x))
 
   pub short_word_refused : (waiting : Waiting) (word flags : Text) (x : ℕ) → MayRefuse settling → bytes_eq word dashes ≡ false
       → long_of word ≡ None
@@ -118,7 +127,8 @@ module _ (command : Text) (known : Known) (before : List Given) (pending : Optio
       → long_of word ≡ Some (name, value)
       → IsRefusal (long_fault (rules_for known) false (arg_by_long (rules_for known) name) value h)
       → IsRefusal (turn_fault (leaf_for command known) [] (waits waiting) word)
-  long_word_refused waiting word name value other is refused = rw (no_subcommand waiting word, other, is) (refusal_first _ _ refused)
+  long_word_refused waiting word name value other is refused =
+      rw (no_subcommand waiting word, other, is) (refusal_first _ _ refused)
 
   -- a plain word, where no option waits for a value
   pub stray_refused : (word : Text) → IsPlain word → IsRefusal (turn_fault (leaf_for command known) [] (walk_from h) word)

@@ -24,7 +24,8 @@ unfolding walk_fault
 next_refused s names w word rest has_subcommand below refused = refusal_first _ _ (refusal_first _ _ refused)
 
 -- the next word passes
-pub next_passes : (s : Shape) (names : Names) (w to : Walk) (word : Text) (rest : List Text) (has_subcommand : Bool) (below : Kinds)
+pub next_passes : (s : Shape) (names : Names) (w to : Walk) (word : Text) (rest : List Text) (has_subcommand : Bool)
+    (below : Kinds)
     → turn_fault s names w word ≡ [] → walked s.rules names w word ≡ to
     → faults_from s names w (word ∷ rest) has_subcommand below ≡ faults_from s names to rest has_subcommand below
 unfolding walk_fault
@@ -39,13 +40,15 @@ abbrev pub IsByFirst : (Kinds → Type 0) → Type 0
 IsByFirst P = (first next : Kinds) → P first → P (or_else first next)
 
 -- the subcommand refuses its words
-pub below_holds : (P : Kinds → Type 0) (s : Shape) (names : Names) (w : Walk) (words : List Text) (has_subcommand : Bool) (below : Kinds)
+pub below_holds : (P : Kinds → Type 0) (s : Shape) (names : Names) (w : Walk) (words : List Text) (has_subcommand : Bool)
+    (below : Kinds)
     → IsByFirst P → walk_fault s names w words ≡ [] → P below → P (faults_from s names w words has_subcommand below)
 below_holds P s names w words has_subcommand below by_first passed holds = rw passed (by_first below _ holds)
 
 -- a walk that met a subcommand passes over the words
 pub stopped_walk : (rules : List Rule) (names : Names) (w : Walk) (name : Text) (before rest : List Text)
-    → fold (walked rules names) (record w { stopped = Some (name, before) }) rest ≡ record w { stopped = Some (name, before ++ rest) }
+    → fold (walked rules names) (record w { stopped = Some (name, before) }) rest
+    ≡ record w { stopped = Some (name, before ++ rest) }
 unfolding walked
 stopped_walk rules names w name before [] = ap (λ words. record w { stopped = Some (name, words) }) (sym (append-nil before))
 stopped_walk rules names w name before (word ∷ rest) =

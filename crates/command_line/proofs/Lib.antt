@@ -12,3 +12,4 @@ pub mod Numbers
 pub mod Taken
 pub mod Turns
 pub mod Spelled
+pub mod Mistakes

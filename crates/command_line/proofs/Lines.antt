@@ -1,21 +1,25 @@
 -- The command lines that clap takes, and how it refuses each other one.
-use Rattle.std.proofs.Common.{Bool, true, false, List, [], ◌∷◌, ◌++◌, Option, Some, None, ◌≡◌, ◌≢◌, ◌⊎◌, ◌∙◌, inl, inr, refl, sym, ap, ap₂, subst, codes, is_some, lit<}
+use Rattle.std.proofs.Common.{Bool, true, false, List, [], ◌∷◌, ◌++◌, Option, Some, None, ◌≡◌, ◌≢◌, ◌⊎◌, ◌∙◌, inl, inr, refl, sym}
+use Rattle.std.proofs.Common.{ap, ap₂, subst, codes, is_some, lit<}
 use Rattle.std.specs.Prelude.{fold}
 use Rattle.std.specs.List.{All, flat_map}
 use Rattle.std.specs.Str.{bytes_eq}
 use Rattle.std.proofs.lemmas.List.Elements.{All-cons, All-nil}
 use Rattle.std.proofs.lemmas.Slice.Eq.{bytes_eq-Decides}
-use Rattle.clap.specs.Walk.{Row, Text, Walk, finished, first_of, idle, nothing_held, rows_after, settled, subcommand_met, walk_from, walked}
+use Rattle.clap.specs.Walk.{Row, Text, Walk, finished, first_of, idle, nothing_held, rows_after, settled, subcommand_met}
+use Rattle.clap.specs.Walk.{walk_from, walked}
 use Rattle.clap.specs.Simple.{App, Shape, built, built_leaf, entered, inherited, names_of, subcommand_of}
 use Rattle.clap.specs.Kinds.{HasKind, IsAmong, Kinds, or_else}
 use Rattle.clap.specs.Values.{kind_of}
 use Rattle.clap.specs.declared.error.Error.{Error}
 use Rattle.clap.specs.declared.error.kind.ErrorKind.{ErrorKind}
 use Rattle.clap.specs.declared.error.kind.ErrorKind.TheVariants as errors
-use Rattle.clap.specs.declared.error.kind.ErrorKind.TheVariants.{DisplayHelp, DisplayVersion, InvalidSubcommand, MissingSubcommand, UnknownArgument}
+use Rattle.clap.specs.declared.error.kind.ErrorKind.TheVariants.{DisplayHelp, DisplayVersion, InvalidSubcommand}
+use Rattle.clap.specs.declared.error.kind.ErrorKind.TheVariants.{MissingSubcommand, UnknownArgument}
 use Rattle.clap.specs.Faults.{check_fault, defaults_fault, entered_fault, level_fault, settle_fault, walk_fault}
 use Rattle.clap.proofs.OnLiterals.{clap_on_literals}
-use Rattle.command_line.specs.CommandLine.{AsksForHelp, IsHelpOption, IsVersionOption, Line, Spells, commands, create, faults_of, replay, serve}
+use Rattle.command_line.specs.CommandLine.{AsksForHelp, IsHelpOption, IsVersionOption, Line, Spells, commands, create, faults_of}
+use Rattle.command_line.specs.CommandLine.{replay, serve}
 use Rattle.command_line.specs.Create.{create_options}
 use Rattle.command_line.specs.Options.{AreOptionsOf, Given, MayEnd, option_words, value_of}
 use Rattle.command_line.specs.Program.{bare, lsvdctl}
@@ -62,7 +66,8 @@ after_replay (word ∷ rest) = go (bytes_eq word (codes "--")) refl
   where
     go : (test : Bool) → bytes_eq word (codes "--") ≡ test → IsAfterReplay (word ∷ rest)
     go true e = subst (λ (w : Text). IsAfterReplay (w ∷ rest)) (sym ((bytes_eq-Decides word (codes "--")).0 e)) (leaf_dashes rest)
-    go false e = inr (inr (next_refused leaf [] (walk_from nothing_held) word rest false [] (first_refused leaf [] word leaf_has refl e)))
+    go false e = inr (inr (next_refused leaf [] (walk_from nothing_held) word rest false []
+        (first_refused leaf [] word leaf_has refl e)))
 
 -- ---- the words of the program
 
@@ -110,7 +115,8 @@ replay_entered words = refl
 
 after_replay_holds : (P : Kinds → Type 0) → IsByFirst P → (words : List Text) → P (replay_faults words)
     → P (faults_of (codes "replay" ∷ words))
-after_replay_holds P by_first words holds = subst P (sym (replay_stops words)) (by_first _ _ (subst P (sym (replay_entered words)) holds))
+after_replay_holds P by_first words holds =
+    subst P (sym (replay_stops words)) (by_first _ _ (subst P (sym (replay_entered words)) holds))
 
 -- ---- the words after a command with options
 
@@ -124,12 +130,15 @@ record Has (command : Text) (known : Known) : Type 0 where
   pub enters : (words : List Text) → entered_fault app (Some (command, words)) ≡ faults_after command known words
   -- where the command takes the words, so does the program
   pub quiet : (words : List Text) → faults_after command known words ≡ [] → top_at [] (stopped command words) ≡ []
-  pub meets : (words : List Text) → subcommand_of lsvdctl (command ∷ words) ≡ Some (command, rows_after (rules_for known) [] words)
-  pub asks : (option : Text) (rest : List Text) → IsHelpOption option → IsAmong DisplayHelp (faults_after command known (option ∷ rest))
+  pub meets : (words : List Text) → subcommand_of lsvdctl (command ∷ words)
+      ≡ Some (command, rows_after (rules_for known) [] words)
+  pub asks : (option : Text) (rest : List Text) → IsHelpOption option
+      → IsAmong DisplayHelp (faults_after command known (option ∷ rest))
 
 stopped_at : (name : Text) (words : List Text)
     → (fold (walked app.top.rules (names_of app)) (stopped name []) words).stopped ≡ Some (name, words)
-stopped_at name words = ap (λ (w : Walk). w.stopped) (stopped_walk app.top.rules (names_of app) (walk_from nothing_held) name [] words)
+stopped_at name words = ap (λ (w : Walk). w.stopped) (stopped_walk app.top.rules (names_of app) (walk_from nothing_held)
+    name [] words)
 
 has_create : Has (codes "create") create_options
 unfolding faults_of lsvdctl walk_fault walked defaults_fault clap_on_literals
@@ -175,7 +184,8 @@ top_dashes [] = inl (MissingSubcommand, refl)
 top_dashes (next ∷ more) = trailing_word next more
 
 -- a first word that is no command, and not `--`
-first_word : (word : Text) (rest : List Text) → subcommand_met (names_of app) idle word ≡ None → bytes_eq word (codes "--") ≡ false
+first_word : (word : Text) (rest : List Text) → subcommand_met (names_of app) idle word ≡ None
+    → bytes_eq word (codes "--") ≡ false
     → IsRefusal (top_from (walk_from nothing_held) (word ∷ rest))
 first_word word rest none other =
     let stop = (fold (walked app.top.rules (names_of app)) (walk_from nothing_held) (word ∷ rest)).stopped in
@@ -210,7 +220,8 @@ replay_line words (inr (inr refused)) = inr (after_replay_holds IsRefusal refusa
 
 -- the words after a command are refused, or give it its options
 abbrev IsGiven : Text → Known → List Text → Type 0
-IsGiven command known words = (options : List Given) × AreOptionsOf known options × MayEnd (command ∷ flat_map option_words options) words
+IsGiven command known words = (options : List Given) × AreOptionsOf known options
+    × MayEnd (command ∷ flat_map option_words options) words
 
 given_or_refused : (command : Text) (known : Known) (has : Has command known) (words : List Text)
     → IsGiven command known (command ∷ words) ⊎ IsRefusal (faults_of (command ∷ words))
@@ -262,7 +273,8 @@ first_line word rest false false false replays creates serves =
 pub each_line : (words : List Text) → IsLine words
 each_line [] = inr nothing_refused
 each_line (word ∷ rest) =
-    first_line word rest (bytes_eq (codes "replay") word) (bytes_eq (codes "create") word) (bytes_eq (codes "serve") word) refl refl refl
+    first_line word rest (bytes_eq (codes "replay") word) (bytes_eq (codes "create") word) (bytes_eq (codes "serve") word)
+    refl refl refl
 
 -- the words after a command that may be ended
 after_command : (command : Text) (options words : List Text) → MayEnd (command ∷ options) words
@@ -284,11 +296,13 @@ spelled_is_taken words replay (inl is) = rw is refl
 spelled_is_taken words replay (inr is) = rw is refl
 spelled_is_taken words (create options) (are, end) =
     given_is_quiet (codes "create") create_options has_create words (options, are, end)
-spelled_is_taken words (serve options) (are, end) = given_is_quiet (codes "serve") serve_options has_serve words (options, are, end)
+spelled_is_taken words (serve options) (are, end) =
+    given_is_quiet (codes "serve") serve_options has_serve words (options, are, end)
 
 -- ---- what clap finds
 
-replay_met : (words : List Text) → subcommand_of lsvdctl (codes "replay" ∷ words) ≡ Some (codes "replay", rows_after leaf.rules [] words)
+replay_met : (words : List Text) → subcommand_of lsvdctl (codes "replay" ∷ words)
+    ≡ Some (codes "replay", rows_after leaf.rules [] words)
 unfolding lsvdctl walked
 replay_met words = ap (entered app) (stopped_at (codes "replay") words)
 
@@ -307,7 +321,8 @@ replay_found : (words : List Text) → (rest : List Text) × (words ≡ codes "r
     → IsFound replay (subcommand_of lsvdctl words)
 replay_found words (rest, is, end) = (rows_after leaf.rules [] rest, rw is (replay_met rest))
 
-given_finds : (command : Text) (known : Known) (has : Has command known) (words : List Text) (options : List Given) → AreOptionsOf known options
+given_finds : (command : Text) (known : Known) (has : Has command known) (words : List Text) (options : List Given)
+    → AreOptionsOf known options
     → MayEnd (command ∷ flat_map option_words options) words
     → FindsValues command known options (subcommand_of lsvdctl words)
 given_finds command known has words options are end = go (after_command command (flat_map option_words options) words end)
@@ -351,7 +366,8 @@ command_of replay = codes "replay"
 command_of (create options) = codes "create"
 command_of (serve options) = codes "serve"
 
-first_is : (command : Text) (options : List Text) (first : Text) (rest : List Text) → MayEnd (command ∷ options) (first ∷ rest) → first ≡ command
+first_is : (command : Text) (options : List Text) (first : Text) (rest : List Text) → MayEnd (command ∷ options) (first ∷ rest)
+    → first ≡ command
 first_is command options first rest end = go (after_command command options (first ∷ rest) end)
   where
     go : (more : List Text) × (first ∷ rest ≡ command ∷ more) × MayEnd options more → first ≡ command
@@ -426,7 +442,8 @@ unfolding clap_on_literals
 replay_asks option rest (inl is) = rw is (inl refl)
 replay_asks option rest (inr is) = rw is (inl refl)
 
-pub second_asks : (option : Text) (rest : List Text) → IsHelpOption option → All (λ command. AsksForHelp (command ∷ option ∷ rest)) commands
+pub second_asks : (option : Text) (rest : List Text) → IsHelpOption option
+    → All (λ command. AsksForHelp (command ∷ option ∷ rest)) commands
 second_asks option rest is =
     All-cons (λ command. AsksForHelp (command ∷ option ∷ rest)) (codes "replay") (codes "create" ∷ codes "serve" ∷ [])
     (inl (after_replay_holds (IsAmong DisplayHelp) (among_first DisplayHelp) (option ∷ rest) (replay_asks option rest is)))

@@ -1,13 +1,17 @@
 -- How clap refuses the words of a command that has no argument but requests for help and the version.
-use Rattle.std.proofs.Common.{ℕ, zero, suc, Bool, true, false, List, [], ◌∷◌, Option, Some, None, length, ◌≡◌, ◌⊎◌, inl, inr, refl, ap, find}
+use Rattle.std.proofs.Common.{ℕ, zero, suc, Bool, true, false, List, [], ◌∷◌, Option, Some, None, length, ◌≡◌, ◌⊎◌, inl, inr}
+use Rattle.std.proofs.Common.{refl, ap, find}
 use Rattle.std.specs.Prelude.{slice_get, IfSome}
 use Rattle.std.specs.Option.{option_map_or}
 use Rattle.std.specs.Str.{bytes_eq, chars}
 use Rattle.clap.specs.Lexer.{long_of, short_of}
-use Rattle.clap.specs.Walk.{Held, Names, Row, Rule, Text, after_flag, arg_by_index, arg_by_long, arg_by_short, bundle_met, bundle_step, idle, long_or_other, nothing_held, plain, short_or_plain, subcommand_met, takes_values, value, walk_from}
+use Rattle.clap.specs.Walk.{Held, Names, Row, Rule, Text, after_flag, arg_by_index, arg_by_long, arg_by_short, bundle_met}
+use Rattle.clap.specs.Walk.{bundle_step, idle, long_or_other, nothing_held, plain, short_or_plain, subcommand_met, takes_values}
+use Rattle.clap.specs.Walk.{value, walk_from}
 use Rattle.clap.specs.Simple.{Shape}
 use Rattle.clap.specs.Kinds.{Kinds, or_else}
-use Rattle.clap.specs.Faults.{bundle_fault, bundle_step_fault, flag_word_fault, flags_fault, long_fault, short_fault, step_fault, stray_fault, turn_fault, use_fault}
+use Rattle.clap.specs.Faults.{bundle_fault, bundle_step_fault, flag_word_fault, flags_fault, long_fault, short_fault, step_fault}
+use Rattle.clap.specs.Faults.{stray_fault, turn_fault, use_fault}
 use Rattle.clap.specs.declared.error.kind.ErrorKind.{ErrorKind}
 use Rattle.clap.specs.declared.error.kind.ErrorKind.TheVariants.{UnknownArgument, InvalidSubcommand, TooManyValues}
 
@@ -55,7 +59,8 @@ long_refused rules again None v request = inl (UnknownArgument, refl)
 long_refused rules again (Some rule) None request = rw request.bare (request.refused again [])
 long_refused rules again (Some rule) (Some v) request = rw request.bare (inl (TooManyValues, refl))
 
-short_refused : (rules : List Rule) (again : Bool) (rule : Option Rule) (rest : Text) (next : Held → Kinds) → IfSome rule IsRequest
+short_refused : (rules : List Rule) (again : Bool) (rule : Option Rule) (rest : Text) (next : Held → Kinds)
+    → IfSome rule IsRequest
     → IsRefusal (short_fault rules again rule rest nothing_held next)
 short_refused rules again None rest next request = inl (UnknownArgument, refl)
 short_refused rules again (Some rule) rest next request = rw request.bare (refusal_first _ _ (request.refused again []))
@@ -68,7 +73,8 @@ bundle_refused : (s : Shape) (word flags : Text) (skipped : ℕ) (x : Option ℕ
     step_fault s 1 (after_flag s.rules idle word met.0 met.1).0 (after_flag s.rules idle word met.0 met.1).1))
 bundle_refused s word flags skipped None has = stray_refused s has
 bundle_refused s word flags skipped (Some x) has =
-    refusal_first _ _ (short_refused s.rules s.args_override_self (arg_by_short s.rules x) _ _ (found_request _ s.rules has.requests))
+    refusal_first _ _ (short_refused s.rules s.args_override_self (arg_by_short s.rules x) _ _
+    (found_request _ s.rules has.requests))
 
 flags_refused : (s : Shape) (word flags : Text) (count : ℕ) → HasRequestsOnly s
     → IsRefusal (or_else (flags_fault s.rules s.args_override_self count flags 0 nothing_held)
@@ -89,7 +95,8 @@ long_or_other_refused : (s : Shape) (word : Text) (long : Option (Text × Option
     → IsRefusal (or_else (flag_word_fault s.rules s.args_override_self long word nothing_held)
     (let met = long_or_other s.rules idle word long nothing_held in step_fault s 1 met.0 met.1))
 long_or_other_refused s word (Some long) has =
-    refusal_first _ _ (long_refused s.rules s.args_override_self (arg_by_long s.rules long.0) long.1 (found_request _ s.rules has.requests))
+    refusal_first _ _ (long_refused s.rules s.args_override_self (arg_by_long s.rules long.0) long.1
+    (found_request _ s.rules has.requests))
 long_or_other_refused s word None has = hyphen_refused s word (short_of word) has
 
 -- the first word is refused, where it is no command and not `--`

@@ -1,5 +1,6 @@
 -- What a line asks for, by what clap finds in its words.
-use Rattle.std.proofs.Common.{◌≡◌, ◌≢◌, ◌⊎◌, ◌∙◌, ◌^◌, ◌<◌, ◌∷◌, ◌+◌, ◌*◌, ◌&&◌, ℕ, Bool, true, false, List, [], Option, Some, None, inl, inr, ap, arith, codes, find, is_some, option_map, refl, subst, sym}
+use Rattle.std.proofs.Common.{◌≡◌, ◌≢◌, ◌⊎◌, ◌∙◌, ◌^◌, ◌<◌, ◌∷◌, ◌+◌, ◌*◌, ◌&&◌, ℕ, Bool, true, false, List, [], Option, Some}
+use Rattle.std.proofs.Common.{None, inl, inr, ap, arith, codes, find, is_some, option_map, refl, subst, sym}
 use Rattle.std.specs.Prelude.{Err, IsErrOf, Ok, Result}
 use Rattle.std.specs.List.{list_any}
 use Rattle.std.specs.Str.{bytes_eq}
@@ -18,9 +19,11 @@ use Rattle.clap.specs.declared.parser.matches.SubCommand.{SubCommand}
 use Rattle.lsvd_base.specs.Limits.{is_within_limits}
 use Rattle.lsvd_base.specs.declared.geometry.Geometry.{Geometry}
 use Rattle.command_line.specs.CommandLine.{HasBadOptions, IsAskedBy, IsRead, Line, Spells, create, replay, serve}
-use Rattle.command_line.specs.Create.{AreValid, AsksToCreate, HasBadUuid, HasBadValue, batch, create_options, limits, log, max_write, sectors, uuid, value_in}
+use Rattle.command_line.specs.Create.{AreValid, AsksToCreate, HasBadUuid, HasBadValue, batch, create_options, limits, log}
+use Rattle.command_line.specs.Create.{max_write, sectors, uuid, value_in}
 use Rattle.command_line.specs.Met.{IsMadeOf, LacksRequired, LacksServeValue, LacksValue, MakesNone, value_among}
-use Rattle.command_line.specs.Options.{AreOptionsOf, Given, has_option, has_required, is_required, name_in, option_name, text_in, value_of}
+use Rattle.command_line.specs.Options.{AreOptionsOf, Given, has_option, has_required, is_required, name_in, option_name, text_in}
+use Rattle.command_line.specs.Options.{value_of}
 use Rattle.command_line.specs.Serve.{AreValidToServe, AsksToServe, HasBadServeValue, serve_options, serve_value}
 use Rattle.command_line.specs.Serve as serving
 use Rattle.command_line.specs.Values.{IsNoUuid, LacksBetween, MayBeBetween}
@@ -40,7 +43,8 @@ same_values : (known : Known) (options : List Given) (rows : List Row)
 same_values known options rows same = fun_ext same
 
 -- an option that is given has a value
-has_value : (known : Known) (options : List Given) (name : Text) → has_option name options ≡ true → value_of known options name ≢ None
+has_value : (known : Known) (options : List Given) (name : Text) → has_option name options ≡ true
+    → value_of known options name ≢ None
 has_value known options name has none = go (find (λ g. bytes_eq (name_in g) name) options) refl
   where
     go : (found : Option Given) → find (λ g. bytes_eq (name_in g) name) options ≡ found → ⊥
@@ -68,10 +72,12 @@ required_is_given (option ∷ rest) options name all wanted =
     go true false true e f g more = more (rw (e, g) at all) (rw (e, f) at wanted)
     go true same false e f g more = let bad : false ≡ true = rw (e, g) at all in cc
 
-lacks_none : (known : Known) (options : List Given) → AreOptionsOf known options → LacksRequired known (value_of known options) → ⊥
-lacks_none known options are (name, wanted, none) = has_value known options name (required_is_given known options name are.required wanted) none
+lacks_none : (known : Known) (options : List Given) → AreOptionsOf known options
+    → LacksRequired known (value_of known options) → ⊥
+lacks_none known options are (name, wanted, none) =
+    has_value known options name (required_is_given known options name are.required wanted) none
 
-abbrev met_as : Text → List Row → Option (Text × List Row)
+abbrev pub met_as : Text → List Row → Option (Text × List Row)
 met_as command rows = Some (command, rows)
 
 abbrev name_met : Option (Text × List Row) → Text
@@ -82,16 +88,19 @@ abbrev rows_met : Option (Text × List Row) → List Row
 rows_met None = []
 rows_met (Some met) = met.1
 
-other_command : (first second : Text) (rows others : List Row) (met : Option (Text × List Row)) → bytes_eq first second ≡ false
+pub other_command : (first second : Text) (rows others : List Row) (met : Option (Text × List Row))
+    → bytes_eq first second ≡ false
     → met ≡ met_as first rows → met ≡ met_as second others → ⊥
 other_command first second rows others met differ is also =
     let same : first ≡ second = ap name_met (sym is ∙ also) in
     let bad : true ≡ false = sym ((bytes_eq-Decides first second).1 same) ∙ differ in cc
 
 -- what holds of the values that the command has, where it was met with them
-values_met : (P : (Text → Option Text) → Type 0) (command : Text) (known : Known) (options : List Given) (met : Option (Text × List Row))
+pub values_met : (P : (Text → Option Text) → Type 0) (command : Text) (known : Known) (options : List Given)
+    (met : Option (Text × List Row))
     (rows others : List Row)
-    → met ≡ met_as command rows → met ≡ met_as command others → ((name : Text) → value_among rows name ≡ value_of known options name)
+    → met ≡ met_as command rows → met ≡ met_as command others
+    → ((name : Text) → value_among rows name ≡ value_of known options name)
     → P (value_among others) → P (value_of known options)
 values_met P command known options met rows others is also same holds =
     let equal : others ≡ rows = ap rows_met (sym also ∙ is) in
@@ -113,7 +122,8 @@ pub met_is : (matches : ArgMatches) (command : Text) (rows : List Row) → Some 
 met_is matches command rows name values = met_at (out-ArgMatches matches).subcommand command rows name values
 
 -- values that ask the command for nothing make none
-pub creates_none : (met : Option (Text × List Row)) (rows : List Row) → met ≡ met_as (codes "create") rows → LacksValue (value_among rows)
+pub creates_none : (met : Option (Text × List Row)) (rows : List Row) → met ≡ met_as (codes "create") rows
+    → LacksValue (value_among rows)
     → MakesNone met
 creates_none met rows is lacks = record {
   replay = λ others also. other_command (codes "create") (codes "replay") rows others met refl is also;
@@ -200,11 +210,13 @@ bad_valid options sizes valid (limits others gives past) =
     let value = value_in options in
     let sectors = same_number value (codes "sectors") others.sectors sizes.sectors gives.sectors valid.gives.sectors in
     let log = same_number value (codes "log") others.log sizes.log gives.log valid.gives.log in
-    let max_write = same_number value (codes "max-write") others.max_write sizes.max_write gives.max_write valid.gives.max_write in
+    let max_write = same_number value (codes "max-write") others.max_write sizes.max_write gives.max_write
+    valid.gives.max_write in
     let batch = same_number value (codes "batch") others.batch sizes.batch gives.batch valid.gives.batch in
     inr (short_log options sizes valid (rw (sectors, log, max_write, batch) at past))
 
-pub valid_is_read : (options : List Given) (sizes : Geometry) (result : Answer) → AreValid options sizes → IsRead (create options) result
+pub valid_is_read : (options : List Given) (sizes : Geometry) (result : Answer) → AreValid options sizes
+    → IsRead (create options) result
     → IsErrOf result Usage
     → HasBadUuid (value_in options) ⊎ (sizes.log < 2 * (sizes.max_write + 1))
 valid_is_read options sizes (Ok request) valid read usage = let bad : Ok request ≡ Err Usage = usage in cc

@@ -1,5 +1,6 @@
 -- What clap finds of an option at the end, where these options are given.
-use Rattle.std.proofs.Common.{◌≡◌, ◌∙◌, ◌&&◌, Bool, true, false, not, List, [], ◌∷◌, Option, Some, None, ap, codes, find, is_some, option_map, refl, subst, sym}
+use Rattle.std.proofs.Common.{◌≡◌, ◌∙◌, ◌&&◌, Bool, true, false, not, List, [], ◌∷◌, Option, Some, None, ap, codes, find, is_some}
+use Rattle.std.proofs.Common.{option_map, refl, subst, sym}
 use Rattle.std.specs.Prelude.{fold, if◌then◌else◌, option_and_then, slice_get}
 use Rattle.std.specs.List.{list_any}
 use Rattle.std.specs.Option.{option_map_or, option_or}
@@ -12,7 +13,8 @@ use Rattle.clap.specs.Walk.{Row, Rule, Text, default_rows, first_of, has_row, mo
 use Rattle.clap.proofs.WalkLemmas.{find-map}
 use Rattle.clap.specs.declared.builder.value_parser.Reading.{Reading}
 use Rattle.clap.specs.declared.parser.matches.ValueSource.TheVariants.{DefaultValue}
-use Rattle.command_line.specs.Options.{Given, default_of, default_value, has_option, has_required, is_required, name_in, option_name, text_in, value_of}
+use Rattle.command_line.specs.Options.{Given, default_of, default_value, has_option, has_required, is_required, name_in}
+use Rattle.command_line.specs.Options.{option_name, text_in, value_of}
 use Rattle.command_line.proofs.Rules.{Known, at_none, built_help, row_for, rows_for, rules_for}
 
 abbrev find_row : Text → List Row → Option Row
@@ -74,7 +76,8 @@ one_default : (id : Text) (rows : List Row) (name : Text) (how : Reading) (defau
     (if bytes_eq name id then row_of_default name how defaults else None)
 one_default id rows name how [] none = go (bytes_eq name id) refl
   where
-    go : (test : Bool) → bytes_eq name id ≡ test → find_row id rows ≡ option_or (find_row id rows) (if bytes_eq name id then None else None)
+    go : (test : Bool) → bytes_eq name id ≡ test
+        → find_row id rows ≡ option_or (find_row id rows) (if bytes_eq name id then None else None)
     go true e = rw e (or_none (find_row id rows))
     go false e = rw e (or_none (find_row id rows))
 one_default id rows name how (value ∷ values) none =
@@ -134,7 +137,8 @@ first_default (option ∷ rest) id = go (bytes_eq (option_name option) id) (defa
     go true None e d more = rw (e, d) more
     go true (Some value) e d more = rw (e, d) (sym d)
 
-pub value_at_end : (known : Known) (options : List Given) (id : Text) → first_of id (rows_at_end known options) ≡ value_of known options id
+pub value_at_end : (known : Known) (options : List Given) (id : Text) → first_of id (rows_at_end known options)
+    ≡ value_of known options id
 value_at_end known options id =
     ap first_value_of (found_at_end known options id) ∙ go (find (λ g. bytes_eq (name_in g) id) options)
   where
@@ -150,7 +154,8 @@ is_explicit row = option_map_or (λ r. explicit_source r.source) row false
 
 default_not_given : (known : Known) (id : Text) → is_explicit (default_row id (rules_for known)) ≡ false
 default_not_given [] id = rw (help_has_none id) refl
-default_not_given (option ∷ rest) id = go (bytes_eq (option_name option) id) (default_of option) refl refl (default_not_given rest id)
+default_not_given (option ∷ rest) id = go (bytes_eq (option_name option) id) (default_of option) refl refl
+    (default_not_given rest id)
   where
     go : (test : Bool) (default : Option Text) → bytes_eq (option_name option) id ≡ test → default_of option ≡ default
         → is_explicit (default_row id (rules_for rest)) ≡ false → is_explicit (default_row id (rules_for (option ∷ rest))) ≡ false
@@ -158,17 +163,20 @@ default_not_given (option ∷ rest) id = go (bytes_eq (option_name option) id) (
     go true None e d more = rw (e, d) more
     go true (Some value) e d more = rw (e, d) refl
 
-pub given_at_end : (known : Known) (options : List Given) (id : Text) → is_given id (rows_at_end known options) ≡ has_option id options
+pub given_at_end : (known : Known) (options : List Given) (id : Text) → is_given id (rows_at_end known options)
+    ≡ has_option id options
 given_at_end known options id =
     ap is_explicit (found_at_end known options id) ∙ go (find (λ g. bytes_eq (name_in g) id) options)
     ∙ sym (any_found (λ (g : Given). bytes_eq (name_in g) id) options)
   where
-    go : (found : Option Given) → is_explicit (option_or (option_map row_for found) (default_row id (rules_for known))) ≡ is_some found
+    go : (found : Option Given) → is_explicit (option_or (option_map row_for found) (default_row id (rules_for known)))
+        ≡ is_some found
     go None = default_not_given known id
     go (Some given) = refl
 
 -- clap's test of what is required, by a test of what is given
-pub lacks_required : (known : Known) (options : List Given) (rows : List Row) → ((id : Text) → is_given id rows ≡ has_option id options)
+pub lacks_required : (known : Known) (options : List Given) (rows : List Row)
+    → ((id : Text) → is_given id rows ≡ has_option id options)
     → list_any (λ a. a.required && not (is_given a.id rows)) (rules_for known) ≡ not (has_required known options)
 lacks_required [] options rows given = refl
 lacks_required (option ∷ rest) options rows given =
@@ -176,7 +184,8 @@ lacks_required (option ∷ rest) options rows given =
   where
     go : (required has : Bool) → is_required option ≡ required → has_option (option_name option) options ≡ has
         → list_any (λ a. a.required && not (is_given a.id rows)) (rules_for rest) ≡ not (has_required rest options)
-        → list_any (λ a. a.required && not (is_given a.id rows)) (rules_for (option ∷ rest)) ≡ not (has_required (option ∷ rest) options)
+        → list_any (λ a. a.required && not (is_given a.id rows)) (rules_for (option ∷ rest))
+        ≡ not (has_required (option ∷ rest) options)
     go false has e f more = rw e more
     go true true e f more = rw (e, given (option_name option), f) more
     go true false e f more = rw (e, given (option_name option), f) refl

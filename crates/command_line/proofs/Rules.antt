@@ -1,5 +1,6 @@
 -- The rules that clap makes of the options of a command, and what a use of one does.
-use Rattle.std.proofs.Common.{◌≡◌, ◌∙◌, ◌==◌, ℕ, Bool, true, false, List, [], ◌∷◌, ◌++◌, Option, Some, None, ap, append-nil, codes, map, refl, sym}
+use Rattle.std.proofs.Common.{◌≡◌, ◌∙◌, ◌==◌, ℕ, Bool, true, false, List, [], ◌∷◌, ◌++◌, Option, Some, None, ap, append-nil}
+use Rattle.std.proofs.Common.{codes, map, refl, sym}
 use Rattle.std.specs.Prelude.{IfSome}
 use Rattle.std.specs.Option.{option_to_list}
 use Rattle.std.specs.Str.{bytes_eq}
@@ -7,7 +8,8 @@ use Rattle.std.proofs.lemmas.List.{map-append}
 use Rattle.std.proofs.lemmas.Slice.Eq.{bytes_eq-Decides}
 use Rattle.clap.specs.Simple.{filled, help_rule, new_rule}
 use Rattle.clap.specs.Values.{bool_text}
-use Rattle.clap.specs.Walk.{Row, Rule, Text, arg_by_id, arg_by_index, arg_by_long, arg_by_short, at_row, has_row, more_values, used, with_default, without}
+use Rattle.clap.specs.Walk.{Row, Rule, Text, arg_by_id, arg_by_index, arg_by_long, arg_by_short, at_row, has_row, more_values}
+use Rattle.clap.specs.Walk.{used, with_default, without}
 use Rattle.clap.specs.Faults.{default_fault, defaults_fault, use_fault}
 use Rattle.clap.proofs.WalkLemmas.{list_any-map}
 use Rattle.clap.specs.declared.builder.action.ArgAction.{ArgAction}
@@ -17,7 +19,8 @@ use Rattle.clap.specs.declared.builder.value_parser.ValueParser.TheVariants as v
 use Rattle.clap.specs.declared.builder.value_parser.Reading.TheVariants.{AsWritten}
 use Rattle.clap.specs.declared.error.kind.ErrorKind.TheVariants.{ArgumentConflict}
 use Rattle.clap.specs.declared.parser.matches.ValueSource.TheVariants.{CommandLine}
-use Rattle.command_line.specs.Options.{CommandOption, Given, alone, default_of, flag, has_option, is_required, kind_named, name_in, option_name, optional, required, text_in}
+use Rattle.command_line.specs.Options.{CommandOption, Given, alone, default_of, flag, has_option, is_required, kind_named}
+use Rattle.command_line.specs.Options.{name_in, option_name, optional, required, text_in}
 
 abbrev pub Known : Type 0
 Known = List CommandOption
@@ -86,7 +89,8 @@ pub data Found (known : Known) (name : Text) : Type 0 where
   help : kind_named known name ≡ None → arg_by_long (rules_for known) name ≡ Some built_help → Found known name
   nothing : kind_named known name ≡ None → arg_by_long (rules_for known) name ≡ None → Found known name
 
-found_first : (option : CommandOption) (rest : Known) (name : Text) → bytes_eq (option_name option) name ≡ true → Found (option ∷ rest) name
+found_first : (option : CommandOption) (rest : Known) (name : Text) → bytes_eq (option_name option) name ≡ true
+    → Found (option ∷ rest) name
 found_first (required own) rest name e = an_option (required own) ((bytes_eq-Decides own name).0 e) (rw e refl) (rw e refl)
 found_first (optional own default) rest name e =
     an_option (optional own default) ((bytes_eq-Decides own name).0 e) (rw e refl) (rw e refl)
@@ -117,7 +121,8 @@ id_is_long [] name = go (bytes_eq (codes "help") name) refl
     go false e = rw e refl
 id_is_long (option ∷ rest) name = go (bytes_eq (option_name option) name) refl (id_is_long rest name)
   where
-    go : (test : Bool) → bytes_eq (option_name option) name ≡ test → arg_by_id (rules_for rest) name ≡ arg_by_long (rules_for rest) name
+    go : (test : Bool) → bytes_eq (option_name option) name ≡ test
+        → arg_by_id (rules_for rest) name ≡ arg_by_long (rules_for rest) name
         → arg_by_id (rules_for (option ∷ rest)) name ≡ arg_by_long (rules_for (option ∷ rest)) name
     go true e more = rw e refl
     go false e more = rw e more
@@ -165,7 +170,8 @@ at_none id change missing (r ∷ rs) none = go (bytes_eq r.id id) refl (at_none 
 
 -- a use of an option that was not used adds its row
 with_one_more : (given : Given) (before : List Given) → has_option (name_in given) before ≡ false
-    → at_row (name_in given) (more_values CommandLine (text_in given ∷ [])) (row_for given ∷ []) (without (name_in given) (rows_for before))
+    → at_row (name_in given) (more_values CommandLine (text_in given ∷ [])) (row_for given ∷ [])
+    (without (name_in given) (rows_for before))
     ≡ rows_for (before ++ given ∷ [])
 with_one_more given before none =
     let rows = rows_for before in

@@ -1,5 +1,6 @@
 -- What the code reads of the values of options.
-use Rattle.std.proofs.Common.{◌≡◌, ◌≢◌, ◌∙◌, ◌⊎◌, ◌^◌, ◌<◌, ◌≤◌, ℕ, arith, inl, inr, Bool, true, false, List, Option, Some, None, ap, is_some, refl, sym, option_map}
+use Rattle.std.proofs.Common.{◌≡◌, ◌≢◌, ◌∙◌, ◌⊎◌, ◌^◌, ◌<◌, ◌≤◌, ℕ, arith, inl, inr, Bool, true, false, List, Option, Some, None}
+use Rattle.std.proofs.Common.{ap, is_some, refl, sym, option_map}
 use Rattle.std.specs.Prelude.{◌↔◌, Err, IfNone, IfOk, IfSome, IsOk, Ok, Result, decimal}
 use Rattle.std.specs.Bool.{then_some}
 use Rattle.std.specs.Borrow.{Bor}
@@ -29,7 +30,8 @@ pub got : (found : Found) (name : Text) (text : Texts) → text_of text ≡ firs
     → value_among (rows_of found) name ≡ text_of text
 got found name text is = sym (is ∙ first_value-rows found name)
 
-pub got_some : (found : Found) (name : Text) (text : Texts) (some : Bor Text) → text_of text ≡ first_value found name → text ≡ Some some
+pub got_some : (found : Found) (name : Text) (text : Texts) (some : Bor Text) → text_of text ≡ first_value found name
+    → text ≡ Some some
     → value_among (rows_of found) name ≡ Some some.now
 got_some found name text some is has = got found name text is ∙ ap text_of has
 
@@ -77,11 +79,13 @@ lacks_beyond value name least most number is (inl below) n (other, from, to) =
 lacks_beyond value name least most number is (inr above) n (other, from, to) =
     let same = same_number value name n number other is in omega (arith, above.1, to, same)
 
-pub lacks_between : (value : Text → Option Text) (name : Text) (least most : ℕ) → LacksNumber value name → LacksBetween value name least most
+pub lacks_between : (value : Text → Option Text) (name : Text) (least most : ℕ) → LacksNumber value name
+    → LacksBetween value name least most
 lacks_between value name least most lacks n is = lacks n is.0
 
 -- sizes that do not keep the limits
-pub past_limits : (value : Text → Option Text) (sizes : Geometry) (test : Bool) → test ≡ is_within_limits sizes → GivesSizes value sizes
+pub past_limits : (value : Text → Option Text) (sizes : Geometry) (test : Bool) → test ≡ is_within_limits sizes
+    → GivesSizes value sizes
     → IfNone (then_some test sizes) (HasBadValue value)
 past_limits value sizes true is gives = tt
 past_limits value sizes false is gives = limits sizes gives (sym is)
@@ -93,13 +97,15 @@ module _ {E : Type 0} where
       → IsOk read ↔ ((u : List ℕ) × (parsed text ≡ Some u)) → result_ok read ≡ None → IsNoUuid value name
   bad_uuid value name text read some ok none = (text, some, go read (parsed text) refl ok none)
     where
-      go : (r : Result (List ℕ) E) (found : Option (List ℕ)) → parsed text ≡ found → IsOk r ↔ ((u : List ℕ) × (parsed text ≡ Some u))
+      go : (r : Result (List ℕ) E) (found : Option (List ℕ)) → parsed text ≡ found
+          → IsOk r ↔ ((u : List ℕ) × (parsed text ≡ Some u))
           → result_ok r ≡ None → parsed text ≡ None
       go r None is both none = is
       go (Ok u) (Some v) is both none = cc
       go (Err e) (Some v) is both none = let bad : false ≡ true = both.1 (v, is) in cc
 
-  pub parsed_to : (text : Text) (u : List ℕ) (read : Result (List ℕ) E) → IfOk read (λ v. Some v ≡ parsed text) → result_ok read ≡ Some u
+  pub parsed_to : (text : Text) (u : List ℕ) (read : Result (List ℕ) E) → IfOk read (λ v. Some v ≡ parsed text)
+      → result_ok read ≡ Some u
       → Some (parsed text) ≡ Some (Some u)
   parsed_to text u (Ok v) is some = let same : parsed text ≡ Some u = sym is ∙ some in ap (λ (p : Option (List ℕ)). Some p) same
   parsed_to text u (Err e) is some = cc

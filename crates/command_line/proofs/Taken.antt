@@ -1,5 +1,6 @@
 -- All words after a command give it options, or are refused.
-use Rattle.std.proofs.Common.{◌≡◌, ◌⊎◌, ◌∙◌, Bool, true, false, inl, inr, List, [], ◌∷◌, ◌++◌, Option, Some, None, ap, ap₂, append-nil, refl, subst, sym}
+use Rattle.std.proofs.Common.{◌≡◌, ◌⊎◌, ◌∙◌, Bool, true, false, inl, inr, List, [], ◌∷◌, ◌++◌, Option, Some, None, ap, ap₂}
+use Rattle.std.proofs.Common.{append-nil, refl, subst, sym}
 use Rattle.std.specs.Str.{bytes_eq}
 use Rattle.std.proofs.lemmas.List.Elements.{All-nil}
 use Rattle.clap.specs.Lexer.{long_of}
@@ -7,13 +8,19 @@ use Rattle.clap.specs.Walk.{Held, Text, Waiting, Walk, arg_by_id, arg_by_long, h
 use Rattle.clap.specs.Kinds.{Kinds}
 use Rattle.clap.specs.Faults.{long_fault, settle_fault, turn_fault, use_fault, walk_fault}
 use Rattle.clap.specs.declared.error.kind.ErrorKind.TheVariants.{ArgumentConflict, InvalidValue, MissingRequiredArgument}
-use Rattle.command_line.specs.Options.{CommandOption, EachOnce, Given, IsOptionOf, MayEnd, StandsAlone, alone, apart, has_option, has_required, joined, kind_named, option_name}
+use Rattle.command_line.specs.Options.{CommandOption, EachOnce, Given, IsOptionOf, MayEnd, StandsAlone, alone, apart, has_option}
+use Rattle.command_line.specs.Options.{has_required, joined, kind_named, option_name}
 use Rattle.command_line.proofs.Levels.{next_passes, next_refused}
-use Rattle.command_line.proofs.Leaves.{Reads, end_faults, joined_flag_refused, leaf_faults, long_word_refused, no_option_refused, no_subcommand, once_more, one_more, short_word_refused, stray_refused, trailing_refused, unsettled_flag_refused, unsettled_refused}
+use Rattle.command_line.proofs.Leaves.{Reads, end_faults, joined_flag_refused, leaf_faults, long_word_refused, no_option_refused}
+use Rattle.command_line.proofs.Leaves.{no_subcommand, once_more, one_more, short_word_refused, stray_refused, trailing_refused}
+use Rattle.command_line.proofs.Leaves.{unsettled_flag_refused, unsettled_refused}
 use Rattle.command_line.proofs.Refusals.{IsRefusal, refusal_first}
-use Rattle.command_line.proofs.Rules.{Found, Known, a_flag, an_option, built_flag, built_help, built_value, fault_of_repeat, fault_of_set, found_by_long, has_row-rows, help, id_is_long, nothing, rows_for, rules_for}
-use Rattle.command_line.proofs.Turns.{ComesTo, Names, Turns, after_name, held_for, leaf_for, nothing_comes, turn_flag, turn_joined, turn_name, turn_value, value_comes}
-use Rattle.command_line.proofs.Words.{IsPlain, WordKind, dashes, ends, kind_of_word, long, plain, short, word_of_joined, word_of_long}
+use Rattle.command_line.proofs.Rules.{Found, Known, a_flag, an_option, built_flag, built_help, built_value, fault_of_repeat}
+use Rattle.command_line.proofs.Rules.{fault_of_set, found_by_long, has_row-rows, help, id_is_long, nothing, rows_for, rules_for}
+use Rattle.command_line.proofs.Turns.{ComesTo, Names, Turns, after_name, held_for, leaf_for, nothing_comes, turn_flag}
+use Rattle.command_line.proofs.Turns.{turn_joined, turn_name, turn_value, value_comes}
+use Rattle.command_line.proofs.Words.{IsPlain, WordKind, dashes, ends, kind_of_word, long, plain, short, word_of_joined}
+use Rattle.command_line.proofs.Words.{word_of_long}
 
 -- where a walk stands between two words
 data Stand : Type 0 where
@@ -35,7 +42,8 @@ abbrev GoesOn : Known → Stand → List Text → Type 0
 GoesOn known (at_rest before) words = Reads known before words
 GoesOn known (at_value before name value) words = Reads known (before ++ apart name value ∷ []) words
 GoesOn known (at_name before name) words =
-    (value : Text) × (more : List Text) × (words ≡ value ∷ more) × StandsAlone value × Reads known (before ++ apart name value ∷ []) more
+    (value : Text) × (more : List Text) × (words ≡ value ∷ more) × StandsAlone value
+    × Reads known (before ++ apart name value ∷ []) more
 
 module _ (command : Text) (known : Known) where
   abbrev pub faults : Walk → List Text → Kinds
@@ -45,7 +53,8 @@ module _ (command : Text) (known : Known) where
   abbrev Judged : Walk → List Given → List Text → Type 0
   Judged w before words = IsRefusal (faults w words) ⊎ Reads known before words
 
-  refused_on : (w to : Walk) (word : Text) (more : List Text) → Turns (leaf_for command known) w word to → IsRefusal (faults to more)
+  refused_on : (w to : Walk) (word : Text) (more : List Text) → Turns (leaf_for command known) w word to
+      → IsRefusal (faults to more)
       → IsRefusal (faults w (word ∷ more))
   refused_on w to word more turns refused =
       rw (next_passes (leaf_for command known) [] w to word more false [] turns.passes turns.goes) refused
@@ -53,7 +62,8 @@ module _ (command : Text) (known : Known) where
   -- ---- the end, and `--`
 
   -- no words are left, but for `--`
-  at_end : (w : Walk) (options : List Given) (words : List Text) → MayEnd [] words → ComesTo known w.held options → EachOnce options
+  at_end : (w : Walk) (options : List Given) (words : List Text) → MayEnd [] words → ComesTo known w.held options
+      → EachOnce options
       → IsRefusal (faults w []) ⊎ Reads known options words
   at_end w options words end comes once = go (has_required known options) refl
     where
@@ -91,7 +101,8 @@ module _ (command : Text) (known : Known) where
     turn_ends : (waiting : Waiting) → Turns (leaf_for command known) (at waiting) dashes (ended waiting)
     turn_ends waiting = record { passes = rw (no_subcommand waiting dashes) refl; goes = dashes_goes waiting }
 
-    more_after_dashes : (waiting : Waiting) (word : Text) (more : List Text) → IsRefusal (faults (at waiting) (dashes ∷ word ∷ more))
+    more_after_dashes : (waiting : Waiting) (word : Text) (more : List Text)
+        → IsRefusal (faults (at waiting) (dashes ∷ word ∷ more))
     more_after_dashes waiting word more =
         refused_on (at waiting) (ended waiting) dashes (word ∷ more) (turn_ends waiting)
         (next_refused (leaf_for command known) [] (ended waiting) word more false []
@@ -106,7 +117,8 @@ module _ (command : Text) (known : Known) where
         go (inr reads) = inr reads
     after_dashes options (word ∷ more) comes once = inl (more_after_dashes idle word more)
 
-    unsettled_dashes : (waiting : Waiting) (more : List Text) → IsRefusal settling → IsRefusal (faults (at waiting) (dashes ∷ more))
+    unsettled_dashes : (waiting : Waiting) (more : List Text) → IsRefusal settling
+        → IsRefusal (faults (at waiting) (dashes ∷ more))
     unsettled_dashes waiting [] refused = refused_on (at waiting) (ended waiting) dashes [] (turn_ends waiting)
         (unsettled_end (ended waiting) refused)
     unsettled_dashes waiting (word ∷ more) refused = more_after_dashes waiting word more
@@ -160,7 +172,8 @@ module _ (command : Text) (known : Known) where
         ap (λ (k : Held). use_fault false (built_value own) (value ∷ []) k.rows) comes.is
         ∙ fault_of_repeat own value (rows_for options) (has_row-rows (option_name own) options ∙ has)
 
-    repeated_refused : (own : CommandOption) (options : List Given) (name value : Text) → ComesTo known h options → option_name own ≡ name
+    repeated_refused : (own : CommandOption) (options : List Given) (name value : Text) → ComesTo known h options
+        → option_name own ≡ name
         → arg_by_long (rules_for known) name ≡ Some (built_value own) → has_option name options ≡ true
         → IsRefusal (long_fault (rules_for known) false (arg_by_long (rules_for known) name) (Some value) h)
     repeated_refused own options name value comes same found has =
@@ -176,16 +189,19 @@ module _ (command : Text) (known : Known) where
     set_refused : (options : List Given) (name : Text) → ComesTo known h options
         → arg_by_long (rules_for known) name ≡ Some (built_flag name) → has_option name options ≡ true
         → IsRefusal (long_fault (rules_for known) false (arg_by_long (rules_for known) name) None h)
-    set_refused options name comes found has = rw (found, comes.quiet, set_repeated options name comes has) (inl (ArgumentConflict, refl))
+    set_refused options name comes found has = rw (found, comes.quiet, set_repeated options name comes has)
+        (inl (ArgumentConflict, refl))
 
     abbrev Next : List Text → Type 0
     Next more = (st : Stand) → IsStand known st → IsRefusal (faults (walk_at st) more) ⊎ GoesOn known st more
 
     long_option : (options : List Given) (word name : Text) (value : Option Text) (more : List Text) → ComesTo known h options
         → EachOnce options
-        → bytes_eq word dashes ≡ false → long_of word ≡ Some (name, value) → Names known name → kind_named known name ≡ Some true → Next more
+        → bytes_eq word dashes ≡ false → long_of word ≡ Some (name, value) → Names known name → kind_named known name ≡ Some true
+        → Next more
         → Judged (walk_from h) options (word ∷ more)
-    long_option options word name None more comes once other is names allowed next = go (next (at_name options name) (once, names))
+    long_option options word name None more comes once other is names allowed next =
+        go (next (at_name options name) (once, names))
       where
         go : IsRefusal (faults (walk_at (at_name options name)) more) ⊎ GoesOn known (at_name options name) more
             → Judged (walk_from h) options (word ∷ more)
@@ -239,7 +255,8 @@ module _ (command : Text) (known : Known) where
             (set_refused options name comes found e)))
         by_use false e = go e (next (at_rest (options ++ alone name ∷ [])) (once_more options (alone name) once e))
 
-    idle_word : (options : List Given) (word : Text) (more : List Text) → ComesTo known h options → EachOnce options → WordKind word
+    idle_word : (options : List Given) (word : Text) (more : List Text) → ComesTo known h options → EachOnce options
+        → WordKind word
         → Next more
         → Judged (walk_from h) options (word ∷ more)
     idle_word options word more comes once (ends is) next =
@@ -262,7 +279,8 @@ module _ (command : Text) (known : Known) where
         go (help absent found) = refused (inr found)
         go (nothing absent found) = refused (inl found)
         go (an_option own same allowed found) =
-            long_option options word name value more comes once other is (record { option = own; same = same; found = found }) allowed next
+            long_option options word name value more comes once other is (record { option = own; same = same; found = found })
+            allowed next
 
   -- ---- each stand
 
@@ -301,7 +319,8 @@ module _ (command : Text) (known : Known) where
 
   end_of : (st : Stand) → IsStand known st → IsRefusal (faults (walk_at st) []) ⊎ GoesOn known st []
   end_of (at_rest before) once = at_end (walk_at (at_rest before)) before [] (inl refl) (nothing_comes known before) once
-  end_of (at_name before name) (once, names) = inl (unsettled_end (walk_at (at_name before name)) (name_unsettled before name names))
+  end_of (at_name before name) (once, names) =
+      inl (unsettled_end (walk_at (at_name before name)) (name_unsettled before name names))
   end_of (at_value before name value) (once, names) = go (has_option name before) refl
     where
       go : (test : Bool) → has_option name before ≡ test
@@ -323,7 +342,8 @@ module _ (command : Text) (known : Known) where
       go : (test : Bool) → has_option name before ≡ test
           → IsRefusal (faults (walk_at (at_value before name value)) (word ∷ more))
           ⊎ Reads known (before ++ apart name value ∷ []) (word ∷ more)
-      go true e = inl (unsettled_refuses before (Some (name, value ∷ [])) (word ∷ more) (value_unsettled before name value names e))
+      go true e = inl (unsettled_refuses before (Some (name, value ∷ [])) (word ∷ more)
+          (value_unsettled before name value names e))
       go false e =
           idle_word before (Some (name, value ∷ [])) (before ++ apart name value ∷ []) word more
           (value_comes known before name value names e)

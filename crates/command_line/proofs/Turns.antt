@@ -1,16 +1,19 @@
 -- How clap walks over the options of a command, word by word.
-use Rattle.std.proofs.Common.{◌≡◌, ◌⊎◌, ◌∙◌, ℕ, zero, suc, true, false, inl, inr, List, [], ◌∷◌, ◌++◌, Option, Some, None, ap, ap₂, length, refl, sym}
+use Rattle.std.proofs.Common.{◌≡◌, ◌⊎◌, ◌∙◌, ℕ, zero, suc, true, false, inl, inr, List, [], ◌∷◌, ◌++◌, Option, Some, None, ap}
+use Rattle.std.proofs.Common.{ap₂, length, refl, sym}
 use Rattle.std.specs.Prelude.{slice_get}
 use Rattle.std.specs.Str.{bytes_eq, chars}
 use Rattle.std.proofs.lemmas.Slice.Eq.{bytes_eq-Decides}
 use Rattle.clap.specs.Lexer.{long_of, short_of}
 use Rattle.clap.specs.Simple.{Shape, built_leaf, inherited, new_shape}
-use Rattle.clap.specs.Walk.{Held, Row, Rule, Text, Walk, arg_by_id, arg_by_long, bundle_met, has_row, idle, option, option_word, plain, reacted, settled, used, walk_from, walked}
+use Rattle.clap.specs.Walk.{Held, Row, Rule, Text, Walk, arg_by_id, arg_by_long, bundle_met, has_row, idle, option, option_word}
+use Rattle.clap.specs.Walk.{plain, reacted, settled, used, walk_from, walked}
 use Rattle.clap.specs.Kinds.{or_else}
 use Rattle.clap.specs.Faults.{flags_fault, react_fault, settle_fault, turn_fault, use_fault}
 use Rattle.command_line.specs.Options.{CommandOption, Given, alone, apart, has_option, joined, name_in, option_name, text_in}
 use Rattle.command_line.specs.Program.{bare}
-use Rattle.command_line.proofs.Rules.{Known, built_flag, built_value, has_row-rows, id_is_long, no_fault_of_set, no_fault_of_use, rows_for, rules_for, set_once, used_once}
+use Rattle.command_line.proofs.Rules.{Known, built_flag, built_value, has_row-rows, id_is_long, no_fault_of_set, no_fault_of_use}
+use Rattle.command_line.proofs.Rules.{rows_for, rules_for, set_once, used_once}
 use Rattle.command_line.proofs.Words.{IsPlain, dashes}
 
 -- a command with these options, built
@@ -65,7 +68,8 @@ adds_flag name before none = record {
   adds = set_once name before none;
 }
 
-module _ (known : Known) (h : Held) (before : List Given) (rule : Rule) (values : List Text) (given : Given) (comes : ComesTo known h before)
+module _ (known : Known) (h : Held) (before : List Given) (rule : Rule) (values : List Text) (given : Given)
+    (comes : ComesTo known h before)
     (one : Adds rule values before given) where
   reaction_passes : react_fault (rules_for known) false rule values h ≡ []
   reaction_passes = ap₂ or_else comes.quiet (ap (λ (k : Held). use_fault false rule values k.rows) comes.is ∙ one.quiet)
@@ -146,14 +150,16 @@ module _ (rules : List Rule) (flags : Text) (none : slice_get (chars flags) 0 �
   no_flag_met zero h = refl
   no_flag_met (suc count) h = rw none refl
 
-module _ (command : Text) (known : Known) (before : List Given) (word name : Text) (word_is : IsPlain word) (names : Names known name) where
+module _ (command : Text) (known : Known) (before : List Given) (word name : Text) (word_is : IsPlain word)
+    (names : Names known name) where
   abbrev named : Held
   named = held_for before (Some (name, []))
 
   value_held : option_word (arg_by_id (rules_for known) name) name word named ≡ (held_for before (Some (name, word ∷ [])), idle)
   value_held =
       let by_id : arg_by_id (rules_for known) name ≡ Some (built_value names.option) = id_is_long known name ∙ names.found in
-      let same : bytes_eq name (option_name names.option) ≡ true = (bytes_eq-Decides name (option_name names.option)).1 (sym names.same) in
+      let same : bytes_eq name (option_name names.option) ≡ true =
+      (bytes_eq-Decides name (option_name names.option)).1 (sym names.same) in
       rw (by_id, same) refl
 
   value_passes : (short_of word ≡ None) ⊎ ((flags : Text) × (short_of word ≡ Some flags) × (slice_get (chars flags) 0 ≡ None))
@@ -176,5 +182,6 @@ module _ (command : Text) (known : Known) (before : List Given) (word name : Tex
   value_goes (inr (flags, some, none)) = rw
       (word_is.other, word_is.not_long, some, no_flag_met (rules_for known) flags none (length flags) named, value_held) refl
 
-  pub turn_value : Turns (leaf_for command known) (after_name named name) word (walk_from (held_for before (Some (name, word ∷ []))))
+  pub turn_value : Turns (leaf_for command known) (after_name named name) word
+      (walk_from (held_for before (Some (name, word ∷ []))))
   turn_value = record { passes = value_passes word_is.not_short; goes = value_goes word_is.not_short }

@@ -1,5 +1,7 @@
 -- What clap's lexer makes of the words that give options.
-use Rattle.std.proofs.Common.{◌≡◌, ◌≢◌, ◌⊎◌, ◌∙◌, ◌+◌, ◌==◌, ◌<◌, ℕ, zero, suc, Bool, not, true, false, inl, inr, [], ◌∷◌, ◌++◌, Option, Some, None, ap, ap₂, append_assoc, arith, codes, drop, get_or, length, refl, subst, sym, take}
+use Rattle.std.proofs.Common.{◌≡◌, ◌≢◌, ◌⊎◌, ◌∙◌, ◌+◌, ◌==◌, ◌<◌, ℕ, zero, suc, Bool, not, true, false, inl, inr, [], ◌∷◌, ◌++◌}
+use Rattle.std.proofs.Common.{Option, Some, None, ap, ap₂, append_assoc, arith, codes, drop, get_or, length, refl, subst, sym}
+use Rattle.std.proofs.Common.{take}
 use Rattle.std.specs.Prelude.{slice_get}
 use Rattle.std.specs.List.{after_first, before_first, position_or_len}
 use Rattle.std.specs.Str.{bytes_eq, chars}
@@ -125,13 +127,17 @@ word_of_long word name is = go (dashed word (name, None) is)
     go (rest, whole, parts) = by_test (has_byte 61 rest) refl
       where
         by_test : (test : Bool) → has_byte 61 rest ≡ test → word ≡ dashes ++ name
-        by_test true e = let bad : Some (after_first is_equals rest) ≡ None = rw e at (ap (λ (p : Text × Option Text). p.1) parts) in cc
-        by_test false e = whole ∙ ap (λ (text : Text). dashes ++ text) ((cut rest).1 e ∙ ap (λ (p : Text × Option Text). p.0) parts)
+        by_test true e = let bad : Some (after_first is_equals rest) ≡ None =
+            rw e at (ap (λ (p : Text × Option Text). p.1) parts) in cc
+        by_test false e = whole ∙ ap (λ (text : Text). dashes ++ text) ((cut rest).1 e
+            ∙ ap (λ (p : Text × Option Text). p.0) parts)
 
-pub word_of_joined : (word name value : Text) → long_of word ≡ Some (name, Some value) → word ≡ dashes ++ name ++ codes "=" ++ value
+pub word_of_joined : (word name value : Text) → long_of word ≡ Some (name, Some value)
+    → word ≡ dashes ++ name ++ codes "=" ++ value
 word_of_joined word name value is = go (dashed word (name, Some value) is)
   where
-    go : (rest : Text) × (word ≡ dashes ++ rest) × (name_and_value rest ≡ (name, Some value)) → word ≡ dashes ++ name ++ codes "=" ++ value
+    go : (rest : Text) × (word ≡ dashes ++ rest) × (name_and_value rest ≡ (name, Some value))
+        → word ≡ dashes ++ name ++ codes "=" ++ value
     go (rest, whole, parts) = by_test (has_byte 61 rest) refl
       where
         by_test : (test : Bool) → has_byte 61 rest ≡ test → word ≡ dashes ++ name ++ codes "=" ++ value

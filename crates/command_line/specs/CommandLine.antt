@@ -45,7 +45,8 @@ pub data Line : Type 0 where
 -- the words that make a line: its command with its options, which `--` may end
 abbrev pub Spells : List Text → Line → Type 0
 Spells words replay = MayEnd (codes "replay" ∷ []) words
-Spells words (create options) = AreOptionsOf create_options options × MayEnd (codes "create" ∷ flat_map option_words options) words
+Spells words (create options) = AreOptionsOf create_options options
+    × MayEnd (codes "create" ∷ flat_map option_words options) words
 Spells words (serve options) = AreOptionsOf serve_options options × MayEnd (codes "serve" ∷ flat_map option_words options) words
 
 -- the line asks for this

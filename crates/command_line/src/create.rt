@@ -76,8 +76,8 @@ pub(crate) fn create_command<'a>(alloc: Global) -> Result<Command<'a>, AllocErro
         .arg(option(alloc, "uuid", "UUID").help("UUID of the volume [default: a random one]"))
 }
 
-// What the values of the options ask for. None is for a size that is no number, for sizes past their limits, and for a
-// text that is no uuid.
+// What the values of the options ask for. None is for a size that is no number, for sizes past their limits,
+// and for a text that is no uuid.
 pub(crate) fn create_in<'a>(values: &ArgMatches<'a>) -> Option<CreateRequest<'a>>
     ensures found { IfSome result (AsksToCreate (value_among (rows_of (found_of values.now)))) }
     ensures none { IfNone result (LacksValue (value_among (rows_of (found_of values.now)))) }

@@ -6,8 +6,8 @@ use crate::program::matches_of;
 use clap::error::ErrorKind;
 use std::alloc::{AllocError, Global};
 
-/// The text that the words after the program's name ask for, be it help or the version. None is for words that ask
-/// for none. The one error is out of memory.
+/// The text that the words after the program's name ask for, be it help or the version. None is for words
+/// that ask for none. The one error is out of memory.
 pub fn help_of(alloc: Global, words: &[String]) -> Result<Option<String>, AllocError>
     ensures some { IfOk result (λ text. IfSome text (λ _. AsksForHelp (map string_bytes words.now))) }
     ensures none { IfOk result (λ text. IfNone text (AsksForHelp (map string_bytes words.now) → ⊥)) }

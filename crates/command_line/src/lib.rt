@@ -1,13 +1,17 @@
 //! The command line of the program `lsvdctl`: the one place from which its commands come.
 //!
-//! Its contract: words are answered with what the command and the options in them ask for, exactly where clap takes them
-//! and the values of the options are in form and in their limits, unless it is out of memory. It stands on `lsvd_base`, for
-//! the limits of a volume, and on the kit's `clap`, `uuid`, `itoa` and `thiserror`.
+//! Its contract: words are answered with what the command and the options in them ask for, exactly where clap
+//! takes them and the values of the options are in form and in their limits, unless it is out of memory; and
+//! of words that are refused it tells a mistake that is true of them. It stands on `lsvd_base`, for the
+//! limits of a volume, and on the kit's `clap`, `uuid`, `itoa` and `thiserror`.
 #![tactic(auto)]
 
+mod bad_values;
 mod create;
+mod faults;
 mod help;
 mod laws;
+mod mistake;
 mod number;
 mod options;
 mod program;
@@ -18,5 +22,6 @@ mod values;
 pub use create::CreateRequest;
 pub use help::help_of;
 pub use laws::{a_command_line_spells_a_request, the_help_options_ask_for_help};
+pub use mistake::{Mistake, mistake_of};
 pub use request::{CommandLineError, Request, request_of};
 pub use serve::ServeRequest;

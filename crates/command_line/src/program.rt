@@ -18,13 +18,14 @@ const VERSION: &str = "0.1.0";
 // What clap makes of the words after the program's name.
 pub(crate) fn matches_of(alloc: Global, words: &[String]) -> Result<ArgMatches<'_>, Error>
     ensures kinds { FailsBy (faults_of (map string_bytes words.now)) result }
-    ensures met { IfOk result (λ matches. subcommand_rows_of matches ≡ subcommand_of lsvdctl (map string_bytes words.now)) }
+    ensures met { IfOk result (λ matches. subcommand_rows_of matches ≡ subcommand_of lsvdctl
+        (map string_bytes words.now)) }
 {
     program(alloc)?.try_get_matches_from(words)
 }
 
 // The program, with each of its commands.
-fn program<'a>(alloc: Global) -> Result<Command<'a>, AllocError>
+pub(crate) fn program<'a>(alloc: Global) -> Result<Command<'a>, AllocError>
     ensures { IfOk result (λ program. app_of program ≡ lsvdctl) }
 {
     Command::new(alloc, NAME)

@@ -1,9 +1,11 @@
-ghost use Rattle.std.specs.Prelude.{◌≡◌, ◌≢◌, ◌⊎◌, ◌<◌, ◌+◌, ◌*◌, List, ℕ, [], ◌∷◌, map, codes, string_bytes, IfOk, IfSome, IfNone, IsErrOf};
+ghost use Rattle.std.specs.Prelude.{◌≡◌, ◌≢◌, ◌⊎◌, ◌<◌, ◌+◌, ◌*◌, List, ℕ, [], ◌∷◌, map, codes, string_bytes};
+ghost use Rattle.std.specs.Prelude.{IfOk, IfSome, IfNone, IsErrOf};
 ghost use Rattle.std.specs.List.{All, flat_map};
 ghost use Rattle.clap.specs.Words.{kind_of, subcommand_rows_of};
 ghost use Rattle.clap.specs.declared.error.kind.ErrorKind.TheVariants as kinds;
 ghost use Rattle.lsvd_base.specs.declared.geometry.Geometry.{Geometry};
-ghost use Rattle.command_line.specs.CommandLine.{HasBadOptions, IsAskedBy, IsFaulty, IsRead, IsRefused, Line, Spells, commands};
+ghost use Rattle.command_line.specs.CommandLine.{HasBadOptions, IsAskedBy, IsFaulty, IsRead, IsRefused, Line};
+ghost use Rattle.command_line.specs.CommandLine.{Spells, commands};
 ghost use Rattle.command_line.specs.Create.{AreValid, HasBadUuid, value_in};
 ghost use Rattle.command_line.specs.Met.{IsMadeOf, MakesNone};
 ghost use Rattle.command_line.specs.Options.{Given, option_words};
@@ -40,10 +42,11 @@ pub enum CommandLineError {
     OutOfMemory,
 }
 
-/// Reads the words after the program's name. `Usage` comes where clap refuses them, and where the values of the options
-/// ask for nothing; `OutOfMemory` where memory runs out while they are read.
+/// Reads the words after the program's name. `Usage` comes where clap refuses them, and where the values of
+/// the options ask for nothing; `OutOfMemory` where memory runs out while they are read.
 pub fn request_of<'a>(alloc: Global, words: &'a [String]) -> Result<Request<'a>, CommandLineError>
-    ensures ok { IfOk result (λ request. (line : Line) × Spells (map string_bytes words.now) line × IsAskedBy line request) }
+    ensures ok { IfOk result (λ request. (line : Line) × Spells (map string_bytes words.now) line
+        × IsAskedBy line request) }
     ensures usage { IsErrOf result CommandLineError.Usage → IsFaulty (map string_bytes words.now)
         ⊎ ((line : Line) × Spells (map string_bytes words.now) line × HasBadOptions line) }
 
@@ -51,18 +54,20 @@ pub fn request_of<'a>(alloc: Global, words: &'a [String]) -> Result<Request<'a>,
     ensures line { (line : Line) → Spells (map string_bytes words.now) line → IsRead line result }
     ensures faulty { IsFaulty (map string_bytes words.now) → IsRefused result }
 
-    // Without a word of clap: the command `replay` alone is taken, no words are refused, and so are words that begin
-    // with no command.
+    // Without a word of clap: the command `replay` alone is taken, no words are refused, and so are words
+    // that begin with no command.
     ensures replay { map string_bytes words.now ≡ codes "replay" ∷ []
         → (result ≡ Ok Request.Replay) ⊎ (result ≡ Err CommandLineError.OutOfMemory) }
     ensures empty { words.now ≡ [] → IsRefused result }
     ensures unknown { (first : List ℕ) (rest : List (List ℕ)) → map string_bytes words.now ≡ first ∷ rest
         → All (λ command. command ≢ first) commands → IsRefused result }
 
-    // Plain options of `create` are refused for a text that is no uuid alone, and for a log that is too short.
+    // Plain options of `create` are refused for a text that is no uuid alone, and for a log that is too
+    // short.
     ensures valid { (options : List Given) (sizes : Geometry) → AreValid options sizes
         → map string_bytes words.now ≡ codes "create" ∷ flat_map option_words options
-        → IsErrOf result CommandLineError.Usage → HasBadUuid (value_in options) ⊎ (sizes.log < 2 * (sizes.max_write + 1)) }
+        → IsErrOf result CommandLineError.Usage → HasBadUuid (value_in options)
+        ⊎ (sizes.log < 2 * (sizes.max_write + 1)) }
 
     // And plain options of `serve` for a text that is no uuid alone.
     ensures serve_valid { (options : List Given) → AreValidToServe options
@@ -80,7 +85,7 @@ pub fn request_of<'a>(alloc: Global, words: &'a [String]) -> Result<Request<'a>,
 }
 
 // The request that the command in the matches makes, with the values of its options.
-fn request_in<'a>(matches: &ArgMatches<'a>) -> Option<Request<'a>>
+pub(crate) fn request_in<'a>(matches: &ArgMatches<'a>) -> Option<Request<'a>>
     ensures found { IfSome result (IsMadeOf (subcommand_rows_of matches.now)) }
     ensures none { IfNone result (MakesNone (subcommand_rows_of matches.now)) }
 {

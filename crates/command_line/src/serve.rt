@@ -13,15 +13,16 @@ use std::alloc::{AllocError, Global};
 use uuid::Uuid;
 
 // The most workers.
-const MAX_WORKERS: u64 = 8;
+pub(crate) const MAX_WORKERS: u64 = 8;
 
 // The most lanes.
-const MAX_LANES: u64 = 16;
+pub(crate) const MAX_LANES: u64 = 16;
 
 // The most sessions.
-const MAX_SESSIONS: u64 = 0xFFFF_FFFF;
+pub(crate) const MAX_SESSIONS: u64 = 0xFFFF_FFFF;
 
-/// What `serve` asks for: a volume of a store, with its cache device, served to clients of NBD that connect to a socket.
+/// What `serve` asks for: a volume of a store, with its cache device, served to clients of NBD that connect
+/// to a socket.
 #[derive(Clone, Copy, Debug, PartialEq, Eq)]
 pub struct ServeRequest<'a> {
     /// The directory of the store.
@@ -34,8 +35,8 @@ pub struct ServeRequest<'a> {
     pub socket: &'a str,
     /// Whether the cache device is lost: the volume is then what the store has.
     pub is_lost: bool,
-    /// The sectors of the log of a cache device that is made anew: 0 to 2^31. None is for the file that there is. It has an
-    /// effect only where the cache device is lost.
+    /// The sectors of the log of a cache device that is made anew: 0 to 2^31. None is for the file that there
+    /// is. It has an effect only where the cache device is lost.
     pub log: Option<u64>,
     /// The threads that put objects into the store beside the lanes: 0 to 8.
     pub workers: u64,
@@ -58,7 +59,8 @@ pub(crate) fn serve_command<'a>(alloc: Global) -> Result<Command<'a>, AllocError
         .arg(required(alloc, "socket", "PATH").help("Path of the socket that clients connect to"))?
         .arg(flag(alloc, "lost").help("The cache device is lost: serve what the store has"))?
         .arg(option(alloc, "log", "SECTORS").help(
-            "With --lost, sectors of the log on a cache device made anew: 0 to 2147483648 [default: as it is]",
+            "With --lost, sectors of the log on a cache device made anew: 0 to 2147483648 \
+             [default: as it is]",
         ))?
         .arg(
             option(alloc, "workers", "THREADS")

@@ -2,7 +2,8 @@ ghost use Rattle.std.specs.Prelude.{◌≡◌, ◌≢◌, None, IfSome, IfNone, 
 ghost use Rattle.clap.specs.Words.{found_of, rows_of};
 ghost use Rattle.uuid.specs.Text.{parsed};
 ghost use Rattle.command_line.specs.Met.{value_among};
-ghost use Rattle.command_line.specs.Values.{IsBetween, IsNoUuid, IsNumber, LacksBetween, LacksNumber, MayBeBetween, is_set};
+ghost use Rattle.command_line.specs.Values.{IsBetween, IsNoUuid, IsNumber, LacksBetween, LacksNumber};
+ghost use Rattle.command_line.specs.Values.{MayBeBetween, is_set};
 
 use crate::number::number_of;
 use clap::ArgMatches;
@@ -23,8 +24,10 @@ pub(crate) fn number_between(
     least: u64,
     most: u64,
 ) -> Option<u64>
-    ensures found { IfSome result (IsBetween (value_among (rows_of (found_of values.now))) name.now least most) }
-    ensures none { IfNone result (LacksBetween (value_among (rows_of (found_of values.now))) name.now least most) }
+    ensures found { IfSome result (IsBetween (value_among (rows_of (found_of values.now))) name.now
+        least most) }
+    ensures none { IfNone result (LacksBetween (value_among (rows_of (found_of values.now))) name.now
+        least most) }
 {
     let number = number_in(values, name)?;
     if number < least || most < number {
@@ -40,7 +43,8 @@ pub(crate) fn number_if_given(
     least: u64,
     most: u64,
 ) -> Option<Option<u64>>
-    ensures found { IfSome result (MayBeBetween (value_among (rows_of (found_of values.now))) name.now least most) }
+    ensures found { IfSome result (MayBeBetween (value_among (rows_of (found_of values.now))) name.now
+        least most) }
     ensures none { IfNone result ((value_among (rows_of (found_of values.now)) name.now ≢ None)
         × LacksBetween (value_among (rows_of (found_of values.now))) name.now least most) }
 {
@@ -52,7 +56,8 @@ pub(crate) fn number_if_given(
 
 // The uuid that the value of an option spells, if it has one. The outer None is for a text that is no uuid.
 pub(crate) fn uuid_in(values: &ArgMatches<'_>, name: &str) -> Option<Option<Uuid>>
-    ensures found { IfSome result (λ uuid. option_map parsed (value_among (rows_of (found_of values.now)) name.now)
+    ensures found { IfSome result (λ uuid. option_map parsed
+        (value_among (rows_of (found_of values.now)) name.now)
         ≡ option_map (λ u. Some u) uuid) }
     ensures none { IfNone result (IsNoUuid (value_among (rows_of (found_of values.now))) name.now) }
 {

@@ -20,9 +20,11 @@ PutsNew uuid sizes objects =
 was_before : (uuid : List ℕ) (sizes : Geometry) (old new : Option Objects) → Becomes (PutsVolume uuid sizes) old new
     → IfSome old (λ objects. found objects (super_name uuid) ≡ None) → PutsNew uuid sizes new
 was_before uuid sizes None new becomes absent = subst (PutsNew uuid sizes) (sym becomes) tt
-was_before uuid sizes (Some before) new (now, becomes, puts) absent = subst (PutsNew uuid sizes) (sym becomes) (before, puts, absent)
+was_before uuid sizes (Some before) new (now, becomes, puts) absent =
+    subst (PutsNew uuid sizes) (sym becomes) (before, puts, absent)
 
-pub is_volume_for : (request : CreateRequest) (uuid : List ℕ) (volume : SteppedVolume) (old new : Option Objects) → IsUuidFor request uuid
+pub is_volume_for : (request : CreateRequest) (uuid : List ℕ) (volume : SteppedVolume) (old new : Option Objects)
+    → IsUuidFor request uuid
     → IsCreated uuid (sizes_of request) volume → Becomes (PutsVolume uuid (sizes_of request)) old new
     → IfSome old (λ objects. found objects (super_name uuid) ≡ None) → IsVolumeFor request uuid volume new
 is_volume_for request uuid volume old new named created becomes absent = record {

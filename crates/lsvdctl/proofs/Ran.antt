@@ -90,7 +90,8 @@ runs_as_memory words input old = record {
   faulty = λ faulty. (inr refl, refl);
 }
 
-pub are_refused : (words : List Text) → IsFaulty words ⊎ ((line : Line) × Spells words line × HasBadOptions line) → AreRefused words
+pub are_refused : (words : List Text) → IsFaulty words ⊎ ((line : Line) × Spells words line × HasBadOptions line)
+    → AreRefused words
 are_refused words (inl faulty) = inl faulty
 are_refused words (inr (replay, spelled, nothing)) = absurd nothing
 are_refused words (inr (create options, spelled, bad)) = inr (inl (options, spelled, bad))

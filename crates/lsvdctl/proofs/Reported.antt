@@ -8,14 +8,16 @@ use Rattle.vol_replay.specs.Written.{IsWritten}
 use Rattle.lsvdctl.specs.declared.report.Report.{Report}
 use Rattle.lsvdctl.specs.Run.{report_of, IsReported}
 
-is_reported : (script text : List ℕ) (outcome : Outcome) → IsWritten script text outcome → IsReported script text (report_of outcome)
+is_reported : (script text : List ℕ) (outcome : Outcome) → IsWritten script text outcome
+    → IsReported script text (report_of outcome)
 is_reported script text (Done rig) written = (written.0, written.1)
 is_reported script text (BadLine number reason) written = written
 is_reported script text ReadFault written = written
 is_reported script text WriteFault written = written
 is_reported script text OutOfMemory written = written
 
-pub reported : (script : Option (List ℕ)) (old new : Option (List ℕ)) (outcome : Outcome) (report : Report) → report ≡ report_of outcome
+pub reported : (script : Option (List ℕ)) (old new : Option (List ℕ)) (outcome : Outcome) (report : Report)
+    → report ≡ report_of outcome
     → IfSome script (λ script. (text : List ℕ) × Appends old new text × IsWritten script text outcome)
     → IfSome script (λ script. (text : List ℕ) × Appends old new text × IsReported script text report)
 reported None old new outcome report is written = tt

@@ -1,5 +1,6 @@
 -- Where no disk, store and listener count a fault, none of them ends a command by one.
-use Rattle.std.proofs.Common.{arith, ◌≡◌, ℕ, ◌+◌, ◌<◌, ◌-◌, ◌^◌, ◌⊎◌, Bool, true, false, not, List, [], length, append-nil, refl, sym, ◌∙◌, ap, subst, inl, inr}
+use Rattle.std.proofs.Common.{arith, ◌≡◌, ℕ, ◌+◌, ◌<◌, ◌-◌, ◌^◌, ◌⊎◌, Bool, true, false, not, List, [], length, append-nil, refl}
+use Rattle.std.proofs.Common.{sym, ◌∙◌, ap, subst, inl, inr}
 use Rattle.std.specs.Prelude.{IsErrOf, OnOk, Result, Ok, Err}
 use Rattle.lsvd_base.specs.declared.entry.Entry.{Entry}
 use Rattle.lsvd_device.specs.Device.{DiskState}
@@ -55,7 +56,8 @@ of_other {T} {U} a b is = ap (λ e. Err e) (same_error {T = T} a b is)
 
 -- ---- the world
 
-pub world_fault : {T : Type 0} (U : Type 0) (error : WorldError) (first before now : ℕ) → before ≡ first → Counts (world_failed {T = U} (Err error)) before now
+pub world_fault : {T : Type 0} (U : Type 0) (error : WorldError) (first before now : ℕ) → before ≡ first
+    → Counts (world_failed {T = U} (Err error)) before now
     → IsErrOf {T = T} (Err (of_world error)) errors.Fault → CountsOne first now
 world_fault U worlds.Failed first before now same counted is = subst (λ n. CountsOne n now) same counted
 world_fault {T} U worlds.OutOfMemory first before now same counted is =
@@ -64,13 +66,15 @@ world_fault {T} U worlds.OutOfMemory first before now same counted is =
     not_both : errors.OutOfMemory ≡ errors.Fault → ⊥
     not_both is = cc
 
-pub world_quiet : {T : Type 0} (U : Type 0) (error : WorldError) (first before now : ℕ) → before ≡ first → Counts (world_failed {T = U} (Err error)) before now
+pub world_quiet : {T : Type 0} (U : Type 0) (error : WorldError) (first before now : ℕ) → before ≡ first
+    → Counts (world_failed {T = U} (Err error)) before now
     → (IsErrOf {T = T} (Err (of_world error)) errors.Fault → ⊥) → now ≡ first
 world_quiet U worlds.Failed first before now same counted quiet = absurd (quiet refl)
 world_quiet U worlds.OutOfMemory first before now same counted quiet = counted ∙ same
 
 -- a call of the world refuses no volume
-pub world_refuses_none : {T : Type 0} (error : WorldError) (why : Refusal) → IsErrOf {T = T} (Err (of_world error)) (errors.Refused why) → ⊥
+pub world_refuses_none : {T : Type 0} (error : WorldError) (why : Refusal)
+    → IsErrOf {T = T} (Err (of_world error)) (errors.Refused why) → ⊥
 world_refuses_none {T} worlds.Failed why is = other (same_error {T = T} errors.Fault (errors.Refused why) is)
   where
     other : errors.Fault ≡ errors.Refused why → ⊥
@@ -82,7 +86,8 @@ world_refuses_none {T} worlds.OutOfMemory why is = other (same_error {T = T} err
 
 -- ---- a mount
 
-pub mount_counts_none : {D S : Type 0} (disk_faults : D → ℕ) (store_faults : S → ℕ) (first last : D) (old new : S) (error : MountError)
+pub mount_counts_none : {D S : Type 0} (disk_faults : D → ℕ) (store_faults : S → ℕ) (first last : D) (old new : S)
+    (error : MountError)
     → (is_device_fault error ≡ true → CountsOne (disk_faults first) (disk_faults last))
     → Counts (is_store_fault_of error) (store_faults old) (store_faults new) → of_mount error ≡ errors.Fault
     → IsConstant disk_faults → IsConstant store_faults → ⊥
@@ -91,17 +96,28 @@ mount_counts_none disk_faults store_faults first last old new mounts.StoreFault 
 mount_counts_none disk_faults store_faults first last old new mounts.DeviceFault disk store is disks stores =
     stands_still disk_faults first last disks (disk refl)
 mount_counts_none disk_faults store_faults first last old new mounts.NoVolume disk store is disks stores = let bad : ⊥ = cc in bad
-mount_counts_none disk_faults store_faults first last old new (mounts.BadSuper reason) disk store is disks stores = let bad : ⊥ = cc in bad
-mount_counts_none disk_faults store_faults first last old new (mounts.HasAncestors count) disk store is disks stores = let bad : ⊥ = cc in bad
-mount_counts_none disk_faults store_faults first last old new mounts.NoCheckpoint disk store is disks stores = let bad : ⊥ = cc in bad
-mount_counts_none disk_faults store_faults first last old new (mounts.BadObject number reason) disk store is disks stores = let bad : ⊥ = cc in bad
-mount_counts_none disk_faults store_faults first last old new (mounts.NotData number) disk store is disks stores = let bad : ⊥ = cc in bad
-mount_counts_none disk_faults store_faults first last old new (mounts.NoSlot log) disk store is disks stores = let bad : ⊥ = cc in bad
-mount_counts_none disk_faults store_faults first last old new (mounts.WrongVolume found) disk store is disks stores = let bad : ⊥ = cc in bad
-mount_counts_none disk_faults store_faults first last old new (mounts.StaleCache cache current) disk store is disks stores = let bad : ⊥ = cc in bad
-mount_counts_none disk_faults store_faults first last old new (mounts.BadRecord seq reason) disk store is disks stores = let bad : ⊥ = cc in bad
-mount_counts_none disk_faults store_faults first last old new (mounts.Worn value) disk store is disks stores = let bad : ⊥ = cc in bad
-mount_counts_none disk_faults store_faults first last old new mounts.OutOfMemory disk store is disks stores = let bad : ⊥ = cc in bad
+mount_counts_none disk_faults store_faults first last old new (mounts.BadSuper reason) disk store is disks stores =
+    let bad : ⊥ = cc in bad
+mount_counts_none disk_faults store_faults first last old new (mounts.HasAncestors count) disk store is disks stores =
+    let bad : ⊥ = cc in bad
+mount_counts_none disk_faults store_faults first last old new mounts.NoCheckpoint disk store is disks stores =
+    let bad : ⊥ = cc in bad
+mount_counts_none disk_faults store_faults first last old new (mounts.BadObject number reason) disk store is disks stores =
+    let bad : ⊥ = cc in bad
+mount_counts_none disk_faults store_faults first last old new (mounts.NotData number) disk store is disks stores =
+    let bad : ⊥ = cc in bad
+mount_counts_none disk_faults store_faults first last old new (mounts.NoSlot log) disk store is disks stores =
+    let bad : ⊥ = cc in bad
+mount_counts_none disk_faults store_faults first last old new (mounts.WrongVolume found) disk store is disks stores =
+    let bad : ⊥ = cc in bad
+mount_counts_none disk_faults store_faults first last old new (mounts.StaleCache cache current) disk store is disks stores =
+    let bad : ⊥ = cc in bad
+mount_counts_none disk_faults store_faults first last old new (mounts.BadRecord seq reason) disk store is disks stores =
+    let bad : ⊥ = cc in bad
+mount_counts_none disk_faults store_faults first last old new (mounts.Worn value) disk store is disks stores =
+    let bad : ⊥ = cc in bad
+mount_counts_none disk_faults store_faults first last old new mounts.OutOfMemory disk store is disks stores =
+    let bad : ⊥ = cc in bad
 
 -- the calls of a mount with the cache tell a fault of the device
 pub cost_counts : (log : ℕ) (error : MountError) (old new : DiskState) → CostsMount log (not (is_device_fault error)) old new
@@ -119,18 +135,24 @@ drain_refuses_none owners.Range why is = let bad : ⊥ = cc in bad
 drain_refuses_none owners.Eio why is = let bad : ⊥ = cc in bad
 drain_refuses_none owners.OutOfMemory why is = let bad : ⊥ = cc in bad
 
-pub drain_counts_none : {D S : Type 0} (disk_faults : D → ℕ) (store_faults : S → ℕ) (first last : D) (old new : S) (error : OwnerError)
+pub drain_counts_none : {D S : Type 0} (disk_faults : D → ℕ) (store_faults : S → ℕ) (first last : D) (old new : S)
+    (error : OwnerError)
     (first_count last_count : ℕ) → disk_faults first ≡ first_count → disk_faults last ≡ last_count
     → (IsErrOf {T = ℕ} (Err error) owners.Range → ⊥)
-    → CountsEitherFault (is_eio {T = ℕ} (Err error)) first_count last_count (store_faults old) (store_faults new) → of_owner error ≡ errors.Fault
+    → CountsEitherFault (is_eio {T = ℕ} (Err error)) first_count last_count (store_faults old) (store_faults new)
+    → of_owner error ≡ errors.Fault
     → IsConstant disk_faults → IsConstant store_faults → ⊥
-drain_counts_none disk_faults store_faults first last old new owners.Range n m is_first is_last no_range counted is disks stores = no_range refl
-drain_counts_none disk_faults store_faults first last old new owners.Eio n m is_first is_last no_range (inl counted) is disks stores =
+drain_counts_none disk_faults store_faults first last old new owners.Range n m is_first is_last no_range counted is disks stores =
+    no_range refl
+drain_counts_none disk_faults store_faults first last old new owners.Eio n m is_first is_last no_range (inl counted) is
+    disks stores =
     stands_still disk_faults first last disks
     (subst (λ a. CountsOne a (disk_faults last)) (sym is_first) (subst (λ b. CountsOne n b) (sym is_last) counted.0))
-drain_counts_none disk_faults store_faults first last old new owners.Eio n m is_first is_last no_range (inr counted) is disks stores =
+drain_counts_none disk_faults store_faults first last old new owners.Eio n m is_first is_last no_range (inr counted) is
+    disks stores =
     stands_still store_faults old new stores counted.1
-drain_counts_none disk_faults store_faults first last old new owners.OutOfMemory n m is_first is_last no_range counted is disks stores =
+drain_counts_none disk_faults store_faults first last old new owners.OutOfMemory n m is_first is_last no_range counted is
+    disks stores =
     let bad : ⊥ = cc in bad
 
 -- a history that nothing is added to has the length that it has then
@@ -153,7 +175,8 @@ judged_refuses_none lanes.Counted why is = let bad : ⊥ = cc in bad
 judged_refuses_none lanes.Closed why is = let bad : ⊥ = cc in bad
 judged_refuses_none lanes.Failed why is = let bad : ⊥ = cc in bad
 
-pub lane_counts_none : {L : Type 0} (faults : L → ℕ) (first last : L) (old new : ListenerState) (end : LaneEnd) → old.faults ≡ faults first
+pub lane_counts_none : {L : Type 0} (faults : L → ℕ) (first last : L) (old new : ListenerState) (end : LaneEnd)
+    → old.faults ≡ faults first
     → new.faults ≡ faults last → ClosesAs end old new → end ≡ lanes.Failed → IsConstant faults → ⊥
 lane_counts_none faults first last old new lanes.Counted is_old is_new closes is constant = let bad : ⊥ = cc in bad
 lane_counts_none faults first last old new lanes.Closed is_old is_new closes is constant = let bad : ⊥ = cc in bad
@@ -162,15 +185,18 @@ lane_counts_none faults first last old new lanes.Failed is_old is_new closes is 
     (subst (λ a. CountsOne a (faults last)) is_old (subst (λ b. CountsOne old.faults b) is_new closes.1))
 
 -- what a result with such an error tells
-pub mount_error : {T : Type 0} (told other : CommandError) (error : MountError) → told ≡ of_mount error → IsErrOf {T = T} (Err told) other
+pub mount_error : {T : Type 0} (told other : CommandError) (error : MountError) → told ≡ of_mount error
+    → IsErrOf {T = T} (Err told) other
     → of_mount error ≡ other
 mount_error {T} told other error is same = sym is ∙ same_error {T = T} told other same
 
-pub owner_error : {T : Type 0} (error : OwnerError) (other : CommandError) → IsErrOf {T = T} (Err (of_owner error)) other → of_owner error ≡ other
+pub owner_error : {T : Type 0} (error : OwnerError) (other : CommandError) → IsErrOf {T = T} (Err (of_owner error)) other
+    → of_owner error ≡ other
 owner_error {T} error other is = same_error {T = T} (of_owner error) other is
 
 -- an error that is a refusal is so of any result
-pub refused_in : {T : Type 0} (error : CommandError) (why : Refusal) → error ≡ errors.Refused why → IsErrOf {T = T} (Err error) (errors.Refused why)
+pub refused_in : {T : Type 0} (error : CommandError) (why : Refusal) → error ≡ errors.Refused why
+    → IsErrOf {T = T} (Err error) (errors.Refused why)
 refused_in error why is = ap (λ e. Err e) is
 
 -- what is done is no error

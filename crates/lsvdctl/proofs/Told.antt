@@ -31,7 +31,8 @@ nothing_served errors.Fault old = nothing_told old
 nothing_served errors.OutOfMemory old = nothing_told old
 
 -- a front of the first line
-pub first_broken : (kept number : ℕ) (old new : Option (List ℕ)) → AppendsFront (mounted_line kept number) old new → TellsServed (Err errors.Fault) old new
+pub first_broken : (kept number : ℕ) (old new : Option (List ℕ)) → AppendsFront (mounted_line kept number) old new
+    → TellsServed (Err errors.Fault) old new
 first_broken kept number old new front =
     let a = mounted_line kept number in
     let b = writes_line 0 in (
@@ -46,7 +47,8 @@ first_broken kept number old new front =
     )
 
 -- the first line alone
-pub first_told : (kept number : ℕ) (old new : Option (List ℕ)) → Appends old new (mounted_line kept number) → IsServingFront old new
+pub first_told : (kept number : ℕ) (old new : Option (List ℕ)) → Appends old new (mounted_line kept number)
+    → IsServingFront old new
 first_told kept number old new told =
     let a = mounted_line kept number in
     let b = writes_line 0 in (
@@ -61,7 +63,8 @@ first_told kept number old new told =
     )
 
 -- the first line, before the server ended by an error
-pub only_first : (kept number : ℕ) (error : CommandError) (old new : Option (List ℕ)) → ((why : Refusal) → error ≡ errors.Refused why → ⊥)
+pub only_first : (kept number : ℕ) (error : CommandError) (old new : Option (List ℕ))
+    → ((why : Refusal) → error ≡ errors.Refused why → ⊥)
     → Appends old new (mounted_line kept number) → TellsServed (Err error) old new
 only_first kept number (errors.Refused why) old new not_refused told = absurd (not_refused why refl)
 only_first kept number errors.Fault old new not_refused told = first_told kept number old new told
@@ -79,12 +82,14 @@ second_broken kept number entries old mid new first front =
       (
         length a + front.0,
         omega (arith, front.1, length-append a b),
-        subst (λ (t : List ℕ). Appends old new t) (sym (take-append-add a b front.0)) (Appends-trans old mid new a (take front.0 b) first front.2),
+        subst (λ (t : List ℕ). Appends old new t) (sym (take-append-add a b front.0))
+            (Appends-trans old mid new a (take front.0 b) first front.2),
       ),
     )
 
 -- both lines
-pub both_told : (kept number entries : ℕ) (end : LaneEnd) (old mid new : Option (List ℕ)) → Appends old mid (mounted_line kept number)
+pub both_told : (kept number entries : ℕ) (end : LaneEnd) (old mid new : Option (List ℕ))
+    → Appends old mid (mounted_line kept number)
     → Appends mid new (writes_line entries) → TellsServed (judged end) old new
 both_told kept number entries lanes.Counted old mid new first second =
     (kept, number, entries, Appends-trans old mid new (mounted_line kept number) (writes_line entries) first second)
@@ -106,21 +111,23 @@ both_told kept number entries lanes.Failed old mid new first second = (
     whole = take-length (serving_text kept number entries)
 
 -- what stands behind both lines
-pub serves_with : {D S R : Type 0} (disk_state : D → DiskState) (objects_of : S → Option Objects) (receipt_state : R → ReceiptState)
+pub serves_with : {D S R : Type 0} (disk_state : D → DiskState) (objects_of : S → Option Objects) (receipt_state : R
+    → ReceiptState)
     (request : ServeRequest) (shown mounted : MountedState) (store : StoreState) (entries : ℕ) (old mid new : Option (List ℕ))
     → shown ≡ mounted → MountsFor disk_state objects_of receipt_state request mounted
     → ((clients : ℕ) × (last : Moment) × AreClients receipt_state clients (record { volume = shown.volume; store = store }) last
     × IsLengthOf entries last.volume.volume)
     → Appends old mid (mounted_line shown.entries shown.number) → Appends mid new (writes_line entries)
     → Serves disk_state objects_of receipt_state request old new
-serves_with disk_state objects_of receipt_state request shown mounted store entries old mid new same mounts served first second = record {
-  mounted = shown;
-  mounts = subst (λ m. MountsFor disk_state objects_of receipt_state request m) (sym same) mounts;
-  store = store;
-  clients = served.0;
-  last = served.1;
-  served = served.2;
-  entries = entries;
-  count = served.3;
-  told = Appends-trans old mid new (mounted_line shown.entries shown.number) (writes_line entries) first second;
-}
+serves_with disk_state objects_of receipt_state request shown mounted store entries old mid new same mounts served first second =
+    record {
+      mounted = shown;
+      mounts = subst (λ m. MountsFor disk_state objects_of receipt_state request m) (sym same) mounts;
+      store = store;
+      clients = served.0;
+      last = served.1;
+      served = served.2;
+      entries = entries;
+      count = served.3;
+      told = Appends-trans old mid new (mounted_line shown.entries shown.number) (writes_line entries) first second;
+    }

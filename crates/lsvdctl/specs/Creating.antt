@@ -51,9 +51,10 @@ IsUuidFor request uuid =
     (request.uuid ≡ Some uuid)
     ⊎ ((request.uuid ≡ None) × (version_num uuid ≡ 4) × (variant_of (slice_index uuid 8) ≡ RFC4122))
 
--- It is a volume that was created as the request asks: of the uuid for it, and of its sizes. Where its store tells its objects, they are
--- those before with the whole volume put into them, and before there was no super object of that uuid.
-pub record IsVolumeFor (request : CreateRequest) (uuid : List ℕ) (volume : SteppedVolume) (objects : Option Objects) : Type 0 where
+-- It is a volume that was created as the request asks: of the uuid for it, and of its sizes. Where its store tells its objects,
+-- they are those before with the whole volume put into them, and before there was no super object of that uuid.
+pub record IsVolumeFor (request : CreateRequest) (uuid : List ℕ) (volume : SteppedVolume) (objects : Option Objects) :
+    Type 0 where
   pub named : IsUuidFor request uuid
   pub created : IsCreated uuid (sizes_of request) volume
   pub stored : IfSome objects (λ now.
@@ -70,7 +71,8 @@ abbrev pub TellsCreation : CreateRequest → Report → (old new : Option (List 
 TellsCreation request Done old new = (uuid : List ℕ) × IsUuidFor request uuid × Appends old new (created_line uuid)
 -- nothing, or a front of the line
 TellsCreation request Fault old new =
-    (new ≡ old) ⊎ ((uuid : List ℕ) × IsUuidFor request uuid × ((n : ℕ) × (n ≤ length (created_line uuid)) × Appends old new (take n (created_line uuid))))
+    (new ≡ old) ⊎ ((uuid : List ℕ) × IsUuidFor request uuid
+    × ((n : ℕ) × (n ≤ length (created_line uuid)) × Appends old new (take n (created_line uuid))))
 TellsCreation request (Refused why) old new = (why ≡ refusals.Exists) × (new ≡ old)
 TellsCreation request Memory old new = new ≡ old
 TellsCreation request Usage old new = ⊥

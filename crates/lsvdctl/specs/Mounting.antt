@@ -22,17 +22,20 @@ use Rattle.lsvdctl.specs.Serving.{of_mount, serving_text}
 
 -- ---- a mount
 
--- what a volume is that was mounted of this disk and these objects: what the store has where its cache is lost, and else what the cache left
+-- what a volume is that was mounted of this disk and these objects: what the store has where its cache is lost, and else what the
+-- cache left
 abbrev pub IsMountedFrom : (is_lost : Bool) → (uuid : List ℕ) → DiskState → Option Objects → MountedState → Type 0
 IsMountedFrom false uuid disk objects mounted =
     OfVolume uuid (log_of disk.size) objects (λ geometry epoch. MountsLeft uuid geometry epoch objects disk mounted)
-IsMountedFrom true uuid disk objects mounted = OfVolume uuid (log_of disk.size) objects (λ geometry epoch. MountsStored uuid geometry objects mounted)
+IsMountedFrom true uuid disk objects mounted =
+    OfVolume uuid (log_of disk.size) objects (λ geometry epoch. MountsStored uuid geometry objects mounted)
 
 -- why none was
 abbrev pub IsWhyNotMounted : (is_lost : Bool) → (uuid : List ℕ) → DiskState → Option Objects → MountError → Type 0
 IsWhyNotMounted false uuid disk objects error =
     IsWhyOf uuid (log_of disk.size) objects (λ geometry epoch. IsWhyNotLeft uuid geometry epoch objects disk) error
-IsWhyNotMounted true uuid disk objects error = IsWhyOf uuid (log_of disk.size) objects (λ geometry epoch. IsWhyLost uuid geometry epoch objects) error
+IsWhyNotMounted true uuid disk objects error =
+    IsWhyOf uuid (log_of disk.size) objects (λ geometry epoch. IsWhyLost uuid geometry epoch objects) error
 
 -- a refusal is told for such an error alone
 abbrev pub IsRefusalFor : (is_lost : Bool) → (uuid : List ℕ) → DiskState → Option Objects → Refusal → Type 0
@@ -51,18 +54,22 @@ IsWhyNone {D} state request objects why =
     IsWhyAbsent request.volume objects why ⊎ ((disk : D) × IsRefusalFor request.is_lost request.volume (state disk) objects why)
 
 -- so it is of some store, where receipts tell what they stand for
-abbrev pub RefusesFor : {D S R : Type 0} → (D → DiskState) → (S → Option Objects) → (R → ReceiptState) → ServeRequest → Refusal → Type 0
+abbrev pub RefusesFor : {D S R : Type 0} → (D → DiskState) → (S → Option Objects) → (R → ReceiptState) → ServeRequest
+    → Refusal → Type 0
 RefusesFor {D} {S} disk_state objects_of receipt_state request why =
     (store : S) × (TellsBytes receipt_state → IsWhyNone disk_state request (objects_of store) why)
 
 -- and a volume that is served was mounted of some store and some disk
-abbrev pub MountsFor : {D S R : Type 0} → (D → DiskState) → (S → Option Objects) → (R → ReceiptState) → ServeRequest → MountedState → Type 0
+abbrev pub MountsFor : {D S R : Type 0} → (D → DiskState) → (S → Option Objects) → (R → ReceiptState) → ServeRequest
+    → MountedState → Type 0
 MountsFor {D} {S} disk_state objects_of receipt_state request mounted =
-    (disk : D) × (store : S) × (TellsBytes receipt_state → IsMountedFrom request.is_lost request.volume (disk_state disk) (objects_of store) mounted)
+    (disk : D) × (store : S) × (TellsBytes receipt_state → IsMountedFrom request.is_lost request.volume (disk_state disk)
+    (objects_of store) mounted)
 
--- A volume was mounted and served to clients, and the lines tell it: how many entries its history had and the number of its last object, and
--- how many entries it has at the end, with those of the clients.
-pub record Serves {D S R : Type 0} (disk_state : D → DiskState) (objects_of : S → Option Objects) (receipt_state : R → ReceiptState)
+-- A volume was mounted and served to clients, and the lines tell it: how many entries its history had and the number of its last
+-- object, and how many entries it has at the end, with those of the clients.
+pub record Serves {D S R : Type 0} (disk_state : D → DiskState) (objects_of : S → Option Objects) (receipt_state : R
+    → ReceiptState)
     (request : ServeRequest) (old new : Option (List ℕ)) : Type 0 where
   pub mounted : MountedState
   pub mounts : MountsFor disk_state objects_of receipt_state request mounted

@@ -2,7 +2,8 @@
 use Rattle.std.specs.Prelude.{ℕ, List, ◌++◌, codes, decimal}
 use Rattle.uuid.specs.Text.{hyphenated_text, lower}
 use Rattle.lsvdctl.specs.declared.refusal.Refusal.{Refusal}
-use Rattle.lsvdctl.specs.declared.refusal.Refusal.TheVariants.{NoVolume, BadSuper, NoCheckpoint, BadObject, StaleCache, WrongVolume, NoSlot, TooDeep, BadRecord, Exists, Worn}
+use Rattle.lsvdctl.specs.declared.refusal.Refusal.TheVariants.{NoVolume, BadSuper, NoCheckpoint, BadObject, StaleCache}
+use Rattle.lsvdctl.specs.declared.refusal.Refusal.TheVariants.{WrongVolume, NoSlot, TooDeep, BadRecord, Exists, Worn}
 
 -- a number, with a space after it, and values
 abbrev pub one_value : (number : List ℕ) → (value : ℕ) → List ℕ

@@ -58,8 +58,8 @@ RunsCreate options report old new =
 
 -- ---- servers
 
--- the values of these options ask for a volume to be served, and the output took what is told of that; or they ask for nothing, or memory
--- ran out before they were read
+-- the values of these options ask for a volume to be served, and the output took what is told of that; or they ask for nothing,
+-- or memory ran out before they were read
 abbrev pub RunsServe : List Given → Report → (old new : Option (List ℕ)) → Type 0
 RunsServe options Usage old new = HasBadServeValue (serve_value options) × (new ≡ old)
 RunsServe options Memory old new = TellsServing Memory old new
@@ -87,7 +87,8 @@ AreRefused words =
 -- one call failed: one of two things that count theirs
 abbrev pub CountsOneOf : (first_before first_now second_before second_now : ℕ) → Type 0
 CountsOneOf first_before first_now second_before second_now =
-    (CountsOne first_before first_now × (second_now ≡ second_before)) ⊎ ((first_now ≡ first_before) × CountsOne second_before second_now)
+    (CountsOne first_before first_now × (second_now ≡ second_before))
+    ⊎ ((first_now ≡ first_before) × CountsOne second_before second_now)
 
 -- no call of them failed
 abbrev pub CountsNone : (first_before first_now second_before second_now : ℕ) → Type 0

@@ -56,7 +56,8 @@ judged lanes.Failed = Err errors.Fault
 
 -- ---- the output
 
--- the line that tells a volume that was mounted: how many entries its history has, and the number of the object before the first missing one
+-- the line that tells a volume that was mounted: how many entries its history has, and the number of the object before the first
+-- missing one
 abbrev pub mounted_line : (entries number : ℕ) → List ℕ
 mounted_line entries number = codes "mounted " ++ decimal entries ++ codes " " ++ decimal number ++ codes "\n"
 

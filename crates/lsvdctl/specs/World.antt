@@ -1,5 +1,6 @@
 -- Contract: what the world gives a run of the program, and when a call of it failed.
-use Rattle.std.specs.Prelude.{◌≡◌, ◌⊎◌, ◌<◌, ◌-◌, ◌^◌, ℕ, Bool, true, false, [], ◌∷◌, Option, Some, None, Result, Ok, Err, replicate}
+use Rattle.std.specs.Prelude.{◌≡◌, ◌⊎◌, ◌<◌, ◌-◌, ◌^◌, ℕ, Bool, true, false, [], ◌∷◌, Option, Some, None, Result, Ok, Err}
+use Rattle.std.specs.Prelude.{replicate}
 use Rattle.lsvd_device.specs.Device.{DiskState, IsDisk}
 use Rattle.lsvd_device.specs.File.{silent}
 use Rattle.lsvd_device.specs.Medium.{durable}

@@ -1,4 +1,5 @@
-ghost use Rattle.std.specs.Prelude.{◌≡◌, ◌≢◌, ◌≤◌, ◌^◌, ℕ, IsTrue, IfOk, OnOk, OnErr, Err, IsErrOf, is_err, length, take};
+ghost use Rattle.std.specs.Prelude.{◌≡◌, ◌≢◌, ◌≤◌, ◌^◌, ℕ, IsTrue, IfOk, OnOk, OnErr, Err, IsErrOf, is_err};
+ghost use Rattle.std.specs.Prelude.{length, take};
 ghost use Rattle.std.specs.Io.KnownBytes.{Appends};
 ghost use Rattle.lsvd_base.specs.Limits.{is_within_limits};
 ghost use Rattle.lsvd_fault.specs.Faults.{Counts, CountsOne};
@@ -25,11 +26,12 @@ use uuid::{Builder, Uuid};
 use vol_core::Volume;
 use vol_recover::create;
 
-/// Creates the volume that is asked for, whose sizes are in their limits (a condition), and writes its uuid to `out`, in a
-/// line of its own.
+/// Creates the volume that is asked for, whose sizes are in their limits (a condition), and writes its uuid
+/// to `out`, in a line of its own.
 ///
-/// The refusal `Exists` comes where the store has a super object of the volume, and nothing was changed then; `Fault` where a call of the
-/// world failed, or of the store and the disk that it gave, or of `out`; `Memory` where memory ran out. The first call that fails ends it.
+/// The refusal `Exists` comes where the store has a super object of the volume, and nothing was changed then;
+/// `Fault` where a call of the world failed, or of the store and the disk that it gave, or of `out`; `Memory`
+/// where memory ran out. The first call that fails ends it.
 pub fn answer_create<W: World>(
     alloc: Global,
     request: &CreateRequest<'_>,
@@ -38,9 +40,12 @@ pub fn answer_create<W: World>(
 ) -> Report
     requires { IsTrue (is_within_limits (sizes_of request.now)) }
     ensures told { TellsCreation request.now result (W.Out.contents out.old) (W.Out.contents out.new) }
-    ensures fault { result ≡ Report.Fault → IsConstant (λ disk. (W.Disk.state disk).faults) → IsConstant (λ store. (W.Store.state store).faults)
-        → CountsOneOf (W.faults world.old) (W.faults world.new) (W.Out.faults out.old) (W.Out.faults out.new) }
-    ensures no_fault { result ≢ Report.Fault → CountsNone (W.faults world.old) (W.faults world.new) (W.Out.faults out.old) (W.Out.faults out.new) }
+    ensures fault { result ≡ Report.Fault → IsConstant (λ disk. (W.Disk.state disk).faults)
+        → IsConstant (λ store. (W.Store.state store).faults)
+        → CountsOneOf (W.faults world.old) (W.faults world.new) (W.Out.faults out.old)
+        (W.Out.faults out.new) }
+    ensures no_fault { result ≢ Report.Fault → CountsNone (W.faults world.old) (W.faults world.new)
+        (W.Out.faults out.old) (W.Out.faults out.new) }
 {
     let created = match create_volume(alloc, request, world) {
         Ok(created) => created,
@@ -62,8 +67,8 @@ struct Created<D: Disk + Drop, S: Store + Drop> {
     store: S,
 }
 
-// Creates a volume, and answers it with its disk and its store as they stand then. Whether there is one already is asked
-// before its cache is made, since what a cache held is lost then.
+// Creates a volume, and answers it with its disk and its store as they stand then. Whether there is one
+// already is asked before its cache is made, since what a cache held is lost then.
 fn create_volume<W: World>(
     alloc: Global,
     request: &CreateRequest<'_>,
@@ -71,7 +76,8 @@ fn create_volume<W: World>(
 ) -> Result<Created<W::Disk, W::Store>, CommandError>
     requires { IsTrue (is_within_limits (sizes_of request.now)) }
     ensures refused { (why : Refusal) → IsErrOf result (CommandError.Refused why) → why ≡ Refusal.Exists }
-    ensures made { IfOk result (λ created. IsVolumeFor request.now created.uuid created.volume (W.Store.state created.store).objects) }
+    ensures made { IfOk result (λ created. IsVolumeFor request.now created.uuid created.volume
+        (W.Store.state created.store).objects) }
     ensures fault { IsErrOf result CommandError.Fault
         → IsConstant (λ disk. (W.Disk.state disk).faults) → IsConstant (λ store. (W.Store.state store).faults)
         → CountsOne (W.faults world.old) (W.faults world.new) }
@@ -120,7 +126,8 @@ const LINE_BYTES: usize = 64;
 // The line that tells a volume that was created, as one write.
 fn tell_created<O: Sink>(out: &mut O, uuid: Uuid) -> Result<(), Failed>
     ensures ok { OnOk result (Appends (O.contents out.old) (O.contents out.new) (created_line uuid)) }
-    ensures front { OnErr result ((n : ℕ) × (n ≤ length (created_line uuid)) × Appends (O.contents out.old) (O.contents out.new) (take n (created_line uuid))) }
+    ensures front { OnErr result ((n : ℕ) × (n ≤ length (created_line uuid))
+        × Appends (O.contents out.old) (O.contents out.new) (take n (created_line uuid))) }
     ensures count { Counts (is_err result) (O.faults out.old) (O.faults out.new) }
 {
     let mut text = Uuid::encode_buffer();

@@ -9,9 +9,9 @@ use command_line::help_of;
 use lsvd_fault::{Failed, Sink, write_all};
 use std::alloc::{AllocError, Global};
 
-/// Answers words that ask for help or for the version, with the text on `out`, and says how that ended: `Done`,
-/// `Fault` where a write failed, or `Memory`, which comes before the first write. None is for words that ask for
-/// neither, and then nothing is written.
+/// Answers words that ask for help or for the version, with the text on `out`, and says how that ended:
+/// `Done`, `Fault` where a write failed, or `Memory`, which comes before the first write. None is for words
+/// that ask for neither, and then nothing is written.
 pub fn answer_help<O: Sink>(alloc: Global, words: &[String], out: &mut O) -> Option<Report>
     ensures some { IfSome result (λ report. IsAnswered (map string_bytes words.now) report
         (O.contents out.old) (O.contents out.new) (O.faults out.old) (O.faults out.new)) }
@@ -29,7 +29,8 @@ fn write_text<O: Sink>(out: &mut O, text: &[u8]) -> Report
     ensures ends { (result ≡ Report.Done) ⊎ (result ≡ Report.Fault) }
     ensures done { result ≡ Report.Done → Appends (O.contents out.old) (O.contents out.new) text.now }
     ensures front { result ≡ Report.Fault
-        → (n : ℕ) × (n ≤ length text.now) × Appends (O.contents out.old) (O.contents out.new) (take n text.now) }
+        → (n : ℕ) × (n ≤ length text.now) × Appends (O.contents out.old) (O.contents out.new)
+        (take n text.now) }
     ensures none { result ≡ Report.Done → O.faults out.new ≡ O.faults out.old }
     ensures fault { result ≡ Report.Fault → CountsOne (O.faults out.old) (O.faults out.new) }
 {

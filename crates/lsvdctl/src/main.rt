@@ -1,8 +1,9 @@
 //! The program `lsvdctl`.
 //!
-//! Its contract is that of `run`: what it writes and how it ends, for each command line and input. Words that ask for
-//! help are answered before, by `answer_help`. It stands on `command_line` for the words, on `vol_replay`, `vol_recover` and
-//! `vol_core` for the commands, and on `lsvd_device`, `lsvd_objstore` and `lsvd_fault` for what it reaches outside itself.
+//! Its contract is that of `run`: what it writes and how it ends, for each command line and input. Words that
+//! ask for help are answered before, by `answer_help`, and a sentence before what `run` writes says why words
+//! are refused. It stands on `command_line` for the words, on `vol_replay`, `vol_recover` and `vol_core` for
+//! the commands, and on `lsvd_device`, `lsvd_objstore` and `lsvd_fault` for what it reaches outside itself.
 #![tactic(auto)]
 
 mod creating;
@@ -16,11 +17,13 @@ mod report;
 mod serving;
 mod world;
 
+use command_line::mistake_of;
 use help::answer_help;
 use lsvd_fault::{ReadSource, Sink, WriteSink};
 use program::run;
 use real_world::RealWorld;
 use report::Report;
+use std::alloc::AllocError;
 use std::env;
 use std::io::ErrorKind;
 use std::process::ExitCode;
@@ -37,6 +40,7 @@ fn main(rt: HostRuntime) -> ExitCode {
     if let Some(report) = answer_help(rt.alloc(), words.as_slice(), &mut out) {
         return ended(report, &mut err);
     }
+    tell_mistake(&rt, words.as_slice());
     let status = run(
         rt.alloc(),
         words.as_slice(),
@@ -48,6 +52,16 @@ fn main(rt: HostRuntime) -> ExitCode {
     ExitCode::from(status)
 }
 
+// Says what is wrong with words that are refused. Where memory runs out, `run` says so.
+fn tell_mistake(rt: &HostRuntime, words: &[String]) {
+    match mistake_of(rt.alloc(), words) {
+        Ok(Some(mistake)) => {
+            let _ = eprintln!(rt; "lsvdctl: {mistake}");
+        }
+        Ok(None) | Err(AllocError) => {}
+    }
+}
+
 // Tells how the program ended without a run of it.
 fn ended<E: Sink>(report: Report, err: &mut E) -> ExitCode {
     report.tell(err);
@@ -57,7 +71,10 @@ fn ended<E: Sink>(report: Report, err: &mut E) -> ExitCode {
 // The words after the program's name. One that is not UTF-8 is no word of a command line.
 fn words(rt: &HostRuntime) -> Result<Vec<String>, Report> {
     let all = env::args(rt).map_err(|error| match error.kind() {
-        ErrorKind::InvalidData => Report::Usage,
+        ErrorKind::InvalidData => {
+            let _ = eprintln!(rt; "lsvdctl: a word of the command line is not UTF-8");
+            Report::Usage
+        }
         _ => Report::Memory,
     })?;
     let mut words = Vec::new(rt.alloc());

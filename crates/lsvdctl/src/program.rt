@@ -21,10 +21,11 @@ use vol_replay::{Outcome, replay};
 
 /// Runs the program on the words after its name, and answers its exit status.
 ///
-/// `replay` reads a script from `input` and writes its transcript to `out`. `create` makes a volume in a store and a disk
-/// that the world gives, and writes its uuid to `out`. `serve` serves one to the clients that the world gives, and writes to `out` what
-/// it found when they can connect, and what stands at the end. A line on `err` tells each end but a good one. Words that ask for
-/// help are faulty here: `answer_help` is asked first.
+/// `replay` reads a script from `input` and writes its transcript to `out`. `create` makes a volume in a
+/// store and a disk that the world gives, and writes its uuid to `out`. `serve` serves one to the clients
+/// that the world gives, and writes to `out` what it found when they can connect, and what stands at the end.
+/// A line on `err` tells each end but a good one. Words that ask for help are faulty here: `answer_help` is
+/// asked first.
 pub fn run<W: World>(
     alloc: Global,
     words: &[String],
@@ -33,20 +34,27 @@ pub fn run<W: World>(
     out: &mut W::Out,
     err: &mut W::Err,
 ) -> u8
-    // 0: it is done. 3: a line is bad, or the volume is refused. 1 or 4: a fault, or memory ran out. The output and the line
-    // on the error stream say so too.
+    // 0: it is done. 3: a line is bad, or the volume is refused. 1 or 4: a fault, or memory ran out. The
+    // output and the line on the error stream say so too.
     ensures report { (report : Report) × (result ≡ status_of report)
-        × IsTold (W.Err.contents err.old) (W.Err.contents err.new) (W.Err.faults err.old) (W.Err.faults err.new) (line_of report)
-        × Runs (map string_bytes words.now) report (W.In.remaining input.old) (W.Out.contents out.old) (W.Out.contents out.new) }
+        × IsTold (W.Err.contents err.old) (W.Err.contents err.new) (W.Err.faults err.old)
+        (W.Err.faults err.new) (line_of report)
+        × Runs (map string_bytes words.now) report (W.In.remaining input.old) (W.Out.contents out.old)
+        (W.Out.contents out.new) }
 
-    // The input of a script was read to its end, and the world was asked for nothing. Creating and serving read no input.
-    ensures end { Spells (map string_bytes words.now) replay → result ≡ 0 → IsAtEnd (W.In.remaining input.new) }
+    // The input of a script was read to its end, and the world was asked for nothing. Creating and serving
+    // read no input.
+    ensures end { Spells (map string_bytes words.now) replay → result ≡ 0
+        → IsAtEnd (W.In.remaining input.new) }
     ensures replay_world { Spells (map string_bytes words.now) replay → world.new ≡ world.old }
-    ensures create_input { (options : List Given) → Spells (map string_bytes words.now) (create options) → input.new ≡ input.old }
-    ensures serve_input { (options : List Given) → Spells (map string_bytes words.now) (serve options) → input.new ≡ input.old }
+    ensures create_input { (options : List Given) → Spells (map string_bytes words.now) (create options)
+        → input.new ≡ input.old }
+    ensures serve_input { (options : List Given) → Spells (map string_bytes words.now) (serve options)
+        → input.new ≡ input.old }
 
-    // 2 is for words that are refused, so never for the one word `replay`, and for plain options of `create` or `serve` only where a
-    // text is no uuid, or a log of `create` is too short. Then nothing was read, written or made.
+    // 2 is for words that are refused, so never for the one word `replay`, and for plain options of `create`
+    // or `serve` only where a text is no uuid, or a log of `create` is too short. Then nothing was read,
+    // written or made.
     ensures usage { result ≡ 2 → AreRefused (map string_bytes words.now) }
     ensures replay { map string_bytes words.now ≡ codes "replay" ∷ [] → result ≢ 2 }
     ensures valid { (options : List Given) (sizes : Geometry) → AreValid options sizes
@@ -57,19 +65,26 @@ pub fn run<W: World>(
         → result ≡ 2 → IsNoUuid (serve_value options) (codes "volume") }
     ensures untouched { result ≡ 2 → (world.new ≡ world.old) × (input.new ≡ input.old) × (out.new ≡ out.old) }
 
-    // Faulty words end with 2, or with 4 where memory ran out while they were judged, and nothing is run of them.
+    // Faulty words end with 2, or with 4 where memory ran out while they were judged, and nothing is run of
+    // them.
     ensures faulty { IsFaulty (map string_bytes words.now)
-        → ((result ≡ 2) ⊎ (result ≡ 4)) × (world.new ≡ world.old) × (input.new ≡ input.old) × (out.new ≡ out.old) }
+        → ((result ≡ 2) ⊎ (result ≡ 4)) × (world.new ≡ world.old) × (input.new ≡ input.old)
+        × (out.new ≡ out.old) }
 
-    // 1 is for one call that failed, and every other status for none. A disk, a store and a listener that the world gave end here; where
-    // they never count a fault, the call was one of the world, of the input or of the output.
-    ensures fault { result ≡ 1 → IsConstant (λ disk. (W.Disk.state disk).faults) → IsConstant (λ store. (W.Store.state store).faults)
+    // 1 is for one call that failed, and every other status for none. A disk, a store and a listener that the
+    // world gave end here; where they never count a fault, the call was one of the world, of the input or of
+    // the output.
+    ensures fault { result ≡ 1 → IsConstant (λ disk. (W.Disk.state disk).faults)
+        → IsConstant (λ store. (W.Store.state store).faults)
         → IsConstant W.Clients.faults
-        → CountsOneOfAll (W.faults world.old) (W.faults world.new) (W.In.faults input.old) (W.In.faults input.new) (W.Out.faults out.old) (W.Out.faults out.new) }
+        → CountsOneOfAll (W.faults world.old) (W.faults world.new) (W.In.faults input.old)
+        (W.In.faults input.new) (W.Out.faults out.old) (W.Out.faults out.new) }
     ensures replay_fault { Spells (map string_bytes words.now) replay → result ≡ 1
-        → CountsOneOf (W.In.faults input.old) (W.In.faults input.new) (W.Out.faults out.old) (W.Out.faults out.new) }
+        → CountsOneOf (W.In.faults input.old) (W.In.faults input.new) (W.Out.faults out.old)
+        (W.Out.faults out.new) }
     ensures no_fault { result ≢ 1 → (W.faults world.new ≡ W.faults world.old)
-        × CountsNone (W.In.faults input.old) (W.In.faults input.new) (W.Out.faults out.old) (W.Out.faults out.new) }
+        × CountsNone (W.In.faults input.old) (W.In.faults input.new) (W.Out.faults out.old)
+        (W.Out.faults out.new) }
 {
     let report = execute(alloc, words, world, input, out);
     report.tell(err);
@@ -84,11 +99,15 @@ fn execute<W: World>(
     input: &mut W::In,
     out: &mut W::Out,
 ) -> Report
-    ensures output { Runs (map string_bytes words.now) result (W.In.remaining input.old) (W.Out.contents out.old) (W.Out.contents out.new) }
-    ensures end { Spells (map string_bytes words.now) replay → result ≡ Report.Done → IsAtEnd (W.In.remaining input.new) }
+    ensures output { Runs (map string_bytes words.now) result (W.In.remaining input.old)
+        (W.Out.contents out.old) (W.Out.contents out.new) }
+    ensures end { Spells (map string_bytes words.now) replay → result ≡ Report.Done
+        → IsAtEnd (W.In.remaining input.new) }
     ensures replay_world { Spells (map string_bytes words.now) replay → world.new ≡ world.old }
-    ensures create_input { (options : List Given) → Spells (map string_bytes words.now) (create options) → input.new ≡ input.old }
-    ensures serve_input { (options : List Given) → Spells (map string_bytes words.now) (serve options) → input.new ≡ input.old }
+    ensures create_input { (options : List Given) → Spells (map string_bytes words.now) (create options)
+        → input.new ≡ input.old }
+    ensures serve_input { (options : List Given) → Spells (map string_bytes words.now) (serve options)
+        → input.new ≡ input.old }
     ensures usage { result ≡ Report.Usage → AreRefused (map string_bytes words.now) }
     ensures replay { map string_bytes words.now ≡ codes "replay" ∷ [] → result ≢ Report.Usage }
     ensures valid { (options : List Given) (sizes : Geometry) → AreValid options sizes
@@ -97,16 +116,22 @@ fn execute<W: World>(
     ensures serve_valid { (options : List Given) → AreValidToServe options
         → map string_bytes words.now ≡ codes "serve" ∷ flat_map option_words options
         → result ≡ Report.Usage → IsNoUuid (serve_value options) (codes "volume") }
-    ensures untouched { result ≡ Report.Usage → (world.new ≡ world.old) × (input.new ≡ input.old) × (out.new ≡ out.old) }
+    ensures untouched { result ≡ Report.Usage → (world.new ≡ world.old) × (input.new ≡ input.old)
+        × (out.new ≡ out.old) }
     ensures faulty { IsFaulty (map string_bytes words.now)
-        → ((result ≡ Report.Usage) ⊎ (result ≡ Report.Memory)) × (world.new ≡ world.old) × (input.new ≡ input.old) × (out.new ≡ out.old) }
-    ensures fault { result ≡ Report.Fault → IsConstant (λ disk. (W.Disk.state disk).faults) → IsConstant (λ store. (W.Store.state store).faults)
+        → ((result ≡ Report.Usage) ⊎ (result ≡ Report.Memory)) × (world.new ≡ world.old)
+        × (input.new ≡ input.old) × (out.new ≡ out.old) }
+    ensures fault { result ≡ Report.Fault → IsConstant (λ disk. (W.Disk.state disk).faults)
+        → IsConstant (λ store. (W.Store.state store).faults)
         → IsConstant W.Clients.faults
-        → CountsOneOfAll (W.faults world.old) (W.faults world.new) (W.In.faults input.old) (W.In.faults input.new) (W.Out.faults out.old) (W.Out.faults out.new) }
+        → CountsOneOfAll (W.faults world.old) (W.faults world.new) (W.In.faults input.old)
+        (W.In.faults input.new) (W.Out.faults out.old) (W.Out.faults out.new) }
     ensures replay_fault { Spells (map string_bytes words.now) replay → result ≡ Report.Fault
-        → CountsOneOf (W.In.faults input.old) (W.In.faults input.new) (W.Out.faults out.old) (W.Out.faults out.new) }
+        → CountsOneOf (W.In.faults input.old) (W.In.faults input.new) (W.Out.faults out.old)
+        (W.Out.faults out.new) }
     ensures no_fault { result ≢ Report.Fault → (W.faults world.new ≡ W.faults world.old)
-        × CountsNone (W.In.faults input.old) (W.In.faults input.new) (W.Out.faults out.old) (W.Out.faults out.new) }
+        × CountsNone (W.In.faults input.old) (W.In.faults input.new) (W.Out.faults out.old)
+        (W.Out.faults out.new) }
 {
     match request_of(alloc, words) {
         Ok(Request::Replay) => report_of(replay(alloc, input, out)),

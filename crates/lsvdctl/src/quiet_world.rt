@@ -110,16 +110,16 @@ impl Listener for QuietListener {
     }
 }
 
-/// A law: no call of the quiet world's disks, stores and listeners is ever counted. So a run in it ends by a fault only where a call of
-/// the world itself, of the input or of the output failed.
+/// A law: no call of the quiet world's disks, stores and listeners is ever counted. So a run in it ends by a
+/// fault only where a call of the world itself, of the input or of the output failed.
 pub fn a_quiet_world_counts_no_fault()
     ensures disk { IsConstant (λ disk. (quiet_state disk).faults) }
     ensures store { IsConstant (λ store. (told_state store).faults) }
     ensures clients { IsConstant (quiet_faults {T = QuietListener}) }
 {}
 
-/// Runs the program in the quiet world, as `run` does. Status 1 comes only where one call of the world itself, of the input or of
-/// the output failed, which was counted once.
+/// Runs the program in the quiet world, as `run` does. Status 1 comes only where one call of the world
+/// itself, of the input or of the output failed, which was counted once.
 pub fn run_quietly(
     alloc: Global,
     words: &[String],
@@ -129,14 +129,15 @@ pub fn run_quietly(
     err: &mut MemSink,
 ) -> u8
     ensures fault { result ≡ 1
-        → CountsOneOfAll world.old.faults world.new.faults input.old.faults input.new.faults out.old.faults out.new.faults }
+        → CountsOneOfAll world.old.faults world.new.faults input.old.faults input.new.faults out.old.faults
+        out.new.faults }
 {
     a_quiet_world_counts_no_fault();
     run(alloc, words, world, input, out, err)
 }
 
-/// A world in memory for one run. Its disks and stores are new ones, and what a run makes of them is let go with it. No call of
-/// them is ever counted as a fault.
+/// A world in memory for one run. Its disks and stores are new ones, and what a run makes of them is let go
+/// with it. No call of them is ever counted as a fault.
 #[derive(Drop)]
 pub struct QuietWorld {
     alloc: Global,

@@ -15,8 +15,8 @@ use std::marker::PhantomData;
 use std::random::RandomSource;
 use uuid::Uuid;
 
-/// The real world: streams, files and directories of the operating system. What the system says of a call that failed is told
-/// on standard error, in one line that begins with the path.
+/// The real world: streams, files and directories of the operating system. What the system says of a call
+/// that failed is told on standard error, in one line that begins with the path.
 #[derive(Drop)]
 pub struct RealWorld<'a, R: Read + Drop, O: Write + Drop, E: Write + Drop> {
     rt: &'a HostRuntime,

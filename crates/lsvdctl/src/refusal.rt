@@ -36,9 +36,11 @@ pub enum Refusal {
 }
 
 impl Refusal {
-    /// Writes the line that tells it. Where a write fails, a front of the line stands there, and nothing else is done about it.
+    /// Writes the line that tells it. Where a write fails, a front of the line stands there, and nothing else
+    /// is done about it.
     pub fn tell<E: Sink>(&self, err: &mut E)
-        ensures { IsTold (E.contents err.old) (E.contents err.new) (E.faults err.old) (E.faults err.new) (refusal_line self.now) }
+        ensures { IsTold (E.contents err.old) (E.contents err.new) (E.faults err.old) (E.faults err.new)
+            (refusal_line self.now) }
     {
         match self {
             Refusal::NoVolume => tell_line(err, b"refused 1\n"),
@@ -67,7 +69,8 @@ const LINE_BYTES: usize = 64;
 // The line of a refusal with one value, as one write. The number stands before it, with a space.
 fn tell_value<E: Sink>(err: &mut E, number: &str, value: u64)
     requires { length number.now ≤ 3 }
-    ensures { IsTold (E.contents err.old) (E.contents err.new) (E.faults err.old) (E.faults err.new) (one_value number.now value) }
+    ensures { IsTold (E.contents err.old) (E.contents err.new) (E.faults err.old) (E.faults err.new)
+        (one_value number.now value) }
 {
     let mut line = ArrayString::<LINE_BYTES>::new();
     line.push_str("refused ");
@@ -80,7 +83,8 @@ fn tell_value<E: Sink>(err: &mut E, number: &str, value: u64)
 // The line of a refusal with two values, as one write. The number stands before them, with a space.
 fn tell_values<E: Sink>(err: &mut E, number: &str, first: u64, second: u64)
     requires { length number.now ≤ 3 }
-    ensures { IsTold (E.contents err.old) (E.contents err.new) (E.faults err.old) (E.faults err.new) (two_values number.now first second) }
+    ensures { IsTold (E.contents err.old) (E.contents err.new) (E.faults err.old) (E.faults err.new)
+        (two_values number.now first second) }
 {
     let mut line = ArrayString::<LINE_BYTES>::new();
     line.push_str("refused ");
@@ -94,7 +98,8 @@ fn tell_values<E: Sink>(err: &mut E, number: &str, first: u64, second: u64)
 
 // The line of a cache of another volume, as one write.
 fn tell_found<E: Sink>(err: &mut E, found: Uuid)
-    ensures { IsTold (E.contents err.old) (E.contents err.new) (E.faults err.old) (E.faults err.new) (refusal_line (Refusal.WrongVolume found)) }
+    ensures { IsTold (E.contents err.old) (E.contents err.new) (E.faults err.old) (E.faults err.new)
+        (refusal_line (Refusal.WrongVolume found)) }
 {
     let mut text = Uuid::encode_buffer();
     let mut line = ArrayString::<LINE_BYTES>::new();

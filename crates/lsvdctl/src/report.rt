@@ -41,7 +41,8 @@ impl Report {
     /// Writes the line that tells it, which a run that is done does not have. Where a write fails, a
     /// front of the line stands there, and nothing else is done about it.
     pub fn tell<E: Sink>(&self, err: &mut E)
-        ensures told { IsTold (E.contents err.old) (E.contents err.new) (E.faults err.old) (E.faults err.new) (line_of self.now) }
+        ensures told { IsTold (E.contents err.old) (E.contents err.new) (E.faults err.old) (E.faults err.new)
+            (line_of self.now) }
     {
         match self {
             Report::Done => {}
@@ -56,7 +57,8 @@ impl Report {
 
 /// Writes a line, or a front of it.
 pub(crate) fn tell_line<E: Sink>(err: &mut E, line: &[u8])
-    ensures told { IsTold (E.contents err.old) (E.contents err.new) (E.faults err.old) (E.faults err.new) line.now }
+    ensures told { IsTold (E.contents err.old) (E.contents err.new) (E.faults err.old)
+        (E.faults err.new) line.now }
 {
     let _ = write_all(err, line);
 }
@@ -66,7 +68,8 @@ const LINE_BYTES: usize = 64;
 
 // The line that tells a bad line, as one write.
 fn tell_bad_line<E: Sink>(err: &mut E, number: u64, reason: Reason)
-    ensures told { IsTold (E.contents err.old) (E.contents err.new) (E.faults err.old) (E.faults err.new) (line_of (Report.BadLine number reason)) }
+    ensures told { IsTold (E.contents err.old) (E.contents err.new) (E.faults err.old) (E.faults err.new)
+        (line_of (Report.BadLine number reason)) }
 {
     let mut line = ArrayString::<LINE_BYTES>::new();
     line.push_str("line ");

@@ -1,4 +1,5 @@
-ghost use Rattle.std.specs.Prelude.{◌≡◌, ◌≢◌, ◌≤◌, ℕ, true, false, IfOk, OnOk, OnErr, Err, IsErrOf, is_err, length, take};
+ghost use Rattle.std.specs.Prelude.{◌≡◌, ◌≢◌, ◌≤◌, ℕ, true, false, IfOk, OnOk, OnErr, Err, IsErrOf, is_err};
+ghost use Rattle.std.specs.Prelude.{length, take};
 ghost use Rattle.std.specs.Io.KnownBytes.{Appends};
 ghost use Rattle.lsvd_device.specs.Device.{IsDisk};
 ghost use Rattle.lsvd_fault.specs.Faults.{Counts, CountsOne};
@@ -8,8 +9,10 @@ ghost use Rattle.volume_owner.specs.Calls.{IsLengthOf};
 ghost use Rattle.volume_server.specs.Serving.{AreClients};
 ghost use Rattle.volume_owner.specs.Owner.{IsIdle};
 ghost use Rattle.object_recovery.specs.Faults.{TellsBytes};
-ghost use Rattle.lsvdctl.specs.Mounting.{IsMountedFrom, IsRefusalFor, IsWhyAbsent, RefusesFor, MountsFor, Serves};
-ghost use Rattle.lsvdctl.specs.Serving.{HasLogLength, TellsServing, TellsServed, judged, mounted_line, writes_line, AppendsFront};
+ghost use Rattle.lsvdctl.specs.Mounting.{IsMountedFrom, IsRefusalFor, IsWhyAbsent, RefusesFor, MountsFor};
+ghost use Rattle.lsvdctl.specs.Mounting.{Serves};
+ghost use Rattle.lsvdctl.specs.Serving.{HasLogLength, TellsServing, TellsServed, judged, mounted_line};
+ghost use Rattle.lsvdctl.specs.Serving.{writes_line, AppendsFront};
 ghost use Rattle.lsvdctl.specs.Run.{CountsOneOf, CountsNone};
 ghost use Rattle.lsvdctl.specs.World.{IsConstant};
 
@@ -33,14 +36,15 @@ use vol_recover::{Mounted, mount_kept, mount_lost};
 use volume_owner::Owner;
 use volume_server::{LaneEnd, clients_add_to_one_history, serve_volume};
 
-/// Serves the volume that is asked for: mounts it, writes a line to `out` as soon as clients can connect, and serves them; with the last
-/// session it puts into the store what is not yet there, and writes a line again.
+/// Serves the volume that is asked for: mounts it, writes a line to `out` as soon as clients can connect, and
+/// serves them; with the last session it puts into the store what is not yet there, and writes a line again.
 ///
-/// The first line tells how many entries the history of the volume that was mounted has, and the number of its last object; the second how
-/// many it has at the end. A volume that is not mounted is `Refused`, for the reason that its store and its cache give, and nothing is
-/// written then. `Fault` comes where a call of the world failed, or of the store,
-/// the disk or the listener that it gave, or of `out`; `Memory` where memory ran out. The first call that fails ends it, but for one of the
-/// listener: then no more clients come, and it ends as with the last session.
+/// The first line tells how many entries the history of the volume that was mounted has, and the number of
+/// its last object; the second how many it has at the end. A volume that is not mounted is `Refused`, for the
+/// reason that its store and its cache give, and nothing is written then. `Fault` comes where a call of the
+/// world failed, or of the store, the disk or the listener that it gave, or of `out`; `Memory` where memory
+/// ran out. The first call that fails ends it, but for one of the listener: then no more clients come, and it
+/// ends as with the last session.
 pub fn answer_serve<W: World>(
     alloc: Global,
     request: &ServeRequest<'_>,
@@ -49,13 +53,19 @@ pub fn answer_serve<W: World>(
 ) -> Report
     requires { HasLogLength request.now }
     ensures told { TellsServing result (W.Out.contents out.old) (W.Out.contents out.new) }
-    ensures serves { result ≡ Report.Done → Serves (λ disk. W.Disk.state disk) (λ store. (W.Store.state store).objects) W.Store.Receipt.state request.now
+    ensures serves { result ≡ Report.Done
+        → Serves (λ disk. W.Disk.state disk) (λ store. (W.Store.state store).objects) W.Store.Receipt.state
+        request.now
         (W.Out.contents out.old) (W.Out.contents out.new) }
     ensures why { (why : Refusal) → result ≡ Report.Refused why
-        → RefusesFor (λ disk. W.Disk.state disk) (λ store. (W.Store.state store).objects) W.Store.Receipt.state request.now why }
-    ensures fault { result ≡ Report.Fault → IsConstant (λ disk. (W.Disk.state disk).faults) → IsConstant (λ store. (W.Store.state store).faults)
-        → IsConstant W.Clients.faults → CountsOneOf (W.faults world.old) (W.faults world.new) (W.Out.faults out.old) (W.Out.faults out.new) }
-    ensures no_fault { result ≢ Report.Fault → CountsNone (W.faults world.old) (W.faults world.new) (W.Out.faults out.old) (W.Out.faults out.new) }
+        → RefusesFor (λ disk. W.Disk.state disk) (λ store. (W.Store.state store).objects)
+        W.Store.Receipt.state request.now why }
+    ensures fault { result ≡ Report.Fault → IsConstant (λ disk. (W.Disk.state disk).faults)
+        → IsConstant (λ store. (W.Store.state store).faults)
+        → IsConstant W.Clients.faults → CountsOneOf (W.faults world.old) (W.faults world.new)
+        (W.Out.faults out.old) (W.Out.faults out.new) }
+    ensures no_fault { result ≢ Report.Fault → CountsNone (W.faults world.old) (W.faults world.new)
+        (W.Out.faults out.old) (W.Out.faults out.new) }
 {
     match serve(alloc, request, world, out) {
         Ok(()) => Report::Done,
@@ -74,13 +84,17 @@ fn serve<W: World>(
 ) -> Result<(), CommandError>
     requires { HasLogLength request.now }
     ensures told { TellsServed result (W.Out.contents out.old) (W.Out.contents out.new) }
-    ensures serves { OnOk result (Serves (λ disk. W.Disk.state disk) (λ store. (W.Store.state store).objects) W.Store.Receipt.state request.now
+    ensures serves { OnOk result (Serves (λ disk. W.Disk.state disk) (λ store. (W.Store.state store).objects)
+        W.Store.Receipt.state request.now
         (W.Out.contents out.old) (W.Out.contents out.new)) }
     ensures why { (why : Refusal) → IsErrOf result (CommandError.Refused why)
-        → RefusesFor (λ disk. W.Disk.state disk) (λ store. (W.Store.state store).objects) W.Store.Receipt.state request.now why }
+        → RefusesFor (λ disk. W.Disk.state disk) (λ store. (W.Store.state store).objects)
+        W.Store.Receipt.state request.now why }
     ensures fault { IsErrOf result CommandError.Fault
-        → IsConstant (λ disk. (W.Disk.state disk).faults) → IsConstant (λ store. (W.Store.state store).faults) → IsConstant W.Clients.faults
-        → CountsOneOf (W.faults world.old) (W.faults world.new) (W.Out.faults out.old) (W.Out.faults out.new) }
+        → IsConstant (λ disk. (W.Disk.state disk).faults) → IsConstant (λ store. (W.Store.state store).faults)
+        → IsConstant W.Clients.faults
+        → CountsOneOf (W.faults world.old) (W.faults world.new) (W.Out.faults out.old)
+        (W.Out.faults out.new) }
     ensures no_fault { result ≢ Err CommandError.Fault
         → CountsNone (W.faults world.old) (W.faults world.new) (W.Out.faults out.old) (W.Out.faults out.new) }
 {
@@ -115,8 +129,8 @@ struct Opened<D: Disk + Drop, S: Store + Drop, L: Listener + Drop> {
     clients: L,
 }
 
-// Mounts the volume that is asked for, and begins to listen. Whether there is one is asked before its cache is made anew, since what a
-// cache held is lost then.
+// Mounts the volume that is asked for, and begins to listen. Whether there is one is asked before its cache
+// is made anew, since what a cache held is lost then.
 fn open<W: World>(
     alloc: Global,
     request: &ServeRequest<'_>,
@@ -126,9 +140,11 @@ fn open<W: World>(
     ensures idle { IfOk result (λ opened. IsIdle opened.mounted.volume.volume) }
     ensures steps { IfOk result (λ opened. opened.mounted.volume.steps ≤ most_steps) }
     ensures mounts { IfOk result (λ opened.
-        MountsFor (λ disk. W.Disk.state disk) (λ store. (W.Store.state store).objects) W.Store.Receipt.state request.now opened.mounted) }
+        MountsFor (λ disk. W.Disk.state disk) (λ store. (W.Store.state store).objects) W.Store.Receipt.state
+        request.now opened.mounted) }
     ensures why { (why : Refusal) → IsErrOf result (CommandError.Refused why)
-        → RefusesFor (λ disk. W.Disk.state disk) (λ store. (W.Store.state store).objects) W.Store.Receipt.state request.now why }
+        → RefusesFor (λ disk. W.Disk.state disk) (λ store. (W.Store.state store).objects)
+        W.Store.Receipt.state request.now why }
     ensures fault { IsErrOf result CommandError.Fault
         → IsConstant (λ disk. (W.Disk.state disk).faults) → IsConstant (λ store. (W.Store.state store).faults)
         → CountsOne (W.faults world.old) (W.faults world.new) }
@@ -161,7 +177,8 @@ fn length_of(request: &ServeRequest<'_>) -> Option<u64>
 
 // Refuses a volume of which the store has no super object.
 fn expect_volume<S: Store>(alloc: Global, store: &mut S, uuid: Uuid) -> Result<(), CommandError>
-    ensures why { (why : Refusal) → IsErrOf result (CommandError.Refused why) → IsWhyAbsent uuid (S.state store.old).objects why }
+    ensures why { (why : Refusal) → IsErrOf result (CommandError.Refused why)
+        → IsWhyAbsent uuid (S.state store.old).objects why }
     ensures same { (S.state store.new).objects ≡ (S.state store.old).objects }
     ensures fault { IsErrOf result CommandError.Fault → IsConstant (λ store. (S.state store).faults) → ⊥ }
 {
@@ -182,7 +199,8 @@ fn mount<D: Disk + Drop, S: Store>(
     ensures idle { IfOk result (λ mounted. IsIdle mounted.volume.volume) }
     ensures steps { IfOk result (λ mounted. mounted.volume.steps ≤ most_steps) }
     ensures mounts { TellsBytes S.Receipt.state → IfOk result (λ mounted.
-        IsMountedFrom request.now.is_lost request.now.volume (D.state disk) (S.state store.old).objects mounted) }
+        IsMountedFrom request.now.is_lost request.now.volume (D.state disk)
+        (S.state store.old).objects mounted) }
     ensures why { TellsBytes S.Receipt.state → (why : Refusal) → IsErrOf result (CommandError.Refused why)
         → IsRefusalFor request.now.is_lost request.now.volume (D.state disk) (S.state store.old).objects why }
     ensures fault { IsErrOf result CommandError.Fault
@@ -306,8 +324,10 @@ const LINE_BYTES: usize = 64;
 
 // The line that tells a volume that was mounted, as one write.
 fn tell_mounted<O: Sink>(out: &mut O, entries: u64, number: u64) -> Result<(), Failed>
-    ensures ok { OnOk result (Appends (O.contents out.old) (O.contents out.new) (mounted_line entries number)) }
-    ensures front { OnErr result (AppendsFront (mounted_line entries number) (O.contents out.old) (O.contents out.new)) }
+    ensures ok { OnOk result (Appends (O.contents out.old) (O.contents out.new)
+        (mounted_line entries number)) }
+    ensures front { OnErr result (AppendsFront (mounted_line entries number) (O.contents out.old)
+        (O.contents out.new)) }
     ensures count { Counts (is_err result) (O.faults out.old) (O.faults out.new) }
 {
     let mut line = ArrayString::<LINE_BYTES>::new();
@@ -322,7 +342,8 @@ fn tell_mounted<O: Sink>(out: &mut O, entries: u64, number: u64) -> Result<(), F
 // The line that tells how many entries the history has at the end, as one write.
 fn tell_writes<O: Sink>(out: &mut O, entries: u64) -> Result<(), Failed>
     ensures ok { OnOk result (Appends (O.contents out.old) (O.contents out.new) (writes_line entries)) }
-    ensures front { OnErr result (AppendsFront (writes_line entries) (O.contents out.old) (O.contents out.new)) }
+    ensures front { OnErr result (AppendsFront (writes_line entries) (O.contents out.old)
+        (O.contents out.new)) }
     ensures count { Counts (is_err result) (O.faults out.old) (O.faults out.new) }
 {
     let mut line = ArrayString::<LINE_BYTES>::new();

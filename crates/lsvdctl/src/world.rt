@@ -47,13 +47,14 @@ pub trait World {
     /// How often a call has failed. At the greatest number of its type the count stands.
     ghost faults: { Self → ℕ };
 
-    /// The disk at a path. With a length in bytes it is made, or made anew: of that length, and zeros alone. Without
-    /// one it is the disk that there is, with its bytes; where there is none, the call fails.
+    /// The disk at a path. With a length in bytes it is made, or made anew: of that length, and zeros alone.
+    /// Without one it is the disk that there is, with its bytes; where there is none, the call fails.
     fn disk(&mut self, path: &str, len: Option<u64>) -> Result<Self::Disk, WorldError>
         ensures given { IfOk result (λ disk. IsGiven len (Self.Disk.state disk)) }
         ensures count { Counts (world_failed result) (faults self.old) (faults self.new) };
 
-    /// The store at a path, with its objects. Where there is none, it is made if it is to be, and else the call fails.
+    /// The store at a path, with its objects. Where there is none, it is made if it is to be, and else the
+    /// call fails.
     fn store(&mut self, path: &str, make: bool) -> Result<Self::Store, WorldError>
         ensures count { Counts (world_failed result) (faults self.old) (faults self.new) };
 

@@ -25,9 +25,11 @@ made c =
     c.required-3.ensures.local c.required-3.ensures.rule c.help-3.ensures in
     let log = has_helped name _ _ _ _ c.required-4.result c.help-4.result _ sectors c.in_ok-arg-4.ensures
     c.required-4.ensures.local c.required-4.ensures.rule c.help-4.ensures in
-    let max_write = has_defaulted name _ _ _ _ _ c.option.result c.help-5.result c.default_value.result (codes "max-write") log c.in_ok-arg-5.ensures
+    let max_write = has_defaulted name _ _ _ _ _ c.option.result c.help-5.result c.default_value.result (codes "max-write") log
+    c.in_ok-arg-5.ensures
     c.option.ensures.local c.option.ensures.rule c.help-5.ensures c.default_value.ensures in
-    let batch = has_defaulted name _ _ _ _ _ c.option-2.result c.help-6.result c.default_value-2.result (codes "batch") max_write c.in_ok-arg-6.ensures
+    let batch = has_defaulted name _ _ _ _ _ c.option-2.result c.help-6.result c.default_value-2.result (codes "batch") max_write
+    c.in_ok-arg-6.ensures
     c.option-2.ensures.local c.option-2.ensures.rule c.help-6.ensures c.default_value-2.ensures in
     IfOk-weaker c.arg-7.result _ _ (λ command adds. has_helped name _ _ command _ c.option-3.result c.help-7.result _ batch adds
     c.option-3.ensures.local c.option-3.ensures.rule c.help-7.ensures)

@@ -6,7 +6,8 @@ use Rattle.command_line.proofs.create.sizes_in.Goals as goal
 pub returns-clause-none : goal.returns-clause-none
 returns-clause-none c =
     rw c.then_some.ensures
-    (past_limits (value_among (rows_of (found_of c.args.values.now))) _ c.is_within_limits.result c.is_within_limits.ensures (record {
+    (past_limits (value_among (rows_of (found_of c.args.values.now))) _ c.is_within_limits.result
+    c.is_within_limits.ensures (record {
       sectors = c.in_ok-number_in.ensures.found;
       log = c.in_ok-number_in-4.ensures.found;
       max_write = c.in_ok-number_in-2.ensures.found;

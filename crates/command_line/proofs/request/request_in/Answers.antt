@@ -7,13 +7,15 @@ use Rattle.command_line.proofs.request.request_in.Goals as goal
 pub returns-in-None-clause-none : goal.returns-in-None-clause-none
 returns-in-None-clause-none c =
     let rows = rows_of (found_of c.in_ok-command.values.now) in
-    let met = met_is c.args.matches.now c.in_ok-command.command.now rows c.in_ok-command.ensures.name c.in_ok-command.ensures.rows in
+    let met = met_is c.args.matches.now c.in_ok-command.command.now rows c.in_ok-command.ensures.name
+    c.in_ok-command.ensures.rows in
     creates_none (subcommand_rows_of c.args.matches.now) rows (met ∙ ap (λ (name : Text). Some (name, rows)) c.in-create.is)
     c.in-None.ensures.none
 
 pub returns-in-None-serve_in-clause-none : goal.returns-in-None-serve_in-clause-none
 returns-in-None-serve_in-clause-none c =
     let rows = rows_of (found_of c.in_ok-command.values.now) in
-    let met = met_is c.args.matches.now c.in_ok-command.command.now rows c.in_ok-command.ensures.name c.in_ok-command.ensures.rows in
+    let met = met_is c.args.matches.now c.in_ok-command.command.now rows c.in_ok-command.ensures.name
+    c.in_ok-command.ensures.rows in
     serves_none (subcommand_rows_of c.args.matches.now) rows (met ∙ ap (λ (name : Text). Some (name, rows)) c.in-serve.is)
     c.in-None-serve_in.ensures.none

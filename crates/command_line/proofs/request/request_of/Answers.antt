@@ -6,7 +6,8 @@ use Rattle.command_line.specs.CommandLine.{IsRead, Line, Spells, create, faults_
 use Rattle.command_line.specs.Program.{lsvdctl}
 use Rattle.command_line.specs.declared.request.CommandLineError.{CommandLineError}
 use Rattle.command_line.specs.declared.request.CommandLineError.TheVariants.{Usage}
-use Rattle.command_line.proofs.Lines.{IsFound, error_of_taken, spelled_is_found, spelled_is_taken, spells_a_command, taken_is_spelled}
+use Rattle.command_line.proofs.Lines.{IsFound, error_of_taken, spelled_is_found, spelled_is_taken, spells_a_command}
+use Rattle.command_line.proofs.Lines.{taken_is_spelled}
 use Rattle.command_line.proofs.Requests.{found_asks, found_asks_nothing, replay_is_read, serve_valid_is_read, valid_is_read}
 use Rattle.command_line.proofs.request.request_of.Goals as goal
 use Rattle.command_line.proofs.request.request_of.Goals.{Joined-error, Joined-matches, Joined-matches-2}
@@ -17,7 +18,8 @@ found_in words line spelled = spelled_is_found words line spelled
 
 -- ---- clap refuses the words
 
-read_of_error : (c : Joined-error) (line : Line) → Spells (map string_bytes c.args.words.now) line → IsRead line (Err c.cause_of.result)
+read_of_error : (c : Joined-error) (line : Line) → Spells (map string_bytes c.args.words.now) line
+    → IsRead line (Err c.cause_of.result)
 read_of_error c line spelled =
     let words = map string_bytes c.args.words.now in
     let memory = error_of_taken (faults_of words) c.in-Err.error c.in-Err.ensures.kinds (spelled_is_taken words line spelled) in
@@ -40,7 +42,8 @@ returns-in-Err-clause-serve_valid c options valid is =
 
 -- ---- the matches make a request
 
-read_of_request : (c : Joined-matches) (line : Line) → Spells (map string_bytes c.args.words.now) line → IsRead line (Ok c.in-Some.request)
+read_of_request : (c : Joined-matches) (line : Line) → Spells (map string_bytes c.args.words.now) line
+    → IsRead line (Ok c.in-Some.request)
 read_of_request c line spelled =
     found_asks line _ c.in-Some.request (subst (IsFound line) (sym c.in-Ok.ensures.met)
     (spelled_is_found (map string_bytes c.args.words.now) line spelled))

@@ -29,11 +29,14 @@ made c =
     c.flag.ensures.local c.flag.ensures.rule c.help-5.ensures in
     let log = has_helped name _ _ _ _ c.option.result c.help-6.result _ lost c.in_ok-arg-6.ensures
     c.option.ensures.local c.option.ensures.rule c.help-6.ensures in
-    let workers = has_defaulted name _ _ _ _ _ c.option-2.result c.help-7.result c.default_value.result (codes "workers") log c.in_ok-arg-7.ensures
+    let workers = has_defaulted name _ _ _ _ _ c.option-2.result c.help-7.result c.default_value.result (codes "workers") log
+    c.in_ok-arg-7.ensures
     c.option-2.ensures.local c.option-2.ensures.rule c.help-7.ensures c.default_value.ensures in
-    let lanes = has_defaulted name _ _ _ _ _ c.option-3.result c.help-8.result c.default_value-2.result (codes "lanes") workers c.in_ok-arg-8.ensures
+    let lanes = has_defaulted name _ _ _ _ _ c.option-3.result c.help-8.result c.default_value-2.result (codes "lanes") workers
+    c.in_ok-arg-8.ensures
     c.option-3.ensures.local c.option-3.ensures.rule c.help-8.ensures c.default_value-2.ensures in
-    IfOk-weaker c.arg-9.result _ _ (λ command adds. has_defaulted name _ _ command _ _ c.option-4.result c.help-9.result c.default_value-3.result (codes "sessions") lanes adds
+    IfOk-weaker c.arg-9.result _ _ (λ command adds. has_defaulted name _ _ command _ _ c.option-4.result c.help-9.result
+    c.default_value-3.result (codes "sessions") lanes adds
     c.option-4.ensures.local c.option-4.ensures.rule c.help-9.ensures c.default_value-3.ensures)
     c.arg-9.ensures
 

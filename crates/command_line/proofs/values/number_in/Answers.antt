@@ -17,6 +17,7 @@ returns-clause-found c =
 
 pub returns-clause-none : goal.returns-clause-none
 returns-clause-none c =
-    lacks_other (value_among (rows_of (found_of c.args.values.now))) c.args.name.now c.in_ok-get_str.field-0.now c.number_of.result
+    lacks_other (value_among (rows_of (found_of c.args.values.now))) c.args.name.now c.in_ok-get_str.field-0.now
+    c.number_of.result
     (got_some (found_of c.args.values.now) c.args.name.now c.get_str.result c.in_ok-get_str.field-0 c.get_str.ensures
     c.in_ok-get_str.was) c.number_of.ensures.none

@@ -7,7 +7,8 @@ use Rattle.command_line.proofs.values.uuid_in.Goals as goal
 
 pub returns-in_default-clause-found : goal.returns-in_default-clause-found
 returns-in_default-clause-found c =
-    ap (option_map parsed) (got_none (found_of c.args.values.now) c.args.name.now c.get_str.result c.get_str.ensures c.in_default.is)
+    ap (option_map parsed) (got_none (found_of c.args.values.now) c.args.name.now c.get_str.result c.get_str.ensures
+    c.in_default.is)
 
 pub returns-in_err-ok-clause-none : goal.returns-in_err-ok-clause-none
 returns-in_err-ok-clause-none c =
@@ -20,4 +21,5 @@ pub returns-clause-found : goal.returns-clause-found
 returns-clause-found c =
     ap (option_map parsed) (got_some (found_of c.args.values.now)
     c.args.name.now c.get_str.result c.in-Some.text c.get_str.ensures c.in-Some.is)
-    ∙ parsed_to c.in-Some.text.now c.in_ok-ok.field-0 c.parse_str.result c.parse_str.ensures.bytes (sym c.ok.ensures.value ∙ c.in_ok-ok.was)
+    ∙ parsed_to c.in-Some.text.now c.in_ok-ok.field-0 c.parse_str.result c.parse_str.ensures.bytes (sym c.ok.ensures.value
+    ∙ c.in_ok-ok.was)

@@ -1,7 +1,8 @@
 use Rattle.std.proofs.Common.{◌∙◌, ap, map, string_bytes, subst}
 use Rattle.std.specs.Prelude.{Ok, Err}
 use Rattle.command_line.specs.CommandLine.{IsRead, IsRefused}
-use Rattle.lsvdctl.proofs.Ran.{are_refused, one_of_all, runs_as_create, runs_as_memory, runs_as_replay, runs_as_serve, runs_as_usage}
+use Rattle.lsvdctl.proofs.Ran.{are_refused, one_of_all, runs_as_create, runs_as_memory, runs_as_replay, runs_as_serve}
+use Rattle.lsvdctl.proofs.Ran.{runs_as_usage}
 use Rattle.lsvdctl.proofs.Reported.{reported}
 use Rattle.lsvdctl.proofs.program.execute.Goals as goal
 
@@ -9,47 +10,60 @@ pub returns-in-Ok-Replay-clause-output : goal.returns-in-Ok-Replay-clause-output
 returns-in-Ok-Replay-clause-output g c =
     runs_as_replay (map string_bytes c.args.words.now) c.report_of.result (g.W.In.Source.remaining c.args.input.now)
     (g.W.Out.Sink.contents c.args.out.now) (g.W.Out.Sink.contents c.replay.new.sink)
-    (λ line spelled. subst (λ request. IsRead line (Ok request)) c.in-Ok-Replay.field-0-is (c.in-Ok-Replay.ensures.line line spelled))
+    (λ line spelled. subst (λ request. IsRead line (Ok request)) c.in-Ok-Replay.field-0-is
+    (c.in-Ok-Replay.ensures.line line spelled))
     (λ faulty. subst (λ request. IsRefused (Ok request)) c.in-Ok-Replay.field-0-is (c.in-Ok-Replay.ensures.faulty faulty))
-    (reported (g.W.In.Source.remaining c.args.input.now) (g.W.Out.Sink.contents c.args.out.now) (g.W.Out.Sink.contents c.replay.new.sink)
+    (reported (g.W.In.Source.remaining c.args.input.now) (g.W.Out.Sink.contents c.args.out.now)
+    (g.W.Out.Sink.contents c.replay.new.sink)
     c.replay.result c.report_of.result c.report_of.ensures c.replay.ensures.transcript)
 
 pub returns-in-Ok-Create-clause-output : goal.returns-in-Ok-Create-clause-output
 returns-in-Ok-Create-clause-output g c =
     runs_as_create (map string_bytes c.args.words.now) c.in-Ok-Create.request c.answer_create.result
-    (g.W.In.Source.remaining c.args.input.now) (g.W.Out.Sink.contents c.args.out.now) (g.W.Out.Sink.contents c.answer_create.new.out)
-    (λ line spelled. subst (λ request. IsRead line (Ok request)) c.in-Ok-Create.field-0-is (c.in-Ok-Create.ensures.line line spelled))
+    (g.W.In.Source.remaining c.args.input.now) (g.W.Out.Sink.contents c.args.out.now)
+    (g.W.Out.Sink.contents c.answer_create.new.out)
+    (λ line spelled. subst (λ request. IsRead line (Ok request)) c.in-Ok-Create.field-0-is
+    (c.in-Ok-Create.ensures.line line spelled))
     (λ faulty. subst (λ request. IsRefused (Ok request)) c.in-Ok-Create.field-0-is (c.in-Ok-Create.ensures.faulty faulty))
     c.answer_create.ensures.told
 
 pub returns-in-Ok-Create-clause-fault : goal.returns-in-Ok-Create-clause-fault
 returns-in-Ok-Create-clause-fault g c is disks stores clients =
-    one_of_all (g.W.World.faults c.args.world.now) (g.W.World.faults c.answer_create.new.world) (g.W.In.Source.faults c.args.input.now)
+    one_of_all (g.W.World.faults c.args.world.now) (g.W.World.faults c.answer_create.new.world)
+    (g.W.In.Source.faults c.args.input.now)
     (g.W.Out.Sink.faults c.args.out.now) (g.W.Out.Sink.faults c.answer_create.new.out)
     (c.answer_create.ensures.fault is disks stores)
 
 pub returns-in-Ok-Serve-clause-output : goal.returns-in-Ok-Serve-clause-output
 returns-in-Ok-Serve-clause-output g c =
     runs_as_serve (map string_bytes c.args.words.now) c.in-Ok-Serve.request c.answer_serve.result
-    (g.W.In.Source.remaining c.args.input.now) (g.W.Out.Sink.contents c.args.out.now) (g.W.Out.Sink.contents c.answer_serve.new.out)
-    (λ line spelled. subst (λ request. IsRead line (Ok request)) c.in-Ok-Serve.field-0-is (c.in-Ok-Serve.ensures.line line spelled))
+    (g.W.In.Source.remaining c.args.input.now) (g.W.Out.Sink.contents c.args.out.now)
+    (g.W.Out.Sink.contents c.answer_serve.new.out)
+    (λ line spelled. subst (λ request. IsRead line (Ok request)) c.in-Ok-Serve.field-0-is
+    (c.in-Ok-Serve.ensures.line line spelled))
     (λ faulty. subst (λ request. IsRefused (Ok request)) c.in-Ok-Serve.field-0-is (c.in-Ok-Serve.ensures.faulty faulty))
     c.answer_serve.ensures.told
 
 pub returns-in-Ok-Serve-clause-fault : goal.returns-in-Ok-Serve-clause-fault
 returns-in-Ok-Serve-clause-fault g c is disks stores clients =
-    one_of_all (g.W.World.faults c.args.world.now) (g.W.World.faults c.answer_serve.new.world) (g.W.In.Source.faults c.args.input.now)
+    one_of_all (g.W.World.faults c.args.world.now) (g.W.World.faults c.answer_serve.new.world)
+    (g.W.In.Source.faults c.args.input.now)
     (g.W.Out.Sink.faults c.args.out.now) (g.W.Out.Sink.faults c.answer_serve.new.out)
     (c.answer_serve.ensures.fault is disks stores clients)
 
 pub returns-in-Err-Usage-clause-output : goal.returns-in-Err-Usage-clause-output
 returns-in-Err-Usage-clause-output g c =
-    runs_as_usage (map string_bytes c.args.words.now) (g.W.In.Source.remaining c.args.input.now) (g.W.Out.Sink.contents c.args.out.now)
-    (λ line spelled. subst (λ error. IsRead line (Err error)) c.in-Err-Usage.field-0-is (c.in-Err-Usage.ensures.line line spelled))
+    runs_as_usage (map string_bytes c.args.words.now) (g.W.In.Source.remaining c.args.input.now)
+    (g.W.Out.Sink.contents c.args.out.now)
+    (λ line spelled. subst (λ error. IsRead line (Err error)) c.in-Err-Usage.field-0-is
+    (c.in-Err-Usage.ensures.line line spelled))
 
 pub returns-in-Err-Usage-clause-usage : goal.returns-in-Err-Usage-clause-usage
-returns-in-Err-Usage-clause-usage g c is = are_refused (map string_bytes c.args.words.now) (c.request_of.ensures.usage (c.in-Err-Usage.is ∙ ap Err c.in-Err-Usage.field-0-is))
+returns-in-Err-Usage-clause-usage g c is =
+    are_refused (map string_bytes c.args.words.now)
+    (c.request_of.ensures.usage (c.in-Err-Usage.is ∙ ap Err c.in-Err-Usage.field-0-is))
 
 pub returns-in-Err-OutOfMemory-clause-output : goal.returns-in-Err-OutOfMemory-clause-output
 returns-in-Err-OutOfMemory-clause-output g c =
-    runs_as_memory (map string_bytes c.args.words.now) (g.W.In.Source.remaining c.args.input.now) (g.W.Out.Sink.contents c.args.out.now)
+    runs_as_memory (map string_bytes c.args.words.now) (g.W.In.Source.remaining c.args.input.now)
+    (g.W.Out.Sink.contents c.args.out.now)

@@ -15,11 +15,13 @@ pub returns-in_err-drained-clause-fault : goal.returns-in_err-drained-clause-fau
 returns-in_err-drained-clause-fault g c =
     let p = err_from_is_err_and c.from_residual.result c.from_residual.ensures.1 in
     rw (p.1, p.2) (λ is disks stores.
-    drain_counts_none (λ disk. (g.D.Disk.state disk).faults) (λ store. (g.S.Store.state store).faults) c.disk.result.now c.disk-2.result.now
+    drain_counts_none (λ disk. (g.D.Disk.state disk).faults) (λ store. (g.S.Store.state store).faults) c.disk.result.now
+    c.disk-2.result.now
     c.args.store.now c.drain-drained.new.store c.in_err-drained.field-0.0 _ _ (ap (λ (d : DiskState). d.faults) c.disk.ensures
     ∙ sym (ap (λ (v : SteppedVolume). v.volume.log.commits.disk.faults) c.new-owner.ensures))
     (ap (λ (d : DiskState). d.faults) c.disk-2.ensures
-    ∙ ap (λ (v : SteppedVolume). v.volume.log.commits.disk.faults) c.into_volume-volume.ensures.volume) c.in_err-drained.ensures.range c.in_err-drained.ensures.call.faults
+    ∙ ap (λ (v : SteppedVolume). v.volume.log.commits.disk.faults) c.into_volume-volume.ensures.volume)
+    c.in_err-drained.ensures.range c.in_err-drained.ensures.call.faults
     (owner_error c.in_err-drained.field-0.0 _ is) disks stores)
 
 pub returns-clause-count : goal.returns-clause-count

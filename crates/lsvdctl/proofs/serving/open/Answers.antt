@@ -6,13 +6,15 @@ use Rattle.lsvdctl.proofs.serving.open.Goals as goal
 pub returns-in_err-clients-clause-fault : goal.returns-in_err-clients-clause-fault
 returns-in_err-clients-clause-fault g c =
     let p = err_from_is_err_and c.from_residual-in_err-clients.result c.from_residual-in_err-clients.ensures.1 in
-    rw (p.1, p.2) (λ is disks stores. world_fault g.row.W-Clients.Denot c.in_err-clients.field-0.0 _ _ _ (c.in_ok-disk.ensures.count ∙ c.in_ok-store.ensures.count)
+    rw (p.1, p.2) (λ is disks stores. world_fault g.row.W-Clients.Denot c.in_err-clients.field-0.0 _ _ _
+    (c.in_ok-disk.ensures.count ∙ c.in_ok-store.ensures.count)
     c.in_err-clients.ensures.count is)
 
 pub returns-in_err-clients-clause-no_fault : goal.returns-in_err-clients-clause-no_fault
 returns-in_err-clients-clause-no_fault g c =
     let p = err_from_is_err_and c.from_residual-in_err-clients.result c.from_residual-in_err-clients.ensures.1 in
-    rw (p.1, p.2) (λ quiet. world_quiet g.row.W-Clients.Denot c.in_err-clients.field-0.0 _ _ _ (c.in_ok-disk.ensures.count ∙ c.in_ok-store.ensures.count)
+    rw (p.1, p.2) (λ quiet. world_quiet g.row.W-Clients.Denot c.in_err-clients.field-0.0 _ _ _ (c.in_ok-disk.ensures.count
+    ∙ c.in_ok-store.ensures.count)
     c.in_err-clients.ensures.count quiet)
 
 pub returns-in_err-clients-clause-why : goal.returns-in_err-clients-clause-why

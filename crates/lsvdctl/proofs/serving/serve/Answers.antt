@@ -17,7 +17,8 @@ returns-in_err-tell_mounted-clause-told g c =
 
 pub returns-in_err-tell_mounted-clause-fault : goal.returns-in_err-tell_mounted-clause-fault
 returns-in_err-tell_mounted-clause-fault g c is disks stores clients =
-    output_counts _ _ _ _ _ (c.in_ok-opened.ensures.no_fault (no_error c.in_ok-opened.opened _)) refl c.in_err-tell_mounted.ensures.count
+    output_counts _ _ _ _ _ (c.in_ok-opened.ensures.no_fault (no_error c.in_ok-opened.opened _)) refl
+    c.in_err-tell_mounted.ensures.count
 
 pub returns-in_err-tell_mounted-clause-no_fault : goal.returns-in_err-tell_mounted-clause-no_fault
 returns-in_err-tell_mounted-clause-no_fault g c =
@@ -38,7 +39,8 @@ returns-in_err-tell_writes-clause-told g c =
 
 pub returns-in_err-tell_writes-clause-fault : goal.returns-in_err-tell_writes-clause-fault
 returns-in_err-tell_writes-clause-fault g c is disks stores clients =
-    output_counts _ _ _ _ _ (c.in_ok-opened.ensures.no_fault (no_error c.in_ok-opened.opened _)) c.in_ok-tell_mounted.ensures.count
+    output_counts _ _ _ _ _ (c.in_ok-opened.ensures.no_fault (no_error c.in_ok-opened.opened _))
+    c.in_ok-tell_mounted.ensures.count
     c.in_err-tell_writes.ensures.count
 
 pub returns-clause-told : goal.returns-clause-told
@@ -50,5 +52,7 @@ pub returns-clause-serves : goal.returns-clause-serves
 returns-clause-serves g c =
     rw c.judge.ensures (on_judged c.in_ok-served.served.end
     (serves_with _ _ _ c.args.request.now _ _ _ c.in_ok-served.served.entries _ _ _
-    (ap (λ (opened : Opened g.row.W-Disk.Denot g.row.W-Store.Denot g.row.W-Clients.Denot g.row.W-Store-Receipt.Denot g.row.W-Clients-Link.Denot). opened.mounted) c.opened.view_is)
+    (ap
+    (λ (opened : Opened g.row.W-Disk.Denot g.row.W-Store.Denot g.row.W-Clients.Denot g.row.W-Store-Receipt.Denot
+    g.row.W-Clients-Link.Denot). opened.mounted) c.opened.view_is)
     c.in_ok-opened.ensures.mounts c.in_ok-served.ensures.count c.in_ok-tell_mounted.ensures.ok c.in_ok-tell_writes.ensures.ok))

@@ -15,5 +15,6 @@ returns-in_err-entries-clause-fault g c =
 
 pub returns-clause-failed : goal.returns-clause-failed
 returns-clause-failed g c is constant =
-    lane_counts_none g.L.Listener.faults c.args.clients.now c.serve_volume-closing.new.listener _ _ c.serve_volume-closing.result.lane.end refl refl
+    lane_counts_none g.L.Listener.faults c.args.clients.now c.serve_volume-closing.new.listener _ _
+    c.serve_volume-closing.result.lane.end refl refl
     c.serve_volume-closing.ensures.given.ends is constant
