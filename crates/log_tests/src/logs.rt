@@ -29,11 +29,11 @@ pub fn tell_all(rt: &HostRuntime) -> Result<(), TestError> {
     go_round(rt, &mut log)?;
     let mut disk = log.into_disk();
     for slot in 0..3 {
-        tell_bytes::<BODY>(rt, &mut disk, 1_024 * slot)?;
-        tell_bytes::<1>(rt, &mut disk, 1_024 * slot + 512)?;
+        tell_bytes(rt, &mut disk, 1_024 * slot, BODY)?;
+        tell_bytes(rt, &mut disk, 1_024 * slot + 512, 1)?;
     }
     for sector in SECTORS {
-        tell_bytes::<HEADER>(rt, &mut disk, byte_of(*sector))?;
+        tell_bytes(rt, &mut disk, byte_of(*sector), HEADER)?;
     }
     Ok(())
 }
@@ -88,20 +88,21 @@ fn byte_of(sector: u64) -> u64 {
     LOG_START.wrapping_add(SECTOR_BYTES.wrapping_mul(sector))
 }
 
-// Tells the bytes of a disk from a place on.
-fn tell_bytes<const N: usize>(
+// Tells as many bytes of a disk from a place on.
+fn tell_bytes(
     rt: &HostRuntime,
     disk: &mut MemDisk,
     at: u64,
+    count: usize,
 ) -> Result<(), TestError> {
-    let (size, count) = (disk.len(), N as u64);
-    if size < count || size - count < at {
+    let (size, most) = (disk.len(), BODY as u64);
+    if BODY < count || size < most || size - most < at {
         return Err(TestError::Limit);
     }
-    let mut bytes = [0xff; N];
+    let mut bytes = [0xff; BODY];
     disk.read(at, &mut bytes)?;
     print!(rt; " {at}: ")?;
-    tell_hex(rt, &bytes)?;
+    tell_hex(rt, &bytes[..count])?;
     println!(rt)?;
     Ok(())
 }

@@ -1,10 +1,6 @@
-ghost use Rattle.std.specs.Prelude.{◌≡◌, ◌<◌};
-
 use crate::error::TestError;
 use crate::telling::heading;
-use extent_map::{Extent, ExtentMap, Steps};
-use std::marker::Brand;
-use std::sync::ledger::{Blank, Ledger};
+use extent_map::{Extent, ExtentMap};
 
 // A change of so many sectors from one on: they get the places from one on, or none.
 #[derive(Clone, Copy, Debug)]
@@ -42,9 +38,9 @@ pub fn tell_all(rt: &HostRuntime) -> Result<(), TestError> {
     }
     heading(
         rt,
-        "a look at the sectors 2 to 5, with its steps counted, and the first of its rows",
+        "a look at the sectors 2 to 5, and the first of its rows",
     )?;
-    tell_look::<Brand>(rt, Blank::new(1))
+    tell_look(rt)
 }
 
 // Makes changes of an empty map, and tells its rows.
@@ -85,15 +81,10 @@ fn tell(rt: &HostRuntime, rows: &[Extent<u64>]) -> Result<(), TestError> {
     Ok(())
 }
 
-// Tells a look, whose steps are counted in a ledger that nothing reads, and the first row of its sectors.
-fn tell_look<L: Ledger>(rt: &HostRuntime, blank: Blank) -> Result<(), TestError>
-    requires name { blank.name ≡ L.name }
-    requires parts { blank.parts ≡ L.parts }
-    requires some { 0 < blank.parts }
-{
-    let mut steps: Steps<L> = Steps::new(blank);
+// Tells a look, and the first row of its sectors.
+fn tell_look(rt: &HostRuntime) -> Result<(), TestError> {
     let map = changed(rt, &[Set(0, 3, 0), Set(4, 9, 40)])?;
-    let rows = map.look_counted(rt.alloc(), 2, 4, &mut steps)?;
+    let rows = map.look(rt.alloc(), 2, 4)?;
     tell(rt, rows.as_slice())?;
     tell(rt, map.first_in(2, 4).as_slice())
 }
