@@ -19,9 +19,7 @@ fn tell_choice(rt: &HostRuntime, choice: u32) -> Result<(), TestError> {
     let checkpoint = [false, true, false, true, false, false];
     let landed = [0, 1, 2, 4, 8, 16].map(|bit| choice & bit != 0);
     let missing = first_missing(&checkpoint, &landed);
-    println!(rt;
-        "  {:?}: {missing:?}",
-        [1, 2, 3, 4, 5].map(|number: usize| landed[number])
-    )?;
+    let [_, one, two, three, four, five] = landed;
+    println!(rt; "  {:?}: {missing:?}", [one, two, three, four, five])?;
     Ok(())
 }
