@@ -56,8 +56,8 @@ impl Sectors {
     /// Those of a read.
     pub fn of(read: &[u8]) -> Sectors {
         let mut bytes = [0; MOST];
-        for (sector, byte) in read.chunks(512).zip(bytes.iter_mut()) {
-            *byte = filled_with(sector);
+        for (k, byte) in bytes.iter_mut().enumerate() {
+            *byte = filled_with(sector_in(read, k));
         }
         Sectors {
             count: read.len() / 512,
@@ -68,11 +68,17 @@ impl Sectors {
 
 impl fmt::Debug for Sectors {
     fn fmt<W: fmt::Write>(&self, f: &mut fmt::Formatter<W>) -> fmt::Result {
-        for byte in self.bytes.iter().take(self.count) {
+        for byte in self.bytes.get(..self.count).unwrap_or(&[]) {
             write!(f, "{:?} ", Byte(*byte))?;
         }
         write!(f, "x512")
     }
+}
+
+// A sector of a read, and nothing past its end.
+fn sector_in(read: &[u8], k: usize) -> &[u8] {
+    let from = k.wrapping_mul(512);
+    read.get(from..from.wrapping_add(512)).unwrap_or(&[])
 }
 
 /// The byte that sectors are filled with.
@@ -96,8 +102,8 @@ impl Objects {
     /// These.
     pub fn of(objects: &[u64]) -> Objects {
         let mut numbers = [0; MOST];
-        for (object, number) in objects.iter().zip(numbers.iter_mut()) {
-            *number = *object;
+        for (k, number) in numbers.iter_mut().enumerate() {
+            *number = objects.get(k).copied().unwrap_or(0);
         }
         Objects {
             count: objects.len(),
@@ -109,7 +115,7 @@ impl Objects {
 impl fmt::Debug for Objects {
     fn fmt<W: fmt::Write>(&self, f: &mut fmt::Formatter<W>) -> fmt::Result {
         write!(f, "objects")?;
-        for number in self.numbers.iter().take(self.count) {
+        for number in self.numbers.get(..self.count).unwrap_or(&[]) {
             write!(f, " {number}")?;
         }
         Ok(())

@@ -49,11 +49,11 @@ fn main(rt: HostRuntime) -> Result<(), TestError> {
 // Makes a row's steps on both volumes.
 fn tell_row(rt: &HostRuntime, row: &Row) -> Result<(), TestError> {
     println!(rt; "{}", row.name)?;
-    let mut plain = Plain::new(rt.alloc());
     let mut real = Real::new(rt.alloc())?;
+    let mut plain = Plain::new(rt.alloc());
     let told = tell_steps(rt, &mut plain, &mut real, row);
-    drop(real);
     drop(plain);
+    drop(real);
     told
 }
 
