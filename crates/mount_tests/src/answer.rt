@@ -5,7 +5,8 @@ use lsvd_device::Disk;
 use lsvd_objstore::Store;
 use std::alloc::Global;
 use uuid::Uuid;
-use vol_recover::{CreateError, MountError, create, mount_kept, mount_lost};
+use vol_mount::MountError;
+use vol_recover::{CreateError, create, mount_kept, mount_lost};
 
 /// What a creation or a mount answers.
 #[derive(Clone, Copy, Debug, PartialEq, Eq)]

@@ -4,10 +4,11 @@ use crate::cache::{LEFT, SIZE, device};
 use crate::error::TestError;
 use crate::scene::{Mount, mounted};
 use crate::store::{Change, Stored, change_all, put_volume};
+use crate::telling::tell_counted;
 use lsvd_device::{Disk, FuseDisk, MemDisk};
 use lsvd_objstore::{FaultStore, MemStore, PlannedFault};
 use std::alloc::Global;
-use vol_recover::MountError;
+use vol_mount::MountError;
 
 // An object past the first missing number, so that a mount removes one.
 const PAST: &[Change] = &[Change::Object(4, Stored::Data(9, 10))];
@@ -57,10 +58,19 @@ const CASES: &[(&str, Mount, Failing)] = &[
 /// answers in which none fails.
 pub fn tell_all(rt: &HostRuntime) -> Result<(), TestError> {
     for (what, mount, failing) in CASES {
-        let (count, answer) = failing_calls(rt.alloc(), *mount, *failing)?;
-        println!(rt; "{what}: {count} calls, {answer:?}")?;
+        tell_case(rt, what, *mount, *failing)?;
     }
     Ok(())
+}
+
+fn tell_case(
+    rt: &HostRuntime,
+    what: &str,
+    mount: Mount,
+    failing: Failing,
+) -> Result<(), TestError> {
+    print!(rt; "{what}: ")?;
+    tell_counted(rt, "calls", failing_calls(rt.alloc(), mount, failing))
 }
 
 // The calls that fail a mount, up to the first that does not, and what is answered there. A mount after a
@@ -71,30 +81,33 @@ fn failing_calls(
     failing: Failing,
 ) -> Result<(u64, Answer), TestError> {
     let mut count = 0;
+    let mut agree = true;
     let mut after = None;
     for call in 0..MOST {
         let (first, second) = mounted_twice(alloc, mount, failing, call)?;
-        if !is_fault(failing, first) {
-            return Ok((count, same(after, first)));
+        if !is_fault(failing, &first) {
+            agree &= agrees(&after, &first);
+            return Ok((count, if agree { first } else { Answer::NotAsked }));
         }
-        after = Some(same(after, second));
+        agree &= agrees(&after, &second);
+        after = Some(second);
         count = call.saturating_add(1);
     }
     Ok((count, Answer::NotAsked))
 }
 
-// The answer, where it is the one before it, if any.
-fn same(before: Option<Answer>, answer: Answer) -> Answer {
+// Whether the answer is the one before it, if any.
+fn agrees(before: &Option<Answer>, answer: &Answer) -> bool {
     match before {
-        Some(other) if other != answer => Answer::NotAsked,
-        _ => answer,
+        Some(other) => other == answer,
+        None => true,
     }
 }
 
-fn is_fault(failing: Failing, answer: Answer) -> bool {
+fn is_fault(failing: Failing, answer: &Answer) -> bool {
     match failing {
-        Failing::Store { .. } => answer == Answer::NotMounted(MountError::StoreFault),
-        Failing::Device => answer == Answer::NotMounted(MountError::DeviceFault),
+        Failing::Store { .. } => *answer == Answer::NotMounted(MountError::StoreFault),
+        Failing::Device => *answer == Answer::NotMounted(MountError::DeviceFault),
     }
 }
 

@@ -18,6 +18,7 @@ mod rows;
 mod scene;
 mod stops;
 mod store;
+mod telling;
 mod texts;
 
 use error::TestError;

@@ -7,6 +7,7 @@ use crate::scene::{Mount, mounted};
 use crate::store::Change::{Clone, Epoch, NoEpoch, NoObject, NoSuper, Object, OtherVolume};
 use crate::store::Stored::{Checkpoint, Copy, Cut, Data, Foreign, Misnamed};
 use crate::store::{Change, change_all, put_volume};
+use crate::telling::tell_found;
 use lsvd_objstore::MemStore;
 use std::alloc::Global;
 
@@ -312,16 +313,20 @@ pub static CACHES: [Row; 11] = [
 /// Tells what each of these mounts answers.
 pub fn tell_all(rt: &HostRuntime, rows: &[Row]) -> Result<(), TestError> {
     for row in rows {
-        let mut store = MemStore::new(rt.alloc());
-        let answer = answer_in(rt.alloc(), &mut store, row)?;
-        tell(rt, row.what, answer)?;
+        tell(rt, row)?;
     }
     Ok(())
 }
 
-fn tell(rt: &HostRuntime, what: &str, answer: Answer) -> Result<(), TestError> {
-    println!(rt; "{what}: {answer:?}")?;
-    Ok(())
+fn tell(rt: &HostRuntime, row: &Row) -> Result<(), TestError> {
+    print!(rt; "{}: ", row.what)?;
+    tell_found(rt, answer_of(rt.alloc(), row))
+}
+
+// What the mount answers, in a store of its own.
+fn answer_of(alloc: Global, row: &Row) -> Result<Answer, TestError> {
+    let mut store = MemStore::new(alloc);
+    answer_in(alloc, &mut store, row)
 }
 
 // What the mount answers, in a store where nothing is yet.

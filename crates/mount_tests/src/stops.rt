@@ -3,6 +3,7 @@ use crate::answer::{Answer, kept};
 use crate::cache::{LEFT, SIZE, device};
 use crate::error::TestError;
 use crate::store::put_volume;
+use crate::telling::tell_counted;
 use lsvd_device::{Disk, Fate, FuseDisk, MemDisk, StoppedDisk};
 use lsvd_objstore::MemStore;
 use std::alloc::{AllocError, Global};
@@ -16,10 +17,14 @@ const FATES: [Fate; 4] = [Fate::Kept, Fate::Old, Fate::Zeros, Fate::Torn];
 /// Tells how many mounts were made after two that were stopped, and what each of them answers.
 pub fn tell_all(rt: &HostRuntime) -> Result<(), TestError> {
     for fate in FATES {
-        let (count, answer) = stopped_mounts(rt.alloc(), fate)?;
-        println!(rt; "{fate:?}: {count} mounts, {answer:?}")?;
+        tell_fate(rt, fate)?;
     }
     Ok(())
+}
+
+fn tell_fate(rt: &HostRuntime, fate: Fate) -> Result<(), TestError> {
+    print!(rt; "{fate:?}: ")?;
+    tell_counted(rt, "mounts", stopped_mounts(rt.alloc(), fate))
 }
 
 // The first answer, and how many mounts have the same. The first one stops after each number of calls, and so

@@ -7,7 +7,8 @@ use object_recovery::RecoverError;
 use super_format::Reason as SuperReason;
 use super_recovery::{BadSuper, SuperError};
 use uuid::Uuid;
-use vol_recover::{CreateError, MountError};
+use vol_mount::MountError;
+use vol_recover::CreateError;
 
 const MOUNTS: [MountError; 15] = [
     MountError::NoVolume,
