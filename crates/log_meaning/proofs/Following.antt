@@ -9,8 +9,7 @@ use Rattle.cache_log.specs.declared.row.Row.TheVariants.{Write, Zero}
 use Rattle.cache_log.specs.Rows.{position_of, record_size, StandsFrom, sectors_taken, next, Follow, end_of_rows}
 use Rattle.cache_log.specs.Committed.{sectors_from}
 use Rattle.cache_log.specs.Invariant.{IsFurther}
-use Rattle.plain_disk.specs.Log.{used_by}
-use Rattle.plain_disk.proofs.Records.{taken_by}
+use Rattle.plain_disk.specs.Log.{used_by, taken_by}
 use Rattle.log_meaning.specs.Shows.{pad_from, record_of_row, records_of_rows}
 
 -- Rows follow one another from a sector up to another, and take N sectors of the log.

@@ -1,6 +1,4 @@
-pub mod Zeros
 pub mod Overlaid
-pub mod Followed
 pub mod EndLemmas
 pub mod CommitLemmas
 pub mod FlushLemmas
@@ -12,10 +10,3 @@ pub mod FoldReplyLemmas
 pub mod FoldEventLemmas
 pub mod FoldMountLemmas
 pub mod FoldVolumeLemmas
-pub mod Records
-pub mod Pending
-pub mod Ranges
-pub mod PinLists
-pub mod LandedNumbers
-pub mod Volumes
-pub mod Entering

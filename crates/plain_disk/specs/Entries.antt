@@ -1,8 +1,9 @@
 -- Contract: what a write or a zeroing of the plain volume answers and leaves, and a flush.
-use Rattle.std.specs.Prelude.{◌+◌, Option, Some, is_some, unwrap_or, option_map, Bool, not, ◌&&◌, ◌||◌, nat_lt, nat_le, [], ◌∷◌}
-use Rattle.std.specs.Prelude.{◌++◌, length, if◌then◌else◌}
+use Rattle.std.specs.Prelude.{◌+◌, Option, Some, is_some, unwrap_or, option_map, Bool, not, ◌&&◌, ◌||◌, nat_lt, nat_le}
+use Rattle.std.specs.Prelude.{List, [], ◌∷◌, ◌++◌, length, if◌then◌else◌}
 use Rattle.std.specs.List.{sum_by}
 use Rattle.lsvd_base.specs.declared.entry.Entry.{Entry}
+use Rattle.lsvd_base.specs.declared.geometry.Geometry.{Geometry}
 use Rattle.lsvd_base.specs.Range.{is_in_range}
 use Rattle.batcher.specs.Batch.{data_sectors, fullness}
 use Rattle.batcher.specs.declared.full.Full.{Full}
@@ -30,13 +31,16 @@ abbrev pub reply_of_full : Full → PlainReply
 reply_of_full (full.Sectors sectors) = BatchFull sectors
 reply_of_full (full.Entries count) = EntriesFull count
 
--- why a volume does not take an entry, whatever room its log has: the entry is out of range, or the batch is full
-abbrev pub batch_refusal : PlainState → Entry → Option PlainReply
-batch_refusal state entry =
-    if is_in_range state.geometry entry
-    then option_map reply_of_full (fullness state.geometry.batch (sum_by data_sectors (unsealed_entries state))
-    (length (unsealed_entries state)))
+-- why a volume with these unsealed entries does not take an entry, whatever room its log has: the entry is out of range, or the
+-- batch is full
+abbrev pub batch_refusal_of : Geometry → (unsealed : List Entry) → Entry → Option PlainReply
+batch_refusal_of geometry unsealed entry =
+    if is_in_range geometry entry
+    then option_map reply_of_full (fullness geometry.batch (sum_by data_sectors unsealed) (length unsealed))
     else Some Range
+
+abbrev pub batch_refusal : PlainState → Entry → Option PlainReply
+batch_refusal state entry = batch_refusal_of state.geometry (unsealed_entries state) entry
 
 -- the log has room for the entry's record
 abbrev pub has_room_for : PlainCache → Entry → Bool

@@ -10,4 +10,3 @@ pub mod Objects
 pub mod Step
 pub mod Stops
 pub mod Valid
-pub mod Fields

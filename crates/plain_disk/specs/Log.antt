@@ -34,9 +34,13 @@ next_seq log = log.last.tail.seq + length log.records
 
 -- ---- room
 
--- the sectors in use from the last commit's tail to the head: those of the records, and of the pads before them
+-- the sectors of a record, and of the pad before it
+abbrev pub taken_by : PlainRecord → ℕ
+taken_by stored = stored.pad + stored.sectors
+
+-- the sectors in use from the last commit's tail to the head
 abbrev pub used_by : List PlainRecord → ℕ
-used_by records = sum_by (λ stored. stored.pad + stored.sectors) records
+used_by records = sum_by taken_by records
 
 abbrev pub room_in : PlainLog → Room
 room_in log = room_of log.size log.head (used_by log.records)

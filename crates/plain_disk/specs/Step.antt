@@ -10,6 +10,7 @@ use Rattle.plain_disk.specs.Reads.{look_reply, after_look, release_reply, after_
 use Rattle.plain_disk.specs.Objects.{seal_reply, after_seal, take_reply, after_take, done_reply, after_done, failed_reply}
 use Rattle.plain_disk.specs.Objects.{after_failed, status_reply}
 
+-- what the volume answers to each event
 abbrev pub plain_reply : PlainState → PlainEvent → PlainReply
 plain_reply state (Write lba body) = enter_reply state (entries.Write lba body)
 plain_reply state (Zero lba sectors) = enter_reply state (entries.Zero lba sectors)
@@ -22,6 +23,7 @@ plain_reply state (JobDone job) = done_reply state job
 plain_reply state (JobFailed job) = failed_reply state job
 plain_reply state Status = status_reply state
 
+-- what each event leaves of the volume
 abbrev pub plain_after : PlainEvent → PlainState → PlainState
 plain_after (Write lba body) state = after_entering (entries.Write lba body) state
 plain_after (Zero lba sectors) state = after_entering (entries.Zero lba sectors) state

@@ -2,7 +2,7 @@ use crate::numbers::ObjectNumbers;
 use lsvd_base::Body;
 
 /// What is asked of the plain volume: numbers and sectors alone.
-#[derive(Debug, Drop)]
+#[derive(Drop)]
 pub enum PlainEvent {
     /// Writes the data at the sectors from `lba` on.
     Write { lba: u64, body: Body },
@@ -29,7 +29,7 @@ pub enum PlainEvent {
 }
 
 /// What the plain volume answers.
-#[derive(Debug, Drop)]
+#[derive(Drop)]
 pub enum PlainReply {
     /// The entry was entered; the history has this length now.
     Entered(u64),

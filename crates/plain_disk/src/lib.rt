@@ -1,28 +1,18 @@
 //! The plain volume: what each event of a virtual disk answers and leaves, told by lists of entries and
 //! objects.
 //!
-//! Its contract: `PlainVolume::step` is the step of the machine in `specs/Step.antt`, which the volume is
-//! held against, with its stops and its mounts. What was flushed before a stop is kept. Its definitions are
-//! what a volume is proved to answer; its code is a plain program for tests, which no product code calls. It
-//! stands on `lsvd_base`, `batcher` and `log_room` for what an entry is and when there is room for one, on
-//! `object_stream`, `upload_window` and `commit_body` for objects and commits, and on `lsvd_device` for what
-//! a fuse is.
+//! Its contract: the machine in `specs/Step.antt`, which the volume is held against, with its stops and its
+//! mounts. Its definitions are what a volume is proved to answer, and its laws say what makes them worth it:
+//! what was flushed before a stop is kept. It stands on `lsvd_base`, `batcher` and `log_room` for what an
+//! entry is and when there is room for one, on `object_stream`, `upload_window` and `commit_body` for objects
+//! and commits, and on `lsvd_device` for what a fuse is. `plain_volume` is a program of it.
 #![tactic(auto)]
 
 mod cache;
 mod event;
-mod history;
-mod landed;
 mod log;
 mod numbers;
-mod pins;
 mod plain_laws;
-mod plans;
-mod puts;
-mod sealing;
-mod volume;
-mod window;
-mod writers;
 
 pub use cache::PendingWrite;
 pub use event::{PlainEvent, PlainReply};
@@ -32,4 +22,3 @@ pub use plain_laws::{
     a_stop_keeps_what_was_acknowledged, each_state_is_a_plain_volume,
     entries_may_be_folded_at_any_time,
 };
-pub use volume::PlainVolume;

@@ -3,7 +3,7 @@ ghost use Rattle.std.specs.Prelude.{◌≡◌};
 use std::marker::Model;
 
 /// Numbers of objects, which contracts see as a list.
-#[derive(Debug, Drop)]
+#[derive(Drop)]
 pub struct ObjectNumbers {
     numbers: Vec<u64>,
 }

@@ -31,8 +31,7 @@ use Rattle.plain_disk.specs.declared.event.PlainReply.TheVariants as replies
 use Rattle.plain_disk.specs.Log.{PlainLog}
 use Rattle.plain_disk.specs.Cache.{PlainCache}
 use Rattle.plain_disk.specs.State.{PlainState, history_length, unsealed_entries}
-use Rattle.plain_disk.specs.Entries.{reply_of_full, batch_refusal, after_entering}
-use Rattle.plain_disk.specs.Fields.{batch_refusal_of}
+use Rattle.plain_disk.specs.Entries.{reply_of_full, batch_refusal, batch_refusal_of, after_entering}
 use Rattle.plain_disk.proofs.EndLemmas.{frontier_ends}
 use Rattle.plain_disk.proofs.EventLemmas.{entering_keeps}
 use Rattle.log_meaning.specs.Shows.{ShowsLog}

@@ -3,7 +3,8 @@ use crate::error::TestError;
 use crate::real::GEOMETRY;
 use crate::step::{Byte, Step};
 use lsvd_base::Body;
-use plain_disk::{ObjectNumbers, PlainEvent, PlainReply, PlainVolume};
+use plain_disk::{ObjectNumbers, PlainEvent, PlainReply};
+use plain_volume::PlainVolume;
 use std::alloc::{AllocError, Global};
 
 /// The plain volume, with the read that is planned.

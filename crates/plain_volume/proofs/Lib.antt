@@ -1,0 +1,9 @@
+mod Entering
+mod Followed
+mod LandedNumbers
+mod Pending
+mod PinLists
+mod Ranges
+mod Records
+mod Volumes
+mod Zeros
