@@ -9,3 +9,7 @@ pub mod Gone
 pub mod Rooms
 pub mod Points
 pub mod Removals
+pub mod Cuts
+pub mod More
+pub mod Pushed
+pub mod Released

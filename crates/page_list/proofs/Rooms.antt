@@ -39,7 +39,7 @@ pub surplus_with : (ns : List ℕ) (p m : ℕ) → p < length ns → surplus_of 
     ≡ surplus_of ns + (m - 64)
 surplus_with ns p m inside = sum_by-set (λ n. n - 64) ns p m 0 inside
 
-lack_full : (ns : List ℕ) → get_or ns (length ns - 1) 128 ≡ 128 → lack_of ns ≡ 0
+pub lack_full : (ns : List ℕ) → get_or ns (length ns - 1) 128 ≡ 128 → lack_of ns ≡ 0
 lack_full [] full = refl
 lack_full (n ∷ ns) full =
     omega (arith, full, get_or_default (n ∷ ns) (length (n ∷ ns) - 1) 64 128 (omega arith))

@@ -1,22 +1,73 @@
-use Rattle.std.proofs.Common.{length, ◌<◌, ◌≤◌, ◌∙◌, ap, arith, length-append, length-take-le, take, drop}
-use Rattle.std.proofs.lemmas.List.{length-map}
-use Rattle.page_list.specs.Items.{page_start}
+use Rattle.std.proofs.Common.{◌≡◌, ◌+◌, ◌<◌, ◌≤◌, ◌++◌, length, take, drop, sym, ◌∙◌, refl, le_refl, ap, arith}
+use Rattle.std.proofs.Common.{length-append, length-take-le, take-append-drop}
+use Rattle.page_list.specs.Items.{page_start, cursor_index}
+use Rattle.page_list.proofs.Cuts.{place_kept, end_is, both_inside}
 use Rattle.page_list.proofs.Lengths.{index_bound, page_bound, length_front, start_rises}
+use Rattle.page_list.proofs.More.{seen_count}
 use Rattle.page_list.proofs.Seen.{count_is}
 use Rattle.page_list.proofs.Rooms.{halves_trim, halves_gone, room_kept}
 use Rattle.page_list.proofs.Removals.{stands_before, removed, from_same, mid_order, last_at, front_start}
 use Rattle.page_list.proofs.page_list.PageList.remove.Goals as goal
 
-pub returns-then-from-to-clause-room : goal.returns-then-from-to-clause-room
-returns-then-from-to-clause-room g c =
-    let shown = ap (λ s. length s.lengths) c.self.view_is in
-    let long = length-map c.self.inside.pages.items length in
+pub returns-then-from-len : goal.returns-then-from-len
+returns-then-from-len g c =
+    let from = cursor_index c.args.self.now.lengths c.args.from in
+    let count = seen_count c.self.inside.pages.items (length c.self.inside.free.items) c.args.self.now c.self.view_is in
+    let last : c.args.from.page ≡ length c.args.self.now.lengths =
+    omega (arith, c.if-from-len.true, c.len.ensures, c.self.inside.pages.ok.0, count) in
+    let end = end_is c.args.self.now.lengths c.args.from c.requires.from last in
+    let bound = index_bound c.args.self.now.lengths c.args.to c.requires.to in
+    let same : cursor_index c.args.self.now.lengths c.args.from ≡ cursor_index c.args.self.now.lengths c.args.to =
+    omega (arith, end.1, bound, c.requires.order) in
+    record {
+      items =
+          sym (take-append-drop from c.args.self.now.items)
+          ∙ ap (λ n. take from c.args.self.now.items ++ drop n c.args.self.now.items) same;
+      place = c.requires.from;
+      index = refl;
+      room = le_refl _;
+      steps = omega arith;
+      rises = le_refl _;
+    }
+
+pub trim-requires : goal.trim-requires
+trim-requires g c =
+    let ns = c.args.self.now.lengths in
+    let count = seen_count c.self.inside.pages.items (length c.self.inside.free.items) c.args.self.now c.self.view_is in
     let bound = page_bound c.args.self.now.lengths c.args.from c.requires.from in
     let inside : c.args.from.page < length c.args.self.now.lengths =
-    omega (arith, bound, c.if-from-len.false, c.len.ensures, c.self.inside.pages.ok.0, long, shown) in
-    room_kept c.args.self.now c.trim.new.self (omega (arith, c.trim.ensures.free))
-    (halves_trim c.args.self.now c.trim.new.self c.args.from.page _ inside (omega arith) c.trim.ensures.lengths
-    c.trim.ensures.free)
+    omega (arith, bound, c.if-from-len.false, c.len.ensures, c.self.inside.pages.ok.0, count) in
+    let both = both_inside ns c.args.from c.args.to c.requires.to c.requires.order inside c.if-from-to.true in
+    record { page = inside; order = both.1; inside = omega (arith, both.0); keeps = omega (arith, both.0) }
+
+pub returns-then-from-to : goal.returns-then-from-to
+returns-then-from-to g c =
+    let ns = c.args.self.now.lengths in
+    let count = seen_count c.self.inside.pages.items (length c.self.inside.free.items) c.args.self.now c.self.view_is in
+    let bound = page_bound c.args.self.now.lengths c.args.from c.requires.from in
+    let inside : c.args.from.page < length c.args.self.now.lengths =
+    omega (arith, bound, c.if-from-len.false, c.len.ensures, c.self.inside.pages.ok.0, count) in
+    let both = both_inside ns c.args.from c.args.to c.requires.to c.requires.order inside c.if-from-to.true in
+    let from = cursor_index c.args.self.now.lengths c.args.from in
+    let place = place_kept ns c.trim.new.self.lengths c.args.from _ inside (omega (arith, both.0, both.1))
+    c.trim.ensures.lengths in
+    record {
+      items =
+          c.trim.ensures.items
+          ∙ ap (λ p. take from c.args.self.now.items ++ drop (page_start ns p + c.args.to.item) c.args.self.now.items)
+          c.if-from-to.true;
+      place = place.0;
+      index = place.1;
+      room =
+          room_kept c.args.self.now c.trim.new.self (omega (arith, c.trim.ensures.free))
+          (halves_trim c.args.self.now c.trim.new.self c.args.from.page _ inside (omega arith) c.trim.ensures.lengths
+          c.trim.ensures.free);
+      steps = omega (arith, c.trim.ensures.steps, c.trim.ensures.bound);
+      rises = omega (arith, c.trim.ensures.steps);
+    }
+
+pub cut_front-requires : goal.cut_front-requires
+cut_front-requires g c = c.requires.to
 
 pub cut_back-first-requires : goal.cut_back-first-requires
 cut_back-first-requires g c =
@@ -143,3 +194,6 @@ returns-clause-rises g c =
       c.take_out.ensures.steps,
       rises,
     )
+
+pub returns-clause-place : goal.returns-clause-place
+returns-clause-place g c = c.start_at.ensures.place

@@ -1,6 +1,8 @@
 use Rattle.std.proofs.Common.{length, ap, arith}
+use Rattle.page_list.proofs.More.{seen_free}
 use Rattle.page_list.proofs.Seen.{page_here, read_length}
-use Rattle.page_list.proofs.Edits.{kept_with, is_put, trim_seen, lengths_seen, length_seen, trim_length}
+use Rattle.page_list.proofs.Edits.{kept_with, part_of_surplus, surplus_small, is_put, trim_seen}
+use Rattle.page_list.proofs.Edits.{lengths_seen, length_seen, trim_length}
 use Rattle.page_list.proofs.page_list.PageList.trim.Goals as goal
 
 pub invariant_of-self : goal.invariant_of-self
@@ -43,3 +45,73 @@ returns-clause-lengths g c =
     (omega (arith, is, c.requires.inside)) c.remove.ensures.items in
     lengths_seen pages (length c.self.inside.free.items) c.args.self.now c.self.view_is c.args.page here
     c.index_mut.result.now c.remove.new.self c.index_mut.ensures.value _ (omega (arith, long, is))
+
+pub index-requires : goal.index-requires
+index-requires g c =
+    let here = page_here c.self.inside.pages.items (length c.self.inside.free.items) c.args.self.now c.self.view_is c.args.page
+    c.requires.page in
+    omega (arith, here, c.self.inside.pages.ok.0)
+
+pub overflow_sub-self : goal.overflow_sub-self
+overflow_sub-self g c =
+    let here = page_here c.self.inside.pages.items (length c.self.inside.free.items) c.args.self.now c.self.view_is c.args.page
+    c.requires.page in
+    let part = part_of_surplus c.self.inside.pages.items c.self.inside.free.items c.self.inside.surplus _ _ c.self.invariant
+    c.args.page here c.index.result.now c.index.result.now c.index.ensures in
+    omega (arith, part, c.surplus.ensures)
+
+pub index_mut-requires : goal.index_mut-requires
+index_mut-requires g c =
+    let here = page_here c.self.inside.pages.items (length c.self.inside.free.items) c.args.self.now c.self.view_is c.args.page
+    c.requires.page in
+    omega (arith, here, c.self.inside.pages.ok.0)
+
+pub remove-requires : goal.remove-requires
+remove-requires g c =
+    let here = page_here c.self.inside.pages.items (length c.self.inside.free.items) c.args.self.now c.self.view_is c.args.page
+    c.requires.page in
+    let is = length_seen c.self.inside.pages.items (length c.self.inside.free.items) c.args.self.now c.self.view_is
+    c.args.page here c.index_mut.result.now c.index_mut.result.now c.index_mut.ensures.value in
+    record { order = c.requires.order; inside = omega (arith, is, c.requires.inside) }
+
+pub index-requires-2 : goal.index-requires-2
+index-requires-2 g c =
+    let here = page_here c.self.inside.pages.items (length c.self.inside.free.items) c.args.self.now c.self.view_is c.args.page
+    c.requires.page in
+    omega (arith, here, c.self.inside.pages.ok.0)
+
+pub returns-clause-free : goal.returns-clause-free
+returns-clause-free g c =
+    seen_free c.self.inside.pages.items (length c.self.inside.free.items) c.args.self.now c.self.view_is
+
+pub returns-clause-steps : goal.returns-clause-steps
+returns-clause-steps g c =
+    let here = page_here c.self.inside.pages.items (length c.self.inside.free.items) c.args.self.now c.self.view_is c.args.page
+    c.requires.page in
+    let is = length_seen c.self.inside.pages.items (length c.self.inside.free.items) c.args.self.now c.self.view_is
+    c.args.page here c.index_mut.result.now c.remove.new.self c.index_mut.ensures.value in
+    omega (arith, is, c.remove.ensures.steps)
+
+pub overflow_add-self : goal.overflow_add-self
+overflow_add-self g c =
+    let here = page_here c.self.inside.pages.items (length c.self.inside.free.items) c.args.self.now c.self.view_is c.args.page
+    c.requires.page in
+    let pages = c.self.inside.pages.items in
+    let is = length_seen pages (length c.self.inside.free.items) c.args.self.now c.self.view_is c.args.page here
+    c.index_mut.result.now c.remove.new.self c.index_mut.ensures.value in
+    let long = trim_length c.index_mut.result.now c.remove.new.self c.args.from c.args.to c.requires.order
+    (omega (arith, is, c.requires.inside)) c.remove.ensures.items in
+    let again = is_put pages c.self.inside.free.items c.self.inside.surplus _ _ c.self.invariant c.args.page here
+    c.index_mut.result.now c.remove.new.self c.index_mut.ensures.value c.index-2.result.now c.index-2.ensures in
+    let old = read_length pages (length c.self.inside.free.items) c.args.self.now c.self.view_is c.self.invariant.filled
+    c.args.page
+    c.index_mut.result.now c.requires.page c.index_mut.ensures.value in
+    let small = surplus_small pages c.self.inside.free.items c.self.inside.surplus _ _ c.self.invariant in
+    omega (arith, small, long, old.2, ap length again, c.surplus-2.ensures)
+
+pub returns-clause-bound : goal.returns-clause-bound
+returns-clause-bound g c =
+    let old = read_length c.self.inside.pages.items (length c.self.inside.free.items) c.args.self.now c.self.view_is
+    c.self.invariant.filled c.args.page
+    c.index_mut.result.now c.requires.page c.index_mut.ensures.value in
+    omega (arith, old.0, old.2)
