@@ -1,3 +1,4 @@
+pub mod RoomLemmas
 pub mod QueueLemmas
 pub mod OpenLemmas
 pub mod RecoveryLemmas

@@ -1,6 +1,8 @@
 ghost use Rattle.std.specs.Prelude.{◌≡◌, ◌+◌, ◌-◌, ◌<◌, ◌≤◌, ◌^◌, ℕ, ◌++◌, ◌∷◌, [], length, OnOk, OnErr};
 ghost use Rattle.std.specs.Prelude.{IsTrue, IsSome, IfSome, ◌↔◌, false, true, option_map};
+ghost use Rattle.std.specs.Prelude.{vec_capacity};
 ghost use Rattle.std.specs.List.{sum_by, slice_get};
+ghost use Rattle.std.specs.VecDeque.{deque_len, deque_capacity};
 ghost use Rattle.lsvd_base.specs.Laws.{first_sector, sector_count};
 ghost use Rattle.volume_maps.specs.Places.{log_number, row_left_by};
 ghost use Rattle.object_uploads.specs.Invariant.{IsOpenAt};
@@ -100,9 +102,7 @@ impl<R: Receipt> Queue<R> {
         let Some(all) = self.rows.checked_add(rows.len()) else {
             return Err(AllocError);
         };
-        self.sealed.reserve(1)?;
-        self.receipts.reserve(self.sealed.len() + 1)?;
-        self.maps.reserve(all, all)?;
+        make_room(&mut self.sealed, &mut self.receipts, &mut self.maps, all)?;
         self.rows = all;
         self.sealed
             .push_back_reserved(Sealed::new(object, spare, rows, end));
@@ -125,19 +125,14 @@ impl<R: Receipt> Queue<R> {
         requires { FirstWaits self.old.sealed → ⊥ }
         ensures { IsSettledBy 1 self.old self.new }
     {
-        let Some(first) = self.sealed.pop_front() else {
-            return;
-        };
-        let (rows, end, receipt) = first.into_parts();
-        self.rows -= rows.len();
+        let (rows, end, receipt) = self.sealed.pop_front().unwrap().into_parts();
+        let slice = rows.as_slice();
+        self.rows -= slice.len();
         self.frontier += 1;
         self.end = end;
-        let slice = rows.as_slice();
         let front = front_of(slice);
         self.maps.settle(self.frontier, front, end, slice);
-        if let Some(receipt) = receipt {
-            self.receipts.push_reserved(receipt);
-        }
+        self.receipts.push_reserved(receipt.unwrap());
     }
 
     // Settles the next number's object, where none is past the frontier. The one error is out of memory; then
@@ -178,10 +173,7 @@ impl<R: Receipt> Queue<R> {
               self.old.sealed;
         } }
     {
-        let Some(sealed) = self.sealed.get_mut(index) else {
-            return;
-        };
-        sealed.acknowledge(receipt);
+        self.sealed.get_mut(index).unwrap().acknowledge(receipt);
     }
 
     // Takes the second bytes of the object at an index past the frontier, which is open and has them.
@@ -202,10 +194,7 @@ impl<R: Receipt> Queue<R> {
         requires bytes { HasBytesAt index self.old.sealed bytes }
         ensures { self.new ≡ record self.old { sealed = with_at index (with_spare true) self.old.sealed } }
     {
-        let Some(sealed) = self.sealed.get_mut(index) else {
-            return;
-        };
-        sealed.give_spare(bytes);
+        self.sealed.get_mut(index).unwrap().give_spare(bytes);
     }
 
     // Whether these are the bytes of the object at an index past the frontier. False is for an index past the
@@ -278,6 +267,31 @@ impl<R: Receipt> Queue<R> {
     {
         self.end
     }
+}
+
+// Makes room for one more object, where all have so many rows then. The one error is out of memory.
+fn make_room<R: Receipt>(
+    sealed: &mut VecDeque<Sealed<R>>,
+    receipts: &mut Vec<R>,
+    maps: &mut VolumeMaps,
+    rows: usize,
+) -> Result<(), AllocError>
+    requires { length sealed.old.items + 1 < 2 ^ 64 }
+    ensures place { OnOk result (deque_len sealed.new < deque_capacity sealed.new) }
+    ensures receipts_room { OnOk result
+        (length receipts.old.items + (length sealed.old.items + 1) ≤ vec_capacity receipts.new) }
+    ensures settled_room { OnOk result (rows ≤ maps.new.settled.spare) }
+    ensures log_room { OnOk result (rows ≤ maps.new.log.spare) }
+    ensures sealed { sealed.new.items ≡ sealed.old.items }
+    ensures receipts { receipts.new.items ≡ receipts.old.items }
+    ensures receipts_kept { vec_capacity receipts.old ≤ vec_capacity receipts.new }
+    ensures places { HasSamePlaces maps.old maps.new }
+    ensures settled_kept { maps.old.settled.spare ≤ maps.new.settled.spare }
+    ensures log_kept { maps.old.log.spare ≤ maps.new.log.spare }
+{
+    sealed.reserve(1)?;
+    receipts.reserve(sealed.len() + 1)?;
+    maps.reserve(rows, rows)
 }
 
 // The sectors of an object with these rows before its payload.

@@ -1,11 +1,31 @@
-use Rattle.std.proofs.Common.{sym, refl}
+use Rattle.std.proofs.Common.{rules, ◌≡◌, ◌<◌, sym, refl, subst, length, slice_index_or}
+use Rattle.std.specs.Prelude.{IfSome}
+use Rattle.object_uploads.specs.State.{QueueState}
 use Rattle.object_uploads.specs.Queue.{with_receipt}
 use Rattle.object_uploads.proofs.QueueLemmas.{set_with}
+use Rattle.object_uploads.proofs.RoomLemmas.{kept_with}
 use Rattle.object_uploads.proofs.queue.Queue.acknowledge.Goals as goal
+
+pub unwrap-requires : goal.unwrap-requires
+unwrap-requires g c =
+    let low = subst (λ (q : QueueState). c.args.index < length q.sealed) (sym c.self.view_is) c.requires in
+    search rules
+
+pub invariant_of-self : goal.invariant_of-self
+invariant_of-self g c =
+    let list = c.self.inside.sealed.items in
+    let at = subst (λ r. IfSome r (λ x. x.now ≡ slice_index_or list c.args.index x.now)) c.unwrap.ensures
+    c.get_mut.ensures.value in
+    let change = with_receipt (g.R.Receipt.state c.args.receipt) in
+    let set = set_with c.args.index change list c.unwrap.result.now c.acknowledge.new.self at c.acknowledge.ensures in
+    let before = c.self.invariant in
+    kept_with c.args.index change list _ _ _ _ _ _ _ set (λ s. refl) before.0 before.1 before.2 before.3 before.4
 
 pub returns : goal.returns
 returns g c =
-    let set = set_with c.args.index (with_receipt (g.R.Receipt.state c.args.receipt)) c.self.inside.sealed.items
-    c.in-Some.sealed.now c.acknowledge.new.self
-    c.in-Some.ensures.value c.acknowledge.ensures in
+    let list = c.self.inside.sealed.items in
+    let at = subst (λ r. IfSome r (λ x. x.now ≡ slice_index_or list c.args.index x.now)) c.unwrap.ensures
+    c.get_mut.ensures.value in
+    let set = set_with c.args.index (with_receipt (g.R.Receipt.state c.args.receipt)) list c.unwrap.result.now
+    c.acknowledge.new.self at c.acknowledge.ensures in
     rw (set, sym c.self.view_is) refl

@@ -4,6 +4,7 @@ use Rattle.object_uploads.specs.State.{QueueState}
 use Rattle.object_uploads.specs.Queue.{with_spare}
 use Rattle.object_uploads.specs.Invariant.{IsOpenAt}
 use Rattle.object_uploads.proofs.QueueLemmas.{set_with, lent_has}
+use Rattle.object_uploads.proofs.RoomLemmas.{kept_with}
 use Rattle.object_uploads.proofs.OpenLemmas.{inside, lent_open, spare_there, some_is}
 use Rattle.object_uploads.proofs.queue.Queue.take_spare.Goals as goal
 
@@ -21,6 +22,16 @@ unwrap-requires-2 g c =
     c.get_mut.ensures.value in
     let there = spare_there c.unwrap.result.now (lent_open c.args.index list c.unwrap.result.now true opened at) in
     rw (c.take_spare.ensures.spare, there) refl
+
+pub invariant_of-self : goal.invariant_of-self
+invariant_of-self g c =
+    let list = c.self.inside.sealed.items in
+    let at = subst (λ r. IfSome r (λ x. x.now ≡ slice_index_or list c.args.index x.now)) c.unwrap.ensures
+    c.get_mut.ensures.value in
+    let set = set_with c.args.index (with_spare false) list c.unwrap.result.now c.take_spare.new.self at
+    c.take_spare.ensures.taken in
+    let before = c.self.invariant in
+    kept_with c.args.index (with_spare false) list _ _ _ _ _ _ _ set (λ s. refl) before.0 before.1 before.2 before.3 before.4
 
 pub returns-clause-bytes : goal.returns-clause-bytes
 returns-clause-bytes g c =
