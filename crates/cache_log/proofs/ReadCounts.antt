@@ -2,7 +2,8 @@
 use Rattle.std.proofs.Common.{◌≡◌, ℕ, ◌+◌, ◌<◌, ◌≤◌, Bool, true, false, List, [], ◌∷◌, ◌++◌, refl, sym, ◌∙◌, ap, arith, add_assoc}
 use Rattle.std.specs.Prelude.{Option, Some, None, Result, Ok, Err, IfErr, if◌then◌else◌, nat_lt}
 use Rattle.std.proofs.lemmas.Bool.Decides.{nat_tests}
-use Rattle.lsvd_device.specs.Calls.{Fuse, Budget, passes, fuse_after, Takes, TakesWithin}
+use Rattle.lsvd_device.specs.Calls.{Fuse, Budget, passes, fuse_after, Takes, TakesWithin, read_cost}
+use Rattle.lsvd_device.specs.Device.{MakesCalls}
 use Rattle.lsvd_device.proofs.Together.{made_then}
 use Rattle.commit_slot.specs.Commits.{CommitsState, IsAsBefore}
 use Rattle.commit_slot.specs.OnDisk.{AreOnDisk}
@@ -51,6 +52,16 @@ read_none commits on_disk = record {
   same = record { same_number = refl; same_body = refl; same_unfinished = refl };
   moments = refl;
   calls = record { size = refl; faults = refl; budget = nothing_taken commits.disk.budget };
+  on_disk = on_disk;
+}
+
+-- one read was made, or failed
+pub one_read : (is_made : Bool) (old new : CommitsState) → IsAsBefore old new → new.disk.moments ≡ old.disk.moments
+    → MakesCalls read_cost is_made old.disk new.disk → AreOnDisk new → AreReadOnly 1 is_made old new
+one_read is_made old new same moments calls on_disk = record {
+  same = same;
+  moments = moments;
+  reads = record { count = 1; within = omega arith; calls = calls };
   on_disk = on_disk;
 }
 

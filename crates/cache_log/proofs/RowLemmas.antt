@@ -303,6 +303,24 @@ fits_round geometry place seq row numbered inside most part here in_range fit =
       in_range = subst IsTrue (in_range_is geometry 0 row) in_range;
     }
 
+-- the log's end is not past the head where a pad stands
+pub pad_before_head : (geometry : Geometry) (place : Place) (head : Head) → IsPad head
+    → IsTrue (is_in_range geometry place.position head) → IsTrue (fits geometry place head)
+    → geometry.log - place.position ≤ place.to_head
+pad_before_head geometry place (heads.Write lba n) pad in_range fit = absurd pad
+pad_before_head geometry place (heads.Zero lba n) pad in_range fit = absurd pad
+pad_before_head geometry place (heads.Pad n) pad in_range fit = (pad_is geometry place n in_range fit).1
+
+-- a pad before a row does not stand at the log's beginning
+pub pad_ahead : (geometry : Geometry) (place : Place) (row : Row) → place.to_head ≤ geometry.log
+    → geometry.log - place.position ≤ place.to_head → position_of row ≡ 0
+    → IsTrue (fits geometry (after_pad geometry.log place) (head_of_row row)) → position_of row < place.position
+pad_ahead geometry place row most part here fit =
+    let is = fits_at geometry (after_pad geometry.log place) row fit in
+    let w = is.within in
+    let some = some_size row in
+    omega (arith, w, some, most, here)
+
 -- no pad stands after a pad
 pub no_second_pad : (geometry : Geometry) (place : Place) (n : ℕ) → place.position < geometry.log → place.to_head ≤ geometry.log
     → IsTrue (is_in_range geometry 0 (heads.Pad n))
@@ -343,6 +361,32 @@ bad_after_pad (Err (open_errors.BadRecord n reason)) geometry place seq head mom
     (bad.0, refused_after geometry place seq head reason moments pad in_range fit is bad.1)
 bad_after_pad (Err open_errors.DeviceFault) geometry place seq head moments pad in_range fit is bad = tt
 bad_after_pad (Err open_errors.OutOfMemory) geometry place seq head moments pad in_range fit is bad = tt
+
+-- the first header is refused
+refused_first : (geometry : Geometry) (place : Place) (seq : ℕ) (reason : Reason) (moments : List Medium)
+    → HoldsNow (λ now. IsRefusedAs (log_sectors place.position 1 now.bytes) seq geometry place reason) moments
+    → HoldsNow (λ now. IsRefusedAt geometry place seq now.bytes reason) moments
+refused_first geometry place seq reason [] refused = tt
+refused_first geometry place seq reason (now ∷ past) refused = inl refused
+
+pub bad_first : {T : Type 0} (r : Result T OpenError) (geometry : Geometry) (place : Place) (seq : ℕ) (moments : List Medium)
+    → IfErr r (λ e. IsBadHeader geometry place seq moments e) → IfErr r (λ e. IsBadRow geometry place seq moments e)
+bad_first (Ok x) geometry place seq moments bad = tt
+bad_first (Err (open_errors.BadRecord n reason)) geometry place seq moments bad =
+    (bad.0, refused_first geometry place seq reason moments bad.1)
+bad_first (Err open_errors.DeviceFault) geometry place seq moments bad = tt
+bad_first (Err open_errors.OutOfMemory) geometry place seq moments bad = tt
+
+-- the first header is that of a row, or that of a pad, and the row's is the next
+pub row_here : (geometry : Geometry) (place : Place) (seq : ℕ) (head : Head) (row : Row) (moments : List Medium)
+    → seq_of row ≡ seq → position_of row ≡ place.position → head_of_row row ≡ head
+    → HoldsNow (λ now. IsHeader (log_sectors place.position 1 now.bytes) seq geometry place head) moments
+    → HoldsNow (λ now. HasRow geometry place seq now.bytes row) moments
+row_here geometry place seq head row [] numbered here says header = tt
+row_here geometry place seq head row (now ∷ past) numbered here says header = (
+  numbered,
+  inl (here, subst (IsHeader (log_sectors place.position 1 now.bytes) seq geometry place) (sym says) header),
+)
 
 pub row_after_pad : (geometry : Geometry) (place : Place) (seq : ℕ) (head next_head : Head) (row : Row) (moments : List Medium)
     → IsPad head → IsTrue (is_in_range geometry place.position head)
