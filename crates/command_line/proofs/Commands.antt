@@ -1,45 +1,39 @@
--- Commands that get their options one by one.
-use Rattle.std.proofs.Common.{◌≡◌, ◌∙◌, false, List, [], ◌∷◌, ◌++◌, Some, ap, ap₂, refl}
-use Rattle.std.specs.Borrow.{Bor}
+-- Commands that get their options.
+use Rattle.std.proofs.Common.{◌≡◌, ◌∙◌, ◌+◌, ◌<◌, ◌≤◌, ℕ, List, ap, drop, get_or, length, map, refl, sym}
+use Rattle.std.specs.Prelude.{false}
+use Rattle.std.proofs.lemmas.List.{at_drop_all, at_drop_more}
 use Rattle.clap.specs.Built.{AddsArg}
-use Rattle.clap.specs.Simple.{App, app_of, new_shape, with_rule}
-use Rattle.clap.specs.Walk.{Rule, Text, rule_of}
+use Rattle.clap.specs.Simple.{App, app_of, new_app, shape_of, with_rule}
+use Rattle.clap.specs.Walk.{Text, rule_of}
 use Rattle.clap.specs.declared.builder.arg.Arg.{Arg}
 use Rattle.clap.specs.declared.builder.command.Command.{Command}
 use Rattle.clap.specs.declared.builder.command.Command.TheViews.{out-Command}
-use Rattle.clap.specs.declared.builder.texts.Texts.TheVariants.{One}
-use Rattle.command_line.specs.Options.{optional, rule_for, rule_named}
+use Rattle.command_line.specs.Commands.{AddsOptions, option_of, with_options}
+use Rattle.command_line.specs.Options.{CommandOption, rule_for}
+use Rattle.command_line.specs.declared.options.OptionText.{OptionText}
 
-abbrev app_with : Text → List Rule → App
-app_with name rules = record { top = record (new_shape name) { rules = rules }; subs = [] }
+-- the command with the options that are left, before the next is added and after
+pub adds_next : (old new : Command) (arg : Arg) (texts : List OptionText) (at : ℕ) (other : OptionText) (all : App)
+    → AddsArg old arg new → arg.global ≡ false → rule_of arg ≡ rule_for (option_of (get_or texts at other))
+    → at < length texts → with_options (app_of old) (map option_of (drop at texts)) ≡ all
+    → with_options (app_of new) (map option_of (drop (at + 1) texts)) ≡ all
+adds_next old new arg texts at other all adds local is below before =
+    ap (λ (app : App). with_options app (map option_of (drop (at + 1) texts)))
+    (adds.shape local ∙ ap (with_rule (app_of old)) is)
+    ∙ sym (at_drop_more (λ (left : List OptionText). with_options (app_of old) (map option_of left)) texts at other below)
+    ∙ before
 
--- the command has these options and nothing else
-pub record HasRules (name : Text) (rules : List Rule) (command : Command) : Type 0 where
-  pub app : app_of command ≡ app_with name rules
-  pub local : (out-Command command).has_globals ≡ false
+pub adds_no_more : (command : Command) (texts : List OptionText) (at : ℕ) (all : App) → length texts ≤ at
+    → with_options (app_of command) (map option_of (drop at texts)) ≡ all → app_of command ≡ all
+adds_no_more command texts at all past is =
+    sym (at_drop_all (λ (left : List OptionText). with_options (app_of command) (map option_of left)) texts at past) ∙ is
 
-pub has_one_more : (name : Text) (rules : List Rule) (old new : Command) (arg : Arg) (rule : Rule) → HasRules name rules old
-    → AddsArg old arg new
-    → arg.global ≡ false → rule_of arg ≡ rule → HasRules name (rules ++ rule ∷ []) new
-has_one_more name rules old new arg rule has adds local is = record {
-  app = adds.shape local ∙ ap₂ with_rule has.app is;
-  local = rw (adds.globals, has.local, local) refl;
-}
+pub adds_local : (old new : Command) (arg : Arg) → AddsArg old arg new → arg.global ≡ false
+    → (out-Command old).has_globals ≡ false → (out-Command new).has_globals ≡ false
+adds_local old new arg adds local old_local = rw (adds.globals, old_local, local) refl
 
--- the argument is one that help tells more of
-pub has_helped : (name : Text) (rules : List Rule) (old new : Command) (text : Bor Text) (plain arg : Arg) (rule : Rule)
-    → HasRules name rules old → AddsArg old arg new → plain.global ≡ false → rule_of plain ≡ rule
-    → arg ≡ record plain { help = Some text } → HasRules name (rules ++ rule ∷ []) new
-has_helped name rules old new text plain arg rule has adds local is helped =
-    has_one_more name rules old new arg rule has adds (ap (λ (a : Arg). a.global) helped ∙ local) (ap rule_of helped ∙ is)
-
--- and has a default too
-pub has_defaulted : (name : Text) (rules : List Rule) (old new : Command) (text value : Bor Text) (plain helped arg : Arg)
-    (option : Text)
-    → HasRules name rules old → AddsArg old arg new → plain.global ≡ false → rule_of plain ≡ rule_named option
-    → helped ≡ record plain { help = Some text } → arg ≡ record helped { default_vals = One value }
-    → HasRules name (rules ++ rule_for (optional option (Some value.now)) ∷ []) new
-has_defaulted name rules old new text value plain helped arg option has adds local is helps defaults =
-    has_one_more name rules old new arg (rule_for (optional option (Some value.now))) has adds
-    (ap (λ (a : Arg). a.global) defaults ∙ ap (λ (a : Arg). a.global) helps ∙ local)
-    (ap rule_of defaults ∙ ap (λ (r : Rule). record r { defaults = value.now ∷ [] }) (ap rule_of helps ∙ is))
+-- a new command has the options that it gets, and no others
+pub shape_with : (name : Text) (options : List CommandOption) (start new : Command) → app_of start ≡ new_app name
+    → AddsOptions start options new → shape_of new ≡ (with_options (new_app name) options).top
+shape_with name options start new is adds =
+    ap (λ (app : App). app.top) (adds.app ∙ ap (λ (app : App). with_options app options) is)

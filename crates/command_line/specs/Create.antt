@@ -9,6 +9,7 @@ use Rattle.command_line.specs.Options.{AreOptionsOf, CommandOption, Given, IsPla
 use Rattle.command_line.specs.Values.{IsNoUuid, IsNumber, LacksNumber}
 use Rattle.command_line.specs.declared.create.CreateRequest.{CreateRequest}
 
+-- the options of `create`
 abbrev pub create_options : List CommandOption
 create_options =
     required (codes "store") ∷ required (codes "cache") ∷ required (codes "sectors") ∷ required (codes "log")

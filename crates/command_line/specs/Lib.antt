@@ -1,4 +1,5 @@
 pub mod CommandLine
+pub mod Commands
 pub mod Create
 pub mod Met
 pub mod Mistake

@@ -1,13 +1,16 @@
 -- For this crate's own clauses: what a request is, by the command and the values that clap met in the words.
-use Rattle.std.specs.Prelude.{◌≡◌, ◌⊎◌, ◌&&◌, true, List, Option, Some, None, codes}
+use Rattle.std.specs.Prelude.{◌≡◌, ◌⊎◌, ◌-◌, ◌^◌, ◌&&◌, true, List, Option, Some, None, codes}
 use Rattle.std.specs.List.{list_any}
 use Rattle.std.specs.Str.{bytes_eq}
 use Rattle.clap.specs.Walk.{Row, Text, first_of}
 use Rattle.command_line.specs.Create.{AsksToCreate, HasBadValue, create_options}
 use Rattle.command_line.specs.Options.{CommandOption, is_required, option_name}
 use Rattle.command_line.specs.Serve.{AsksToServe, HasBadServeValue, serve_options}
+use Rattle.command_line.specs.Values.{IsBetween}
 use Rattle.command_line.specs.declared.request.Request.{Request}
 use Rattle.command_line.specs.declared.request.Request.TheVariants.{Replay, Create, Serve}
+use Rattle.command_line.specs.declared.serve.Counts.{Counts}
+use Rattle.command_line.specs.declared.values.Files.{Files}
 
 -- the value of an option among those that clap found
 abbrev pub value_among : List Row → Text → Option Text
@@ -28,6 +31,21 @@ LacksValue value = HasBadValue value ⊎ LacksRequired create_options value
 
 abbrev pub LacksServeValue : (Text → Option Text) → Type 0
 LacksServeValue value = HasBadServeValue value ⊎ LacksRequired serve_options value
+
+-- the values name these files
+pub record NamesFiles (value : Text → Option Text) (files : Files) : Type 0 where
+  pub store : value (codes "store") ≡ Some files.store.now
+  pub cache : value (codes "cache") ≡ Some files.cache.now
+
+-- one of the files is not named
+abbrev pub LacksFile : (Text → Option Text) → Type 0
+LacksFile value = (value (codes "store") ≡ None) ⊎ (value (codes "cache") ≡ None)
+
+-- the values give these counts of `serve`
+pub record GivesCounts (value : Text → Option Text) (counts : Counts) : Type 0 where
+  pub workers : IsBetween value (codes "workers") 0 8 counts.workers
+  pub lanes : IsBetween value (codes "lanes") 1 16 counts.lanes
+  pub sessions : IsBetween value (codes "sessions") 1 (2 ^ 32 - 1) counts.sessions
 
 abbrev pub IsMadeOf : Option (Text × List Row) → Request → Type 0
 IsMadeOf met Replay = (rows : List Row) × IsMet met (codes "replay") rows

@@ -7,6 +7,7 @@ use Rattle.command_line.specs.Options.{AreOptionsOf, CommandOption, Given, IsPla
 use Rattle.command_line.specs.Values.{IsBetween, IsNoUuid, LacksBetween, MayBeBetween, is_set}
 use Rattle.command_line.specs.declared.serve.ServeRequest.{ServeRequest}
 
+-- the options of `serve`
 abbrev pub serve_options : List CommandOption
 serve_options =
     required (codes "store") ∷ required (codes "volume") ∷ required (codes "cache") ∷ required (codes "socket")

@@ -6,8 +6,8 @@ ghost use Rattle.command_line.specs.Create.{AsksToCreate, GivesSizes, HasBadValu
 ghost use Rattle.command_line.specs.Met.{LacksValue, value_among};
 ghost use Rattle.command_line.specs.Program.{create};
 
-use crate::options::{option, required};
-use crate::values::{number_in, uuid_in};
+use crate::options::{OptionText, with_options};
+use crate::values::{Files, files_in, number_in, uuid_in};
 use clap::{ArgMatches, Command};
 use lsvd_base::Geometry;
 use std::alloc::{AllocError, Global};
@@ -46,34 +46,56 @@ impl CreateRequest<'_> {
     }
 }
 
+// The options of `create`.
+const OPTIONS: &[OptionText] = &[
+    OptionText::Required {
+        name: "store",
+        value: "DIRECTORY",
+        help: "Directory of the store, made where it is absent",
+    },
+    OptionText::Required {
+        name: "cache",
+        value: "FILE",
+        help: "File of the cache device, made anew",
+    },
+    OptionText::Required {
+        name: "sectors",
+        value: "SECTORS",
+        help: "Sectors of the volume, of 512 bytes each: 8 to 2147483648",
+    },
+    OptionText::Required {
+        name: "log",
+        value: "SECTORS",
+        help: "Sectors of the log on the cache device: 2 * (max-write + 1) to 2147483648",
+    },
+    OptionText::Defaulted {
+        name: "max-write",
+        value: "SECTORS",
+        help: "Most sectors of one read or write: 8 to 65536",
+        default: "65536",
+    },
+    OptionText::Defaulted {
+        name: "batch",
+        value: "SECTORS",
+        help: "Sectors that make a batch of writes full: 1 to 65536",
+        default: "16384",
+    },
+    OptionText::Optional {
+        name: "uuid",
+        value: "UUID",
+        help: "UUID of the volume [default: a random one]",
+    },
+];
+
 // `create`, with its options.
 pub(crate) fn create_command<'a>(alloc: Global) -> Result<Command<'a>, AllocError>
     ensures shape { IfOk result (λ command. shape_of command ≡ create) }
     ensures local { IfOk result (λ command. (out-Command command).has_globals ≡ false) }
 {
-    Command::new(alloc, "create")
-        .about("Create a volume in a store, and format its cache device")
-        .arg(required(alloc, "store", "DIRECTORY").help(
-            "Directory of the store, made where it is absent",
-        ))?
-        .arg(required(alloc, "cache", "FILE").help("File of the cache device, made anew"))?
-        .arg(required(alloc, "sectors", "SECTORS").help(
-            "Sectors of the volume, of 512 bytes each: 8 to 2147483648",
-        ))?
-        .arg(required(alloc, "log", "SECTORS").help(
-            "Sectors of the log on the cache device: 2 * (max-write + 1) to 2147483648",
-        ))?
-        .arg(
-            option(alloc, "max-write", "SECTORS")
-                .help("Most sectors of one read or write: 8 to 65536")
-                .default_value("65536"),
-        )?
-        .arg(
-            option(alloc, "batch", "SECTORS")
-                .help("Sectors that make a batch of writes full: 1 to 65536")
-                .default_value("16384"),
-        )?
-        .arg(option(alloc, "uuid", "UUID").help("UUID of the volume [default: a random one]"))
+    let command = Command::new(alloc, "create").about(
+        "Create a volume in a store, and format its cache device",
+    );
+    with_options(alloc, command, OPTIONS)
 }
 
 // What the values of the options ask for. None is for a size that is no number, for sizes past their limits,
@@ -83,9 +105,10 @@ pub(crate) fn create_in<'a>(values: &ArgMatches<'a>) -> Option<CreateRequest<'a>
     ensures none { IfNone result (LacksValue (value_among (rows_of (found_of values.now)))) }
 {
     let sizes = sizes_in(values)?;
+    let Files { store, cache } = files_in(values)?;
     Some(CreateRequest {
-        store: values.get_str("store")?,
-        cache: values.get_str("cache")?,
+        store,
+        cache,
         sectors: sizes.sectors,
         log: sizes.log,
         max_write: sizes.max_write,

@@ -1,12 +1,12 @@
 ghost use Rattle.std.specs.Prelude.{◌≡◌, IfOk, IfSome, IfNone, false};
 ghost use Rattle.clap.specs.Words.{found_of, rows_of, shape_of};
 ghost use Rattle.clap.specs.declared.builder.command.Command.TheViews.{out-Command};
-ghost use Rattle.command_line.specs.Met.{LacksServeValue, value_among};
+ghost use Rattle.command_line.specs.Met.{GivesCounts, LacksServeValue, value_among};
 ghost use Rattle.command_line.specs.Program.{serve};
-ghost use Rattle.command_line.specs.Serve.{AsksToServe};
+ghost use Rattle.command_line.specs.Serve.{AsksToServe, HasBadServeValue};
 
-use crate::options::{flag, option, required};
-use crate::values::{is_set, number_between, number_if_given, uuid_in};
+use crate::options::{OptionText, with_options};
+use crate::values::{Files, files_in, is_set, number_between, number_if_given, uuid_in};
 use clap::{ArgMatches, Command};
 use lsvd_base::Geometry;
 use std::alloc::{AllocError, Global};
@@ -46,37 +46,67 @@ pub struct ServeRequest<'a> {
     pub sessions: u64,
 }
 
+// The options of `serve`.
+const OPTIONS: &[OptionText] = &[
+    OptionText::Required {
+        name: "store",
+        value: "DIRECTORY",
+        help: "Directory of the store",
+    },
+    OptionText::Required {
+        name: "volume",
+        value: "UUID",
+        help: "UUID of the volume",
+    },
+    OptionText::Required {
+        name: "cache",
+        value: "FILE",
+        help: "File of the cache device",
+    },
+    OptionText::Required {
+        name: "socket",
+        value: "PATH",
+        help: "Path of the socket that clients connect to",
+    },
+    OptionText::Flag {
+        name: "lost",
+        help: "The cache device is lost: serve what the store has",
+    },
+    OptionText::Optional {
+        name: "log",
+        value: "SECTORS",
+        help: "With --lost, sectors of the log on a cache device made anew: 0 to 2147483648 \
+               [default: as it is]",
+    },
+    OptionText::Defaulted {
+        name: "workers",
+        value: "THREADS",
+        help: "Threads that put objects into the store: 0 to 8, of which none runs yet",
+        default: "2",
+    },
+    OptionText::Defaulted {
+        name: "lanes",
+        value: "SESSIONS",
+        help: "Sessions that are served at once: 1 to 16, of which one runs yet",
+        default: "4",
+    },
+    OptionText::Defaulted {
+        name: "sessions",
+        value: "SESSIONS",
+        help: "Sessions after which the server ends: 1 to 4294967295",
+        default: "1048576",
+    },
+];
+
 // `serve`, with its options.
 pub(crate) fn serve_command<'a>(alloc: Global) -> Result<Command<'a>, AllocError>
     ensures shape { IfOk result (λ command. shape_of command ≡ serve) }
     ensures local { IfOk result (λ command. (out-Command command).has_globals ≡ false) }
 {
-    Command::new(alloc, "serve")
-        .about("Serve a volume to clients of NBD that connect to a socket")
-        .arg(required(alloc, "store", "DIRECTORY").help("Directory of the store"))?
-        .arg(required(alloc, "volume", "UUID").help("UUID of the volume"))?
-        .arg(required(alloc, "cache", "FILE").help("File of the cache device"))?
-        .arg(required(alloc, "socket", "PATH").help("Path of the socket that clients connect to"))?
-        .arg(flag(alloc, "lost").help("The cache device is lost: serve what the store has"))?
-        .arg(option(alloc, "log", "SECTORS").help(
-            "With --lost, sectors of the log on a cache device made anew: 0 to 2147483648 \
-             [default: as it is]",
-        ))?
-        .arg(
-            option(alloc, "workers", "THREADS")
-                .help("Threads that put objects into the store: 0 to 8, of which none runs yet")
-                .default_value("2"),
-        )?
-        .arg(
-            option(alloc, "lanes", "SESSIONS")
-                .help("Sessions that are served at once: 1 to 16, of which one runs yet")
-                .default_value("4"),
-        )?
-        .arg(
-            option(alloc, "sessions", "SESSIONS")
-                .help("Sessions after which the server ends: 1 to 4294967295")
-                .default_value("1048576"),
-        )
+    let command = Command::new(alloc, "serve").about(
+        "Serve a volume to clients of NBD that connect to a socket",
+    );
+    with_options(alloc, command, OPTIONS)
 }
 
 // What the values of the options ask for. None is for a text that is no number in its limits, or no uuid.
@@ -84,13 +114,38 @@ pub(crate) fn serve_in<'a>(values: &ArgMatches<'a>) -> Option<ServeRequest<'a>>
     ensures found { IfSome result (AsksToServe (value_among (rows_of (found_of values.now)))) }
     ensures none { IfNone result (LacksServeValue (value_among (rows_of (found_of values.now)))) }
 {
+    let Files { store, cache } = files_in(values)?;
+    let Counts {
+        workers,
+        lanes,
+        sessions,
+    } = counts_in(values)?;
     Some(ServeRequest {
-        store: values.get_str("store")?,
+        store,
         volume: uuid_in(values, "volume")??,
-        cache: values.get_str("cache")?,
+        cache,
         socket: values.get_str("socket")?,
         is_lost: is_set(values, "lost"),
         log: number_if_given(values, "log", 0, Geometry::MAX_LOG)?,
+        workers,
+        lanes,
+        sessions,
+    })
+}
+
+// How much is done at once, and how long.
+struct Counts {
+    workers: u64,
+    lanes: u64,
+    sessions: u64,
+}
+
+// The counts that the values give. None is for a text that is no number in its limits.
+fn counts_in(values: &ArgMatches<'_>) -> Option<Counts>
+    ensures found { IfSome result (GivesCounts (value_among (rows_of (found_of values.now)))) }
+    ensures none { IfNone result (HasBadServeValue (value_among (rows_of (found_of values.now)))) }
+{
+    Some(Counts {
         workers: number_between(values, "workers", 0, MAX_WORKERS)?,
         lanes: number_between(values, "lanes", 1, MAX_LANES)?,
         sessions: number_between(values, "sessions", 1, MAX_SESSIONS)?,

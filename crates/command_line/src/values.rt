@@ -1,13 +1,30 @@
 ghost use Rattle.std.specs.Prelude.{◌≡◌, ◌≢◌, None, IfSome, IfNone, option_map};
 ghost use Rattle.clap.specs.Words.{found_of, rows_of};
 ghost use Rattle.uuid.specs.Text.{parsed};
-ghost use Rattle.command_line.specs.Met.{value_among};
+ghost use Rattle.command_line.specs.Met.{LacksFile, NamesFiles, value_among};
 ghost use Rattle.command_line.specs.Values.{IsBetween, IsNoUuid, IsNumber, LacksBetween, LacksNumber};
 ghost use Rattle.command_line.specs.Values.{MayBeBetween, is_set};
 
 use crate::number::number_of;
 use clap::ArgMatches;
 use uuid::Uuid;
+
+// The directory of the store, and the file of the cache device.
+pub(crate) struct Files<'a> {
+    pub(crate) store: &'a str,
+    pub(crate) cache: &'a str,
+}
+
+// The files that the values name.
+pub(crate) fn files_in<'a>(values: &ArgMatches<'a>) -> Option<Files<'a>>
+    ensures found { IfSome result (NamesFiles (value_among (rows_of (found_of values.now)))) }
+    ensures none { IfNone result (LacksFile (value_among (rows_of (found_of values.now)))) }
+{
+    Some(Files {
+        store: values.get_str("store")?,
+        cache: values.get_str("cache")?,
+    })
+}
 
 // The number that the value of an option spells.
 pub(crate) fn number_in(values: &ArgMatches<'_>, name: &str) -> Option<u64>
