@@ -1,5 +1,2 @@
-mod Made
 mod Ran
 mod Reported
-mod Served
-mod Told

@@ -12,13 +12,14 @@ use Rattle.command_line.specs.declared.request.CommandLineError.TheVariants as e
 use Rattle.command_line.specs.declared.request.Request.{Request}
 use Rattle.command_line.specs.declared.request.Request.TheVariants.{Replay, Create, Serve}
 use Rattle.vol_replay.proofs.Results.{nothing_for_source}
-use Rattle.lsvdctl.specs.Creating.{TellsCreation}
-use Rattle.lsvdctl.specs.Serving.{TellsServing}
-use Rattle.lsvdctl.specs.Report.{status_of}
-use Rattle.lsvdctl.specs.Run.{AreRefused, CountsOneOf, CountsOneOfAll, Runs, RunsCreate, RunsReplay, RunsServe}
-use Rattle.lsvdctl.proofs.Told.{nothing_told}
-use Rattle.lsvdctl.specs.declared.report.Report.{Report}
-use Rattle.lsvdctl.specs.declared.report.Report.TheVariants.{Done, Fault, Usage, BadLine, Refused, Memory}
+use Rattle.volume_commands.specs.Creating.{TellsCreation}
+use Rattle.volume_commands.specs.Serving.{TellsServing}
+use Rattle.volume_commands.specs.Report.{status_of}
+use Rattle.volume_commands.specs.World.{CountsOneOf}
+use Rattle.lsvdctl.specs.Run.{AreRefused, CountsOneOfAll, Runs, RunsCreate, RunsReplay, RunsServe}
+use Rattle.volume_commands.proofs.Told.{nothing_told}
+use Rattle.volume_commands.specs.declared.report.Report.{Report}
+use Rattle.volume_commands.specs.declared.report.Report.TheVariants.{Done, Fault, Usage, BadLine, Refused, Memory}
 
 -- words that were read as a request are not refused
 not_refused : (request : Request) → IsRefused (Ok request) → ⊥

@@ -5,7 +5,7 @@ use Rattle.std.specs.Io.KnownBytes.{Appends}
 use Rattle.vol_replay.specs.declared.outcome.Outcome.{Outcome}
 use Rattle.vol_replay.specs.declared.outcome.Outcome.TheVariants.{Done, BadLine, ReadFault, WriteFault, OutOfMemory}
 use Rattle.vol_replay.specs.Written.{IsWritten}
-use Rattle.lsvdctl.specs.declared.report.Report.{Report}
+use Rattle.volume_commands.specs.declared.report.Report.{Report}
 use Rattle.lsvdctl.specs.Run.{report_of, IsReported}
 
 is_reported : (script text : List ℕ) (outcome : Outcome) → IsWritten script text outcome

@@ -3,8 +3,8 @@ use Rattle.std.specs.Prelude.{◌≡◌, ℕ, Option, List}
 use Rattle.std.specs.Io.KnownBytes.{Appends}
 use Rattle.command_line.specs.CommandLine.{AsksForHelp}
 use Rattle.lsvd_fault.specs.Faults.{CountsOne}
-use Rattle.lsvdctl.specs.declared.report.Report.{Report}
-use Rattle.lsvdctl.specs.declared.report.Report.TheVariants.{Done, Fault, Usage, BadLine, Refused, Memory}
+use Rattle.volume_commands.specs.declared.report.Report.{Report}
+use Rattle.volume_commands.specs.declared.report.Report.TheVariants.{Done, Fault, Usage, BadLine, Refused, Memory}
 
 -- what the output took, and its count of faults, where the answer ended so
 abbrev pub IsAnswered : List (List ℕ) → Report → Option (List ℕ) → Option (List ℕ) → ℕ → ℕ → Type 0

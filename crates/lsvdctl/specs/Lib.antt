@@ -1,8 +1,3 @@
-pub mod Creating
 pub mod Help
-pub mod Mounting
-pub mod Refusal
-pub mod Report
+pub mod QuietWorld
 pub mod Run
-pub mod Serving
-pub mod World

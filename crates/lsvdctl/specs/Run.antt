@@ -13,10 +13,11 @@ use Rattle.command_line.specs.declared.create.CreateRequest.{CreateRequest}
 use Rattle.command_line.specs.declared.serve.ServeRequest.{ServeRequest}
 use Rattle.vol_replay.specs.declared.outcome.Outcome.{Outcome}
 use Rattle.vol_replay.specs.declared.outcome.Outcome.TheVariants as outcomes
-use Rattle.lsvdctl.specs.Creating.{TellsCreation}
-use Rattle.lsvdctl.specs.Serving.{TellsServing}
-use Rattle.lsvdctl.specs.declared.report.Report.{Report}
-use Rattle.lsvdctl.specs.declared.report.Report.TheVariants.{Done, Fault, Usage, BadLine, Refused, Memory}
+use Rattle.volume_commands.specs.Creating.{TellsCreation}
+use Rattle.volume_commands.specs.Serving.{TellsServing}
+use Rattle.volume_commands.specs.World.{CountsOneOf, CountsNone}
+use Rattle.volume_commands.specs.declared.report.Report.{Report}
+use Rattle.volume_commands.specs.declared.report.Report.TheVariants.{Done, Fault, Usage, BadLine, Refused, Memory}
 
 -- ---- replays
 
@@ -83,16 +84,6 @@ AreRefused words =
     ⊎ ((options : List Given) × Spells words (serve options) × HasBadServeValue (serve_value options)))
 
 -- ---- faults
-
--- one call failed: one of two things that count theirs
-abbrev pub CountsOneOf : (first_before first_now second_before second_now : ℕ) → Type 0
-CountsOneOf first_before first_now second_before second_now =
-    (CountsOne first_before first_now × (second_now ≡ second_before))
-    ⊎ ((first_now ≡ first_before) × CountsOne second_before second_now)
-
--- no call of them failed
-abbrev pub CountsNone : (first_before first_now second_before second_now : ℕ) → Type 0
-CountsNone first_before first_now second_before second_now = (first_now ≡ first_before) × (second_now ≡ second_before)
 
 -- one call failed: one of the world, of the input, or of the output
 abbrev pub CountsOneOfAll : (world_before world_now in_before in_now out_before out_now : ℕ) → Type 0

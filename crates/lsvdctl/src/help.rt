@@ -4,10 +4,10 @@ ghost use Rattle.command_line.specs.CommandLine.{AsksForHelp};
 ghost use Rattle.lsvd_fault.specs.Faults.{CountsOne};
 ghost use Rattle.lsvdctl.specs.Help.{IsAnswered};
 
-use crate::report::Report;
 use command_line::help_of;
 use lsvd_fault::{Failed, Sink, write_all};
 use std::alloc::{AllocError, Global};
+use volume_commands::Report;
 
 /// Answers words that ask for help or for the version, with the text on `out`, and says how that ended:
 /// `Done`, `Fault` where a write failed, or `Memory`, which comes before the first write. None is for words

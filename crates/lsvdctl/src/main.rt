@@ -2,31 +2,23 @@
 //!
 //! Its contract is that of `run`: what it writes and how it ends, for each command line and input. Words that
 //! ask for help are answered before, by `answer_help`, and a sentence before what `run` writes says why words
-//! are refused. It stands on `command_line` for the words, on `vol_replay`, `vol_recover` and `vol_core` for
-//! the commands, and on `lsvd_device`, `lsvd_objstore` and `lsvd_fault` for what it reaches outside itself.
+//! are refused. It stands on `command_line` for the words, on `vol_replay` for scripts, and on
+//! `volume_commands` for the other commands and the world that they reach.
 #![tactic(auto)]
 
-mod creating;
-mod error;
 mod help;
 mod program;
 mod quiet_world;
-mod real_world;
-mod refusal;
-mod report;
-mod serving;
-mod world;
 
 use command_line::mistake_of;
 use help::answer_help;
 use lsvd_fault::{ReadSource, Sink, WriteSink};
 use program::run;
-use real_world::RealWorld;
-use report::Report;
 use std::alloc::AllocError;
 use std::env;
 use std::io::ErrorKind;
 use std::process::ExitCode;
+use volume_commands::{RealWorld, Report};
 
 fn main(rt: HostRuntime) -> ExitCode {
     let mut input = ReadSource::new(rt.stdin());

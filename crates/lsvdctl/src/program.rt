@@ -7,17 +7,15 @@ ghost use Rattle.command_line.specs.Create.{AreValid, HasBadUuid, value_in};
 ghost use Rattle.command_line.specs.Options.{Given, option_words};
 ghost use Rattle.command_line.specs.Serve.{AreValidToServe, serve_value};
 ghost use Rattle.command_line.specs.Values.{IsNoUuid};
-ghost use Rattle.lsvdctl.specs.Report.{status_of, line_of, IsTold};
-ghost use Rattle.lsvdctl.specs.Run.{AreRefused, CountsOneOf, CountsOneOfAll, CountsNone, Runs, report_of};
-ghost use Rattle.lsvdctl.specs.World.{IsConstant};
+ghost use Rattle.volume_commands.specs.Report.{status_of, line_of, IsTold};
+ghost use Rattle.volume_commands.specs.World.{CountsNone, CountsOneOf};
+ghost use Rattle.lsvdctl.specs.Run.{AreRefused, CountsOneOfAll, Runs, report_of};
+ghost use Rattle.volume_commands.specs.World.{IsConstant};
 
-use crate::creating::answer_create;
-use crate::report::Report;
-use crate::serving::answer_serve;
-use crate::world::World;
 use command_line::{CommandLineError, Request, request_of};
 use std::alloc::Global;
 use vol_replay::{Outcome, replay};
+use volume_commands::{Report, World, answer_create, answer_serve};
 
 /// Runs the program on the words after its name, and answers its exit status.
 ///

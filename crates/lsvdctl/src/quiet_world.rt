@@ -3,16 +3,17 @@ ghost use Rattle.lsvd_fault.specs.Faults.{CountsOne};
 ghost use Rattle.lsvd_device.specs.Device.{IsDisk};
 ghost use Rattle.lsvd_objstore.specs.Memory.{told_state};
 ghost use Rattle.lsvdctl.specs.Run.{CountsOneOfAll};
-ghost use Rattle.lsvdctl.specs.World.{IsConstant, quiet_faults, quiet_state};
+ghost use Rattle.volume_commands.specs.World.{IsConstant};
+ghost use Rattle.lsvdctl.specs.QuietWorld.{quiet_faults, quiet_state};
 
 use crate::program::run;
-use crate::world::{World, WorldError};
 use lsvd_device::Disk;
 use lsvd_fault::{Failed, MemLink, MemSink, MemSource};
 use lsvd_listen::Listener;
 use lsvd_objstore::MemStore;
 use std::alloc::{AllocError, Global};
 use std::marker::Model;
+use volume_commands::{World, WorldError};
 
 /// A disk in memory that keeps its present bytes alone, and tells nothing of them. No call of it fails.
 #[derive(Drop)]

@@ -21,14 +21,15 @@ use Rattle.transcript.specs.Letters as letters
 use Rattle.transcript.specs.Letters.{is_dash, fits_writes, fates_of, kept_by, under_way, fits_objects, landed_by}
 use Rattle.transcript.specs.Answers.{State, TellsReply, Steps, released_by, FitKept, FitLost, AnswersOn, IsNew, text_of_mount}
 use Rattle.transcript.specs.declared.reason.Reason.TheVariants.{NotAllowed, Letters}
-use Rattle.vol_replay.specs.declared.answer.Answer.{Answer}
-use Rattle.vol_replay.specs.declared.answer.Answer.TheVariants as answers
+use Rattle.replay_rig.specs.declared.answer.Answer.{Answer}
+use Rattle.replay_rig.specs.declared.answer.Answer.TheVariants as answers
 use Rattle.vol_replay.specs.declared.line.Refusal.{Refusal}
 use Rattle.vol_replay.specs.declared.line.Refusal.TheVariants.{Bad, OutOfMemory}
-use Rattle.vol_replay.specs.Answers.{TellsAnswer, SaysReply}
-use Rattle.vol_replay.specs.Bench.{AnswersEvent, AnswersRead, FailsPut, StopsAfter, IsMountTold, MountsKeptRig, MountsLostRig}
-use Rattle.vol_replay.specs.Lines.{is_crash, AnswersCommand, IsUnanswered}
-use Rattle.vol_replay.specs.Rig.{RigState, ShowsPlain}
+use Rattle.replay_rig.specs.Answers.{SaysReply}
+use Rattle.vol_replay.specs.Answers.{TellsAnswer}
+use Rattle.replay_rig.specs.Steps.{AnswersEvent, AnswersRead, FailsPut, StopsAfter, IsMountTold, MountsKeptRig, MountsLostRig}
+use Rattle.vol_replay.specs.Lines.{is_crash, AnswersIn, AnswersCommand, IsUnanswered}
+use Rattle.replay_rig.specs.Rig.{RigState, ShowsPlain}
 
 -- a command is not answered where memory ran out
 pub unanswered : {T : Type 0} (result : Result T Refusal) (rig : Option RigState) (command : Command)
@@ -61,21 +62,21 @@ tells_reply replies.Busy answer text says tells = subst (λ a. TellsAnswer a tex
 tells_reply replies.Fault answer text says tells = subst (λ a. TellsAnswer a text) says tells
 
 -- a command that is one event is answered as that is
-pub event_command : (command : Command) (event : PlainEvent) (answer : Answer) (old new : RigState)
+pub event_in : (command : Command) (event : PlainEvent) (answer : Answer) (old new : RigState)
     → ((plain : PlainState) (text : List ℕ) (next : State) → ShowsPlain old plain → Steps plain event text next
     → AnswersOn plain command text next)
-    → AnswersEvent event answer old new → AnswersCommand command answer (Some old) (Some new)
-event_command command event answer old new is h None shown = absurd shown
-event_command command event answer old new is h (Some plain) shown =
-    let both = h plain shown in
+    → AnswersEvent event answer old new → (state : State) → AnswersIn command answer (Some old) (Some new) state
+event_in command event answer old new is h None shown = absurd shown
+event_in command event answer old new is h (Some plain) shown =
+    let both = h.by plain shown in
     let next : State = Some (plain_after event plain) in
     (next, λ text tells. is plain text next shown (tells_reply (plain_reply plain event) answer text both.0 tells, refl), both.1)
 
-pub read_command : (lba sectors : ℕ) (answer : Answer) (old new : RigState) → AnswersRead lba sectors answer old new
-    → AnswersCommand (commands.Read lba sectors) answer (Some old) (Some new)
-read_command lba sectors answer old new h None shown = absurd shown
-read_command lba sectors answer old new h (Some plain) shown =
-    let both = h plain shown in
+pub read_in : (lba sectors : ℕ) (answer : Answer) (old new : RigState) → AnswersRead lba sectors answer old new
+    → (state : State) → AnswersIn (commands.Read lba sectors) answer (Some old) (Some new) state
+read_in lba sectors answer old new h None shown = absurd shown
+read_in lba sectors answer old new h (Some plain) shown =
+    let both = h.by plain shown in
     let event : PlainEvent = events.Look lba sectors in
     let next : State = Some (released_by (plain_reply plain event) (plain_after event plain)) in
     (next, λ text tells. (tells_reply (plain_reply plain event) answer text both.0 tells, refl), both.1)
@@ -108,18 +109,18 @@ failed_not_allowed number result rig is tells None shown = absurd shown
 failed_not_allowed number result rig is tells (Some plain) shown =
     λ out. put_is_not_out number result rig plain is shown (tells plain shown) out
 
-pub done_command : (number : ℕ) (answer : Answer) (old new : RigState) → IsOut number old
+pub done_in : (number : ℕ) (answer : Answer) (old new : RigState) → IsOut number old
     → AnswersEvent (events.JobDone (Some number)) answer old new
-    → AnswersCommand (commands.JobDone number) answer (Some old) (Some new)
-done_command number answer old new out h =
-    event_command (commands.JobDone number) (events.JobDone (Some number)) answer old new
+    → (state : State) → AnswersIn (commands.JobDone number) answer (Some old) (Some new) state
+done_in number answer old new out h =
+    event_in (commands.JobDone number) (events.JobDone (Some number)) answer old new
     (λ plain text next shown steps. (out plain shown, steps)) h
 
-pub failed_command : (number : ℕ) (answer : Answer) (old new : RigState) → IsOut number old → FailsPut number answer old new
-    → AnswersCommand (commands.JobFailed number) answer (Some old) (Some new)
-failed_command number answer old new out h None shown = absurd shown
-failed_command number answer old new out h (Some plain) shown =
-    let both = h plain shown in (
+pub failed_in : (number : ℕ) (answer : Answer) (old new : RigState) → IsOut number old → FailsPut number answer old new
+    → (state : State) → AnswersIn (commands.JobFailed number) answer (Some old) (Some new) state
+failed_in number answer old new out h None shown = absurd shown
+failed_in number answer old new out h (Some plain) shown =
+    let both = h.by plain shown in (
       Some (plain_after (events.JobFailed (Some number)) plain),
       λ text tells. (out plain shown, subst (λ a. TellsAnswer a text) both.0 tells, refl),
       both.1,
@@ -147,14 +148,14 @@ stop_not_allowed calls result rig is tells None shown = absurd shown
 stop_not_allowed calls result rig is tells (Some plain) shown =
     λ none. told_before plain.cache.left result is (tells plain shown) none
 
-pub stop_command : (calls : ℕ) (old new : RigState) (answer : Answer) → answer ≡ answers.Stopping calls
+pub stop_in : (calls : ℕ) (old new : RigState) (answer : Answer) → answer ≡ answers.Stopping calls
     → ((plain : PlainState) → ShowsPlain old plain → plain.cache.left ≡ None) → StopsAfter calls old new
-    → AnswersCommand (commands.Stop calls) answer (Some old) (Some new)
-stop_command calls old new answer is once stops None shown = absurd shown
-stop_command calls old new answer is once stops (Some plain) shown = (
+    → (state : State) → AnswersIn (commands.Stop calls) answer (Some old) (Some new) state
+stop_in calls old new answer is once stops None shown = absurd shown
+stop_in calls old new answer is once stops (Some plain) shown = (
   Some (stopping_after_calls calls plain),
   λ text tells. (once plain shown, subst (λ a. TellsAnswer a text) is tells, refl),
-  stops plain shown,
+  stops.by plain shown,
 )
 
 -- ---- letters
@@ -226,37 +227,38 @@ kept_alike (fates.Old ∷ list) = ap (λ rest. false ∷ rest) (kept_alike list)
 kept_alike (fates.Zeros ∷ list) = ap (λ rest. false ∷ rest) (kept_alike list)
 kept_alike (fates.Torn ∷ list) = ap (λ rest. false ∷ rest) (kept_alike list)
 
-pub keep_command : (device objects : List ℕ) (list : List Fate) (pending : ℕ) (answer : Answer) (old new : RigState)
+pub keep_in : (device objects : List ℕ) (list : List Fate) (pending : ℕ) (answer : Answer) (old new : RigState)
     → ((plain : PlainState) → ShowsPlain old plain → FitKept plain device objects)
     → ((plain : PlainState) → ShowsPlain old plain → pending ≡ length plain.cache.pending) → list ≡ fates_of pending device
-    → MountsKeptRig list objects answer old new → AnswersCommand (commands.CrashKeep device objects) answer (Some old) (Some new)
-keep_command device objects list pending answer old new fit count are h None shown = absurd shown
-keep_command device objects list pending answer old new fit count are h (Some plain) shown =
+    → MountsKeptRig list objects answer old new → (state : State) → AnswersIn (commands.CrashKeep device objects) answer
+    (Some old) (Some new) state
+keep_in device objects list pending answer old new fit count are h None shown = absurd shown
+keep_in device objects list pending answer old new fit count are h (Some plain) shown =
     let landed : Numbers = landed_by plain.window objects in
     let kept : List Bool = map plain_cache.is_kept list in
     let read : kept ≡ kept_by (length plain.cache.pending) device =
     kept_alike list ∙ ap (map letters.is_kept) (are ∙ ap (λ n. fates_of n device) (count plain shown)) in
     let both = subst (λ k. IsMountTold landed plain (mounted_kept landed k plain) answer
-    × ShowsPlain new (mounted_kept landed k plain)) read (h plain shown) in
+    × ShowsPlain new (mounted_kept landed k plain)) read (h.by plain shown) in
     let mounted : PlainState = mounted_kept landed (kept_by (length plain.cache.pending) device) plain in
     (Some mounted, λ text tells. (fit plain shown, (mount_told landed plain mounted answer text both.0 tells, refl)), both.1)
 
-pub lost_command : (device objects : List ℕ) (answer : Answer) (old new : RigState)
+pub lost_in : (device objects : List ℕ) (answer : Answer) (old new : RigState)
     → ((plain : PlainState) → ShowsPlain old plain → FitLost plain device objects) → MountsLostRig objects answer old new
-    → AnswersCommand (commands.CrashLost device objects) answer (Some old) (Some new)
-lost_command device objects answer old new fit h None shown = absurd shown
-lost_command device objects answer old new fit h (Some plain) shown =
+    → (state : State) → AnswersIn (commands.CrashLost device objects) answer (Some old) (Some new) state
+lost_in device objects answer old new fit h None shown = absurd shown
+lost_in device objects answer old new fit h (Some plain) shown =
     let landed : Numbers = landed_by plain.window objects in
     let mounted : PlainState = mounted_lost landed plain in
-    let both = h plain shown in
+    let both = h.by plain shown in
     (Some mounted, λ text tells. (fit plain shown, (mount_told landed plain mounted answer text both.0 tells, refl)), both.1)
 
 -- ---- the first command
 
-pub created_command : (geometry : Geometry) (new : RigState) → ShowsPlain new (created_volume geometry)
-    → AnswersCommand (commands.New geometry) (answers.Created geometry.sectors) None (Some new)
-created_command geometry new h None shown = (Some (created_volume geometry), λ text tells. (tells, refl), h)
-created_command geometry new h (Some plain) shown = absurd shown
+pub created_in : (geometry : Geometry) (new : RigState) → ShowsPlain new (created_volume geometry)
+    → (state : State) → AnswersIn (commands.New geometry) (answers.Created geometry.sectors) None (Some new) state
+created_in geometry new h None shown = (Some (created_volume geometry), λ text tells. (tells, refl), h)
+created_in geometry new h (Some plain) shown = absurd shown
 
 not_new : (command : Command) → ((geometry : Geometry) → command ≡ commands.New geometry → ⊥) → IsNew command → ⊥
 not_new (commands.New geometry) other is = other geometry refl

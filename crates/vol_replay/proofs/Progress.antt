@@ -12,7 +12,7 @@ use Rattle.transcript.proofs.Existence.{some_transcript}
 use Rattle.vol_replay.specs.declared.outcome.Outcome.{Outcome}
 use Rattle.vol_replay.specs.declared.outcome.Outcome.TheVariants.{Done, BadLine, WriteFault, OutOfMemory}
 use Rattle.vol_replay.specs.Lines.{TakesFront, MovesOn, IsHandedOver, AnswersLine}
-use Rattle.vol_replay.specs.Rig.{RigState}
+use Rattle.replay_rig.specs.Rig.{RigState}
 use Rattle.vol_replay.specs.Written.{ShowsState, IsWritten}
 use Rattle.std.specs.Io.KnownBytes.{Appends}
 use Rattle.lsvd_fault.proofs.Streams.{appends_nothing, appends_more}
@@ -120,7 +120,7 @@ pub run_more : (old mid new : Option (List ℕ)) (script pending rest line after
     → AnswersLine line before next pending middle → MovesOn mid new middle left
     → IsRunning old new script left after (number + 1) next
 run_more old mid new script pending rest line after middle left number before next r first answers moved =
-    let (answer, state, answered, shown, pushed) = answers r.state r.shown in
+    let (answer, state, answered, shown, pushed) = answers.by r.state r.shown in
     let w : List ℕ = r.run.written in
     record {
       state = state;
@@ -204,7 +204,7 @@ pub written_broken : (old mid new : Option (List ℕ)) (script pending rest line
     → length script ≤ 2 ^ 24 → IsRunning old mid script pending rest number before → lines_of rest ≡ line ∷ lines_of after
     → AnswersLine line before next pending middle → TakesFront mid new middle → WritesText old new script WriteFault
 written_broken old mid new script pending rest line after middle number before next short r first answers front =
-    let (answer, state, answered, shown, pushed) = answers r.state r.shown in
+    let (answer, state, answered, shown, pushed) = answers.by r.state r.shown in
     let w : List ℕ = r.run.written in
     let more = under_way_more script w pending rest after line answer number r.state state r.run.under_way first answered in
     let P : List ℕ → Type 0 = λ xs. Appends mid new (take front.0 xs) in (

@@ -1,19 +1,11 @@
--- For this crate's own clauses: what answers say, and which text tells them.
+-- For this crate's own clauses: which text tells an answer.
 use Rattle.std.specs.Prelude.{◌≡◌, ℕ, List, ◌++◌, codes, decimal}
-use Rattle.std.specs.Global.{Vec}
 use Rattle.replay_script.specs.RunText.{IsRunText}
-use Rattle.plain_disk.specs.declared.event.PlainReply.{PlainReply}
-use Rattle.plain_disk.specs.declared.event.PlainReply.TheVariants as replies
 use Rattle.transcript.specs.Answers.{text_of_mount}
-use Rattle.batcher.specs.declared.full.Full.TheVariants as full
-use Rattle.vol_core.specs.declared.reply.Refusal.{Refusal}
-use Rattle.vol_core.specs.declared.reply.Refusal.TheVariants as refusals
-use Rattle.vol_core.specs.declared.reply.Reply.{Reply}
-use Rattle.vol_core.specs.declared.reply.Reply.TheVariants as told
-use Rattle.vol_replay.specs.declared.answer.Answer.{Answer}
-use Rattle.vol_replay.specs.declared.answer.Answer.TheVariants.{Created, Entries, Sectors, Sealed, Put, Done, Failed, Counts}
-use Rattle.vol_replay.specs.declared.answer.Answer.TheVariants.{Stopping, Mounted, BatchFull, EntriesFull, NoRoom, Range, Nothing}
-use Rattle.vol_replay.specs.declared.answer.Answer.TheVariants.{Busy, Fault}
+use Rattle.replay_rig.specs.declared.answer.Answer.{Answer}
+use Rattle.replay_rig.specs.declared.answer.Answer.TheVariants.{Created, Entries, Sectors, Sealed, Put, Done, Failed, Counts}
+use Rattle.replay_rig.specs.declared.answer.Answer.TheVariants.{Stopping, Mounted, BatchFull, EntriesFull, NoRoom, Range, Nothing}
+use Rattle.replay_rig.specs.declared.answer.Answer.TheVariants.{Busy, Fault}
 
 -- the text that tells an answer
 abbrev pub TellsAnswer : Answer → List ℕ → Type 0
@@ -35,55 +27,3 @@ TellsAnswer Range text = text ≡ codes "range"
 TellsAnswer Nothing text = text ≡ codes "none"
 TellsAnswer Busy text = text ≡ codes "busy"
 TellsAnswer Fault text = text ≡ codes "fault"
-
--- the answer that says a reply of the plain volume; those to a plan that is given back, and to a put that fails, are no answers
-abbrev pub SaysReply : PlainReply → Answer → Type 0
-SaysReply (replies.Entered count) answer = answer ≡ Entries count
-SaysReply (replies.Flushed count) answer = answer ≡ Entries count
-SaysReply (replies.Planned front bytes objects) answer = (held : Vec ℕ) × (answer ≡ Sectors held) × (held.items ≡ bytes)
-SaysReply replies.Released answer = ⊥
-SaysReply (replies.Sealed number) answer = answer ≡ Sealed number
-SaysReply (replies.Taken number) answer = answer ≡ Put number
-SaysReply (replies.Done frontier) answer = answer ≡ Done frontier
-SaysReply replies.Returned answer = ⊥
-SaysReply (replies.Told writes sealed frontier checkpoint) answer = answer ≡ Counts writes sealed frontier
-SaysReply (replies.BatchFull sectors) answer = answer ≡ BatchFull sectors
-SaysReply (replies.EntriesFull count) answer = answer ≡ EntriesFull count
-SaysReply (replies.NoRoom lacking left) answer = answer ≡ NoRoom lacking left
-SaysReply replies.Range answer = answer ≡ Range
-SaysReply replies.Nothing answer = answer ≡ Nothing
-SaysReply replies.Busy answer = answer ≡ Busy
-SaysReply replies.Fault answer = answer ≡ Fault
-
--- ---- replies of the volume
-
--- the answer that says why an entry was not entered; want of memory is no answer
-abbrev pub SaysRefusal : Refusal → Answer → Type 0
-SaysRefusal refusals.Range answer = answer ≡ Range
-SaysRefusal (refusals.Full (full.Sectors sectors)) answer = answer ≡ BatchFull sectors
-SaysRefusal (refusals.Full (full.Entries count)) answer = answer ≡ EntriesFull count
-SaysRefusal (refusals.NoRoom lacking left) answer = answer ≡ NoRoom lacking left
-SaysRefusal refusals.Fault answer = answer ≡ Fault
-SaysRefusal refusals.OutOfMemory answer = ⊥
-
--- The answer that says a reply of the volume which hands out no more than counts. Nothing is said of the others but that they are
--- no want of memory.
-abbrev pub SaysCounts : {R : Type 0} → Reply R → Answer → Type 0
-SaysCounts (told.Entered count) answer = answer ≡ Entries count
-SaysCounts (told.NotEntered entry why) answer = SaysRefusal why answer
-SaysCounts (told.Flushed count) answer = answer ≡ Entries count
-SaysCounts (told.Planned plan) answer = Unit {0}
-SaysCounts told.Released answer = Unit {0}
-SaysCounts (told.NotReleased plan) answer = answer ≡ Nothing
-SaysCounts (told.Sealed number) answer = answer ≡ Sealed number
-SaysCounts (told.Taken job) answer = Unit {0}
-SaysCounts (told.Done frontier) answer = answer ≡ Done frontier
-SaysCounts (told.NotDone job receipt) answer = answer ≡ Nothing
-SaysCounts told.Returned answer = Unit {0}
-SaysCounts (told.NotReturned job) answer = answer ≡ Nothing
-SaysCounts (told.Told writes sealed frontier checkpoint) answer = answer ≡ Counts writes sealed frontier
-SaysCounts told.Range answer = answer ≡ Range
-SaysCounts told.Nothing answer = answer ≡ Nothing
-SaysCounts told.Busy answer = answer ≡ Busy
-SaysCounts told.Fault answer = answer ≡ Fault
-SaysCounts told.OutOfMemory answer = ⊥

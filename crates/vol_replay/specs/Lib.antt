@@ -1,9 +1,3 @@
 pub mod Answers
-pub mod Bench
-pub mod Crash
-pub mod Held
 pub mod Lines
-pub mod Places
-pub mod Puts
-pub mod Rig
 pub mod Written

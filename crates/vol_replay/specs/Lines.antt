@@ -9,13 +9,13 @@ use Rattle.transcript.specs.declared.reason.Reason.{Reason}
 use Rattle.transcript.specs.declared.reason.Reason.TheVariants.{UnknownCommand, WordCount, Form, NotAllowed, Letters, TooLong}
 use Rattle.transcript.specs.Answers.{State, Answers, IsAllowed, FitsLetters}
 use Rattle.transcript.specs.Transcript.{IsBad, IsAnswered}
-use Rattle.vol_replay.specs.declared.answer.Answer.{Answer}
+use Rattle.replay_rig.specs.declared.answer.Answer.{Answer}
 use Rattle.vol_replay.specs.declared.line.Refusal.{Refusal}
 use Rattle.vol_replay.specs.declared.line.Refusal.TheVariants.{Bad, OutOfMemory}
 use Rattle.vol_replay.specs.declared.outcome.Outcome.{Outcome}
 use Rattle.vol_replay.specs.declared.outcome.Outcome.TheVariants as outcomes
 use Rattle.vol_replay.specs.Answers.{TellsAnswer}
-use Rattle.vol_replay.specs.Rig.{RigState}
+use Rattle.replay_rig.specs.Rig.{RigState}
 use Rattle.vol_replay.specs.Written.{ShowsState}
 
 -- how many lines a rig has answered
@@ -31,11 +31,15 @@ is_crash (commands.CrashKeep device objects) = true
 is_crash (commands.CrashLost device objects) = true
 is_crash command = false
 
--- in each state that the rig showed the command is answered so, and the rig shows the next state
-abbrev pub AnswersCommand : Command → Answer → (old new : Option RigState) → Type 0
-AnswersCommand command answer old new =
-    (state : State) → ShowsState old state
+-- in a state, where the rig showed it, the command is answered so, and the rig shows the next state
+abbrev pub AnswersIn : Command → Answer → (old new : Option RigState) → State → Type 0
+AnswersIn command answer old new state =
+    ShowsState old state
     → (next : State) × ((text : List ℕ) → TellsAnswer answer text → Answers state command text next) × ShowsState new next
+
+-- the same in each state
+pub record AnswersCommand (command : Command) (answer : Answer) (old new : Option RigState) : Type 0 where
+  pub by : (state : State) → AnswersIn command answer old new state
 
 -- why a state does not answer a command
 abbrev pub IsUnfit : State → Command → Reason → Type 0
@@ -54,11 +58,10 @@ IsUnanswered old command OutOfMemory = Unit {0}
 -- ---- lines
 
 -- the line was answered in each state that the rig showed, and the answer stands at the end of the others
-abbrev pub AnswersLine : List ℕ → (old new : Option RigState) → (before after : List ℕ) → Type 0
-AnswersLine line old new before after =
-    (state : State) → ShowsState old state
-    → (answer : List ℕ) × (next : State) × IsAnswered state line answer next × ShowsState new next
-    × (after ≡ before ++ (answer ++ 10 ∷ []))
+pub record AnswersLine (line : List ℕ) (old new : Option RigState) (before after : List ℕ) : Type 0 where
+  pub by : (state : State) → ShowsState old state
+      → (answer : List ℕ) × (next : State) × IsAnswered state line answer next × ShowsState new next
+      × (after ≡ before ++ (answer ++ 10 ∷ []))
 
 -- the line was not answered: a bad one left the answers as they were
 abbrev pub IsRefused : List ℕ → Option RigState → (before after : List ℕ) → Refusal → Type 0

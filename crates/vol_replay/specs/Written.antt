@@ -4,7 +4,7 @@ use Rattle.transcript.specs.Answers.{State}
 use Rattle.transcript.specs.Transcript.{AllAnswered, Stopped, IsTranscript, IsFrontOfTranscript}
 use Rattle.vol_replay.specs.declared.outcome.Outcome.{Outcome}
 use Rattle.vol_replay.specs.declared.outcome.Outcome.TheVariants.{Done, BadLine, ReadFault, WriteFault, OutOfMemory}
-use Rattle.vol_replay.specs.Rig.{RigState, ShowsPlain}
+use Rattle.replay_rig.specs.Rig.{RigState, ShowsPlain}
 
 -- a rig shows a state of the transcript: there is none before the line `new`
 abbrev pub ShowsState : Option RigState → State → Type 0

@@ -1,24 +1,19 @@
 //! Replay scripts on a volume whose machine can be stopped: each line is one event, and its answer is one
 //! line of text.
 //!
-//! Its contract: what is written is the transcript of the script, which the plain volume determines; and
-//! whatever a stop leaves of the volume and the store that the last line left has the entries that were
-//! flushed. It stands on `transcript` for what a script is answered, on `vol_core` and `vol_recover` for the
-//! volume and its mounts, and on `lsvd_device`, `lsvd_objstore` and `lsvd_fault` for the disk, the store and
-//! the streams.
+//! Its contract: what is written is the transcript of the script, which the plain volume determines, and the
+//! rig that is left shows what the script leaves. It stands on `transcript` for what a script is answered, on
+//! `replay_rig` for the volume and its machine, on `replay_script` for the lines, and on `lsvd_fault` for the
+//! streams.
 #![tactic(auto)]
 
-mod answer;
-mod bench;
-mod crash;
 mod letters;
 mod line;
 mod outcome;
-mod puts;
-mod rig;
 mod run;
+mod text;
 
 pub use outcome::Outcome;
-pub use rig::Rig;
+pub use replay_rig::Rig;
 pub use run::replay;
 pub use transcript::Reason;

@@ -5,10 +5,10 @@ ghost use Rattle.vol_replay.specs.Lines.{AnswersCommand, IsUnanswered, AnswersLi
 ghost use Rattle.vol_replay.specs.Lines.{refusal_of, lines_of};
 ghost use Rattle.vol_replay.specs.declared.line.Refusal.TheVariants as refusals;
 
-use crate::answer::{Answer, push_answer};
-use crate::bench::Bench;
 use crate::letters::{fates_of, fits_objects, fits_writes, is_dash};
+use crate::text::push_answer;
 use lsvd_base::Geometry;
+use replay_rig::{Answer, Rig};
 use replay_script::{Command, LINE_LIMIT, LineError, command_of};
 use std::alloc::{AllocError, Global};
 use transcript::Reason;
@@ -42,190 +42,186 @@ impl From<LineError> for Refusal {
 }
 
 // Tells the device of a volume to stop.
-fn stop(bench: &mut Bench, calls: u64) -> Result<Answer, Refusal>
-    requires { bench.old.lines < 2 ^ 40 }
-    ensures ok { IfOk result (λ answer. AnswersCommand (Command.Stop calls) answer (Some bench.old)
-        (Some bench.new)) }
-    ensures refused { IfErr result (IsUnanswered (Some bench.old) (Command.Stop calls)) }
-    ensures lines { bench.new.lines ≤ bench.old.lines + 1 }
+fn stop(rig: &mut Rig, calls: u64) -> Result<Answer, Refusal>
+    requires { rig.old.lines < 2 ^ 40 }
+    ensures ok { IfOk result (λ answer. AnswersCommand (Command.Stop calls) answer (Some rig.old)
+        (Some rig.new)) }
+    ensures refused { IfErr result (IsUnanswered (Some rig.old) (Command.Stop calls)) }
+    ensures lines { rig.new.lines ≤ rig.old.lines + 1 }
 {
-    if bench.is_stopping() {
+    if rig.is_stopping() {
         return Err(Refusal::Bad(Reason::NotAllowed));
     }
-    Ok(bench.stop(calls))
+    Ok(rig.stop(calls))
 }
 
 // Makes the put of an object.
-fn finish_put(alloc: Global, bench: &mut Bench, number: u64) -> Result<Answer, Refusal>
-    requires { bench.old.lines < 2 ^ 40 }
-    ensures ok { IfOk result (λ answer. AnswersCommand (Command.JobDone number) answer (Some bench.old)
-        (Some bench.new)) }
-    ensures refused { IfErr result (IsUnanswered (Some bench.old) (Command.JobDone number)) }
-    ensures lines { bench.new.lines ≤ bench.old.lines + 1 }
+fn finish_put(alloc: Global, rig: &mut Rig, number: u64) -> Result<Answer, Refusal>
+    requires { rig.old.lines < 2 ^ 40 }
+    ensures ok { IfOk result (λ answer. AnswersCommand (Command.JobDone number) answer (Some rig.old)
+        (Some rig.new)) }
+    ensures refused { IfErr result (IsUnanswered (Some rig.old) (Command.JobDone number)) }
+    ensures lines { rig.new.lines ≤ rig.old.lines + 1 }
 {
-    if !bench.is_out(number) {
+    if !rig.is_out(number) {
         return Err(Refusal::Bad(Reason::NotAllowed));
     }
-    Ok(bench.finish_put(alloc, number)?)
+    Ok(rig.finish_put(alloc, number)?)
 }
 
 // Fails the put of an object.
-fn fail_put(bench: &mut Bench, number: u64) -> Result<Answer, Refusal>
-    requires { bench.old.lines < 2 ^ 40 }
-    ensures ok { IfOk result (λ answer. AnswersCommand (Command.JobFailed number) answer (Some bench.old)
-        (Some bench.new)) }
-    ensures refused { IfErr result (IsUnanswered (Some bench.old) (Command.JobFailed number)) }
-    ensures lines { bench.new.lines ≤ bench.old.lines + 1 }
+fn fail_put(rig: &mut Rig, number: u64) -> Result<Answer, Refusal>
+    requires { rig.old.lines < 2 ^ 40 }
+    ensures ok { IfOk result (λ answer. AnswersCommand (Command.JobFailed number) answer (Some rig.old)
+        (Some rig.new)) }
+    ensures refused { IfErr result (IsUnanswered (Some rig.old) (Command.JobFailed number)) }
+    ensures lines { rig.new.lines ≤ rig.old.lines + 1 }
 {
-    if !bench.is_out(number) {
+    if !rig.is_out(number) {
         return Err(Refusal::Bad(Reason::NotAllowed));
     }
-    Ok(bench.fail_put(number)?)
+    Ok(rig.fail_put(number)?)
 }
 
 // Stops the machine and mounts the volume with its cache.
 fn crash_keep(
     alloc: Global,
-    bench: Bench,
+    rig: Rig,
     device: &[u8],
     objects: &[u8],
-) -> Result<(Bench, Answer), Refusal>
-    requires { bench.lines < 2 ^ 40 }
+) -> Result<(Rig, Answer), Refusal>
+    requires { rig.lines < 2 ^ 40 }
     ensures ok { IfOk result (λ made. AnswersCommand (Command.CrashKeep device.now objects.now) made.1
-        (Some bench) (Some made.0)) }
-    ensures refused { IfErr result (IsUnanswered (Some bench) (Command.CrashKeep device.now objects.now)) }
-    ensures lines { IfOk result (λ made. made.0.lines ≤ bench.lines + 1) }
+        (Some rig) (Some made.0)) }
+    ensures refused { IfErr result (IsUnanswered (Some rig) (Command.CrashKeep device.now objects.now)) }
+    ensures lines { IfOk result (λ made. made.0.lines ≤ rig.lines + 1) }
 {
-    let pending = bench.pending();
-    if !fits_writes(pending, device) || !fits_objects(bench.under_way(), objects) {
+    let pending = rig.pending();
+    if !fits_writes(pending, device) || !fits_objects(rig.under_way(), objects) {
+        drop(rig);
         return Err(Refusal::Bad(Reason::Letters));
     }
     let fates = fates_of(alloc, device, pending)?;
-    Ok(bench.crash_keep(alloc, &fates, objects)?)
+    Ok(rig.crash_keep(alloc, &fates, objects)?)
 }
 
 // Stops the machine and mounts the volume without its cache.
 fn crash_lost(
     alloc: Global,
-    bench: Bench,
+    rig: Rig,
     device: &[u8],
     objects: &[u8],
-) -> Result<(Bench, Answer), Refusal>
-    requires { bench.lines < 2 ^ 40 }
+) -> Result<(Rig, Answer), Refusal>
+    requires { rig.lines < 2 ^ 40 }
     ensures ok { IfOk result (λ made. AnswersCommand (Command.CrashLost device.now objects.now) made.1
-        (Some bench) (Some made.0)) }
-    ensures refused { IfErr result (IsUnanswered (Some bench) (Command.CrashLost device.now objects.now)) }
-    ensures lines { IfOk result (λ made. made.0.lines ≤ bench.lines + 1) }
+        (Some rig) (Some made.0)) }
+    ensures refused { IfErr result (IsUnanswered (Some rig) (Command.CrashLost device.now objects.now)) }
+    ensures lines { IfOk result (λ made. made.0.lines ≤ rig.lines + 1) }
 {
-    if !is_dash(device) || !fits_objects(bench.under_way(), objects) {
+    if !is_dash(device) || !fits_objects(rig.under_way(), objects) {
+        drop(rig);
         return Err(Refusal::Bad(Reason::Letters));
     }
-    Ok(bench.crash_lost(alloc, objects)?)
+    Ok(rig.crash_lost(alloc, objects)?)
 }
 
 // Writes one byte to sectors.
-fn write(
-    alloc: Global,
-    bench: &mut Bench,
-    lba: u64,
-    sectors: u64,
-    byte: u8,
-) -> Result<Answer, Refusal>
-    requires { bench.old.lines < 2 ^ 40 }
+fn write(alloc: Global, rig: &mut Rig, lba: u64, sectors: u64, byte: u8) -> Result<Answer, Refusal>
+    requires { rig.old.lines < 2 ^ 40 }
     ensures ok { IfOk result (λ answer. AnswersCommand (Command.Write lba sectors byte) answer
-        (Some bench.old) (Some bench.new)) }
-    ensures refused { IfErr result (IsUnanswered (Some bench.old) (Command.Write lba sectors byte)) }
-    ensures lines { bench.new.lines ≤ bench.old.lines + 1 }
+        (Some rig.old) (Some rig.new)) }
+    ensures refused { IfErr result (IsUnanswered (Some rig.old) (Command.Write lba sectors byte)) }
+    ensures lines { rig.new.lines ≤ rig.old.lines + 1 }
 {
-    Ok(bench.write(alloc, lba, sectors, byte)?)
+    Ok(rig.write(alloc, lba, sectors, byte)?)
 }
 
 // Zeroes sectors.
-fn zero(bench: &mut Bench, lba: u64, sectors: u64) -> Result<Answer, Refusal>
-    requires { bench.old.lines < 2 ^ 40 }
-    ensures ok { IfOk result (λ answer. AnswersCommand (Command.Zero lba sectors) answer (Some bench.old)
-        (Some bench.new)) }
-    ensures refused { IfErr result (IsUnanswered (Some bench.old) (Command.Zero lba sectors)) }
-    ensures lines { bench.new.lines ≤ bench.old.lines + 1 }
+fn zero(rig: &mut Rig, lba: u64, sectors: u64) -> Result<Answer, Refusal>
+    requires { rig.old.lines < 2 ^ 40 }
+    ensures ok { IfOk result (λ answer. AnswersCommand (Command.Zero lba sectors) answer (Some rig.old)
+        (Some rig.new)) }
+    ensures refused { IfErr result (IsUnanswered (Some rig.old) (Command.Zero lba sectors)) }
+    ensures lines { rig.new.lines ≤ rig.old.lines + 1 }
 {
-    Ok(bench.zero(lba, sectors)?)
+    Ok(rig.zero(lba, sectors)?)
 }
 
 // Reads sectors.
-fn read(alloc: Global, bench: &mut Bench, lba: u64, sectors: u64) -> Result<Answer, Refusal>
-    requires { bench.old.lines < 2 ^ 40 }
-    ensures ok { IfOk result (λ answer. AnswersCommand (Command.Read lba sectors) answer (Some bench.old)
-        (Some bench.new)) }
-    ensures refused { IfErr result (IsUnanswered (Some bench.old) (Command.Read lba sectors)) }
-    ensures lines { bench.new.lines ≤ bench.old.lines + 1 }
+fn read(alloc: Global, rig: &mut Rig, lba: u64, sectors: u64) -> Result<Answer, Refusal>
+    requires { rig.old.lines < 2 ^ 40 }
+    ensures ok { IfOk result (λ answer. AnswersCommand (Command.Read lba sectors) answer (Some rig.old)
+        (Some rig.new)) }
+    ensures refused { IfErr result (IsUnanswered (Some rig.old) (Command.Read lba sectors)) }
+    ensures lines { rig.new.lines ≤ rig.old.lines + 1 }
 {
-    Ok(bench.read(alloc, lba, sectors)?)
+    Ok(rig.read(alloc, lba, sectors)?)
 }
 
 // Makes each entry so far durable.
-fn flush(bench: &mut Bench) -> Result<Answer, Refusal>
-    requires { bench.old.lines < 2 ^ 40 }
-    ensures ok { IfOk result (λ answer. AnswersCommand Command.Flush answer (Some bench.old)
-        (Some bench.new)) }
-    ensures refused { IfErr result (IsUnanswered (Some bench.old) Command.Flush) }
-    ensures lines { bench.new.lines ≤ bench.old.lines + 1 }
+fn flush(rig: &mut Rig) -> Result<Answer, Refusal>
+    requires { rig.old.lines < 2 ^ 40 }
+    ensures ok { IfOk result (λ answer. AnswersCommand Command.Flush answer (Some rig.old)
+        (Some rig.new)) }
+    ensures refused { IfErr result (IsUnanswered (Some rig.old) Command.Flush) }
+    ensures lines { rig.new.lines ≤ rig.old.lines + 1 }
 {
-    Ok(bench.flush()?)
+    Ok(rig.flush()?)
 }
 
 // Seals the next object.
-fn seal(bench: &mut Bench) -> Result<Answer, Refusal>
-    requires { bench.old.lines < 2 ^ 40 }
-    ensures ok { IfOk result (λ answer. AnswersCommand Command.Seal answer (Some bench.old)
-        (Some bench.new)) }
-    ensures refused { IfErr result (IsUnanswered (Some bench.old) Command.Seal) }
-    ensures lines { bench.new.lines ≤ bench.old.lines + 1 }
+fn seal(rig: &mut Rig) -> Result<Answer, Refusal>
+    requires { rig.old.lines < 2 ^ 40 }
+    ensures ok { IfOk result (λ answer. AnswersCommand Command.Seal answer (Some rig.old)
+        (Some rig.new)) }
+    ensures refused { IfErr result (IsUnanswered (Some rig.old) Command.Seal) }
+    ensures lines { rig.new.lines ≤ rig.old.lines + 1 }
 {
-    Ok(bench.seal()?)
+    Ok(rig.seal()?)
 }
 
 // Begins the put of the lowest ready object.
-fn begin_put(bench: &mut Bench) -> Result<Answer, Refusal>
-    requires { bench.old.lines < 2 ^ 40 }
-    ensures ok { IfOk result (λ answer. AnswersCommand Command.TakeJob answer (Some bench.old)
-        (Some bench.new)) }
-    ensures refused { IfErr result (IsUnanswered (Some bench.old) Command.TakeJob) }
-    ensures lines { bench.new.lines ≤ bench.old.lines + 1 }
+fn begin_put(rig: &mut Rig) -> Result<Answer, Refusal>
+    requires { rig.old.lines < 2 ^ 40 }
+    ensures ok { IfOk result (λ answer. AnswersCommand Command.TakeJob answer (Some rig.old)
+        (Some rig.new)) }
+    ensures refused { IfErr result (IsUnanswered (Some rig.old) Command.TakeJob) }
+    ensures lines { rig.new.lines ≤ rig.old.lines + 1 }
 {
-    Ok(bench.begin_put()?)
+    Ok(rig.begin_put()?)
 }
 
 // Tells the counts.
-fn status(bench: &mut Bench) -> Result<Answer, Refusal>
-    requires { bench.old.lines < 2 ^ 40 }
-    ensures ok { IfOk result (λ answer. AnswersCommand Command.Status answer (Some bench.old)
-        (Some bench.new)) }
-    ensures refused { IfErr result (IsUnanswered (Some bench.old) Command.Status) }
-    ensures lines { bench.new.lines ≤ bench.old.lines + 1 }
+fn status(rig: &mut Rig) -> Result<Answer, Refusal>
+    requires { rig.old.lines < 2 ^ 40 }
+    ensures ok { IfOk result (λ answer. AnswersCommand Command.Status answer (Some rig.old)
+        (Some rig.new)) }
+    ensures refused { IfErr result (IsUnanswered (Some rig.old) Command.Status) }
+    ensures lines { rig.new.lines ≤ rig.old.lines + 1 }
 {
-    Ok(bench.status()?)
+    Ok(rig.status()?)
 }
 
 // Answers a command that is one step of a volume: all but a crash (a condition), and `new`, which is not
 // allowed where there is one.
-fn answer_step(alloc: Global, bench: &mut Bench, command: Command) -> Result<Answer, Refusal>
-    requires lines { bench.old.lines < 2 ^ 40 }
+fn answer_step(alloc: Global, rig: &mut Rig, command: Command) -> Result<Answer, Refusal>
+    requires lines { rig.old.lines < 2 ^ 40 }
     requires goes_on { is_crash command ≡ false }
-    ensures ok { IfOk result (λ answer. AnswersCommand command answer (Some bench.old) (Some bench.new)) }
-    ensures refused { IfErr result (IsUnanswered (Some bench.old) command) }
-    ensures lines { bench.new.lines ≤ bench.old.lines + 1 }
+    ensures ok { IfOk result (λ answer. AnswersCommand command answer (Some rig.old) (Some rig.new)) }
+    ensures refused { IfErr result (IsUnanswered (Some rig.old) command) }
+    ensures lines { rig.new.lines ≤ rig.old.lines + 1 }
 {
     match command {
-        Command::Write { lba, sectors, byte } => write(alloc, bench, lba, sectors, byte),
-        Command::Zero { lba, sectors } => zero(bench, lba, sectors),
-        Command::Read { lba, sectors } => read(alloc, bench, lba, sectors),
-        Command::Flush => flush(bench),
-        Command::Seal => seal(bench),
-        Command::TakeJob => begin_put(bench),
-        Command::JobDone { number } => finish_put(alloc, bench, number),
-        Command::JobFailed { number } => fail_put(bench, number),
-        Command::Status => status(bench),
-        Command::Stop { calls } => stop(bench, calls),
+        Command::Write { lba, sectors, byte } => write(alloc, rig, lba, sectors, byte),
+        Command::Zero { lba, sectors } => zero(rig, lba, sectors),
+        Command::Read { lba, sectors } => read(alloc, rig, lba, sectors),
+        Command::Flush => flush(rig),
+        Command::Seal => seal(rig),
+        Command::TakeJob => begin_put(rig),
+        Command::JobDone { number } => finish_put(alloc, rig, number),
+        Command::JobFailed { number } => fail_put(rig, number),
+        Command::Status => status(rig),
+        Command::Stop { calls } => stop(rig, calls),
         Command::New(_) => Err(Refusal::Bad(Reason::NotAllowed)),
         Command::CrashKeep { .. } => Err(Refusal::Bad(Reason::NotAllowed)),
         Command::CrashLost { .. } => Err(Refusal::Bad(Reason::NotAllowed)),
@@ -233,51 +229,54 @@ fn answer_step(alloc: Global, bench: &mut Bench, command: Command) -> Result<Ans
 }
 
 // The same, with the volume that is left.
-fn go_on(alloc: Global, mut bench: Bench, command: Command) -> Result<(Bench, Answer), Refusal>
-    requires lines { bench.lines < 2 ^ 40 }
+fn go_on(alloc: Global, mut rig: Rig, command: Command) -> Result<(Rig, Answer), Refusal>
+    requires lines { rig.lines < 2 ^ 40 }
     requires goes_on { is_crash command ≡ false }
-    ensures ok { IfOk result (λ made. AnswersCommand command made.1 (Some bench) (Some made.0)) }
-    ensures refused { IfErr result (IsUnanswered (Some bench) command) }
-    ensures lines { IfOk result (λ made. made.0.lines ≤ bench.lines + 1) }
+    ensures ok { IfOk result (λ made. AnswersCommand command made.1 (Some rig) (Some made.0)) }
+    ensures refused { IfErr result (IsUnanswered (Some rig) command) }
+    ensures lines { IfOk result (λ made. made.0.lines ≤ rig.lines + 1) }
 {
-    match answer_step(alloc, &mut bench, command) {
-        Ok(answer) => Ok((bench, answer)),
-        Err(refusal) => Err(refusal),
+    match answer_step(alloc, &mut rig, command) {
+        Ok(answer) => Ok((rig, answer)),
+        Err(refusal) => {
+            drop(rig);
+            Err(refusal)
+        }
     }
 }
 
 // Answers a command where there is a volume, which is left then. After a line that is not answered there is
 // none.
-fn answer_on(alloc: Global, bench: Bench, command: Command) -> Result<(Bench, Answer), Refusal>
-    requires { bench.lines < 2 ^ 40 }
-    ensures ok { IfOk result (λ made. AnswersCommand command made.1 (Some bench) (Some made.0)) }
-    ensures refused { IfErr result (IsUnanswered (Some bench) command) }
-    ensures lines { IfOk result (λ made. made.0.lines ≤ bench.lines + 1) }
+fn answer_on(alloc: Global, rig: Rig, command: Command) -> Result<(Rig, Answer), Refusal>
+    requires { rig.lines < 2 ^ 40 }
+    ensures ok { IfOk result (λ made. AnswersCommand command made.1 (Some rig) (Some made.0)) }
+    ensures refused { IfErr result (IsUnanswered (Some rig) command) }
+    ensures lines { IfOk result (λ made. made.0.lines ≤ rig.lines + 1) }
 {
     match command {
         Command::CrashKeep { device, objects } => {
-            crash_keep(alloc, bench, device.as_bytes(), objects.as_bytes())
+            crash_keep(alloc, rig, device.as_bytes(), objects.as_bytes())
         }
         Command::CrashLost { device, objects } => {
-            crash_lost(alloc, bench, device.as_bytes(), objects.as_bytes())
+            crash_lost(alloc, rig, device.as_bytes(), objects.as_bytes())
         }
-        step => go_on(alloc, bench, step),
+        step => go_on(alloc, rig, step),
     }
 }
 
 // Makes the volume.
-fn create(alloc: Global, geometry: Geometry) -> Result<(Bench, Answer), Refusal>
+fn create(alloc: Global, geometry: Geometry) -> Result<(Rig, Answer), Refusal>
     requires { IsTrue (is_within_limits geometry) }
     ensures ok { IfOk result (λ made. AnswersCommand (Command.New geometry) made.1 None (Some made.0)) }
     ensures refused { IfErr result (IsUnanswered None (Command.New geometry)) }
     ensures lines { IfOk result (λ made. made.0.lines ≤ 1) }
 {
-    let bench = Bench::new(alloc, geometry)?;
-    Ok((bench, Answer::Created(geometry.sectors)))
+    let rig = Rig::new(alloc, geometry)?;
+    Ok((rig, Answer::Created(geometry.sectors)))
 }
 
 // Answers the first command: it makes the volume.
-fn answer_first(alloc: Global, command: Command) -> Result<(Bench, Answer), Refusal>
+fn answer_first(alloc: Global, command: Command) -> Result<(Rig, Answer), Refusal>
     requires { Fits command }
     ensures ok { IfOk result (λ made. AnswersCommand command made.1 None (Some made.0)) }
     ensures refused { IfErr result (IsUnanswered None command) }
@@ -293,17 +292,17 @@ fn answer_first(alloc: Global, command: Command) -> Result<(Bench, Answer), Refu
 // none.
 fn answer_command(
     alloc: Global,
-    bench: Option<Bench>,
+    rig: Option<Rig>,
     command: Command,
-) -> Result<(Bench, Answer), Refusal>
+) -> Result<(Rig, Answer), Refusal>
     requires fits { Fits command }
-    requires lines { lines_of bench < 2 ^ 40 }
-    ensures ok { IfOk result (λ made. AnswersCommand command made.1 bench (Some made.0)) }
-    ensures refused { IfErr result (IsUnanswered bench command) }
-    ensures lines { IfOk result (λ made. made.0.lines ≤ lines_of bench + 1) }
+    requires lines { lines_of rig < 2 ^ 40 }
+    ensures ok { IfOk result (λ made. AnswersCommand command made.1 rig (Some made.0)) }
+    ensures refused { IfErr result (IsUnanswered rig command) }
+    ensures lines { IfOk result (λ made. made.0.lines ≤ lines_of rig + 1) }
 {
-    match bench {
-        Some(bench) => answer_on(alloc, bench, command),
+    match rig {
+        Some(rig) => answer_on(alloc, rig, command),
         None => answer_first(alloc, command),
     }
 }
@@ -311,17 +310,18 @@ fn answer_command(
 // The same, with the volume in its place.
 fn answer_in_place(
     alloc: Global,
-    bench: &mut Option<Bench>,
+    rig: &mut Option<Rig>,
     command: Command,
 ) -> Result<Answer, Refusal>
     requires fits { Fits command }
-    requires lines { lines_of bench.old < 2 ^ 40 }
-    ensures ok { IfOk result (λ answer. AnswersCommand command answer bench.old bench.new) }
-    ensures refused { IfErr result (IsUnanswered bench.old command) }
-    ensures lines { lines_of bench.new ≤ lines_of bench.old + 1 }
+    requires lines { lines_of rig.old < 2 ^ 40 }
+    ensures ok { IfOk result (λ answer. AnswersCommand command answer rig.old rig.new) }
+    ensures refused { IfErr result (IsUnanswered rig.old command) }
+    ensures lines { lines_of rig.new ≤ lines_of rig.old + 1 }
 {
-    let (made, answer) = answer_command(alloc, bench.take(), command)?;
-    *bench = Some(made);
+    let (made, answer) = answer_command(alloc, rig.take(), command)?;
+    // There is none any more that could be replaced.
+    drop(rig.replace(made));
     Ok(answer)
 }
 
@@ -329,19 +329,19 @@ fn answer_in_place(
 /// condition).
 pub(crate) fn answer_line(
     alloc: Global,
-    bench: &mut Option<Bench>,
+    rig: &mut Option<Rig>,
     line: &[u8],
     answers: &mut Vec<u8>,
 ) -> Result<(), Refusal>
-    requires { lines_of bench.old < 2 ^ 40 }
-    ensures ok { OnOk result (AnswersLine line.now bench.old bench.new answers.old.items answers.new.items) }
-    ensures refused { IfErr result (IsRefused line.now bench.old answers.old.items answers.new.items) }
-    ensures lines { lines_of bench.new ≤ lines_of bench.old + 1 }
+    requires { lines_of rig.old < 2 ^ 40 }
+    ensures ok { OnOk result (AnswersLine line.now rig.old rig.new answers.old.items answers.new.items) }
+    ensures refused { IfErr result (IsRefused line.now rig.old answers.old.items answers.new.items) }
+    ensures lines { lines_of rig.new ≤ lines_of rig.old + 1 }
 {
     if line.len() > LINE_LIMIT {
         return Err(Refusal::Bad(Reason::TooLong));
     }
     let command = command_of(alloc, line)?;
-    let answer = answer_in_place(alloc, bench, command)?;
+    let answer = answer_in_place(alloc, rig, command)?;
     Ok(push_answer(answers, &answer)?)
 }

@@ -1,4 +1,4 @@
-use crate::rig::Rig;
+use replay_rig::Rig;
 use transcript::Reason;
 
 /// How a replay ended.

@@ -4,10 +4,8 @@ ghost use Rattle.lsvd_fault.specs.Faults.{Counts};
 ghost use Rattle.vol_replay.specs.Lines.{TakesFront, MovesOn, IsHandedOver};
 ghost use Rattle.vol_replay.specs.Written.{IsWritten, IsDone, ends_by_read_fault, ends_by_write_fault};
 
-use crate::bench::Bench;
 use crate::line::{Refusal, answer_line};
 use crate::outcome::Outcome;
-use crate::rig::Rig;
 use lsvd_fault::{Failed, ReadError, Sink, Source, read_past_limit, write_all};
 use replay_script::{SCRIPT_LIMIT, line_number, split_line};
 use std::alloc::Global;
@@ -61,37 +59,32 @@ fn run_lines<O: Sink>(alloc: Global, script: &[u8], sink: &mut O) -> Outcome
     ensures no_read { result ≢ Outcome.ReadFault }
     ensures count { Counts (ends_by_write_fault result) (O.faults sink.old) (O.faults sink.new) }
 {
-    let mut bench = None;
+    let mut rig = None;
     let mut answers = Vec::new(alloc);
     let mut rest = script;
     let mut number = 1u64;
     while !rest.is_empty() {
         let (line, after) = split_line(rest);
-        match answer_line(alloc, &mut bench, line, &mut answers) {
+        match answer_line(alloc, &mut rig, line, &mut answers) {
             Ok(()) => {}
             Err(Refusal::Bad(reason)) => {
+                drop(rig);
                 let outcome = Outcome::BadLine { number, reason };
                 return hand_over(sink, answers.as_slice(), outcome);
             }
-            Err(Refusal::OutOfMemory) => return Outcome::OutOfMemory,
+            Err(Refusal::OutOfMemory) => {
+                drop(rig);
+                return Outcome::OutOfMemory;
+            }
         }
         if flush_full(sink, &mut answers).is_err() {
+            drop(rig);
             return Outcome::WriteFault;
         }
         rest = after;
         number += 1;
     }
-    hand_over(sink, answers.as_slice(), done(bench))
-}
-
-// Each line was answered, and left this volume.
-fn done(bench: Option<Bench>) -> Outcome
-    ensures { result ≡ Outcome.Done bench }
-{
-    match bench {
-        None => Outcome::Done(None),
-        Some(bench) => Outcome::Done(Some(Rig::new(bench))),
-    }
+    hand_over(sink, answers.as_slice(), Outcome::Done(rig))
 }
 
 // Writes the answers where there are many of them.
@@ -116,6 +109,9 @@ fn hand_over<O: Sink>(sink: &mut O, answers: &[u8], outcome: Outcome) -> Outcome
 {
     match write_all(sink, answers) {
         Ok(()) => outcome,
-        Err(Failed) => Outcome::WriteFault,
+        Err(Failed) => {
+            drop(outcome);
+            Outcome::WriteFault
+        }
     }
 }

@@ -1,9 +1,14 @@
-use Rattle.std.proofs.Common.{subst}
+use Rattle.std.proofs.Common.{sym, ap, subst, arith}
 use Rattle.std.specs.Prelude.{Some}
-use Rattle.vol_replay.specs.Lines.{AnswersCommand}
+use Rattle.vol_replay.specs.Lines.{AnswersCommand, lines_of}
 use Rattle.vol_replay.proofs.line.answer_in_place.Goals as goal
 
 pub returns-clause-ok : goal.returns-clause-ok
 returns-clause-ok c =
-    subst (λ bench. AnswersCommand c.args.command c.in_ok-made.answer bench (Some c.in_ok-made.made)) c.take.ensures.value
-    c.in_ok-made.ensures.ok
+    subst (λ rig. AnswersCommand c.args.command c.in_ok-made.answer c.args.rig.now rig) (sym c.replace.ensures.after)
+    (subst (λ rig. AnswersCommand c.args.command c.in_ok-made.answer rig (Some c.in_ok-made.made)) c.take.ensures.value
+    c.in_ok-made.ensures.ok)
+
+pub returns-clause-lines : goal.returns-clause-lines
+returns-clause-lines c =
+    omega (arith, ap lines_of c.replace.ensures.after, ap lines_of c.take.ensures.value, c.in_ok-made.ensures.lines)

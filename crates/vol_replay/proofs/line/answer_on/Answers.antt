@@ -9,14 +9,14 @@ pub returns-in-CrashKeep-clause-ok : goal.returns-in-CrashKeep-clause-ok
 returns-in-CrashKeep-clause-ok c =
     let is : commands.CrashKeep c.as_bytes.result.now c.as_bytes-in-CrashKeep.result.now ≡ c.args.command =
     cc (c.as_bytes.ensures, c.as_bytes-in-CrashKeep.ensures, c.in-CrashKeep.is) in
-    subst (λ command. IfOk c.crash_keep.result (λ made. AnswersCommand command made.1 (Some c.args.bench) (Some made.0))) is
+    subst (λ command. IfOk c.crash_keep.result (λ made. AnswersCommand command made.1 (Some c.args.rig) (Some made.0))) is
     c.crash_keep.ensures.ok
 
 pub returns-in-CrashLost-clause-ok : goal.returns-in-CrashLost-clause-ok
 returns-in-CrashLost-clause-ok c =
     let is : commands.CrashLost c.as_bytes-in-CrashLost.result.now c.as_bytes-in-CrashLost-2.result.now ≡ c.args.command =
     cc (c.as_bytes-in-CrashLost.ensures, c.as_bytes-in-CrashLost-2.ensures, c.in-CrashLost.is) in
-    subst (λ command. IfOk c.crash_lost.result (λ made. AnswersCommand command made.1 (Some c.args.bench) (Some made.0))) is
+    subst (λ command. IfOk c.crash_lost.result (λ made. AnswersCommand command made.1 (Some c.args.rig) (Some made.0))) is
     c.crash_lost.ensures.ok
 
 pub go_on-requires-clause-goes_on : goal.go_on-requires-clause-goes_on

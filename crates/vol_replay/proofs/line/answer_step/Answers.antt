@@ -8,5 +8,5 @@ use Rattle.vol_replay.proofs.line.answer_step.Goals as goal
 
 pub returns-in-New-clause-refused : goal.returns-in-New-clause-refused
 returns-in-New-clause-refused c =
-    subst (λ command. IsUnanswered (Some c.args.bench.now) command (Bad NotAllowed)) (sym c.in-New.is)
-    (new_not_allowed c.in-New.field-0 c.args.bench.now)
+    subst (λ command. IsUnanswered (Some c.args.rig.now) command (Bad NotAllowed)) (sym c.in-New.is)
+    (new_not_allowed c.in-New.field-0 c.args.rig.now)

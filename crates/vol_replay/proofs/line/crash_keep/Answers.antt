@@ -2,7 +2,7 @@ use Rattle.std.proofs.Common.{sym, ◌∙◌, ap, length}
 use Rattle.std.specs.Prelude.{Some, IsTrue}
 use Rattle.replay_script.specs.declared.command.Command.TheVariants as commands
 use Rattle.transcript.specs.Letters.{fits_writes, fits_objects}
-use Rattle.vol_replay.proofs.Commands.{unanswered, fit_kept, unfit_kept, unfit_writes, keep_command}
+use Rattle.vol_replay.proofs.Commands.{unanswered, fit_kept, unfit_kept, unfit_writes, keep_in}
 use Rattle.vol_replay.proofs.line.crash_keep.Goals as goal
 use Rattle.vol_replay.proofs.line.crash_keep.Goals.{then-not-fits_writes-via-then-not-fits_writes}
 use Rattle.vol_replay.proofs.line.crash_keep.Goals.{then-not-fits_writes-via-else-not-fits_writes+then-not-fits_objects}
@@ -13,16 +13,16 @@ returns-then-not-fits_writes-clause-refused c =
     let objects = c.args.objects.now in
     elim c.then-not-fits_writes.branch [
       | then-not-fits_writes-via-then-not-fits_writes w ↦
-          unfit_writes device objects c.pending-pending.result c.args.bench (sym c.fits_writes.ensures
+          unfit_writes device objects c.pending-pending.result c.args.rig (sym c.fits_writes.ensures
           ∙ w.if-not-fits_writes.true) c.pending-pending.ensures
       | then-not-fits_writes-via-else-not-fits_writes+then-not-fits_objects w ↦
-          unfit_kept device objects w.under_way.result c.args.bench (sym w.fits_objects.ensures ∙ w.if-not-fits_objects.true)
+          unfit_kept device objects w.under_way.result c.args.rig (sym w.fits_objects.ensures ∙ w.if-not-fits_objects.true)
           w.under_way.ensures
     ]
 
 pub returns-in_err-fates-clause-refused : goal.returns-in_err-fates-clause-refused
 returns-in_err-fates-clause-refused c =
-    unanswered c.from_residual.result (Some c.args.bench) (commands.CrashKeep c.args.device.now c.args.objects.now)
+    unanswered c.from_residual.result (Some c.args.rig) (commands.CrashKeep c.args.device.now c.args.objects.now)
     c.from_residual.ensures.1
 
 pub fates_of-requires : goal.fates_of-requires
@@ -38,8 +38,10 @@ returns-clause-ok c =
     let objects = c.args.objects.now in
     let writes : IsTrue (fits_writes c.pending-pending.result device) = sym c.fits_writes.ensures ∙ c.if-not-fits_writes.false in
     let puts : IsTrue (fits_objects c.under_way.result objects) = sym c.fits_objects.ensures ∙ c.if-not-fits_objects.false in
-    let fit = fit_kept device objects c.pending-pending.result c.under_way.result c.args.bench writes puts
+    let fit = fit_kept device objects c.pending-pending.result c.under_way.result c.args.rig writes puts
     c.pending-pending.ensures c.under_way.ensures in
-    keep_command device objects c.deref.result.now c.pending-pending.result c.in_ok-crash_keep.field-0.1 c.args.bench
-    c.in_ok-crash_keep.field-0.0
-    fit c.pending-pending.ensures (c.deref.ensures.value ∙ c.in_ok-fates.ensures.fates) c.in_ok-crash_keep.ensures.ok
+    record {
+      by = keep_in device objects c.deref.result.now c.pending-pending.result c.in_ok-crash_keep.field-0.1 c.args.rig
+          c.in_ok-crash_keep.field-0.0
+          fit c.pending-pending.ensures (c.deref.ensures.value ∙ c.in_ok-fates.ensures.fates) c.in_ok-crash_keep.ensures.ok;
+    }

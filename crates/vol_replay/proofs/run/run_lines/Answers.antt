@@ -8,7 +8,7 @@ pub returns-in-Err-Bad-clause-transcript : goal.returns-in-Err-Bad-clause-transc
 returns-in-Err-Bad-clause-transcript g c =
     let refused = rw c.in-Err-Bad.field-0-is at c.in-Err-Bad.ensures.refused in
     let handed = rw (c.in-Err-Bad.reason-is, c.as_slice.ensures.value, refused.0) at c.hand_over.ensures.handed in
-    written_stopped _ _ _ _ _ _ _ c.split_line.result.1.now c.loop-rest.number c.in-Err-Bad.reason c.loop-rest.bench
+    written_stopped _ _ _ _ _ _ _ c.split_line.result.1.now c.loop-rest.number c.in-Err-Bad.reason c.loop-rest.rig
     c.hand_over.result
     c.requires c.loop-rest.invariant.run c.split_line.ensures.line refused.1 handed
 
@@ -22,17 +22,17 @@ returns-then-is_err-clause-count g c =
 
 pub returns-in-Err-OutOfMemory-clause-transcript : goal.returns-in-Err-OutOfMemory-clause-transcript
 returns-in-Err-OutOfMemory-clause-transcript g c =
-    written_so_far _ _ _ _ _ c.loop-rest.number c.loop-rest.bench c.requires c.loop-rest.invariant.run
+    written_so_far _ _ _ _ _ c.loop-rest.number c.loop-rest.rig c.requires c.loop-rest.invariant.run
 
 pub returns-then-is_err-clause-transcript : goal.returns-then-is_err-clause-transcript
 returns-then-is_err-clause-transcript g c =
-    written_broken _ _ _ _ _ _ _ c.split_line.result.1.now _ c.loop-rest.number c.loop-rest.bench c.answer_line.new.bench
+    written_broken _ _ _ _ _ _ _ c.split_line.result.1.now _ c.loop-rest.number c.loop-rest.rig c.answer_line.new.rig
     c.requires c.loop-rest.invariant.run c.split_line.ensures.line c.in-Ok.ensures.ok
     (at_error c.flush_full.result (sym c.if-is_err.ensures.value) c.flush_full.ensures.err)
 
 pub loop-rest-preserved : goal.loop-rest-preserved
 loop-rest-preserved g c = record {
-  run = run_more _ _ _ _ _ _ _ c.split_line.result.1.now _ _ c.loop-rest.number c.loop-rest.bench c.answer_line.new.bench
+  run = run_more _ _ _ _ _ _ _ c.split_line.result.1.now _ _ c.loop-rest.number c.loop-rest.rig c.answer_line.new.rig
       c.loop-rest.invariant.run c.split_line.ensures.line c.in-Ok.ensures.ok
       (at_success c.flush_full.result (sym c.if-is_err.ensures.value) c.flush_full.ensures.ok);
   counted = omega (arith, c.loop-rest.invariant.counted, c.split_line.ensures.shorter);
@@ -43,6 +43,6 @@ loop-rest-preserved g c = record {
 
 pub returns-clause-transcript : goal.returns-clause-transcript
 returns-clause-transcript g c =
-    let handed = rw (c.as_slice-2.ensures.value, c.done.ensures) at c.hand_over-2.ensures.handed in
-    written_done _ _ _ _ _ _ c.loop-rest.number c.loop-rest.bench c.hand_over-2.result
+    let handed = rw c.as_slice-2.ensures.value at c.hand_over-2.ensures.handed in
+    written_done _ _ _ _ _ _ c.loop-rest.number c.loop-rest.rig c.hand_over-2.result
     c.requires c.loop-rest.invariant.run (is_nothing c.loop-rest.rest.now (sym c.loop-rest-test.ensures)) handed

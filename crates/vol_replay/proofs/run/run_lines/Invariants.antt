@@ -5,9 +5,9 @@ use Rattle.vol_replay.proofs.run.run_lines.Given as goal
 
 abbrev pub invariant-loop-rest : goal.invariant-loop-rest
 invariant-loop-rest g l = record {
-  run : IsRunning (g.O.Sink.contents l.fn.sink) (g.O.Sink.contents l.sink) l.script l.answers.items l.rest l.number l.bench;
+  run : IsRunning (g.O.Sink.contents l.fn.sink) (g.O.Sink.contents l.sink) l.script l.answers.items l.rest l.number l.rig;
   counted : l.number + length l.rest ≤ 2 ^ 24 + 1;
-  young : lines_of l.bench ≤ l.number;
+  young : lines_of l.rig ≤ l.number;
   none : g.O.Sink.faults l.sink ≡ g.O.Sink.faults l.fn.sink;
 }
 

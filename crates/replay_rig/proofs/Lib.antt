@@ -1,0 +1,17 @@
+mod CrashLemmas
+mod Crashing
+mod Describing
+mod Halting
+mod Mounts
+mod Opening
+mod PlainLemmas
+mod PutLemmas
+mod Putting
+mod Reading
+mod Refused
+mod Rooms
+mod Says
+mod Standing
+mod Stepped
+mod WindowLemmas
+mod Windows

@@ -1,0 +1,195 @@
+-- What events leave of a plain volume: where it opens, whether its device is told to stop, and how its numbers grow.
+use Rattle.std.proofs.Common.{◌≡◌, ℕ, ◌+◌, ◌≤◌, Bool, true, false, cond, not, ◌&&◌, List, [], ◌∷◌, ◌++◌, length, refl, sym, ◌∙◌}
+use Rattle.std.proofs.Common.{ap, arith, length-append}
+use Rattle.std.specs.Prelude.{Option, Some, None, is_some}
+use Rattle.lsvd_base.specs.declared.entry.Entry.{Entry}
+use Rattle.lsvd_base.specs.declared.entry.Entry.TheVariants as entries
+use Rattle.lsvd_base.specs.declared.geometry.Geometry.{Geometry}
+use Rattle.lsvd_base.specs.Image.{blank}
+use Rattle.lsvd_base.specs.Limits.{may_transfer}
+use Rattle.lsvd_device.specs.Calls.{Fuse, fuse_after}
+use Rattle.object_stream.specs.declared.object.Content.TheVariants.{Data}
+use Rattle.object_stream.specs.declared.object.StreamObject.{StreamObject}
+use Rattle.upload_window.specs.Window.{WindowState, lowest_ready, entered, is_started, acknowledged, marked}
+use Rattle.plain_disk.specs.declared.event.PlainEvent.{PlainEvent}
+use Rattle.plain_disk.specs.declared.event.PlainEvent.TheVariants.{Write, Zero, Flush, Look, Release, Seal, TakeJob, JobDone}
+use Rattle.plain_disk.specs.declared.event.PlainEvent.TheVariants.{JobFailed, Status}
+use Rattle.plain_disk.specs.Cache.{PlainCache, writes_of, after_writes, after_reads, passes_entry, cache_after_entry}
+use Rattle.plain_disk.specs.Cache.{commit_calls_after, cache_after_commit}
+use Rattle.plain_disk.specs.Log.{with_record}
+use Rattle.plain_disk.specs.Entries.{batch_refusal, commits_for_room, cache_for, comes_to_log, cache_after, after_entering}
+use Rattle.plain_disk.specs.Objects.{has_unsealed, is_busy, end_of_next, window_after_take, window_after_done}
+use Rattle.plain_disk.specs.Objects.{window_after_failed}
+use Rattle.plain_disk.specs.Reads.{look_calls, passes_look, objects_read, are_pinned, without_pins}
+use Rattle.plain_disk.specs.State.{PlainState, frontier_end}
+use Rattle.plain_disk.specs.Step.{plain_after}
+use Rattle.plain_disk.proofs.CommitLemmas.{either}
+use Rattle.log_meaning.proofs.PlainCommits.{plain_commit_takes_calls}
+use Rattle.replay_rig.specs.Rig.{OpensBlank}
+
+-- ---- fuses
+
+-- a cache was told to stop as another one was
+abbrev IsToldAs : PlainCache → PlainCache → Type 0
+IsToldAs old new = is_some new.left ≡ is_some old.left
+
+still_told : (fuse : Fuse) (calls : ℕ) → is_some (fuse_after fuse calls) ≡ is_some fuse
+still_told None calls = refl
+still_told (Some left) calls = refl
+
+commit_told : (seq : ℕ) (cache : PlainCache) → IsToldAs cache (cache_after_commit seq cache)
+commit_told seq cache = ap is_some (plain_commit_takes_calls seq cache)
+    ∙ still_told cache.left (commit_calls_after cache.log.unfinished)
+
+entry_told : (entry : Entry) (cache : PlainCache) → IsToldAs cache (cache_after_entry entry cache)
+entry_told entry cache =
+    let written : PlainCache = after_writes (writes_of cache.log entry) cache in
+    let told = still_told cache.left (length (writes_of cache.log entry)) in
+    either (IsToldAs cache) (passes_entry cache entry) (record written { log = with_record cache.log entry }) written told told
+
+ready_told : (plain : PlainState) (entry : Entry) → IsToldAs plain.cache (cache_for plain entry)
+ready_told plain entry =
+    either (IsToldAs plain.cache) (commits_for_room plain entry) (cache_after_commit (frontier_end plain) plain.cache) plain.cache
+    (commit_told (frontier_end plain) plain.cache) refl
+
+entering_told : (plain : PlainState) (entry : Entry) → IsToldAs plain.cache (cache_after plain entry)
+entering_told plain entry =
+    let ready : PlainCache = cache_for plain entry in
+    either (IsToldAs plain.cache) (is_some (batch_refusal plain entry)) plain.cache
+    (cond (comes_to_log plain entry) (cache_after_entry entry ready) ready) refl
+    (either (IsToldAs plain.cache) (comes_to_log plain entry) (cache_after_entry entry ready) ready
+    (entry_told entry ready ∙ ready_told plain entry) (ready_told plain entry))
+
+-- ---- sizes
+
+-- a volume opens where another one does, has an entry and an object more at most, and its device was told to stop as that one's
+-- was
+pub record GrowsByOne (old new : PlainState) : Type 0 where
+  pub geometry : new.geometry ≡ old.geometry
+  pub opening : new.opening ≡ old.opening
+  pub number : new.number ≡ old.number
+  pub end : new.end ≡ old.end
+  pub owned : new.owned ≡ old.owned
+  pub checkpoint : new.checkpoint ≡ old.checkpoint
+  pub entries : length new.entries ≤ length old.entries + 1
+  pub last : new.window.last ≤ old.window.last + 1
+  pub told : is_some new.cache.left ≡ is_some old.cache.left
+
+same_grows : (plain : PlainState) → GrowsByOne plain plain
+same_grows plain = record {
+  geometry = refl;
+  opening = refl;
+  number = refl;
+  end = refl;
+  owned = refl;
+  checkpoint = refl;
+  entries = omega arith;
+  last = omega arith;
+  told = refl;
+}
+
+either_grows : (plain : PlainState) (b : Bool) (x y : PlainState) → GrowsByOne plain x → GrowsByOne plain y
+    → GrowsByOne plain (cond b x y)
+either_grows plain true x y grows other = grows
+either_grows plain false x y other grows = grows
+
+either_length : (b : Bool) (entry : Entry) (list : List Entry) → length (cond b (list ++ entry ∷ []) list) ≤ length list + 1
+either_length true entry list = omega (arith, length-append list (entry ∷ []))
+either_length false entry list = omega arith
+
+entering_grows : (plain : PlainState) (entry : Entry) → GrowsByOne plain (after_entering entry plain)
+entering_grows plain entry = record {
+  geometry = refl;
+  opening = refl;
+  number = refl;
+  end = refl;
+  owned = refl;
+  checkpoint = refl;
+  entries = either_length (comes_to_log plain entry && passes_entry (cache_for plain entry) entry) entry plain.entries;
+  last = omega arith;
+  told = entering_told plain entry;
+}
+
+-- another cache, and other pins
+cache_grows : (plain : PlainState) (cache : PlainCache) (pins : List ℕ) → IsToldAs plain.cache cache
+    → GrowsByOne plain (record plain { cache = cache; pins = pins })
+cache_grows plain cache pins told = record {
+  geometry = refl;
+  opening = refl;
+  number = refl;
+  end = refl;
+  owned = refl;
+  checkpoint = refl;
+  entries = omega arith;
+  last = omega arith;
+  told = told;
+}
+
+-- other objects, and another window
+window_grows : (plain : PlainState) (objects : List StreamObject) (window : WindowState) → window.last ≤ plain.window.last + 1
+    → GrowsByOne plain (record plain { objects = objects; window = window })
+window_grows plain objects window last = record {
+  geometry = refl;
+  opening = refl;
+  number = refl;
+  end = refl;
+  owned = refl;
+  checkpoint = refl;
+  entries = omega arith;
+  last = last;
+  told = refl;
+}
+
+take_last : (lowest : Option ℕ) (window : WindowState) → (window_after_take lowest window).last ≡ window.last
+take_last None window = refl
+take_last (Some number) window = refl
+
+failed_last : (job : Option ℕ) (window : WindowState) → (window_after_failed job window).last ≡ window.last
+failed_last None window = refl
+failed_last (Some number) window =
+    elim (is_started number window.objects) as (λ b. (cond b (marked number false window) window).last ≡ window.last)
+    [ true ↦ refl | false ↦ refl ]
+
+done_last : (job : Option ℕ) (window : WindowState) → (window_after_done job window).last ≡ window.last
+done_last None window = refl
+done_last (Some number) window =
+    elim (is_started number window.objects) as (λ b. (cond b (acknowledged number window) window).last ≡ window.last)
+    [ true ↦ refl | false ↦ refl ]
+
+pub event_grows : (plain : PlainState) (event : PlainEvent) → GrowsByOne plain (plain_after event plain)
+event_grows plain (Write lba body) = entering_grows plain (entries.Write lba body)
+event_grows plain (Zero lba sectors) = entering_grows plain (entries.Zero lba sectors)
+event_grows plain Flush = cache_grows plain (cache_after_commit (frontier_end plain) plain.cache) plain.pins
+    (commit_told (frontier_end plain) plain.cache)
+event_grows plain (Look lba sectors) =
+    let read : PlainCache = after_reads (look_calls plain lba sectors) plain.cache in
+    let pins : List ℕ = cond (passes_look plain lba sectors) (plain.pins ++ objects_read plain lba sectors) plain.pins in
+    either_grows plain (may_transfer plain.geometry lba sectors) (record plain { cache = read; pins = pins }) plain
+    (cache_grows plain read pins (still_told plain.cache.left (look_calls plain lba sectors))) (same_grows plain)
+event_grows plain (Release numbers) =
+    let pins : List ℕ = without_pins numbers plain.pins in
+    either_grows plain (are_pinned numbers plain.pins) (record plain { pins = pins }) plain
+    (cache_grows plain plain.cache pins refl) (same_grows plain)
+event_grows plain Seal =
+    let objects : List StreamObject = plain.objects ++ record { content = Data; end = end_of_next plain } ∷ [] in
+    let window : WindowState = entered (plain.window.last + 1) false plain.window in
+    either_grows plain (has_unsealed plain && not (is_busy plain)) (record plain { objects = objects; window = window }) plain
+    (window_grows plain objects window (omega arith)) (same_grows plain)
+event_grows plain TakeJob =
+    let e = take_last (lowest_ready plain.window.objects) plain.window in
+    window_grows plain plain.objects (window_after_take (lowest_ready plain.window.objects) plain.window) (omega (arith, e))
+event_grows plain (JobDone job) = (let e = done_last job plain.window in
+    window_grows plain plain.objects (window_after_done job plain.window) (omega (arith, e)))
+event_grows plain (JobFailed job) = (let e = failed_last job plain.window in
+    window_grows plain plain.objects (window_after_failed job plain.window) (omega (arith, e)))
+event_grows plain Status = same_grows plain
+
+-- a volume that opens blank goes on to
+pub still_opens : (old new : PlainState) → GrowsByOne old new → OpensBlank old → OpensBlank new
+still_opens old new grows opens = record {
+  number = grows.number ∙ opens.number;
+  end = grows.end ∙ opens.end;
+  checkpoint = grows.checkpoint ∙ opens.checkpoint;
+  opening = grows.opening ∙ opens.opening ∙ ap blank (ap (λ (g : Geometry). g.sectors) (sym grows.geometry));
+  owned = grows.owned ∙ opens.owned;
+}

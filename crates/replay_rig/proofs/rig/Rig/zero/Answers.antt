@@ -1,0 +1,8 @@
+use Rattle.plain_disk.specs.declared.event.PlainEvent.TheVariants as events
+use Rattle.vol_core.specs.declared.event.Event.TheVariants.{Zero}
+use Rattle.replay_rig.proofs.Rooms.{answers_event}
+use Rattle.replay_rig.proofs.rig.Rig.zero.Goals as goal
+
+pub returns-clause-ok : goal.returns-clause-ok
+returns-clause-ok c = answers_event (Zero c.args.lba c.args.sectors) (events.Zero c.args.lba c.args.sectors) c.args.self.now
+    c.answer.new.self c.answer.result (λ other asks. asks) c.answer.ensures.ok

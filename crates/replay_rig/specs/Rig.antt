@@ -1,0 +1,129 @@
+-- Contract: what a script ran on, and the plain volume that it shows.
+use Rattle.std.specs.Prelude.{◌≡◌, ℕ, ◌+◌, ◌*◌, ◌<◌, ◌≤◌, Bool, true, false, is_some, Option, Some, None, List, [], ◌∷◌}
+use Rattle.std.specs.List.{AllByRecursion}
+use Rattle.lsvd_base.specs.Image.{blank}
+use Rattle.lsvd_device.specs.Device.{HoldsNow}
+use Rattle.lsvd_device.specs.Medium.{MayLeave}
+use Rattle.lsvd_objstore.specs.Objects.{Objects, found}
+use Rattle.object_format.specs.declared.expected.Expected.{Expected}
+use Rattle.object_stream.specs.Replay.{name_of}
+use Rattle.stopped_volume.specs.Objects.{landed_in, IsCheckpointOf}
+use Rattle.stopped_volume.specs.Store.{PutState}
+use Rattle.stopped_volume.specs.Super.{HasVolume}
+use Rattle.upload_window.specs.declared.object.OpenObject.{OpenObject}
+use Rattle.upload_window.specs.Window.{IsAcknowledged}
+use Rattle.plain_disk.specs.declared.log.PlainCommit.{PlainCommit}
+use Rattle.plain_disk.specs.State.{PlainState, history_length, frontier_of}
+use Rattle.plain_disk.specs.Stops.{recovered_number}
+use Rattle.object_recovery.specs.Checkpoints.{expected_of}
+use Rattle.pending_meaning.specs.Pending.{ShowsPending}
+use Rattle.mount_meaning.specs.Found.{HasCommit, HasObjects}
+use Rattle.mount_meaning.specs.Mounted.{end_of_object}
+use Rattle.store_meaning.specs.Puts.{IsObjectOf, ArePuts, MayBeLeft}
+use Rattle.vol_core.specs.Volume.{SteppedVolume}
+use Rattle.vol_core.specs.Step.{HasBytesOf}
+use Rattle.vol_core.specs.Shows.{Shows}
+use Rattle.vol_core.specs.Stops.{HasOwnCommits}
+use Rattle.replay_rig.specs.Puts.{PutView}
+
+-- ---- what is seen
+
+-- a volume and its store, the objects under way, whether its device was told to stop since the last mount, and how many lines it
+-- answered
+pub record RigState : Type 0 where
+  pub volume : SteppedVolume
+  pub objects : Objects
+  pub puts : List PutView
+  pub is_stopping : Bool
+  pub lines : ℕ
+
+-- a rig of these parts
+abbrev pub rig_of : SteppedVolume → Objects → List PutView → (is_stopping : Bool) → (lines : ℕ) → RigState
+rig_of volume objects puts is_stopping lines =
+    record { volume = volume; objects = objects; puts = puts; is_stopping = is_stopping; lines = lines }
+
+-- ---- what it shows
+
+-- the uuid of the volume of a script
+abbrev pub script_uuid : List ℕ
+script_uuid = 0 ∷ 0 ∷ 0 ∷ 0 ∷ 0 ∷ 0 ∷ 64 ∷ 0 ∷ 128 ∷ 0 ∷ 0 ∷ 0 ∷ 0 ∷ 0 ∷ 0 ∷ 1 ∷ []
+
+-- what is expected of the objects of a plain volume of a script
+abbrev pub expected_of_plain : PlainState → Expected
+expected_of_plain plain = expected_of script_uuid plain.geometry
+
+-- the volume of a script opens blank, at its first object
+pub record OpensBlank (plain : PlainState) : Type 0 where
+  pub number : plain.number ≡ 1
+  pub end : plain.end ≡ 0
+  pub checkpoint : plain.checkpoint ≡ 1
+  pub opening : plain.opening ≡ blank plain.geometry.sectors
+  pub owned : plain.owned ≡ []
+
+-- the first of the objects under way is an open object of which a put was ever begun, and its put is out where it is started
+abbrev pub IsFirstUnderWay : (was_started : Bool) → OpenObject → List PutView → (List PutView → Type 0) → Type 0
+IsFirstUnderWay false object puts Rest = Rest puts
+IsFirstUnderWay true object [] Rest = ⊥
+IsFirstUnderWay true object (put ∷ puts) Rest = (put.number ≡ object.number) × (put.is_out ≡ object.is_started) × Rest puts
+
+-- the objects under way are those of the open objects of which a put was ever begun, in their order
+abbrev pub AreUnderWay : List OpenObject → List PutView → Type 0
+AreUnderWay [] puts = puts ≡ []
+AreUnderWay (object ∷ objects) puts = IsFirstUnderWay object.was_started object puts (AreUnderWay objects)
+
+-- an object under way has the bytes of the plain volume's object
+abbrev pub HasBytesOfObject : PlainState → PutView → Type 0
+HasBytesOfObject plain put = IsObjectOf (expected_of_plain plain) plain put.number put.bytes
+
+-- the store has the first object, a checkpoint, of the later ones those that are acknowledged, and no others
+pub record HasStored (plain : PlainState) (objects : Objects) : Type 0 where
+  pub first : IsCheckpointOf (expected_of_plain plain) objects 1 0 (λ k. None)
+  pub acknowledged : (number : ℕ) → 1 < number → IsAcknowledged plain.window number
+      → (bytes : List ℕ) × (found objects (name_of script_uuid number) ≡ Some bytes)
+      × IsObjectOf (expected_of_plain plain) plain number bytes
+  pub none_else : (number : ℕ) → (0 < number → IsAcknowledged plain.window number → ⊥)
+      → found objects (name_of script_uuid number) ≡ None
+
+-- the numbers of a volume that has answered so many lines: each adds an entry and an object at most, and makes two steps and four
+-- commits at most
+pub record IsYoung (rig : RigState) (plain : PlainState) : Type 0 where
+  pub entries : history_length plain ≤ rig.lines
+  pub objects : plain.window.last ≤ 1 + rig.lines
+  pub commits : rig.volume.volume.log.commits.number ≤ 4 * rig.lines
+  pub steps : rig.volume.steps ≤ 2 * rig.lines
+
+-- The rig shows a plain volume: its volume does, with the pending writes of the plain cache, and commits in the epoch that the
+-- store has as the newest of the volume; the objects under way are the plain volume's, and the store has those that are
+-- acknowledged.
+pub record ShowsPlain (rig : RigState) (plain : PlainState) : Type 0 where
+  pub shows : Shows rig.volume.volume plain
+  pub pending : ShowsPending rig.volume.volume.log plain.cache
+  pub epoch : ℕ
+  pub own : HasOwnCommits epoch rig.volume.volume
+  pub described : HasVolume script_uuid plain.geometry epoch rig.objects
+  pub begun : epoch ≤ rig.lines
+  pub uuid_is : rig.volume.volume.objects.uploads.uuid ≡ script_uuid
+  pub opens : OpensBlank plain
+  pub stopping : rig.is_stopping ≡ is_some plain.cache.left
+  pub puts : AreUnderWay plain.window.objects rig.puts
+  pub put_objects : AllByRecursion (HasBytesOfObject plain) rig.puts
+  pub bytes : AllByRecursion (λ put. HasBytesOf rig.volume.volume put.number put.bytes) rig.puts
+  pub stored : HasStored plain rig.objects
+  pub young : IsYoung rig plain
+
+-- ---- stops
+
+-- Whatever a stop leaves of the device reads as a commit of the plain volume in this epoch, wherever the objects end that a mount
+-- finds, from the frontier on; and whatever it leaves of the store has the plain volume's objects up to the one before the first
+-- missing number, from the frontier on.
+pub record IsKeptByRig (epoch : ℕ) (rig : RigState) (plain : PlainState) : Type 0 where
+  pub device : (number : ℕ) → frontier_of plain ≤ number → number ≤ plain.window.last
+      → HoldsNow (λ now. (left : List ℕ) → MayLeave now left
+      → (found : PlainCommit) × (plain.cache.log.last.head.seq ≤ found.head.seq) × (found.head.seq ≤ history_length plain)
+      × HasCommit (record { uuid = script_uuid; epoch = epoch }) plain found (end_of_object number plain) left)
+      rig.volume.volume.log.commits.disk.moments
+  pub store : (puts : ℕ → Option (PutState × List ℕ)) (objects : Objects) → ArePuts (expected_of_plain plain) plain puts
+      → MayBeLeft script_uuid epoch plain puts objects
+      → HasObjects script_uuid plain (recovered_number (landed_in objects script_uuid) plain) objects
+      × (frontier_of plain ≤ recovered_number (landed_in objects script_uuid) plain)
+      × (recovered_number (landed_in objects script_uuid) plain ≤ plain.window.last)

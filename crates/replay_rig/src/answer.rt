@@ -1,0 +1,104 @@
+ghost use Rattle.std.specs.Prelude.{IfOk};
+ghost use Rattle.replay_rig.specs.Answers.{SaysRefusal, SaysCounts};
+
+use batcher::Full;
+use lsvd_objstore::Receipt;
+use std::alloc::AllocError;
+use vol_core::{Refusal, Reply};
+
+/// What a line is answered.
+#[derive(Drop)]
+pub enum Answer {
+    /// The volume of `new` has this many sectors.
+    Created(u64),
+    /// An entry was entered, or all are durable: the history has this length.
+    Entries(u64),
+    /// The sectors of a read.
+    Sectors(Vec<u8>),
+    /// The object of this number was sealed.
+    Sealed(u64),
+    /// The put of this object began.
+    Put(u64),
+    /// A put is done: the frontier.
+    Done(u64),
+    /// The put of this object failed.
+    Failed(u64),
+    /// The counts: of the entries, the last object that was sealed, and the frontier.
+    Counts {
+        entries: u64,
+        sealed: u64,
+        frontier: u64,
+    },
+    /// The device passes this many calls more.
+    Stopping(u64),
+    /// A volume was mounted: how many entries it has, and the number of the object before the first missing
+    /// one.
+    Mounted {
+        entries: u64,
+        number: u64,
+    },
+    BatchFull(u64),
+    EntriesFull(u64),
+    NoRoom {
+        need: u64,
+        free: u64,
+    },
+    Range,
+    Nothing,
+    Busy,
+    Fault,
+}
+
+// Why an entry was not entered, as an answer.
+fn answer_of_refusal(refusal: &Refusal) -> Result<Answer, AllocError>
+    ensures { IfOk result (SaysRefusal refusal.now) }
+{
+    match refusal {
+        Refusal::Range => Ok(Answer::Range),
+        Refusal::Full(Full::Sectors(sectors)) => Ok(Answer::BatchFull(*sectors)),
+        Refusal::Full(Full::Entries(count)) => Ok(Answer::EntriesFull(*count)),
+        Refusal::NoRoom { need, free } => Ok(Answer::NoRoom {
+            need: *need,
+            free: *free,
+        }),
+        Refusal::Fault => Ok(Answer::Fault),
+        Refusal::OutOfMemory => Err(AllocError),
+    }
+}
+
+/// The answer that tells a reply of the volume to an event that hands nothing out but counts. The one error
+/// is out of memory.
+pub(crate) fn answer_of<R: Receipt>(reply: Reply<R>) -> Result<Answer, AllocError>
+    ensures { IfOk result (SaysCounts reply) }
+{
+    let answer = told(&reply);
+    drop(reply);
+    answer
+}
+
+// What tells a reply.
+fn told<R: Receipt>(reply: &Reply<R>) -> Result<Answer, AllocError>
+    ensures { IfOk result (SaysCounts reply.now) }
+{
+    match reply {
+        Reply::Entered(count) | Reply::Flushed(count) => Ok(Answer::Entries(*count)),
+        Reply::NotEntered { why, .. } => answer_of_refusal(why),
+        Reply::Sealed(number) => Ok(Answer::Sealed(*number)),
+        Reply::Done(frontier) => Ok(Answer::Done(*frontier)),
+        Reply::Told {
+            writes,
+            sealed,
+            frontier,
+            ..
+        } => Ok(Answer::Counts {
+            entries: *writes,
+            sealed: *sealed,
+            frontier: *frontier,
+        }),
+        Reply::Range => Ok(Answer::Range),
+        Reply::Busy => Ok(Answer::Busy),
+        Reply::Fault => Ok(Answer::Fault),
+        Reply::OutOfMemory => Err(AllocError),
+        _ => Ok(Answer::Nothing),
+    }
+}

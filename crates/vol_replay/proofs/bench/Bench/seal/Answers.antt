@@ -1,8 +1,0 @@
-use Rattle.plain_disk.specs.declared.event.PlainEvent.TheVariants as events
-use Rattle.vol_core.specs.declared.event.Event.TheVariants.{Seal}
-use Rattle.vol_replay.proofs.Rooms.{answers_event}
-use Rattle.vol_replay.proofs.bench.Bench.seal.Goals as goal
-
-pub returns-clause-ok : goal.returns-clause-ok
-returns-clause-ok c = answers_event Seal events.Seal c.args.self.now c.answer.new.self c.answer.result (λ other asks. asks)
-    c.answer.ensures.ok

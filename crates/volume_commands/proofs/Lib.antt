@@ -1,0 +1,3 @@
+mod Made
+mod Served
+pub mod Told

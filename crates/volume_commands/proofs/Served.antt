@@ -1,0 +1,215 @@
+-- Where no disk, store and listener count a fault, none of them ends a command by one.
+use Rattle.std.proofs.Common.{arith, ◌≡◌, ℕ, ◌+◌, ◌<◌, ◌-◌, ◌^◌, ◌⊎◌, Bool, true, false, not, List, [], length, append-nil, refl}
+use Rattle.std.proofs.Common.{sym, ◌∙◌, ap, subst, inl, inr}
+use Rattle.std.specs.Prelude.{IsErrOf, OnOk, Result, Ok, Err}
+use Rattle.lsvd_base.specs.declared.entry.Entry.{Entry}
+use Rattle.lsvd_device.specs.Device.{DiskState}
+use Rattle.lsvd_fault.specs.Faults.{Counts, CountsOne}
+use Rattle.plain_disk.specs.State.{history_length}
+use Rattle.vol_core.specs.Volume.{VolumeState}
+use Rattle.vol_mount.specs.Costs.{CostsMount}
+use Rattle.vol_mount.specs.Refusals.{is_device_fault, is_store_fault_of}
+use Rattle.vol_mount.specs.declared.error.MountError.{MountError}
+use Rattle.vol_mount.specs.declared.error.MountError.TheVariants as mounts
+use Rattle.volume_owner.specs.declared.error.OwnerError.{OwnerError}
+use Rattle.volume_owner.specs.declared.error.OwnerError.TheVariants as owners
+use Rattle.volume_owner.specs.Calls.{Adds, IsLengthOf, CountsEitherFault}
+use Rattle.volume_owner.specs.Errors.{is_eio}
+use Rattle.volume_server.specs.declared.serving.LaneEnd.{LaneEnd}
+use Rattle.volume_server.specs.declared.serving.LaneEnd.TheVariants as lanes
+use Rattle.volume_server.specs.Serving.{ListenerState, ClosesAs}
+use Rattle.volume_commands.specs.declared.error.CommandError.{CommandError}
+use Rattle.volume_commands.specs.declared.error.CommandError.TheVariants as errors
+use Rattle.volume_commands.specs.declared.refusal.Refusal.{Refusal}
+use Rattle.volume_commands.specs.Creating.{of_world}
+use Rattle.volume_commands.specs.declared.world.WorldError.{WorldError}
+use Rattle.volume_commands.specs.declared.world.WorldError.TheVariants as worlds
+use Rattle.volume_commands.specs.declared.report.Report.TheVariants as reports
+use Rattle.volume_commands.specs.Serving.{of_mount, of_owner, judged}
+use Rattle.volume_commands.specs.World.{CountsOneOf}
+use Rattle.volume_commands.specs.World.{IsConstant, world_failed}
+
+-- a count that is one number does not rise
+pub stands_still : {T : Type 0} (faults : T → ℕ) (a b : T) → IsConstant faults → CountsOne (faults a) (faults b) → ⊥
+stands_still faults a b constant counted = rose (faults a) (faults b) (constant.2 a) (constant.2 b) counted
+  where
+    rose : (first last : ℕ) → first ≡ constant.0 → last ≡ constant.0 → CountsOne first last → ⊥
+    rose first last is_first is_last counted = by_rise counted.risen
+      where
+        by_rise : (first < last) ⊎ (last ≡ 2 ^ 64 - 1) → ⊥
+        by_rise (inl more) = absurd (omega (arith, more, is_first, is_last))
+        by_rise (inr most) = absurd (omega (arith, most, is_last, constant.1))
+
+-- ---- errors
+
+error_in : {T : Type 0} → CommandError → Result T CommandError → CommandError
+error_in other (Ok value) = other
+error_in other (Err error) = error
+
+same_error : {T : Type 0} (a b : CommandError) → IsErrOf {T = T} (Err a) b → a ≡ b
+unfolding error_in
+same_error {T} a b is = ap (error_in {T = T} b) is
+
+-- an error is so of any result
+pub of_other : {T U : Type 0} (a b : CommandError) → IsErrOf {T = T} (Err a) b → IsErrOf {T = U} (Err a) b
+of_other {T} {U} a b is = ap (λ e. Err e) (same_error {T = T} a b is)
+
+-- ---- the world
+
+pub world_fault : {T : Type 0} (U : Type 0) (error : WorldError) (first before now : ℕ) → before ≡ first
+    → Counts (world_failed {T = U} (Err error)) before now
+    → IsErrOf {T = T} (Err (of_world error)) errors.Fault → CountsOne first now
+world_fault U worlds.Failed first before now same counted is = subst (λ n. CountsOne n now) same counted
+world_fault {T} U worlds.OutOfMemory first before now same counted is =
+    let bad : errors.OutOfMemory ≡ errors.Fault = same_error {T = T} errors.OutOfMemory errors.Fault is in absurd (not_both bad)
+  where
+    not_both : errors.OutOfMemory ≡ errors.Fault → ⊥
+    not_both is = cc
+
+pub world_quiet : {T : Type 0} (U : Type 0) (error : WorldError) (first before now : ℕ) → before ≡ first
+    → Counts (world_failed {T = U} (Err error)) before now
+    → (IsErrOf {T = T} (Err (of_world error)) errors.Fault → ⊥) → now ≡ first
+world_quiet U worlds.Failed first before now same counted quiet = absurd (quiet refl)
+world_quiet U worlds.OutOfMemory first before now same counted quiet = counted ∙ same
+
+-- a call of the world refuses no volume
+pub world_refuses_none : {T : Type 0} (error : WorldError) (why : Refusal)
+    → IsErrOf {T = T} (Err (of_world error)) (errors.Refused why) → ⊥
+world_refuses_none {T} worlds.Failed why is = other (same_error {T = T} errors.Fault (errors.Refused why) is)
+  where
+    other : errors.Fault ≡ errors.Refused why → ⊥
+    other is = cc
+world_refuses_none {T} worlds.OutOfMemory why is = other (same_error {T = T} errors.OutOfMemory (errors.Refused why) is)
+  where
+    other : errors.OutOfMemory ≡ errors.Refused why → ⊥
+    other is = cc
+
+-- ---- a mount
+
+pub mount_counts_none : {D S : Type 0} (disk_faults : D → ℕ) (store_faults : S → ℕ) (first last : D) (old new : S)
+    (error : MountError)
+    → (is_device_fault error ≡ true → CountsOne (disk_faults first) (disk_faults last))
+    → Counts (is_store_fault_of error) (store_faults old) (store_faults new) → of_mount error ≡ errors.Fault
+    → IsConstant disk_faults → IsConstant store_faults → ⊥
+mount_counts_none disk_faults store_faults first last old new mounts.StoreFault disk store is disks stores =
+    stands_still store_faults old new stores store
+mount_counts_none disk_faults store_faults first last old new mounts.DeviceFault disk store is disks stores =
+    stands_still disk_faults first last disks (disk refl)
+mount_counts_none disk_faults store_faults first last old new mounts.NoVolume disk store is disks stores = let bad : ⊥ = cc in bad
+mount_counts_none disk_faults store_faults first last old new (mounts.BadSuper reason) disk store is disks stores =
+    let bad : ⊥ = cc in bad
+mount_counts_none disk_faults store_faults first last old new (mounts.HasAncestors count) disk store is disks stores =
+    let bad : ⊥ = cc in bad
+mount_counts_none disk_faults store_faults first last old new mounts.NoCheckpoint disk store is disks stores =
+    let bad : ⊥ = cc in bad
+mount_counts_none disk_faults store_faults first last old new (mounts.BadObject number reason) disk store is disks stores =
+    let bad : ⊥ = cc in bad
+mount_counts_none disk_faults store_faults first last old new (mounts.NotData number) disk store is disks stores =
+    let bad : ⊥ = cc in bad
+mount_counts_none disk_faults store_faults first last old new (mounts.NoSlot log) disk store is disks stores =
+    let bad : ⊥ = cc in bad
+mount_counts_none disk_faults store_faults first last old new (mounts.WrongVolume found) disk store is disks stores =
+    let bad : ⊥ = cc in bad
+mount_counts_none disk_faults store_faults first last old new (mounts.StaleCache cache current) disk store is disks stores =
+    let bad : ⊥ = cc in bad
+mount_counts_none disk_faults store_faults first last old new (mounts.BadRecord seq reason) disk store is disks stores =
+    let bad : ⊥ = cc in bad
+mount_counts_none disk_faults store_faults first last old new (mounts.Worn value) disk store is disks stores =
+    let bad : ⊥ = cc in bad
+mount_counts_none disk_faults store_faults first last old new mounts.OutOfMemory disk store is disks stores =
+    let bad : ⊥ = cc in bad
+
+-- the calls of a mount with the cache tell a fault of the device
+pub cost_counts : (log : ℕ) (error : MountError) (old new : DiskState) → CostsMount log (not (is_device_fault error)) old new
+    → is_device_fault error ≡ true → CountsOne old.faults new.faults
+cost_counts log error old new costs is = counted (is_device_fault error) costs is
+  where
+    counted : (b : Bool) → CostsMount log (not b) old new → b ≡ true → CountsOne old.faults new.faults
+    counted true costs is = costs.calls.calls.faults
+    counted false costs is = let bad : ⊥ = cc in absurd bad
+
+-- ---- a drain
+
+pub drain_refuses_none : (error : OwnerError) (why : Refusal) → of_owner error ≡ errors.Refused why → ⊥
+drain_refuses_none owners.Range why is = let bad : ⊥ = cc in bad
+drain_refuses_none owners.Eio why is = let bad : ⊥ = cc in bad
+drain_refuses_none owners.OutOfMemory why is = let bad : ⊥ = cc in bad
+
+pub drain_counts_none : {D S : Type 0} (disk_faults : D → ℕ) (store_faults : S → ℕ) (first last : D) (old new : S)
+    (error : OwnerError)
+    (first_count last_count : ℕ) → disk_faults first ≡ first_count → disk_faults last ≡ last_count
+    → (IsErrOf {T = ℕ} (Err error) owners.Range → ⊥)
+    → CountsEitherFault (is_eio {T = ℕ} (Err error)) first_count last_count (store_faults old) (store_faults new)
+    → of_owner error ≡ errors.Fault
+    → IsConstant disk_faults → IsConstant store_faults → ⊥
+drain_counts_none disk_faults store_faults first last old new owners.Range n m is_first is_last no_range counted is disks stores =
+    no_range refl
+drain_counts_none disk_faults store_faults first last old new owners.Eio n m is_first is_last no_range (inl counted) is
+    disks stores =
+    stands_still disk_faults first last disks
+    (subst (λ a. CountsOne a (disk_faults last)) (sym is_first) (subst (λ b. CountsOne n b) (sym is_last) counted.0))
+drain_counts_none disk_faults store_faults first last old new owners.Eio n m is_first is_last no_range (inr counted) is
+    disks stores =
+    stands_still store_faults old new stores counted.1
+drain_counts_none disk_faults store_faults first last old new owners.OutOfMemory n m is_first is_last no_range counted is
+    disks stores =
+    let bad : ⊥ = cc in bad
+
+-- a history that nothing is added to has the length that it has then
+pub length_stays : (count : ℕ) (old new : VolumeState) → Adds [] old new → IsLengthOf count new → IsLengthOf count old
+length_stays count old new adds counted plain shows =
+    let then = adds plain shows in
+    counted then.0 then.1 ∙ ap history_length then.2.opens
+    ∙ ap (λ (entries : List Entry). plain.end + length entries) (append-nil plain.entries)
+
+-- ---- clients
+
+-- a server that is done has done what is so, and one that is not refuses no volume
+pub on_judged : {P : Type 0} (end : LaneEnd) → P → OnOk (judged end) P
+on_judged lanes.Counted is = is
+on_judged lanes.Closed is = is
+on_judged lanes.Failed is = tt
+
+pub judged_refuses_none : (end : LaneEnd) (why : Refusal) → IsErrOf (judged end) (errors.Refused why) → ⊥
+judged_refuses_none lanes.Counted why is = let bad : ⊥ = cc in bad
+judged_refuses_none lanes.Closed why is = let bad : ⊥ = cc in bad
+judged_refuses_none lanes.Failed why is = let bad : ⊥ = cc in bad
+
+pub lane_counts_none : {L : Type 0} (faults : L → ℕ) (first last : L) (old new : ListenerState) (end : LaneEnd)
+    → old.faults ≡ faults first
+    → new.faults ≡ faults last → ClosesAs end old new → end ≡ lanes.Failed → IsConstant faults → ⊥
+lane_counts_none faults first last old new lanes.Counted is_old is_new closes is constant = let bad : ⊥ = cc in bad
+lane_counts_none faults first last old new lanes.Closed is_old is_new closes is constant = let bad : ⊥ = cc in bad
+lane_counts_none faults first last old new lanes.Failed is_old is_new closes is constant =
+    stands_still faults first last constant
+    (subst (λ a. CountsOne a (faults last)) is_old (subst (λ b. CountsOne old.faults b) is_new closes.1))
+
+-- what a result with such an error tells
+pub mount_error : {T : Type 0} (told other : CommandError) (error : MountError) → told ≡ of_mount error
+    → IsErrOf {T = T} (Err told) other
+    → of_mount error ≡ other
+mount_error {T} told other error is same = sym is ∙ same_error {T = T} told other same
+
+pub owner_error : {T : Type 0} (error : OwnerError) (other : CommandError) → IsErrOf {T = T} (Err (of_owner error)) other
+    → of_owner error ≡ other
+owner_error {T} error other is = same_error {T = T} (of_owner error) other is
+
+-- an error that is a refusal is so of any result
+pub refused_in : {T : Type 0} (error : CommandError) (why : Refusal) → error ≡ errors.Refused why
+    → IsErrOf {T = T} (Err error) (errors.Refused why)
+refused_in error why is = ap (λ e. Err e) is
+
+-- what is done is no error
+pub no_error : {T : Type 0} (value : T) (error : CommandError) → Ok value ≡ Err error → ⊥
+no_error value error is = cc
+
+-- one call of the output failed
+pub output_counts : (world_before world_now first mid last : ℕ) → world_now ≡ world_before → mid ≡ first → CountsOne mid last
+    → CountsOneOf world_before world_now first last
+output_counts world_before world_now first mid last same quiet counted = inr (same, subst (λ n. CountsOne n last) quiet counted)
+
+-- a report of a refusal is that of the error
+pub same_refusal : {T : Type 0} (error : CommandError) (first second : Refusal) → error ≡ errors.Refused first
+    → reports.Refused first ≡ reports.Refused second → IsErrOf {T = T} (Err error) (errors.Refused second)
+same_refusal error first second told is =
+    let one : first ≡ second = cc in ap (λ e. Err e) (told ∙ ap (λ why. errors.Refused why) one)

@@ -1,0 +1,134 @@
+-- What a server has told, by how far it came.
+use Rattle.std.proofs.Common.{arith, ◌≡◌, ℕ, ◌+◌, List, length, take, length-append, refl, sym, subst}
+use Rattle.std.proofs.KnownBytes.{Appends-nil, Appends-trans}
+use Rattle.std.proofs.lemmas.List.{take-append-le}
+use Rattle.std.proofs.Math.Seq.{take-append-add, take-append_seam, take-length}
+use Rattle.std.specs.Io.KnownBytes.{Appends}
+use Rattle.std.specs.Prelude.{Option, Err}
+use Rattle.lsvd_device.specs.Device.{DiskState}
+use Rattle.lsvd_objstore.specs.Objects.{Objects}
+use Rattle.lsvd_objstore.specs.Store.{StoreState, ReceiptState}
+use Rattle.command_line.specs.declared.serve.ServeRequest.{ServeRequest}
+use Rattle.vol_mount.specs.Mounted.{MountedState}
+use Rattle.volume_owner.specs.Calls.{IsLengthOf}
+use Rattle.nbd_session.specs.Exchanges.{Moment}
+use Rattle.volume_server.specs.Serving.{AreClients}
+use Rattle.volume_server.specs.declared.serving.LaneEnd.{LaneEnd}
+use Rattle.volume_server.specs.declared.serving.LaneEnd.TheVariants as lanes
+use Rattle.volume_commands.specs.declared.error.CommandError.{CommandError}
+use Rattle.volume_commands.specs.declared.error.CommandError.TheVariants as errors
+use Rattle.volume_commands.specs.declared.refusal.Refusal.{Refusal}
+use Rattle.volume_commands.specs.Mounting.{MountsFor, Serves}
+use Rattle.volume_commands.specs.Serving.{mounted_line, writes_line, serving_text, AppendsFront, IsServingFront, TellsServed}
+use Rattle.volume_commands.specs.Serving.{judged}
+
+-- nothing is a front of what a server tells
+pub nothing_told : (old : Option (List ℕ)) → IsServingFront old old
+nothing_told old = (0, 0, 0, (0, omega arith, Appends-nil old))
+
+pub nothing_served : (error : CommandError) (old : Option (List ℕ)) → TellsServed (Err error) old old
+nothing_served (errors.Refused why) old = refl
+nothing_served errors.Fault old = nothing_told old
+nothing_served errors.OutOfMemory old = nothing_told old
+
+-- a front of the first line
+pub first_broken : (kept number : ℕ) (old new : Option (List ℕ)) → AppendsFront (mounted_line kept number) old new
+    → TellsServed (Err errors.Fault) old new
+first_broken kept number old new front =
+    let a = mounted_line kept number in
+    let b = writes_line 0 in (
+      kept,
+      number,
+      0,
+      (
+        front.0,
+        omega (arith, front.1, length-append a b),
+        subst (λ (t : List ℕ). Appends old new t) (sym (take-append-le front.0 a b front.1)) front.2,
+      ),
+    )
+
+-- the first line alone
+pub first_told : (kept number : ℕ) (old new : Option (List ℕ)) → Appends old new (mounted_line kept number)
+    → IsServingFront old new
+first_told kept number old new told =
+    let a = mounted_line kept number in
+    let b = writes_line 0 in (
+      kept,
+      number,
+      0,
+      (
+        length a,
+        omega (arith, length-append a b),
+        subst (λ (t : List ℕ). Appends old new t) (sym (take-append_seam a b)) told,
+      ),
+    )
+
+-- the first line, before the server ended by an error
+pub only_first : (kept number : ℕ) (error : CommandError) (old new : Option (List ℕ))
+    → ((why : Refusal) → error ≡ errors.Refused why → ⊥)
+    → Appends old new (mounted_line kept number) → TellsServed (Err error) old new
+only_first kept number (errors.Refused why) old new not_refused told = absurd (not_refused why refl)
+only_first kept number errors.Fault old new not_refused told = first_told kept number old new told
+only_first kept number errors.OutOfMemory old new not_refused told = first_told kept number old new told
+
+-- a front of the second line after it
+pub second_broken : (kept number entries : ℕ) (old mid new : Option (List ℕ)) → Appends old mid (mounted_line kept number)
+    → AppendsFront (writes_line entries) mid new → TellsServed (Err errors.Fault) old new
+second_broken kept number entries old mid new first front =
+    let a = mounted_line kept number in
+    let b = writes_line entries in (
+      kept,
+      number,
+      entries,
+      (
+        length a + front.0,
+        omega (arith, front.1, length-append a b),
+        subst (λ (t : List ℕ). Appends old new t) (sym (take-append-add a b front.0))
+            (Appends-trans old mid new a (take front.0 b) first front.2),
+      ),
+    )
+
+-- both lines
+pub both_told : (kept number entries : ℕ) (end : LaneEnd) (old mid new : Option (List ℕ))
+    → Appends old mid (mounted_line kept number)
+    → Appends mid new (writes_line entries) → TellsServed (judged end) old new
+both_told kept number entries lanes.Counted old mid new first second =
+    (kept, number, entries, Appends-trans old mid new (mounted_line kept number) (writes_line entries) first second)
+both_told kept number entries lanes.Closed old mid new first second =
+    (kept, number, entries, Appends-trans old mid new (mounted_line kept number) (writes_line entries) first second)
+both_told kept number entries lanes.Failed old mid new first second = (
+  kept,
+  number,
+  entries,
+  (
+    length (serving_text kept number entries),
+    omega arith,
+    subst (λ (t : List ℕ). Appends old new t) (sym whole)
+        (Appends-trans old mid new (mounted_line kept number) (writes_line entries) first second),
+  ),
+)
+  where
+    whole : take (length (serving_text kept number entries)) (serving_text kept number entries) ≡ serving_text kept number entries
+    whole = take-length (serving_text kept number entries)
+
+-- what stands behind both lines
+pub serves_with : {D S R : Type 0} (disk_state : D → DiskState) (objects_of : S → Option Objects) (receipt_state : R
+    → ReceiptState)
+    (request : ServeRequest) (shown mounted : MountedState) (store : StoreState) (entries : ℕ) (old mid new : Option (List ℕ))
+    → shown ≡ mounted → MountsFor disk_state objects_of receipt_state request mounted
+    → ((clients : ℕ) × (last : Moment) × AreClients receipt_state clients (record { volume = shown.volume; store = store }) last
+    × IsLengthOf entries last.volume.volume)
+    → Appends old mid (mounted_line shown.entries shown.number) → Appends mid new (writes_line entries)
+    → Serves disk_state objects_of receipt_state request old new
+serves_with disk_state objects_of receipt_state request shown mounted store entries old mid new same mounts served first second =
+    record {
+      mounted = shown;
+      mounts = subst (λ m. MountsFor disk_state objects_of receipt_state request m) (sym same) mounts;
+      store = store;
+      clients = served.0;
+      last = served.1;
+      served = served.2;
+      entries = entries;
+      count = served.3;
+      told = Appends-trans old mid new (mounted_line shown.entries shown.number) (writes_line entries) first second;
+    }
