@@ -1,19 +1,13 @@
 //! The program `lsvdctl`.
 //!
-//! Its contract is that of `run`: what it writes and how it ends, for each command line and input. Words that
-//! ask for help are answered before, by `answer_help`, and a sentence before what `run` writes says why words
-//! are refused. It stands on `command_line` for the words, on `vol_replay` for scripts, and on
-//! `volume_commands` for the other commands and the world that they reach.
+//! Its contract is that of `command_run`: `run`, and `answer_help` for words that ask for help. Here are the
+//! process's words, streams and status, and the sentence before what `run` writes that says why words are
+//! refused. It stands on `command_line` for that sentence, and on `volume_commands` for the world.
 #![tactic(auto)]
 
-mod help;
-mod program;
-mod quiet_world;
-
 use command_line::mistake_of;
-use help::answer_help;
+use command_run::{answer_help, run};
 use lsvd_fault::{ReadSource, Sink, WriteSink};
-use program::run;
 use std::alloc::AllocError;
 use std::env;
 use std::io::ErrorKind;

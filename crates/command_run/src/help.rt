@@ -2,7 +2,7 @@ ghost use Rattle.std.specs.Prelude.{◌≡◌, ◌⊎◌, ◌≤◌, List, ℕ, 
 ghost use Rattle.std.specs.Io.KnownBytes.{Appends};
 ghost use Rattle.command_line.specs.CommandLine.{AsksForHelp};
 ghost use Rattle.lsvd_fault.specs.Faults.{CountsOne};
-ghost use Rattle.lsvdctl.specs.Help.{IsAnswered};
+ghost use Rattle.command_run.specs.Help.{IsAnswered};
 
 use command_line::help_of;
 use lsvd_fault::{Failed, Sink, write_all};

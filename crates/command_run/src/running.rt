@@ -9,7 +9,7 @@ ghost use Rattle.command_line.specs.Serve.{AreValidToServe, serve_value};
 ghost use Rattle.command_line.specs.Values.{IsNoUuid};
 ghost use Rattle.volume_commands.specs.Report.{status_of, line_of, IsTold};
 ghost use Rattle.volume_commands.specs.World.{CountsNone, CountsOneOf};
-ghost use Rattle.lsvdctl.specs.Run.{AreRefused, CountsOneOfAll, Runs, report_of};
+ghost use Rattle.command_run.specs.Run.{AreRefused, CountsOneOfAll, Runs, report_of};
 ghost use Rattle.volume_commands.specs.World.{IsConstant};
 
 use command_line::{CommandLineError, Request, request_of};

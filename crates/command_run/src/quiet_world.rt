@@ -2,11 +2,11 @@ ghost use Rattle.std.specs.Prelude.{◌≡◌, IfOk};
 ghost use Rattle.lsvd_fault.specs.Faults.{CountsOne};
 ghost use Rattle.lsvd_device.specs.Device.{IsDisk};
 ghost use Rattle.lsvd_objstore.specs.Memory.{told_state};
-ghost use Rattle.lsvdctl.specs.Run.{CountsOneOfAll};
+ghost use Rattle.command_run.specs.Run.{CountsOneOfAll};
 ghost use Rattle.volume_commands.specs.World.{IsConstant};
-ghost use Rattle.lsvdctl.specs.QuietWorld.{quiet_faults, quiet_state};
+ghost use Rattle.command_run.specs.QuietWorld.{quiet_faults, quiet_state};
 
-use crate::program::run;
+use crate::running::run;
 use lsvd_device::Disk;
 use lsvd_fault::{Failed, MemLink, MemSink, MemSource};
 use lsvd_listen::Listener;

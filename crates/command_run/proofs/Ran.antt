@@ -16,7 +16,7 @@ use Rattle.volume_commands.specs.Creating.{TellsCreation}
 use Rattle.volume_commands.specs.Serving.{TellsServing}
 use Rattle.volume_commands.specs.Report.{status_of}
 use Rattle.volume_commands.specs.World.{CountsOneOf}
-use Rattle.lsvdctl.specs.Run.{AreRefused, CountsOneOfAll, Runs, RunsCreate, RunsReplay, RunsServe}
+use Rattle.command_run.specs.Run.{AreRefused, CountsOneOfAll, Runs, RunsCreate, RunsReplay, RunsServe}
 use Rattle.volume_commands.proofs.Told.{nothing_told}
 use Rattle.volume_commands.specs.declared.report.Report.{Report}
 use Rattle.volume_commands.specs.declared.report.Report.TheVariants.{Done, Fault, Usage, BadLine, Refused, Memory}

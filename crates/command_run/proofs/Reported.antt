@@ -6,7 +6,7 @@ use Rattle.vol_replay.specs.declared.outcome.Outcome.{Outcome}
 use Rattle.vol_replay.specs.declared.outcome.Outcome.TheVariants.{Done, BadLine, ReadFault, WriteFault, OutOfMemory}
 use Rattle.vol_replay.specs.Written.{IsWritten}
 use Rattle.volume_commands.specs.declared.report.Report.{Report}
-use Rattle.lsvdctl.specs.Run.{report_of, IsReported}
+use Rattle.command_run.specs.Run.{report_of, IsReported}
 
 is_reported : (script text : List ℕ) (outcome : Outcome) → IsWritten script text outcome
     → IsReported script text (report_of outcome)

@@ -1,10 +1,10 @@
 use Rattle.std.proofs.Common.{◌∙◌, ap, map, string_bytes, subst}
 use Rattle.std.specs.Prelude.{Ok, Err}
 use Rattle.command_line.specs.CommandLine.{IsRead, IsRefused}
-use Rattle.lsvdctl.proofs.Ran.{are_refused, one_of_all, runs_as_create, runs_as_memory, runs_as_replay, runs_as_serve}
-use Rattle.lsvdctl.proofs.Ran.{runs_as_usage}
-use Rattle.lsvdctl.proofs.Reported.{reported}
-use Rattle.lsvdctl.proofs.program.execute.Goals as goal
+use Rattle.command_run.proofs.Ran.{are_refused, one_of_all, runs_as_create, runs_as_memory, runs_as_replay, runs_as_serve}
+use Rattle.command_run.proofs.Ran.{runs_as_usage}
+use Rattle.command_run.proofs.Reported.{reported}
+use Rattle.command_run.proofs.running.execute.Goals as goal
 
 pub returns-in-Ok-Replay-clause-output : goal.returns-in-Ok-Replay-clause-output
 returns-in-Ok-Replay-clause-output g c =
