@@ -23,10 +23,12 @@ pub(crate) fn fault_in<'a>(alloc: Global, words: &'a [String]) -> Result<Mistake
     };
     let program = program(alloc)?;
     let word = first.as_str();
-    Ok(match program.find_subcommand(word) {
+    let mistake = match program.find_subcommand(word) {
         Some(command) => fault_of_command(command, words),
         None => Mistake::UnknownCommand { word },
-    })
+    };
+    drop(program);
+    Ok(mistake)
 }
 
 // The mistake in the words after the command's name.

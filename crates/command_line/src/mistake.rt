@@ -87,29 +87,53 @@ impl fmt::Display for Mistake<'_> {
             Mistake::StrayWord { command, word } => {
                 write!(f, "the word {word:?} is no option of {command}")
             }
-            Mistake::NoValue { option } => write!(f, "the option --{option} has no value"),
-            Mistake::FlagValue { flag } => write!(f, "the flag --{flag} takes no value"),
-            Mistake::Twice { option } => write!(f, "the option --{option} is given twice"),
-            Mistake::Missing { option } => write!(f, "the option --{option} is missing"),
-            Mistake::EmptyValue { option } => write!(f, "the value of --{option} is empty"),
+            Mistake::NoValue { option } => write_about(f, "the option", option, "has no value"),
+            Mistake::FlagValue { flag } => write_about(f, "the flag", flag, "takes no value"),
+            Mistake::Twice { option } => write_about(f, "the option", option, "is given twice"),
+            Mistake::Missing { option } => write_about(f, "the option", option, "is missing"),
+            Mistake::EmptyValue { option } => write_about(f, "the value of", option, "is empty"),
             Mistake::NoNumber {
                 option,
                 value,
                 least,
                 most,
-            } => write!(
-                f,
-                "--{option} {value:?} is no number from {least} to {most}"
-            ),
+            } => write_no_number(f, option, value, *least, *most),
             Mistake::NoUuid { option, value } => write!(f, "--{option} {value:?} is no uuid"),
-            Mistake::ShortLog { log, least } => write!(
-                f,
-                "--log {log} is shorter than two records of the longest write, \
-                 2 * (max-write + 1) = {least} sectors"
-            ),
+            Mistake::ShortLog { log, least } => write_short_log(f, *log, *least),
             Mistake::Other => f.write_str("the words are no command line"),
         }
     }
+}
+
+// What is wrong with an option, between the texts before and after its name.
+fn write_about<W: fmt::Write>(
+    f: &mut fmt::Formatter<W>,
+    before: &str,
+    option: &str,
+    after: &str,
+) -> fmt::Result {
+    write!(f, "{before} --{option} {after}")
+}
+
+fn write_no_number<W: fmt::Write>(
+    f: &mut fmt::Formatter<W>,
+    option: &str,
+    value: &str,
+    least: u64,
+    most: u64,
+) -> fmt::Result {
+    write!(
+        f,
+        "--{option} {value:?} is no number from {least} to {most}"
+    )
+}
+
+fn write_short_log<W: fmt::Write>(f: &mut fmt::Formatter<W>, log: u64, least: u64) -> fmt::Result {
+    write!(
+        f,
+        "--log {log} is shorter than two records of the longest write, \
+         2 * (max-write + 1) = {least} sectors"
+    )
 }
 
 /// The mistake in the words after the program's name. None is for words that `request_of` takes, and for

@@ -1,7 +1,7 @@
 ghost use Rattle.std.specs.Prelude.{◌≡◌, List, ℕ, map, string_bytes, IfOk, false};
 ghost use Rattle.clap.specs.Words.{FailsBy, app_of, fault_of, shape_of, subcommand_of, subcommand_rows_of};
 ghost use Rattle.clap.specs.declared.builder.command.Command.TheViews.{out-Command};
-ghost use Rattle.command_line.specs.Program.{lsvdctl, replay};
+ghost use Rattle.command_line.specs.Program.{bare, lsvdctl, replay};
 ghost use Rattle.command_line.specs.CommandLine.{faults_of};
 
 use crate::create::create_command;
@@ -28,16 +28,32 @@ pub(crate) fn matches_of(alloc: Global, words: &[String]) -> Result<ArgMatches<'
 pub(crate) fn program<'a>(alloc: Global) -> Result<Command<'a>, AllocError>
     ensures { IfOk result (λ program. app_of program ≡ lsvdctl) }
 {
-    Command::new(alloc, NAME)
-        .bin_name(NAME)?
-        .version(VERSION)
-        .about("A log-structured virtual disk")
-        .no_binary_name(true)
-        .subcommand_required(true)
-        .disable_help_subcommand(true)
-        .subcommand(replay_command(alloc))?
-        .subcommand(create_command(alloc)?)?
-        .subcommand(serve_command(alloc)?)
+    let program = bare_program(alloc)?.subcommand(replay_command(alloc))?;
+    let Ok(create) = create_command(alloc) else {
+        drop(program);
+        return Err(AllocError);
+    };
+    let program = program.subcommand(create)?;
+    let Ok(serve) = serve_command(alloc) else {
+        drop(program);
+        return Err(AllocError);
+    };
+    program.subcommand(serve)
+}
+
+// The program without its commands.
+fn bare_program<'a>(alloc: Global) -> Result<Command<'a>, AllocError>
+    ensures { IfOk result (λ program. app_of program ≡ bare) }
+{
+    let program = Command::new(alloc, NAME).bin_name(NAME)?;
+    Ok(
+        program
+            .version(VERSION)
+            .about("A log-structured virtual disk")
+            .no_binary_name(true)
+            .subcommand_required(true)
+            .disable_help_subcommand(true),
+    )
 }
 
 // `replay`, which has no options.

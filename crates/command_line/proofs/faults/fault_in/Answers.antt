@@ -21,12 +21,12 @@ returns c =
       | in-Some-find_subcommand w ↦
           let found : Some (shape_of w.in-Some-find_subcommand.command.now) ≡ find (λ s. answers_to word (label_of s)) app.subs =
           sym (ap shapes w.in-Some-find_subcommand.is) ∙ c.find_subcommand.ensures.first in
-          rw w.result-is
-          (command_is_true w.in-Some-find_subcommand.command.now words word split.0 w.fault_of_command.result
+          rw w.mistake-is
+          (command_is_true w.in-Some-find_subcommand.command.now words word split.0 w.fault_of_command-mistake.result
           (command_found app word (shape_of w.in-Some-find_subcommand.command.now) c.in_ok-program.ensures found)
-          split.1 w.fault_of_command.ensures)
+          split.1 w.fault_of_command-mistake.ensures)
       | in-None w ↦
           let found : None ≡ find (λ s. answers_to word (label_of s)) app.subs =
           sym (ap shapes w.in-None.is) ∙ c.find_subcommand.ensures.first in
-          rw w.result-is (by_words (split, no_command_found app word c.in_ok-program.ensures found))
+          rw w.mistake-is (by_words (split, no_command_found app word c.in_ok-program.ensures found))
     ]
