@@ -117,7 +117,14 @@ impl Store for MemStore {
             name: *name,
             bytes: bytes.share()?,
         };
-        keep(&mut self.objects, *name, bytes.share()?)?;
+        let Ok(kept) = bytes.share() else {
+            drop(receipt);
+            return Err(StoreError::OutOfMemory);
+        };
+        if let Err(error) = keep(&mut self.objects, *name, kept) {
+            drop(receipt);
+            return Err(error.into());
+        }
         Ok(receipt)
     }
 

@@ -97,19 +97,14 @@ impl ObjectFiles {
     /// Opens a directory that there is, and syncs it: each name that it has stays over a stop then.
     pub(crate) fn open(rt: &HostRuntime, path: &str) -> Result<ObjectFiles, DirectoryError> {
         let alloc = rt.alloc();
-        if !fs::metadata(rt, path)?.is_dir() {
-            return Err(io::Error::from(ErrorKind::NotADirectory).into());
-        }
-        let directory = File::open(rt, path)?;
-        directory.sync_all()?;
-        let mut mark = [0; 8];
-        rt.fill_bytes(&mut mark)?;
+        let directory = open_directory(rt, path)?;
+        let mark = new_mark(rt)?;
         Ok(ObjectFiles {
             rt: *rt,
             path: String::from_str(alloc, path)?,
             directory,
             is_unsynced: false,
-            mark: u64::from_le_bytes(mark),
+            mark,
             open: LruCache::new(alloc, NonZeroUsize::new(OPEN_FILES).unwrap())?,
         })
     }
@@ -124,8 +119,7 @@ impl ObjectFiles {
     ) -> Result<(), DirectoryError>
         requires { IsName name.now }
     {
-        let spelled = name.print(alloc)?;
-        let path = path_of(alloc, self.path.as_str(), spelled.as_str())?;
+        let path = object_path(alloc, self.path.as_str(), name)?;
         let temporary = temporary_path(alloc, path.as_str(), self.mark)?;
         drop(self.open.pop(name));
         let outcome = self.put_at(path.as_str(), temporary.as_str(), bytes);
@@ -152,10 +146,14 @@ impl ObjectFiles {
     ) -> Result<Option<u64>, DirectoryError>
         requires { IsName name.now }
     {
-        let spelled = name.print(alloc)?;
-        let path = path_of(alloc, self.path.as_str(), spelled.as_str())?;
-        self.settle()?;
-        match fs::metadata(&self.rt, path.as_str()) {
+        let path = object_path(alloc, self.path.as_str(), name)?;
+        if let Err(error) = self.settle() {
+            drop(path);
+            return Err(error.into());
+        }
+        let found = fs::metadata(&self.rt, path.as_str());
+        drop(path);
+        match found {
             Ok(found) if found.is_file() => Ok(Some(found.len())),
             Ok(_) => Err(not_a_file().into()),
             Err(error) if error.kind() == ErrorKind::NotFound => {
@@ -181,14 +179,22 @@ impl ObjectFiles {
             object.read(len, from, buf)?;
             return Ok(());
         }
-        let alloc = self.rt.alloc();
-        let spelled = name.print(alloc)?;
-        let path = path_of(alloc, self.path.as_str(), spelled.as_str())?;
-        let object = OpenObject::open(&self.rt, path.as_str())?;
-        object.read(len, from, buf)?;
+        let object = self.open_object(name)?;
+        if let Err(error) = object.read(len, from, buf) {
+            drop(object);
+            return Err(error.into());
+        }
         // Where there is no memory for its place the file is closed, and is opened again by the next read.
-        let _ = self.open.put(*name, object);
+        drop(self.open.put(*name, object));
         Ok(())
+    }
+
+    // Opens an object's file to be read.
+    fn open_object(&self, name: &ObjName) -> Result<OpenObject, DirectoryError>
+        requires { IsName name.now }
+    {
+        let path = object_path(self.rt.alloc(), self.path.as_str(), name)?;
+        Ok(OpenObject::open(&self.rt, path.as_str())?)
     }
 
     /// The names of a volume's objects, in ascending order. Files that have no name of an object are passed
@@ -203,20 +209,25 @@ impl ObjectFiles {
                 names.insert(name)?;
             }
         }
-        self.stands()?;
-        Ok(Names::from_vec(listed(alloc, &names)?))
+        if let Err(error) = self.stands() {
+            drop(names);
+            return Err(error.into());
+        }
+        let listed = listed(alloc, &names);
+        drop(names);
+        Ok(Names::from_vec(listed?))
     }
 
     /// Removes the file of an object, if there is one.
     pub(crate) fn remove(&mut self, name: &ObjName) -> Result<(), DirectoryError>
         requires { IsName name.now }
     {
-        let alloc = self.rt.alloc();
-        let spelled = name.print(alloc)?;
-        let path = path_of(alloc, self.path.as_str(), spelled.as_str())?;
+        let path = object_path(self.rt.alloc(), self.path.as_str(), name)?;
         drop(self.open.pop(name));
         self.is_unsynced = true;
-        match fs::remove_file(&self.rt, path.as_str()) {
+        let removed = fs::remove_file(&self.rt, path.as_str());
+        drop(path);
+        match removed {
             Ok(()) => {}
             Err(error) if error.kind() == ErrorKind::NotFound => self.stands()?,
             Err(error) => return Err(error.into()),
@@ -252,6 +263,23 @@ impl ObjectFiles {
         }
         Ok(())
     }
+}
+
+// Opens a directory, and syncs it.
+fn open_directory(rt: &HostRuntime, path: &str) -> Result<File, DirectoryError> {
+    if !fs::metadata(rt, path)?.is_dir() {
+        return Err(io::Error::from(ErrorKind::NotADirectory).into());
+    }
+    let directory = File::open(rt, path)?;
+    directory.sync_all()?;
+    Ok(directory)
+}
+
+// A mark that no other value has, as good as chance can tell.
+fn new_mark(rt: &HostRuntime) -> io::Result<u64> {
+    let mut mark = [0; 8];
+    rt.fill_bytes(&mut mark)?;
+    Ok(u64::from_le_bytes(mark))
 }
 
 // An object's file, open to be read.
@@ -383,6 +411,15 @@ fn remove_unless_locked(rt: &HostRuntime, path: Path<'_>) -> io::Result<()> {
         Err(error) if error.kind() == ErrorKind::NotFound => Ok(()),
         outcome => outcome,
     }
+}
+
+// The path of an object's file in a directory.
+fn object_path(alloc: Global, directory: &str, name: &ObjName) -> Result<String, AllocError>
+    requires { IsName name.now }
+    ensures { IfOk result (λ path. string_bytes path ≡ path_in directory.now (spelling name.now)) }
+{
+    let spelled = name.print(alloc)?;
+    path_of(alloc, directory, spelled.as_str())
 }
 
 // The path of a file of a directory.
