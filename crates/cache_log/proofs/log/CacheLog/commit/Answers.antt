@@ -1,13 +1,17 @@
-use Rattle.std.proofs.Common.{◌≡◌, ◌-◌, ℕ, List, take, drop, sym, ◌∙◌, ap, subst}
-use Rattle.std.specs.Prelude.{OnOk, OnErr}
+use Rattle.std.proofs.Common.{◌≡◌, ◌-◌, ◌≤◌, ℕ, Bool, true, false, List, length, take, drop, refl, sym, ◌∙◌, ap, subst, arith}
+use Rattle.std.specs.Prelude.{OnOk, OnErr, if◌then◌else◌, is_ok, nat_lt}
+use Rattle.std.specs.VecDeque.{deque_capacity}
+use Rattle.std.proofs.lemmas.Bool.{lt-ltb, ltb-true, true≢false}
 use Rattle.std.proofs.Math.Path.{subst₂}
 use Rattle.commit_body.specs.declared.body.CommitBody.{CommitBody}
 use Rattle.commit_body.specs.declared.body.Mark.{Mark}
 use Rattle.commit_body.specs.Body.{MayStand}
 use Rattle.commit_slot.specs.Slots.{log_of}
-use Rattle.commit_slot.specs.Commits.{CommitsState}
+use Rattle.commit_slot.specs.Commits.{CommitsState, commit_cost}
+use Rattle.commit_slot.specs.Sequence.{Costs, commit_calls}
 use Rattle.commit_slot.specs.Committing.{IsCommitted, FailsToCommit}
 use Rattle.log_room.specs.Room.{Room, room_of}
+use Rattle.lsvd_device.specs.Device.{DiskState}
 use Rattle.cache_log.specs.declared.row.Row.{Row}
 use Rattle.cache_log.specs.Rows.{since}
 use Rattle.cache_log.specs.Log.{LogState, next_seq}
@@ -150,3 +154,44 @@ returns-clause-err g c =
     let E : LogState → Type 0 = λ l. OnErr c.commit-committed.result (FailsToCommit (body_of l) l.commits new) in
     subst E c.self.view_is (subst (λ b. OnErr c.commit-committed.result (FailsToCommit b old new)) body
     c.commit-committed.ensures.err)
+
+-- the calls of a commit of this body, told of the log as its callers see it
+calls_as : (log log' : LogState) (body : CommitBody) (made : Bool) (new : DiskState) → log ≡ log' → body ≡ body_of log
+    → Costs (commit_cost log.commits.unfinished) (commit_calls log.commits.number log.commits.unfinished body) made
+    log.commits.disk new
+    → Costs (commit_cost log'.commits.unfinished) (commit_calls log'.commits.number log'.commits.unfinished (body_of log')) made
+    log'.commits.disk new
+calls_as log log' body made new is same costs =
+    let P : LogState → CommitBody → Type 0 = λ l more. Costs (commit_cost l.commits.unfinished)
+    (commit_calls l.commits.number l.commits.unfinished more) made l.commits.disk new in
+    subst (λ l. P l (body_of l)) is (subst (P log) same costs)
+
+pub returns-clause-calls : goal.returns-clause-calls
+returns-clause-calls g c =
+    let rows : List Row = drop c.self.inside.dropped c.self.inside.rows.items in
+    let body = body_is c.self.inside.commits.body c.self.inside.room c.self.inside.tail rows c.body-body.result c.head-head.result
+    c.next_seq.result c.body-body.ensures.body c.head-head.ensures.head
+    (c.next_seq.ensures ∙ ap next_seq (sym c.self.view_is)) in
+    calls_as _ c.args.self.now _ (is_ok c.commit-committed.result) c.commit-committed.new.self.disk c.self.view_is body
+    c.commit-committed.ensures.costs
+
+-- room that is told where there was some before
+told_still : (before after : Bool) (room : ℕ) → (before ≡ true → after ≡ true)
+    → (if before then room else 0) ≤ (if after then room else 0)
+told_still true true room still = omega arith
+told_still true false room still = absurd (true≢false (sym (still refl)))
+told_still false after room still = omega arith
+
+room_stays : (count count' capacity capacity' room : ℕ) → count' ≤ count → capacity' ≡ capacity
+    → (if nat_lt count capacity then room else 0) ≤ (if nat_lt count' capacity' then room else 0)
+room_stays count count' capacity capacity' room fewer same =
+    told_still (nat_lt count capacity) (nat_lt count' capacity') room
+    (λ is. let less = ltb-true count capacity is in lt-ltb count' capacity' (omega (arith, less, fewer, same)))
+
+pub returns-clause-reserved : goal.returns-clause-reserved
+returns-clause-reserved g c =
+    let count = c.drop_below.ensures.count in
+    let was = ap (λ (l : LogState). l.reserved) c.self.view_is in
+    rw (← was)
+    (room_stays (length c.self.inside.rows.items) _ (deque_capacity c.self.inside.rows) _ _ (omega (arith, count))
+    c.drop_below.ensures.capacity)
