@@ -100,19 +100,8 @@ impl<D: Disk, R: Receipt> Volume<D, R> {
         ensures faults { CountsFault result self.old.volume self.new.volume }
         ensures bytes { KeepsBytes self.old.volume self.new.volume }
     {
-        self.steps += 1;
-        match event {
-            Event::Write { lba, body } => self.enter(Entry::Write { lba, body }),
-            Event::Zero { lba, sectors } => self.enter(Entry::Zero { lba, sectors }),
-            Event::Flush => self.flush(),
-            Event::Look { lba, sectors } => self.look(lba, sectors),
-            Event::Release(plan) => self.release(plan),
-            Event::Seal => self.seal(),
-            Event::TakeJob => self.take_job(),
-            Event::JobDone { job, receipt } => self.job_done(job, receipt),
-            Event::JobFailed(job) => self.job_failed(job),
-            Event::Status => self.status(),
-        }
+        self.count_step();
+        self.answer(event)
     }
 
     /// How many steps it made since it was mounted.
@@ -176,7 +165,12 @@ impl<D: Disk, R: Receipt> Volume<D, R> {
         ensures same { D.state result ≡ self.volume.log.commits.disk }
         ensures is_disk { IsDisk (D.state result) }
     {
-        self.log.into_disk()
+        let Volume {
+            objects, log, pins, ..
+        } = self;
+        drop(objects);
+        drop(pins);
+        log.into_disk()
     }
 
     /// Lends the device to a closure, which may be called, and changes no more of it than the calls that it
@@ -199,6 +193,43 @@ impl<D: Disk, R: Receipt> Volume<D, R> {
             × FnOnceReturnsAtMut F.FnOnce change disk result left }
     {
         self.log.with_disk(change)
+    }
+
+    // Counts a step, of which fewer than 2^60 were made (a condition).
+    fn count_step(&mut self)
+        requires { self.old.steps < max_number }
+        ensures room { HasRoomForStep self.new }
+        ensures counted { self.new ≡ record self.old { steps = self.old.steps + 1 } }
+    {
+        self.steps += 1;
+    }
+
+    // Does what an event asks for.
+    fn answer(&mut self, event: Event<R>) -> Reply<R>
+        requires ready { HasRoomForStep self.old }
+        requires receipt { HasItsReceipt R.state event }
+        ensures step { StepsAsPlain R.state event result self.old.volume self.new.volume }
+        ensures back { HandsBack event result }
+        ensures plan { HasItsBytes event result }
+        ensures steps { self.new.steps ≡ self.old.steps }
+        ensures sizes { HasSameSizes self.old.volume self.new.volume }
+        ensures numbers { NumbersGrow self.old.volume self.new.volume }
+        ensures stops { StepKeeps self.old.volume self.new.volume }
+        ensures faults { CountsFault result self.old.volume self.new.volume }
+        ensures bytes { KeepsBytes self.old.volume self.new.volume }
+    {
+        match event {
+            Event::Write { lba, body } => self.enter(Entry::Write { lba, body }),
+            Event::Zero { lba, sectors } => self.enter(Entry::Zero { lba, sectors }),
+            Event::Flush => self.flush(),
+            Event::Look { lba, sectors } => self.look(lba, sectors),
+            Event::Release(plan) => self.release(plan),
+            Event::Seal => self.seal(),
+            Event::TakeJob => self.take_job(),
+            Event::JobDone { job, receipt } => self.job_done(job, receipt),
+            Event::JobFailed(job) => self.job_failed(job),
+            Event::Status => self.status(),
+        }
     }
 
     // Enters an entry.
