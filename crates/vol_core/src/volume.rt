@@ -166,7 +166,10 @@ impl<D: Disk, R: Receipt> Volume<D, R> {
         ensures is_disk { IsDisk (D.state result) }
     {
         let Volume {
-            objects, log, pins, ..
+            objects,
+            log,
+            pins,
+            ..
         } = self;
         drop(objects);
         drop(pins);
