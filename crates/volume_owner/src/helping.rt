@@ -62,11 +62,11 @@ fn put<D: Disk, R: Receipt, S: Store<Receipt = R>>(
     let name = object_name(volume.uuid().into_bytes(), job.name().number);
     match store.put(alloc, &name, job.object()) {
         Ok(receipt) => {
-            let _ = volume.step(Event::JobDone { job, receipt });
+            drop(volume.step(Event::JobDone { job, receipt }));
             Ok(())
         }
         Err(error) => {
-            let _ = volume.step(Event::JobFailed(job));
+            drop(volume.step(Event::JobFailed(job)));
             Err(error.into())
         }
     }

@@ -43,7 +43,7 @@ pub(crate) fn read<D: Disk, R: Receipt, S: Store<Receipt = R>>(
     let plan = plan_of(volume.step(Event::Look { lba, sectors }))?;
     let front = plan.front();
     let fetched = plan.fetch(store, buf);
-    let _ = volume.step(Event::Release(plan));
+    drop(volume.step(Event::Release(plan)));
     fetched?;
     Ok(front)
 }

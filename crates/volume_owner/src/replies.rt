@@ -30,11 +30,20 @@ pub(crate) fn attempt_of<R: Receipt>(reply: Reply<R>) -> Attempt
         Reply::Entered(count) => Attempt::Entered(count),
         Reply::NotEntered { entry, why } => match why {
             Refusal::Full(_) | Refusal::NoRoom { .. } => Attempt::Again(entry),
-            Refusal::Fault => Attempt::Failed,
-            Refusal::Range | Refusal::OutOfMemory => Attempt::OutOfMemory,
+            Refusal::Fault => {
+                drop(entry);
+                Attempt::Failed
+            }
+            Refusal::Range | Refusal::OutOfMemory => {
+                drop(entry);
+                Attempt::OutOfMemory
+            }
         },
         Reply::Fault => Attempt::Failed,
-        _ => Attempt::OutOfMemory,
+        other => {
+            drop(other);
+            Attempt::OutOfMemory
+        }
     }
 }
 
@@ -44,7 +53,10 @@ pub(crate) fn job_of<R: Receipt>(reply: Reply<R>) -> Option<Job>
 {
     match reply {
         Reply::Taken(job) => Some(job),
-        _ => None,
+        other => {
+            drop(other);
+            None
+        }
     }
 }
 
@@ -54,12 +66,18 @@ pub(crate) fn plan_of<R: Receipt>(reply: Reply<R>) -> Result<Plan<R>, OwnerError
 {
     match reply {
         Reply::Planned(plan) => Ok(plan),
-        Reply::Fault
-        | Reply::NotEntered {
+        Reply::NotEntered {
+            entry,
             why: Refusal::Fault,
-            ..
-        } => Err(OwnerError::Eio),
-        _ => Err(OwnerError::OutOfMemory),
+        } => {
+            drop(entry);
+            Err(OwnerError::Eio)
+        }
+        Reply::Fault => Err(OwnerError::Eio),
+        other => {
+            drop(other);
+            Err(OwnerError::OutOfMemory)
+        }
     }
 }
 
@@ -69,7 +87,10 @@ pub(crate) fn count_of<R: Receipt>(reply: Reply<R>) -> Option<u64>
 {
     match reply {
         Reply::Flushed(count) => Some(count),
-        _ => None,
+        other => {
+            drop(other);
+            None
+        }
     }
 }
 
@@ -81,6 +102,9 @@ pub(crate) fn seal_of<R: Receipt>(reply: Reply<R>) -> Result<bool, OwnerError>
     match reply {
         Reply::Sealed(_) => Ok(true),
         Reply::Nothing => Ok(false),
-        _ => Err(OwnerError::OutOfMemory),
+        other => {
+            drop(other);
+            Err(OwnerError::OutOfMemory)
+        }
     }
 }
