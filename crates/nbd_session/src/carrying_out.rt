@@ -104,6 +104,7 @@ fn write<D: Disk, R: Receipt, S: Store<Receipt = R>>(
         return Err(ReplyError::NoMemory);
     };
     if body.sectors() == 0 {
+        drop(body);
         return flush_if(owner, is_durable);
     }
     owner.write(alloc, store, lba, body)?;

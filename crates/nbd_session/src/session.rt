@@ -148,7 +148,9 @@ fn serve_request<D: Disk, R: Receipt, S: Store<Receipt = R>, K: Link>(
     }
     let body = read_content(alloc, link, &request, asked)?;
     let outcome = carry_out(alloc, owner, store, asked, body);
-    reply(link, request.cookie, &outcome)?;
+    let told = reply(link, request.cookie, &outcome);
+    drop(outcome);
+    told?;
     Ok(true)
 }
 

@@ -29,9 +29,9 @@ returns-in_err-body-clause-serves g c =
     (sym (g.met.K.Link.one_output c.read_content.new.link) ∙ c.read_content.ensures.other ∙ c.read_request.ensures.other
     ∙ g.met.K.Link.one_output c.args.link.now))
 
-pub returns-in_err-reply-clause-serves : goal.returns-in_err-reply-clause-serves
-returns-in_err-reply-clause-serves g c =
-    let p = err_from_is_err_and c.from_residual-in_err-reply.result c.from_residual-in_err-reply.ensures.1 in
+pub returns-in_err-told-clause-serves : goal.returns-in_err-told-clause-serves
+returns-in_err-told-clause-serves g c =
+    let p = err_from_is_err_and c.from_residual-in_err-told.result c.from_residual-in_err-told.ensures.1 in
     let at = is_asked_at (record { volume = c.args.owner.now; store = g.S.Store.state c.args.store.now }) c.in_ok-request.request
     c.asked_of-asked.result c.geometry.result c.geometry.ensures.same c.asked_of-asked.ensures in
     let has = has_read (g.K.Source.remaining c.args.link.now) _ (g.K.Source.remaining c.read_content.new.link)
@@ -42,14 +42,15 @@ returns-in_err-reply-clause-serves g c =
     (record { volume = c.carry_out-outcome.new.owner; store = g.S.Store.state c.carry_out-outcome.new.store }) has at
     (sym c.is_to_disconnect.ensures ∙ c.if-is_to_disconnect.false) c.requires c.carry_out-outcome.ensures in
     rw (p.1, p.2) (reply_broken g.R.Receipt.state _ _ _ (g.K.Sink.contents c.read_content.new.link) c.in_ok-request.request
-    c.carry_out-outcome.result _ _ c.in_err-reply.field-0.0 carried
-    (sym (g.met.K.Link.one_input c.reply.new.link) ∙ c.reply.ensures.other ∙ g.met.K.Link.one_input c.read_content.new.link)
+    c.carry_out-outcome.result _ _ c.in_err-told.field-0.0 carried
+    (sym (g.met.K.Link.one_input c.reply-told.new.link) ∙ c.reply-told.ensures.other
+    ∙ g.met.K.Link.one_input c.read_content.new.link)
     (sym (g.met.K.Link.one_output c.read_content.new.link) ∙ c.read_content.ensures.other ∙ c.read_request.ensures.other
     ∙ g.met.K.Link.one_output c.args.link.now)
-    c.in_err-reply.ensures.bytes)
+    c.in_err-told.ensures.bytes)
 
-pub returns-in_err-reply-clause-count : goal.returns-in_err-reply-clause-count
-returns-in_err-reply-clause-count g c = search rules
+pub returns-in_err-told-clause-count : goal.returns-in_err-told-clause-count
+returns-in_err-told-clause-count g c = search rules
 
 pub returns-clause-serves : goal.returns-clause-serves
 returns-clause-serves g c =
@@ -64,7 +65,8 @@ returns-clause-serves g c =
     (sym c.is_to_disconnect.ensures ∙ c.if-is_to_disconnect.false) c.requires c.carry_out-outcome.ensures in
     replied g.R.Receipt.state _ _ _ (g.K.Sink.contents c.read_content.new.link) c.in_ok-request.request c.carry_out-outcome.result
     _ _ carried
-    (sym (g.met.K.Link.one_input c.reply.new.link) ∙ c.reply.ensures.other ∙ g.met.K.Link.one_input c.read_content.new.link)
+    (sym (g.met.K.Link.one_input c.reply-told.new.link) ∙ c.reply-told.ensures.other
+    ∙ g.met.K.Link.one_input c.read_content.new.link)
     (sym (g.met.K.Link.one_output c.read_content.new.link) ∙ c.read_content.ensures.other ∙ c.read_request.ensures.other
     ∙ g.met.K.Link.one_output c.args.link.now)
-    c.in_ok-reply.ensures.bytes
+    c.in_ok-told.ensures.bytes
