@@ -3,9 +3,13 @@ use Rattle.std.proofs.Common.{◌≡◌, ℕ, ◌+◌, ◌-◌, ◌^◌, ◌<◌
 use Rattle.std.proofs.Common.{subst, arith}
 use Rattle.std.specs.Prelude.{◌⊎◌, IfSome, IsTrue, is_some}
 use Rattle.std.proofs.lemmas.Bool.{cases_lt}
+use Rattle.std.specs.Option.{IsSome}
 use Rattle.lsvd_objstore.specs.Objects.{Objects, found}
+use Rattle.lsvd_objstore.specs.Store.{ReceiptState, Finds}
 use Rattle.object_format.specs.declared.expected.Expected.{Expected}
 use Rattle.object_format.specs.declared.reason.BadObject.{BadObject}
+use Rattle.object_format.specs.Object.{IsObject}
+use Rattle.object_format.specs.Tests.{IsRefusedAs}
 use Rattle.object_stream.specs.Replay.{name_of}
 use Rattle.stopped_volume.specs.Objects.{landed_in, expected_alone, IsWhole}
 use Rattle.object_recovery.specs.declared.judging.Reached.{Reached}
@@ -14,10 +18,45 @@ use Rattle.object_recovery.specs.declared.judging.Refusal.TheVariants as refusal
 use Rattle.object_recovery.specs.Judging.{IsEndOf, HasEnd, IsEndBefore, expected_after, IsGoodObject, IsBadObject, AreGood}
 use Rattle.object_recovery.specs.Judging.{IsNotData, HaveLanded}
 use Rattle.object_recovery.specs.declared.judging.Judged.{Judged}
-use Rattle.object_recovery.specs.Judged.{IsBadFor, IsJudged, IsJudgedNext, IsGap, GoesToGap, refused_with, StaysRefused}
+use Rattle.object_recovery.specs.declared.reading.ReadObject.{ReadObject}
+use Rattle.object_recovery.specs.declared.reading.ReadObject.TheVariants as read
+use Rattle.object_recovery.specs.Read.{IsReadOf}
+use Rattle.object_recovery.specs.Judged.{judged_by, IsBadFor, IsJudged, IsJudgedNext, IsGap, GoesToGap}
+use Rattle.object_recovery.specs.Judged.{refused_with, StaysRefused}
 use Rattle.object_recovery.specs.Judged.{IsVerdict, IsReached}
 use Rattle.object_recovery.specs.Adoption.{IsWhyLeft, IsLeft}
-use Rattle.object_recovery.proofs.EndLemmas.{before_next}
+use Rattle.object_recovery.proofs.EndLemmas.{before_next, end_of_object}
+use Rattle.object_recovery.proofs.FindLemmas.{of_told}
+
+-- ---- an object that was read
+
+pub told_judged : (told : Option Objects) (expected : Expected) (receipt : ReceiptState) (object : ReadObject) (judged : Judged)
+    → judged ≡ judged_by object
+    → Finds (name_of expected.uuid expected.number) told (Some receipt) → IsSome receipt.told → IsReadOf receipt expected object
+    → IfSome told (λ objects. IsJudged objects expected judged)
+told_judged None expected receipt object judged is finds some held = tt
+told_judged (Some objects) expected receipt (read.Whole rows end) judged is finds some held =
+    let name = name_of expected.uuid expected.number in
+    let bytes = finds.0 in
+    let is_object =
+    of_told (λ bytes size. IsObject bytes size expected held.0 rows) name bytes receipt finds.2 some held.1.told in
+    subst (IsJudged objects expected) (sym is) (record {
+      bytes = bytes;
+      present = finds.1;
+      is_end =
+          subst (λ e. IsEndOf bytes (length bytes) expected (Some e)) held.2
+          (end_of_object bytes (length bytes) expected held.0 rows is_object);
+      is_bad = (held.0, rows, is_object);
+    })
+told_judged (Some objects) expected receipt (read.Bad reason end) judged is finds some held =
+    let name = name_of expected.uuid expected.number in
+    let bytes = finds.0 in
+    subst (IsJudged objects expected) (sym is) (record {
+      bytes = bytes;
+      present = finds.1;
+      is_end = of_told (λ bytes size. IsEndOf bytes size expected end) name bytes receipt finds.2 some held.1;
+      is_bad = of_told (λ bytes size. IsRefusedAs bytes size expected reason) name bytes receipt finds.2 some held.0;
+    })
 
 module _ (volume : Expected) (objects : Objects) where
   -- ---- verdicts

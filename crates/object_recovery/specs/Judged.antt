@@ -7,6 +7,8 @@ use Rattle.object_format.specs.declared.reason.BadObject.{BadObject}
 use Rattle.object_format.specs.Tests.{IsRefusedAs}
 use Rattle.object_stream.specs.Replay.{name_of}
 use Rattle.stopped_volume.specs.Objects.{expected_alone, IsWhole}
+use Rattle.object_recovery.specs.declared.reading.ReadObject.{ReadObject}
+use Rattle.object_recovery.specs.declared.reading.ReadObject.TheVariants as read
 use Rattle.object_recovery.specs.declared.judging.Judged.{Judged}
 use Rattle.object_recovery.specs.declared.judging.Reached.{Reached}
 use Rattle.object_recovery.specs.declared.judging.Refusal.{Refusal}
@@ -26,6 +28,11 @@ pub record IsJudged (objects : Objects) (expected : Expected) (judged : Judged) 
   pub present : found objects (name_of expected.uuid expected.number) ≡ Some bytes
   pub is_end : IsEndOf bytes (length bytes) expected judged.end
   pub is_bad : IsBadFor expected bytes judged.bad
+
+-- how an object was judged that was read so
+abbrev pub judged_by : ReadObject → Judged
+judged_by (read.Whole rows end) = record { end = Some end; bad = None }
+judged_by (read.Bad reason end) = record { end = end; bad = Some reason }
 
 abbrev pub IsJudgement : Objects → Expected → Option Judged → Type 0
 IsJudgement objects expected None = found objects (name_of expected.uuid expected.number) ≡ None

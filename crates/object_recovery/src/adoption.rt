@@ -106,9 +106,14 @@ fn adopt_next<S: Store>(
         return Ok(Next::Missing);
     };
     match read_next(alloc, store, &receipt, &expected)? {
-        NextObject::Left(reached) => Ok(Next::Left(reached)),
+        NextObject::Left(reached) => {
+            drop(receipt);
+            Ok(Next::Left(reached))
+        }
         NextObject::Data(object) => {
-            log.adopt(alloc, object.rows.as_slice(), object.end, receipt)?;
+            let adopted = log.adopt(alloc, object.rows.as_slice(), object.end, receipt);
+            drop(object);
+            adopted?;
             Ok(Next::Adopted)
         }
     }

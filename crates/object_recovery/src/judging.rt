@@ -2,7 +2,8 @@ ghost use Rattle.std.specs.Prelude.{◌≡◌, ◌+◌, ◌^◌, ◌<◌, IfOk, 
 ghost use Rattle.lsvd_objstore.specs.Store.{StoreState, ReceiptState, OnlyCounts};
 ghost use Rattle.lsvd_fault.specs.Faults.{Counts};
 ghost use Rattle.object_recovery.specs.Faults.{ends_by_fault, IsNoAnswer, TellsBytes};
-ghost use Rattle.object_recovery.specs.Judged.{refused_with, StaysRefused, IsJudgement, IsJudgedAlone};
+ghost use Rattle.object_recovery.specs.Judged.{judged_by, refused_with, StaysRefused, IsJudgement};
+ghost use Rattle.object_recovery.specs.Judged.{IsJudgedAlone};
 ghost use Rattle.object_recovery.specs.Judged.{IsJudgedNext, GoesToGap, JudgesPast};
 
 use crate::error::RecoverError;
@@ -184,14 +185,26 @@ fn judge<S: Store>(
     let Some(receipt) = store.find(alloc, &name_of(expected.uuid, expected.number))? else {
         return Ok(None);
     };
-    match read_object(alloc, store, &receipt, expected)? {
-        ReadObject::Whole { end, .. } => Ok(Some(Judged {
-            end: Some(end),
-            bad: None,
-        })),
-        ReadObject::Bad { reason, end } => Ok(Some(Judged {
+    let read = read_object(alloc, store, &receipt, expected);
+    drop(receipt);
+    Ok(Some(judged_by(read?)))
+}
+
+// How an object was judged that was read so.
+fn judged_by(read: ReadObject) -> Judged
+    ensures { result ≡ judged_by read }
+{
+    match read {
+        ReadObject::Whole { rows, end } => {
+            drop(rows);
+            Judged {
+                end: Some(end),
+                bad: None,
+            }
+        }
+        ReadObject::Bad { reason, end } => Judged {
             end,
             bad: Some(reason),
-        })),
+        },
     }
 }

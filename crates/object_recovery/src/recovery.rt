@@ -120,9 +120,20 @@ fn recover_list<S: Store>(
     ensures faults { Counts (ends_by_fault result) (S.state store.old).faults (S.state store.new).faults }
 {
     let mut log = ObjLog::new(alloc, uuid, geometry, base.number, base.end);
-    let left = adopt_all(alloc, store, &mut log)?;
-    judge_rest(alloc, store, &log, names, left)?;
-    Ok(log)
+    let left = match adopt_all(alloc, store, &mut log) {
+        Ok(left) => left,
+        Err(error) => {
+            drop(log);
+            return Err(error);
+        }
+    };
+    match judge_rest(alloc, store, &log, names, left) {
+        Ok(()) => Ok(log),
+        Err(error) => {
+            drop(log);
+            Err(error)
+        }
+    }
 }
 
 // Judges the objects that were not adopted, from this one on or past the first missing number. The error

@@ -1,6 +1,6 @@
 -- For `recover_list`: the list of a volume, and why it is not recovered.
 use Rattle.std.proofs.Common.{◌≡◌, ℕ, ◌+◌, ◌-◌, ◌<◌, ◌^◌, List, false, refl, sym, ◌∙◌, ap, subst, arith}
-use Rattle.std.specs.Prelude.{Option, Some, None, Result, Ok, Err, IfSome, IsErrAnd, OnErr, IsTrue}
+use Rattle.std.specs.Prelude.{Option, Some, None, IfSome, IsTrue}
 use Rattle.std.proofs.lemmas.Bool.Decides.{nat_tests}
 use Rattle.lsvd_base.specs.declared.geometry.Geometry.{Geometry}
 use Rattle.lsvd_base.specs.Limits.{is_within_limits}
@@ -28,7 +28,7 @@ use Rattle.vol_mount.specs.declared.error.MountError.TheVariants.{NotData, NoSlo
 use Rattle.vol_mount.specs.declared.error.MountError.TheVariants.{StoreFault, DeviceFault, OutOfMemory}
 use Rattle.vol_mount.specs.Mounting.{IsStored, RefusesNoneStored}
 use Rattle.vol_mount.specs.Refusals.{of_recovery, IsWhyNotStored, IsWhyLost, refuses, is_device_fault, is_store_fault_of}
-use Rattle.vol_mount.specs.Steps.{IsRecovered, IsRecoveredFrom, IsFault, ends_by_store}
+use Rattle.vol_mount.specs.Steps.{IsRecovered, IsRecoveredFrom, IsFault}
 
 -- ---- the errors of a recovery
 
@@ -261,14 +261,8 @@ why_lost_too DeviceFault uuid geometry epoch objects why = tt
 why_lost_too OutOfMemory uuid geometry epoch objects why = tt
 
 -- an error that is passed on was counted as such
-pub counts_on : {T : Type 0} (outcome : Result T MountError) (error : RecoverError) (old middle new : ℕ)
-    → IsErrAnd outcome (λ e. e ≡ of_recovery error) → middle ≡ old → Counts (is_store_fault error) middle new
-    → Counts (ends_by_store outcome) old new
-counts_on (Ok value) error old middle new is same counts = absurd is
-counts_on (Err e) error old middle new is same counts =
+pub counts_on : (e : MountError) (error : RecoverError) (old middle new : ℕ) → e ≡ of_recovery error → middle ≡ old
+    → Counts (is_store_fault error) middle new → Counts (is_store_fault_of e) old new
+counts_on e error old middle new is same counts =
     let fault : is_store_fault error ≡ is_store_fault_of e = sym (same_fault error) ∙ ap is_store_fault_of (sym is) in
     subst (λ n. Counts (is_store_fault_of e) n new) same (subst (λ b. Counts b middle new) fault counts)
-
-pub on_err : {T E : Type 0} (P : Type 0) (outcome : Result T E) → P → OnErr outcome P
-on_err P (Ok value) holds = tt
-on_err P (Err error) holds = holds

@@ -29,9 +29,11 @@ pub fn refuse_log<S: Store>(
     ensures faults { Counts (is_store_fault_of result) (S.state store.old).faults (S.state store.new).faults }
 {
     let log = Geometry::MAX_LOG;
-    let _recovered = match recover_list(alloc, store, uuid, Geometry { log, ..geometry }) {
-        Ok(recovered) => recovered,
-        Err(error) => return error,
-    };
-    MountError::NoSlot { log: geometry.log }
+    match recover_list(alloc, store, uuid, Geometry { log, ..geometry }) {
+        Ok(recovered) => {
+            drop(recovered);
+            MountError::NoSlot { log: geometry.log }
+        }
+        Err(error) => error,
+    }
 }

@@ -108,7 +108,13 @@ pub fn mount_with_cache<D: Disk, S: Store>(
         end: recovered.log().end(),
         greatest: recovered.greatest_number(),
     };
-    let mut log = open_log(alloc, disk, &known)?;
+    let mut log = match open_log(alloc, disk, &known) {
+        Ok(log) => log,
+        Err(refused) => {
+            drop(recovered);
+            return Err(refused);
+        }
+    };
     match complete(alloc, store, recovered, &mut log) {
         Ok(objects) => Ok(assemble(alloc, objects, log, checkpoint)),
         Err(error) => Err((log.into_disk(), error)),
@@ -145,11 +151,27 @@ fn complete<D: Disk, S: Store>(
 {
     let end = recovered.log().end();
     log.trim_to(end);
-    let entries = log.entries_from(alloc, end)?;
-    recovered.remove_past(alloc, store)?;
+    let entries = match log.entries_from(alloc, end) {
+        Ok(entries) => entries,
+        Err(error) => {
+            drop(recovered);
+            return Err(error.into());
+        }
+    };
+    if let Err(error) = recovered.remove_past(alloc, store) {
+        drop(entries);
+        drop(recovered);
+        return Err(error.into());
+    }
     let mut objects = recovered.into_log();
-    add_all(&mut objects, log, entries)?;
-    log.commit()?;
+    if let Err(error) = add_all(&mut objects, log, entries) {
+        drop(objects);
+        return Err(error);
+    }
+    if let Err(failed) = log.commit() {
+        drop(objects);
+        return Err(failed.into());
+    }
     log.on_disk();
     Ok(objects)
 }

@@ -87,7 +87,10 @@ pub fn mount_without_cache<D: Disk, S: Store>(
     };
     match CacheLog::format(alloc, disk, uuid.into_bytes(), epoch + 1, objects.end()) {
         Ok(log) => Ok(assemble(alloc, objects, log, checkpoint)),
-        Err((disk, failed)) => Err((disk, failed.into())),
+        Err((disk, failed)) => {
+            drop(objects);
+            Err((disk, failed.into()))
+        }
     }
 }
 
@@ -122,7 +125,10 @@ fn begin_epoch<S: Store>(
     ensures faults { Counts (ends_by_store result) (S.state store.old).faults (S.state store.new).faults }
 {
     let recovered = recover_alone(alloc, store, uuid, geometry, epoch)?;
-    put_epoch(alloc, store, uuid, epoch + 1)?;
+    if let Err(error) = put_epoch(alloc, store, uuid, epoch + 1) {
+        drop(recovered);
+        return Err(error.into());
+    }
     Ok(recovered)
 }
 
@@ -159,9 +165,13 @@ fn recover_alone<S: Store>(
     let recovered = recover_list(alloc, store, uuid, geometry)?;
     let numbers = [epoch, recovered.greatest_number(), recovered.log().end()];
     if let Some(value) = worn_number(&numbers) {
+        drop(recovered);
         return Err(MountError::Worn { value });
     }
-    recovered.remove_past(alloc, store)?;
+    if let Err(error) = recovered.remove_past(alloc, store) {
+        drop(recovered);
+        return Err(error.into());
+    }
     let checkpoint = recovered.checkpoint();
     Ok((recovered.into_log(), checkpoint))
 }

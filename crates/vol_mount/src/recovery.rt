@@ -39,6 +39,7 @@ pub(crate) fn recover_list<S: Store>(
 {
     let recovered = recover(alloc, store, uuid, geometry)?;
     if recovered.checkpoint() == 0 {
+        drop(recovered);
         return Err(MountError::NoCheckpoint);
     }
     Ok(recovered)

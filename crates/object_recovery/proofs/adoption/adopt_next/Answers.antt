@@ -9,8 +9,8 @@ use Rattle.object_recovery.specs.Adoption.{IsReadAsData, IsNextRead}
 use Rattle.object_recovery.proofs.AdoptionLemmas.{data_fits, stored_as, left_at}
 use Rattle.object_recovery.proofs.adoption.adopt_next.Goals as goal
 
-pub adopt-requires-clause-fit : goal.adopt-requires-clause-fit
-adopt-requires-clause-fit g c =
+pub adopt-adopted-requires-clause-fit : goal.adopt-adopted-requires-clause-fit
+adopt-adopted-requires-clause-fit g c =
     let receipt = g.S.Receipt.Receipt.state c.in-Some.receipt in
     let expected = c.expected_next-expected.result in
     let low : expected.sectors < 2 ^ 63 = grind
@@ -32,8 +32,8 @@ returns-in-Left-clause-next g c =
           (subst (IsNextRead receipt (next_of c.args.log.now)) c.in-Left.is read),
     )
 
-pub returns-in_ok-adopt-in-Data-clause-next : goal.returns-in_ok-adopt-in-Data-clause-next
-returns-in_ok-adopt-in-Data-clause-next g c =
+pub returns-in_ok-adopted-in-Data-clause-next : goal.returns-in_ok-adopted-in-Data-clause-next
+returns-in_ok-adopted-in-Data-clause-next g c =
     let receipt = g.S.Receipt.Receipt.state c.in-Some.receipt in
     let told = (g.S.Store.state c.args.store.now).objects in
     let next = c.expected_next-expected.ensures in
@@ -51,7 +51,7 @@ returns-in_ok-adopt-in-Data-clause-next g c =
       named = omega (arith, is.1);
       read = is.0;
       adopted =
-          subst (λ list. HasAdoptedObject list end receipt c.args.log.now c.adopt.new.self) c.as_slice.ensures.value
-          c.in_ok-adopt-in-Data.ensures.adopted;
+          subst (λ list. HasAdoptedObject list end receipt c.args.log.now c.adopt-adopted.new.self) c.as_slice.ensures.value
+          c.in_ok-adopted-in-Data.ensures.adopted;
       stored = λ tells. stored_as told (next_of c.args.log.now) receipt rows end finds (tells c.in-Some.receipt) is.0;
     }

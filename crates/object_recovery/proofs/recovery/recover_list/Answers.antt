@@ -8,7 +8,7 @@ use Rattle.object_recovery.specs.Adoption.{IsBegun, JudgesRest, RefusesRest}
 use Rattle.object_recovery.specs.Checkpoints.{expected_of}
 use Rattle.object_recovery.specs.Places.{HasPlacesInside}
 use Rattle.object_recovery.specs.Recovery.{IsListUpTo, IsRefused}
-use Rattle.object_recovery.proofs.FindLemmas.{same_store, passed_on}
+use Rattle.object_recovery.proofs.FindLemmas.{same_store}
 use Rattle.object_recovery.proofs.ListLemmas.{own_list}
 use Rattle.object_recovery.proofs.PlaceLemmas.{no_places}
 use Rattle.object_recovery.proofs.RecoverLemmas.{new_list}
@@ -27,18 +27,15 @@ pub adopt_all-requires-clause-places : goal.adopt_all-requires-clause-places
 adopt_all-requires-clause-places g c = no_places c.new-log.result.batch.geometry.sectors c.new-log.result.uploads.queue
     c.new-log.ensures.settled
 
-pub returns-in_err-left-clause-refused : goal.returns-in_err-left-clause-refused
-returns-in_err-left-clause-refused g c = λ tells.
+pub returns-in-Err-clause-refused : goal.returns-in-Err-clause-refused
+returns-in-Err-clause-refused g c = λ tells.
     let told = (g.S.Store.state c.args.store.now).objects in
     let volume = expected_of c.args.uuid c.args.geometry in
     let Begun = IsBegun c.args.uuid c.args.geometry c.args.base.now.number c.args.base.now.end c.args.names.now in
-    let error = c.in_err-left.field-0.0 in
-    passed_on (λ e. IfSome told (λ objects. Begun objects → IsRefused volume objects e)) c.from_residual.result error
-    c.from_residual.ensures.1
-    (told_failed told volume Begun error c.in_err-left.ensures.answer)
+    told_failed told volume Begun c.in-Err.error c.in-Err.ensures.answer
 
-pub returns-in_err-judge_rest-clause-refused : goal.returns-in_err-judge_rest-clause-refused
-returns-in_err-judge_rest-clause-refused g c = λ tells.
+pub returns-in-Err-judge_rest-clause-refused : goal.returns-in-Err-judge_rest-clause-refused
+returns-in-Err-judge_rest-clause-refused g c = λ tells.
     let told = (g.S.Store.state c.args.store.now).objects in
     let uuid = c.args.uuid in
     let geometry = c.args.geometry in
@@ -51,25 +48,22 @@ returns-in_err-judge_rest-clause-refused g c = λ tells.
     made.sealed made.settled made.log in
     let wide : geometry.sectors < 2 ^ 64 = grind (arith, nat_tests, c.requires) in
     let log = c.adopt_all.new.log in
-    let done = c.in_ok-left.ensures in
+    let done = c.in-Ok.ensures in
     let list =
     subst (λ u. IsListUpTo u geometry log.uploads.window.last log.uploads.queue.end log) new.list.uuid_is
     (subst (λ (sizes : Geometry). IsListUpTo begun.uploads.uuid sizes log.uploads.window.last log.uploads.queue.end log)
     new.list.geometry_is done.list) in
     let after = same_store (g.S.Store.state c.args.store.now) (g.S.Store.state c.adopt_all.new.store) done.unchanged
     done.faults in
-    let error = c.in_err-judge_rest.field-0.0 in
-    let left = c.in_ok-left.left in
-    passed_on (λ e. IfSome told (λ objects. IsBegun uuid geometry base.number base.end names objects
-    → IsRefused volume objects e))
-    c.from_residual-in_err-judge_rest.result error c.from_residual-in_err-judge_rest.ensures.1
-    (told_refuses uuid geometry base.number base.end begun log names left wide new list told error (done.streams tells)
+    let error = c.in-Err-judge_rest.error in
+    let left = c.in-Ok.left in
+    told_refuses uuid geometry base.number base.end begun log names left wide new list told error (done.streams tells)
     (done.good tells) (done.ended tells)
     (subst (λ (s : StoreState). IfSome s.objects (λ objects. RefusesRest objects log names left error)) after
-    (c.in_err-judge_rest.ensures.refused tells)))
+    (c.in-Err-judge_rest.ensures.refused tells))
 
-pub returns-clause-recovers : goal.returns-clause-recovers
-returns-clause-recovers g c = λ tells.
+pub returns-in-Ok-judge_rest-clause-recovers : goal.returns-in-Ok-judge_rest-clause-recovers
+returns-in-Ok-judge_rest-clause-recovers g c = λ tells.
     let told = (g.S.Store.state c.args.store.now).objects in
     let uuid = c.args.uuid in
     let geometry = c.args.geometry in
@@ -81,21 +75,21 @@ returns-clause-recovers g c = λ tells.
     made.sealed made.settled made.log in
     let wide : geometry.sectors < 2 ^ 64 = grind (arith, nat_tests, c.requires) in
     let log = c.adopt_all.new.log in
-    let done = c.in_ok-left.ensures in
+    let done = c.in-Ok.ensures in
     let list =
     subst (λ u. IsListUpTo u geometry log.uploads.window.last log.uploads.queue.end log) new.list.uuid_is
     (subst (λ (sizes : Geometry). IsListUpTo begun.uploads.uuid sizes log.uploads.window.last log.uploads.queue.end log)
     new.list.geometry_is done.list) in
     let after = same_store (g.S.Store.state c.args.store.now) (g.S.Store.state c.adopt_all.new.store) done.unchanged
     done.faults in
-    let left = c.in_ok-left.left in
+    let left = c.in-Ok.left in
     told_recovers uuid geometry base.number base.end begun log names left wide new list told (done.streams tells)
     (done.good tells) (done.ended tells)
     (subst (λ (s : StoreState). IfSome s.objects (λ objects. JudgesRest objects log names left None)) after
-    (c.in_ok-judge_rest.ensures.judged tells))
+    (c.in-Ok-judge_rest.ensures.judged tells))
 
-pub returns-clause-places : goal.returns-clause-places
-returns-clause-places g c =
+pub returns-in-Ok-judge_rest-clause-places : goal.returns-in-Ok-judge_rest-clause-places
+returns-in-Ok-judge_rest-clause-places g c =
     let geometry_is = ap (λ (b : BatchState). b.geometry) c.new-log.ensures.batch in
     subst (λ (sizes : Geometry). HasPlacesInside sizes.sectors c.adopt_all.new.log.uploads.queue) geometry_is
-    c.in_ok-left.ensures.places
+    c.in-Ok.ensures.places

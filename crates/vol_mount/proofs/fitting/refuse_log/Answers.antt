@@ -4,5 +4,5 @@ use Rattle.vol_mount.proofs.fitting.refuse_log.Goals as goal
 pub returns-in-Err-clause-why : goal.returns-in-Err-clause-why
 returns-in-Err-clause-why g c = λ tells. inr (c.in-Err.ensures.why tells)
 
-pub returns-clause-why : goal.returns-clause-why
-returns-clause-why g c = λ tells. inl refl
+pub returns-in-Ok-clause-why : goal.returns-in-Ok-clause-why
+returns-in-Ok-clause-why g c = λ tells. inl refl
