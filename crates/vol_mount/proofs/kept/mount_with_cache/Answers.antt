@@ -12,7 +12,7 @@ use Rattle.vol_core.specs.Shows.{Shows, IsSmall, max_number}
 use Rattle.vol_mount.specs.Costs.{CostsMount}
 use Rattle.vol_mount.specs.Mounted.{MountedState, IsOfVolume, disk_of, NumbersNextCommit}
 use Rattle.vol_mount.specs.Mounting.{MountsLeft, KeepsLeft}
-use Rattle.vol_mount.specs.Refusals.{is_device_fault}
+use Rattle.vol_mount.specs.Refusals.{is_device_fault, is_store_fault_of}
 use Rattle.vol_mount.specs.Steps.{IsOpenedOf, IsWhyNotOpened, mounted_of}
 use Rattle.vol_mount.proofs.StoreLemmas.{same_objects, becomes_from, may_leave_same, may_leave_less}
 use Rattle.vol_mount.proofs.ExtentLemmas.{extent_of}
@@ -39,6 +39,23 @@ returns-in-Err-clause-err_costs g c =
     let old = g.D.Disk.state c.args.disk in
     subst (λ made. CostsMount c.args.geometry.log made old old) (sym (ap not c.in-Err.ensures.no_fault))
     (costs_nothing c.args.geometry old old refl)
+
+pub returns-in-Err-clause-refused : goal.returns-in-Err-clause-refused
+returns-in-Err-clause-refused g c = λ is.
+    same_objects (g.S.Store.state c.args.store.now) (g.S.Store.state c.recover_list.new.store) c.in-Err.ensures.unchanged
+
+pub returns-in-Err-clause-some : goal.returns-in-Err-clause-some
+returns-in-Err-clause-some g c =
+    let old = g.S.Store.state c.args.store.now in
+    let new = g.S.Store.state c.recover_list.new.store in
+    may_leave_same (TellsBytes g.S.Receipt.Receipt.state) c.args.uuid c.args.geometry old.objects new.objects
+    (same_objects old new c.in-Err.ensures.unchanged)
+
+pub returns-in-Err-clause-faults : goal.returns-in-Err-clause-faults
+returns-in-Err-clause-faults g c = c.in-Err.ensures.faults
+
+pub returns-in-Err-clause-is_disk : goal.returns-in-Err-clause-is_disk
+returns-in-Err-clause-is_disk g c = c.requires.is_disk
 
 -- ---- the log was not opened
 
@@ -74,6 +91,10 @@ returns-in-Err-open_log-clause-no_refusal g c = λ tells.
     c.in-Ok.recovered.log
     c.in-Ok.recovered.checkpoint c.in-Ok.ensures.list (c.in-Ok.ensures.told tells) error.1 c.greatest_number.result
     (why_opened g before)
+
+pub returns-in-Err-open_log-clause-refused : goal.returns-in-Err-open_log-clause-refused
+returns-in-Err-open_log-clause-refused g c = λ is.
+    same_objects (g.S.Store.state c.args.store.now) (g.S.Store.state c.recover_list.new.store) c.in-Ok.ensures.unchanged
 
 pub returns-in-Err-open_log-clause-some : goal.returns-in-Err-open_log-clause-some
 returns-in-Err-open_log-clause-some g c =
@@ -176,6 +197,11 @@ returns-in-Err-complete-clause-err_costs g c =
     c.complete.new.log.commits.disk c.in-Ok-open_log.log made
     (opened g before) c.in-Err-complete.ensures.calls)
 
+pub returns-in-Err-complete-clause-faults : goal.returns-in-Err-complete-clause-faults
+returns-in-Err-complete-clause-faults g c =
+    subst (λ n. Counts (is_store_fault_of c.in-Err-complete.error) n (g.S.Store.state c.complete.new.store).faults)
+    c.in-Ok.ensures.faults c.in-Err-complete.ensures.faults
+
 -- ---- it was completed
 
 pub assemble-requires-clause-shows : goal.assemble-requires-clause-shows
@@ -272,3 +298,6 @@ returns-in-Ok-complete-clause-number g c =
     (g.D.Disk.state c.args.disk) c.in-Ok-open_log.log
     c.complete.new.log c.in-Ok-complete.objects c.requires.limits c.in-Ok.ensures.list (opened g at.In-Ok-open_log)
     c.in-Ok-complete.ensures.ok)
+
+pub returns-in-Ok-complete-clause-faults : goal.returns-in-Ok-complete-clause-faults
+returns-in-Ok-complete-clause-faults g c = c.in-Ok-complete.ensures.faults ∙ c.in-Ok.ensures.faults

@@ -1,5 +1,6 @@
 use Rattle.std.proofs.Common.{◌≡◌, ◌+◌, false, ap, sym, subst}
 use Rattle.std.proofs.Math.Path.{subst₂}
+use Rattle.lsvd_fault.specs.Faults.{Counts}
 use Rattle.lsvd_objstore.specs.Store.{Becomes}
 use Rattle.commit_slot.specs.Formatting.{format_cost, format_calls}
 use Rattle.commit_slot.specs.Sequence.{Costs}
@@ -9,13 +10,35 @@ use Rattle.vol_mount.specs.Costs.{CostsNewLog, FailsToFormat}
 use Rattle.vol_mount.specs.Epochs.{BeginsEpoch}
 use Rattle.vol_mount.specs.Mounted.{MountedState, IsOfVolume}
 use Rattle.vol_mount.specs.Mounting.{MountsStored}
-use Rattle.vol_mount.specs.Refusals.{is_device_fault}
+use Rattle.vol_mount.specs.Refusals.{IsWhyLost, is_device_fault, is_store_fault_of}
 use Rattle.vol_mount.proofs.EpochLemmas.{may_have_begun}
 use Rattle.vol_mount.proofs.RecoveryLemmas.{last_landed}
 use Rattle.vol_mount.proofs.LostLemmas.{lost_shows_some, lost_is_small, lost_of_volume, mounts_stored}
 use Rattle.vol_mount.proofs.lost.mount_without_cache.Given as given
 use Rattle.vol_mount.proofs.lost.mount_without_cache.Goals.{In-Ok-format}
 use Rattle.vol_mount.proofs.lost.mount_without_cache.Goals as goal
+
+-- ---- the epoch was not begun
+
+pub returns-in-Err-clause-why : goal.returns-in-Err-clause-why
+returns-in-Err-clause-why g c = c.in-Err.ensures.why
+
+pub returns-in-Err-clause-no_refusal : goal.returns-in-Err-clause-no_refusal
+returns-in-Err-clause-no_refusal g c = c.in-Err.ensures.no_refusal
+
+pub returns-in-Err-clause-refused : goal.returns-in-Err-clause-refused
+returns-in-Err-clause-refused g c = c.in-Err.ensures.refused
+
+pub returns-in-Err-clause-some : goal.returns-in-Err-clause-some
+returns-in-Err-clause-some g c = c.in-Err.ensures.some
+
+pub returns-in-Err-clause-faults : goal.returns-in-Err-clause-faults
+returns-in-Err-clause-faults g c = c.in-Err.ensures.faults
+
+pub returns-in-Err-clause-is_disk : goal.returns-in-Err-clause-is_disk
+returns-in-Err-clause-is_disk g c = c.requires.is_disk
+
+-- ---- the device was formatted, or not
 
 formatted : (g : given.Over) (c : In-Ok-format g)
     → IsFormattedLog c.args.uuid (c.args.epoch + 1) c.in-Ok.recovered.0.uploads.queue.end (g.D.Disk.state c.args.disk)
@@ -87,3 +110,16 @@ returns-in-Err-format-clause-err_costs g c =
           c.in-Err-format.ensures.err;
     } in
     subst (λ error. FailsToFormat c.args.uuid (c.args.epoch + 1) (is_device_fault error) old new) (sym c.into.ensures) costs
+
+pub returns-in-Ok-format-clause-faults : goal.returns-in-Ok-format-clause-faults
+returns-in-Ok-format-clause-faults g c = c.in-Ok.ensures.faults
+
+pub returns-in-Err-format-clause-why : goal.returns-in-Err-format-clause-why
+returns-in-Err-format-clause-why g c = λ tells.
+    subst (IsWhyLost c.args.uuid c.args.geometry c.args.epoch (g.S.Store.state c.args.store.now).objects) (sym c.into.ensures) tt
+
+pub returns-in-Err-format-clause-faults : goal.returns-in-Err-format-clause-faults
+returns-in-Err-format-clause-faults g c =
+    subst (λ e. Counts (is_store_fault_of e) (g.S.Store.state c.args.store.now).faults
+    (g.S.Store.state c.begin_epoch.new.store).faults)
+    (sym c.into.ensures) c.in-Ok.ensures.faults
