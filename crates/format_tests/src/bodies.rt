@@ -1,7 +1,7 @@
 use crate::case::Case;
-use crate::error::TestError;
-use crate::lines::{head, tell, tell_bytes};
+use crate::lines::tell_bytes;
 use commit_body::{CommitBody, Mark, read_body, write_body};
+use test_output::{TestError, head, tell};
 
 // A commit, with the length of a log that it may be one of, in sectors, and its slot.
 struct Commit {

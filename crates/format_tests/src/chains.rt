@@ -1,7 +1,6 @@
-use crate::error::TestError;
-use crate::lines::{head, tell};
 use clone_chain::{Chain, ExtendError};
 use std::alloc::Global;
+use test_output::{TestError, head, tell};
 use uuid::Uuid;
 
 /// Writes the levels of a volume that is a clone, fifteen times over.
@@ -11,6 +10,12 @@ pub fn tell_all(rt: &HostRuntime) -> Result<(), TestError> {
         "Clones of clones up to volume 15, each cloned at checkpoint 100 and its number",
     )?;
     let chain = chain_of(rt.alloc(), 15)?;
+    let told = tell_chain(rt, &chain);
+    drop(chain);
+    told
+}
+
+fn tell_chain(rt: &HostRuntime, chain: &Chain) -> Result<(), TestError> {
     tell(rt, "ancestors", &chain.count())?;
     for number in [0, 1, 2, 14, 15, 16] {
         let level = chain.level_of(Uuid::from_u128(number));
@@ -20,7 +25,7 @@ pub fn tell_all(rt: &HostRuntime) -> Result<(), TestError> {
         let checkpoint = chain.ancestor(level).map(|ancestor| ancestor.checkpoint);
         println!(rt; "  level {level} has the checkpoint {checkpoint:?}")?;
     }
-    tell(rt, "a clone more", &clone_of(rt.alloc(), &chain, 16).err())
+    tell(rt, "a clone more", &clone_of(rt.alloc(), chain, 16).err())
 }
 
 // The chain of the volume after so many, each a clone of the one before.

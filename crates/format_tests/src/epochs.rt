@@ -1,7 +1,8 @@
 use crate::case::Case;
-use crate::error::TestError;
-use crate::lines::{head, tell, tell_bytes};
+use crate::lines::tell_bytes;
+use std::alloc::{AllocError, Global};
 use super_format::Epoch;
+use test_output::{TestError, head, tell};
 use uuid::Uuid;
 
 fn epoch() -> Epoch {
@@ -41,15 +42,32 @@ pub fn tell_all(rt: &HostRuntime) -> Result<(), TestError> {
         "Epoch 0102030405060708 of the clone, changed, and whether it is read",
     )?;
     let object = epoch().write(rt.alloc())?;
-    tell_bytes(rt, object.as_bytes(), 32)?;
+    let told = tell_changed(rt, object.as_bytes());
+    drop(object);
+    told
+}
+
+fn tell_changed(rt: &HostRuntime, object: &[u8]) -> Result<(), TestError> {
+    tell_bytes(rt, object, 32)?;
     for case in CASES {
-        let bytes = case.bytes(rt.alloc(), object.as_bytes())?;
-        tell(rt, case.what, &is_read(bytes.as_slice()))?;
+        tell_case(rt, case, object)?;
     }
-    let mut longer = object.as_bytes().to_vec(rt.alloc())?;
-    longer.extend_from_slice(&[0])?;
-    tell(rt, "a byte more", &is_read(longer.as_slice()))?;
+    tell(rt, "a byte more", &is_longer_read(rt.alloc(), object)?)?;
     tell(rt, "no byte", &is_read(&[]))
+}
+
+fn tell_case(rt: &HostRuntime, case: &Case, object: &[u8]) -> Result<(), TestError> {
+    let bytes = case.bytes(rt.alloc(), object)?;
+    let is_read = is_read(bytes.as_slice());
+    drop(bytes);
+    tell(rt, case.what, &is_read)
+}
+
+// Whether an object is read with a byte more.
+fn is_longer_read(alloc: Global, object: &[u8]) -> Result<bool, AllocError> {
+    let mut longer = object.to_vec(alloc)?;
+    longer.extend_from_slice(&[0])?;
+    Ok(is_read(longer.as_slice()))
 }
 
 // Whether bytes are read as the epoch.

@@ -1,6 +1,5 @@
-use crate::error::TestError;
-use crate::lines::head;
 use lsvd_names::ObjName;
+use test_output::{TestError, head};
 
 const NAMES: &[&str] = &[
     "00000000-0000-4000-8000-000000000001.super",

@@ -2,14 +2,14 @@ ghost use Rattle.std.specs.Prelude.{◌≡◌, ◌*◌, ◌<◌, ◌^◌, length
 ghost use Rattle.object_format.specs.Rows.{count_of};
 ghost use Rattle.object_format.specs.Writing.{payload_of};
 
-use crate::error::TestError;
-use crate::lines::{head, tell, tell_bytes};
+use crate::lines::tell_bytes;
 use lsvd_base::ObjectBytes;
 use object_format::{
     BadObject, CopyRow, DataRow, Expected, Kind, ObjectWriter, ReadError, Rows, Source,
     read_header, read_rows,
 };
 use std::alloc::Global;
+use test_output::{TestError, head, tell};
 
 /// Object 2 of a volume of 64 sectors, whose object 1 ends with the seq 0.
 pub const SECOND: Expected = Expected {
@@ -33,18 +33,22 @@ pub fn tell_all(rt: &HostRuntime) -> Result<(), TestError> {
         rt,
         "The first object of a new volume, a checkpoint without rows",
     )?;
-    let first = object_of(rt.alloc(), &FIRST, 0, &Rows::Checkpoint, &[])?;
-    tell_object(rt, first.as_bytes(), &FIRST)?;
+    tell_object(rt, first_object(rt.alloc())?, &FIRST)?;
     head(
         rt,
         "Data object 2, of a first write of one sector of the byte 41 at the lba 0",
     )?;
-    tell_object(rt, data_object(rt.alloc())?.as_bytes(), &SECOND)?;
+    tell_object(rt, data_object(rt.alloc())?, &SECOND)?;
     head(
         rt,
         "Copy 2, of the sector 10 from the sector 258 of the payload of object 1",
     )?;
-    tell_object(rt, copy_object(rt.alloc())?.as_bytes(), &SECOND)
+    tell_object(rt, copy_object(rt.alloc())?, &SECOND)
+}
+
+// A checkpoint without rows.
+fn first_object(alloc: Global) -> Result<ObjectBytes, TestError> {
+    object_of(alloc, &FIRST, 0, &Rows::Checkpoint, &[])
 }
 
 /// The data object of one sector.
@@ -96,7 +100,17 @@ fn object_of(
 }
 
 // Writes an object: its header, its rows and what comes after them, and what is read of it.
-fn tell_object(rt: &HostRuntime, bytes: &[u8], expected: &Expected) -> Result<(), TestError> {
+fn tell_object(
+    rt: &HostRuntime,
+    object: ObjectBytes,
+    expected: &Expected,
+) -> Result<(), TestError> {
+    let told = tell_bytes_of(rt, object.as_bytes(), expected);
+    drop(object);
+    told
+}
+
+fn tell_bytes_of(rt: &HostRuntime, bytes: &[u8], expected: &Expected) -> Result<(), TestError> {
     let (front, payload) = bytes.split_at(512.min(bytes.len()));
     let (header, rows) = front.split_at(64.min(front.len()));
     tell_bytes(rt, header, 64)?;

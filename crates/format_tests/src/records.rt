@@ -1,10 +1,10 @@
 use crate::case::Case;
-use crate::error::TestError;
-use crate::lines::{head, tell, tell_bytes};
+use crate::lines::tell_bytes;
 use log_record::{BadRecord, Head, Place, Reason, decode, encode_into, encode_pad};
 use log_room::record_sectors;
 use lsvd_base::{Body, Entry, Geometry, SECTOR_BYTES};
 use std::alloc::{AllocError, Global};
+use test_output::{TestError, head, tell};
 
 const GEOMETRY: Geometry = Geometry {
     sectors: 64,
@@ -42,22 +42,39 @@ pub fn tell_all(rt: &HostRuntime) -> Result<(), TestError> {
 }
 
 fn tell_records(rt: &HostRuntime) -> Result<(), TestError> {
-    let write = record(rt.alloc(), &one_write(rt.alloc())?, 0)?;
-    let (header, data) = write.as_slice().split_at(512.min(write.len()));
     head(
         rt,
         "The record of a write of one sector at the lba 0 with the seq 0",
     )?;
-    tell_bytes(rt, header, 36)?;
-    tell_bytes(rt, data, 0)?;
-    let zero = record(rt.alloc(), &A_ZEROING, SEQ)?;
+    tell_record(rt, write_record(rt.alloc())?)?;
     head(
         rt,
         "The record of a zeroing at 1112131415161718 of 2122232425262728 sectors",
     )?;
-    tell_bytes(rt, zero.as_slice(), 36)?;
+    tell_record(rt, record(rt.alloc(), &A_ZEROING, SEQ)?)?;
     head(rt, "A pad with three sectors after its header")?;
     tell_bytes(rt, &pad(), 36)
+}
+
+// Writes a record: its header, and its data, if there are any.
+fn tell_record(rt: &HostRuntime, record: Vec<u8>) -> Result<(), TestError> {
+    let (header, data) = record.as_slice().split_at(512.min(record.len()));
+    let told = tell_parts(rt, header, data);
+    drop(record);
+    told
+}
+
+fn tell_parts(rt: &HostRuntime, header: &[u8], data: &[u8]) -> Result<(), TestError> {
+    tell_bytes(rt, header, 36)?;
+    tell_bytes(rt, data, 0)
+}
+
+// The record of a write of one sector, with the seq 0.
+fn write_record(alloc: Global) -> Result<Vec<u8>, AllocError> {
+    let write = one_write(alloc)?;
+    let bytes = record(alloc, &write, 0);
+    drop(write);
+    bytes
 }
 
 const A_ZEROING: Entry = Entry::Zero {
@@ -111,9 +128,11 @@ const WRITE_AT: &[(&str, u64, u64, bool)] = &[
 
 fn tell_write_at(rt: &HostRuntime) -> Result<(), TestError> {
     head(rt, "That write, at a place")?;
-    let write = record(rt.alloc(), &one_write(rt.alloc())?, 0)?;
+    let write = write_record(rt.alloc())?;
     let (header, _data) = write.as_slice().split_at(512.min(write.len()));
-    tell_places(rt, header, 0, WRITE_AT)
+    let told = tell_places(rt, header, 0, WRITE_AT);
+    drop(write);
+    told
 }
 
 const PAD_AT: &[(&str, u64, u64, bool)] = &[
@@ -234,15 +253,27 @@ fn tell_refused(rt: &HostRuntime) -> Result<(), TestError> {
         "The header of a zeroing of 7 sectors at the lba 5 with the seq 9, at sector 10 of the log",
     )?;
     let zeroing = record(rt.alloc(), &Entry::Zero { lba: 5, sectors: 7 }, 9)?;
+    let told = tell_cases(rt, zeroing.as_slice());
+    drop(zeroing);
+    told
+}
+
+fn tell_cases(rt: &HostRuntime, zeroing: &[u8]) -> Result<(), TestError> {
+    for case in CASES {
+        tell_case(rt, case, zeroing)?;
+    }
+    Ok(())
+}
+
+fn tell_case(rt: &HostRuntime, case: &Case, zeroing: &[u8]) -> Result<(), TestError> {
     let place = Place {
         position: 10,
         ..FIRST
     };
-    for case in CASES {
-        let sector = case.bytes(rt.alloc(), zeroing.as_slice())?;
-        tell(rt, case.what, &read(sector.as_slice(), 9, &place))?;
-    }
-    Ok(())
+    let sector = case.bytes(rt.alloc(), zeroing)?;
+    let found = read(sector.as_slice(), 9, &place);
+    drop(sector);
+    tell(rt, case.what, &found)
 }
 
 fn tell_reasons(rt: &HostRuntime) -> Result<(), TestError> {

@@ -1,8 +1,7 @@
 use crate::case::Case;
-use crate::error::TestError;
-use crate::lines::{head, tell};
 use crate::objects::{SECOND, data_object, read};
 use object_format::{BadObject, ReadError, read_header};
+use test_output::{TestError, head, tell};
 
 const REASONS: [BadObject; 8] = [
     BadObject::Length,
@@ -137,12 +136,23 @@ pub fn tell_all(rt: &HostRuntime) -> Result<(), TestError> {
 fn tell_changed(rt: &HostRuntime) -> Result<(), TestError> {
     head(rt, "That data object, changed, and the reason to refuse it")?;
     let object = data_object(rt.alloc())?;
+    let told = tell_cases(rt, object.as_bytes());
+    drop(object);
+    told
+}
+
+fn tell_cases(rt: &HostRuntime, object: &[u8]) -> Result<(), TestError> {
     for case in CASES {
-        let bytes = case.bytes(rt.alloc(), object.as_bytes())?;
-        let refused = read(rt.alloc(), bytes.as_slice(), &SECOND)?.err();
-        tell(rt, case.what, &refused)?;
+        tell_case(rt, case, object)?;
     }
     Ok(())
+}
+
+fn tell_case(rt: &HostRuntime, case: &Case, object: &[u8]) -> Result<(), TestError> {
+    let bytes = case.bytes(rt.alloc(), object)?;
+    let outcome = read(rt.alloc(), bytes.as_slice(), &SECOND);
+    drop(bytes);
+    tell(rt, case.what, &outcome?.err())
 }
 
 fn tell_lengths(rt: &HostRuntime) -> Result<(), TestError> {
@@ -151,8 +161,14 @@ fn tell_lengths(rt: &HostRuntime) -> Result<(), TestError> {
         "Its header, with another kind and another length, and the reason to refuse it",
     )?;
     let object = data_object(rt.alloc())?;
+    let told = tell_each_length(rt, object.as_bytes());
+    drop(object);
+    told
+}
+
+fn tell_each_length(rt: &HostRuntime, object: &[u8]) -> Result<(), TestError> {
     for (kind, length) in LENGTHS {
-        tell_length(rt, object.as_bytes(), *kind, *length)?;
+        tell_length(rt, object, *kind, *length)?;
     }
     Ok(())
 }
@@ -164,6 +180,7 @@ fn tell_length(rt: &HostRuntime, object: &[u8], kind: u8, length: usize) -> Resu
         bytes[11] = kind;
     }
     let refused = read_header(bytes.as_slice(), bytes.len() as u64, &SECOND).err();
+    drop(bytes);
     println!(rt; "  kind {kind}, {length} bytes: {refused:?}")?;
     Ok(())
 }
@@ -174,8 +191,14 @@ fn tell_counts(rt: &HostRuntime) -> Result<(), TestError> {
         "Its header, with other counts and the length that they make, and the reason to refuse it",
     )?;
     let object = data_object(rt.alloc())?;
+    let told = tell_each_count(rt, object.as_bytes());
+    drop(object);
+    told
+}
+
+fn tell_each_count(rt: &HostRuntime, object: &[u8]) -> Result<(), TestError> {
     for (rows, payload, sectors) in COUNTS {
-        tell_count(rt, object.as_bytes(), *rows, *payload, *sectors)?;
+        tell_count(rt, object, *rows, *payload, *sectors)?;
     }
     Ok(())
 }
@@ -195,6 +218,7 @@ fn tell_count(
     bytes[60..64].copy_from_slice(&payload.to_be_bytes());
     let size = sectors.saturating_mul(512);
     let refused = read_header(bytes.as_slice(), size, &SECOND).err();
+    drop(bytes);
     println!(rt; "  {rows} rows, {payload} sectors of payload: {refused:?}")?;
     Ok(())
 }

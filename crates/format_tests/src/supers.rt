@@ -1,10 +1,10 @@
 use crate::case::Case;
-use crate::error::TestError;
-use crate::lines::{head, tell, tell_bytes};
+use crate::lines::tell_bytes;
 use clone_chain::{Ancestor, Chain};
 use lsvd_base::ObjectBytes;
 use std::alloc::{AllocError, Global};
 use super_format::{ReadError, Reason, Super};
+use test_output::{TestError, head, tell};
 use uuid::Uuid;
 
 // The uuid of a volume that is no clone, of a clone of it, and of a clone of that.
@@ -81,8 +81,14 @@ fn tell_read(rt: &HostRuntime, bytes: &[u8], uuid: u128) -> Result<(), TestError
     let read = Super::read(rt.alloc(), bytes, Uuid::from_u128(uuid)).map_err(
         |_| TestError::Refused,
     )?;
-    tell(rt, "read again", &read.geometry(128))?;
-    for ancestor in read.chain.ancestors() {
+    let told = tell_volume(rt, &read);
+    drop(read);
+    told
+}
+
+fn tell_volume(rt: &HostRuntime, volume: &Super) -> Result<(), TestError> {
+    tell(rt, "read again", &volume.geometry(128))?;
+    for ancestor in volume.chain.ancestors() {
         println!(rt; "  checkpoint {} of {}", ancestor.checkpoint, ancestor.uuid)?;
     }
     Ok(())
@@ -189,16 +195,31 @@ fn tell_refused(rt: &HostRuntime) -> Result<(), TestError> {
         "The super object of the clone, changed or cut off, and the reason to refuse it",
     )?;
     let object = object_of(rt.alloc(), THIRD, ANCESTORS)?;
+    let told = tell_changed(rt, object.as_bytes());
+    drop(object);
+    told
+}
+
+fn tell_changed(rt: &HostRuntime, object: &[u8]) -> Result<(), TestError> {
     for case in CASES {
-        let bytes = case.bytes(rt.alloc(), object.as_bytes())?;
-        tell(rt, case.what, &reason_of(rt.alloc(), bytes.as_slice())?)?;
+        tell_case(rt, case, object)?;
     }
     for length in LENGTHS {
-        let (bytes, _rest) = object
-            .as_bytes()
-            .split_at(length.min(object.as_bytes().len()));
-        println!(rt; "  {length} bytes: {:?}", reason_of(rt.alloc(), bytes)?)?;
+        tell_length(rt, object, length)?;
     }
+    Ok(())
+}
+
+fn tell_case(rt: &HostRuntime, case: &Case, object: &[u8]) -> Result<(), TestError> {
+    let bytes = case.bytes(rt.alloc(), object)?;
+    let reason = reason_of(rt.alloc(), bytes.as_slice());
+    drop(bytes);
+    tell(rt, case.what, &reason?)
+}
+
+fn tell_length(rt: &HostRuntime, object: &[u8], length: usize) -> Result<(), TestError> {
+    let (bytes, _rest) = object.split_at(length.min(object.len()));
+    println!(rt; "  {length} bytes: {:?}", reason_of(rt.alloc(), bytes)?)?;
     Ok(())
 }
 
@@ -208,16 +229,30 @@ fn tell_counts(rt: &HostRuntime) -> Result<(), TestError> {
         "The clone, with so many ancestors of other uuids, and the reason to refuse it",
     )?;
     for count in [15, 16] {
-        let bytes = with_ancestors(rt.alloc(), count)?;
-        println!(rt; "  {count}: {:?}", reason_of(rt.alloc(), bytes.as_slice())?)?;
+        tell_count(rt, count)?;
     }
+    Ok(())
+}
+
+fn tell_count(rt: &HostRuntime, count: u8) -> Result<(), TestError> {
+    let bytes = with_ancestors(rt.alloc(), count)?;
+    let reason = reason_of(rt.alloc(), bytes.as_slice());
+    drop(bytes);
+    println!(rt; "  {count}: {:?}", reason?)?;
     Ok(())
 }
 
 // The super object of the clone, with ancestors that have these many numbers as their uuids.
 fn with_ancestors(alloc: Global, count: u8) -> Result<Vec<u8>, TestError> {
     let object = object_of(alloc, THIRD, &[])?;
-    let mut bytes = object.as_bytes().to_vec(alloc)?;
+    let copied = object.as_bytes().to_vec(alloc);
+    drop(object);
+    let mut bytes = copied?;
+    add_ancestors(&mut bytes, count)?;
+    Ok(bytes)
+}
+
+fn add_ancestors(bytes: &mut Vec<u8>, count: u8) -> Result<(), TestError> {
     for number in 0..count {
         let mut ancestor = [0; 24];
         ancestor[15] = number;
@@ -227,7 +262,7 @@ fn with_ancestors(alloc: Global, count: u8) -> Result<Vec<u8>, TestError> {
         return Err(TestError::Refused);
     }
     bytes[47] = count;
-    Ok(bytes)
+    Ok(())
 }
 
 fn tell_reasons(rt: &HostRuntime) -> Result<(), TestError> {

@@ -1,9 +1,8 @@
-use crate::error::TestError;
-use crate::telling::heading;
 use lsvd_device::{Disk, FileDisk, FileError};
 use lsvd_fault::Failed;
 use std::fs;
 use std::fs::OpenOptions;
+use test_output::{TestError, head};
 
 // The file of the tests, in the folder where the program runs.
 const PATH: &str = "disk";
@@ -18,7 +17,7 @@ const PLACES: &[u64] = &[0, 4, 20, PIECE - 2, 2 * PIECE - 1, LEN - 4];
 
 /// Tells what a disk over a file does.
 pub fn tell_all(rt: &HostRuntime) -> Result<(), TestError> {
-    heading(rt, "disks over a file")?;
+    head(rt, "disks over a file")?;
     let _ = fs::remove_file(rt, PATH);
     tell_outcome(rt, "opened, absent", FileDisk::open(rt, PATH))?;
     tell_outcome(rt, "made, a directory", FileDisk::create(rt, ".", 8))?;
@@ -27,8 +26,13 @@ pub fn tell_all(rt: &HostRuntime) -> Result<(), TestError> {
     tell_made(rt)?;
     tell_found(rt)?;
     tell_outcome(rt, "made anew", FileDisk::create(rt, PATH, 8))?;
-    println!(rt; " the file has {} bytes", fs::metadata(rt, PATH)?.len())?;
+    tell_size(rt)?;
     fs::remove_file(rt, PATH)?;
+    Ok(())
+}
+
+fn tell_size(rt: &HostRuntime) -> Result<(), TestError> {
+    println!(rt; " the file has {} bytes", fs::metadata(rt, PATH)?.len())?;
     Ok(())
 }
 
@@ -39,21 +43,38 @@ fn tell_outcome(
     outcome: Result<FileDisk, FileError>,
 ) -> Result<(), TestError> {
     match outcome {
-        Ok(disk) => println!(rt; " {what}: {} bytes", disk.len())?,
-        Err(error) => println!(rt; " {what}: {error}")?,
+        Ok(disk) => tell_disk(rt, what, disk),
+        Err(error) => tell_error(rt, what, error),
     }
+}
+
+fn tell_disk(rt: &HostRuntime, what: &str, disk: FileDisk) -> Result<(), TestError> {
+    let size = disk.len();
+    drop(disk);
+    println!(rt; " {what}: {size} bytes")?;
+    Ok(())
+}
+
+fn tell_error(rt: &HostRuntime, what: &str, error: FileError) -> Result<(), TestError> {
+    println!(rt; " {what}: {error}")?;
     Ok(())
 }
 
 // Makes a disk and writes to it; another disk cannot have the file as long as this one lives.
 fn tell_made(rt: &HostRuntime) -> Result<(), TestError> {
     let mut disk = FileDisk::create(rt, PATH, LEN)?;
-    println!(rt; " the file has {} bytes", fs::metadata(rt, PATH)?.len())?;
+    let told = tell_writes(rt, &mut disk);
+    drop(disk);
+    told
+}
+
+fn tell_writes(rt: &HostRuntime, disk: &mut FileDisk) -> Result<(), TestError> {
+    tell_size(rt)?;
     for at in PLACES {
-        tell_four(rt, &mut disk, *at)?;
+        tell_four(rt, disk, *at)?;
     }
-    write_four(&mut disk, PIECE - 2, b"abcd")?;
-    write_four(&mut disk, LEN - 4, b"wxyz")?;
+    write_four(disk, PIECE - 2, b"abcd")?;
+    write_four(disk, LEN - 4, b"wxyz")?;
     disk.sync()?;
     tell_outcome(rt, "opened, in use", FileDisk::open(rt, PATH))?;
     tell_outcome(rt, "made, in use", FileDisk::create(rt, PATH, 1))
@@ -62,24 +83,33 @@ fn tell_made(rt: &HostRuntime) -> Result<(), TestError> {
 // Opens it again, and has someone else cut the file: a read past its end fails.
 fn tell_found(rt: &HostRuntime) -> Result<(), TestError> {
     let mut disk = FileDisk::open(rt, PATH)?;
+    let told = tell_reads(rt, &mut disk);
+    drop(disk);
+    told
+}
+
+fn tell_reads(rt: &HostRuntime, disk: &mut FileDisk) -> Result<(), TestError> {
     println!(rt; " opened: {} bytes", disk.len())?;
-    tell_four(rt, &mut disk, PIECE - 1)?;
-    tell_four(rt, &mut disk, LEN - 4)?;
-    tell_faults(rt, &disk)?;
-    OpenOptions::new()
-        .write(true)
-        .open(rt, PATH)?
-        .set_len(PIECE)?;
-    tell_four(rt, &mut disk, PIECE - 2)?;
-    tell_four(rt, &mut disk, PIECE - 4)?;
-    tell_faults(rt, &disk)
+    tell_four(rt, disk, PIECE - 1)?;
+    tell_four(rt, disk, LEN - 4)?;
+    tell_faults(rt, disk)?;
+    cut(rt)?;
+    tell_four(rt, disk, PIECE - 2)?;
+    tell_four(rt, disk, PIECE - 4)?;
+    tell_faults(rt, disk)
+}
+
+fn cut(rt: &HostRuntime) -> Result<(), TestError> {
+    let file = OpenOptions::new().write(true).open(rt, PATH)?;
+    file.set_len(PIECE)?;
+    Ok(())
 }
 
 // Tells the four bytes from a place on.
 fn tell_four(rt: &HostRuntime, disk: &mut FileDisk, at: u64) -> Result<(), TestError> {
     let size = disk.len();
     if size < 4 || size - 4 < at {
-        return Err(TestError::Limit);
+        return Err(TestError::Refused);
     }
     let mut part = [0xff; 4];
     match disk.read(at, &mut part) {
@@ -92,7 +122,7 @@ fn tell_four(rt: &HostRuntime, disk: &mut FileDisk, at: u64) -> Result<(), TestE
 fn write_four(disk: &mut FileDisk, at: u64, piece: &[u8; 4]) -> Result<(), TestError> {
     let size = disk.len();
     if size < 4 || size - 4 < at {
-        return Err(TestError::Limit);
+        return Err(TestError::Refused);
     }
     disk.write(at, piece)?;
     Ok(())

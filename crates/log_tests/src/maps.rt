@@ -1,6 +1,5 @@
-use crate::error::TestError;
-use crate::telling::heading;
 use extent_map::{Extent, ExtentMap};
+use test_output::{TestError, head};
 
 // A change of so many sectors from one on: they get the places from one on, or none.
 #[derive(Clone, Copy, Debug)]
@@ -32,11 +31,11 @@ const MOST: u64 = 1 << 20;
 
 /// Tells the rows of maps whose places are numbers.
 pub fn tell_all(rt: &HostRuntime) -> Result<(), TestError> {
-    heading(rt, "rows of extents")?;
+    head(rt, "rows of extents")?;
     for changes in CHANGES {
         tell_rows(rt, changes)?;
     }
-    heading(
+    head(
         rt,
         "a look at the sectors 2 to 5, and the first of its rows",
     )?;
@@ -46,15 +45,22 @@ pub fn tell_all(rt: &HostRuntime) -> Result<(), TestError> {
 // Makes changes of an empty map, and tells its rows.
 fn tell_rows(rt: &HostRuntime, changes: &[Change]) -> Result<(), TestError> {
     let map = changed(rt, changes)?;
-    tell(rt, map.rows(rt.alloc())?.as_slice())
+    let rows = map.rows(rt.alloc());
+    drop(map);
+    tell(rt, rows?)
 }
 
 fn changed(rt: &HostRuntime, changes: &[Change]) -> Result<ExtentMap<u64>, TestError> {
     let mut map = ExtentMap::new(rt.alloc());
-    for change in changes {
-        make(&mut map, *change)?;
-    }
+    make_all(&mut map, changes)?;
     Ok(map)
+}
+
+fn make_all(map: &mut ExtentMap<u64>, changes: &[Change]) -> Result<(), TestError> {
+    for change in changes {
+        make(map, *change)?;
+    }
+    Ok(())
 }
 
 fn make(map: &mut ExtentMap<u64>, change: Change) -> Result<(), TestError> {
@@ -68,12 +74,18 @@ fn make(map: &mut ExtentMap<u64>, change: Change) -> Result<(), TestError> {
             map.clear(lba, sectors);
             Ok(())
         }
-        _ => Err(TestError::Limit),
+        _ => Err(TestError::Refused),
     }
 }
 
 // Tells the first sector of each row, how many it has, and its first place.
-fn tell(rt: &HostRuntime, rows: &[Extent<u64>]) -> Result<(), TestError> {
+fn tell(rt: &HostRuntime, rows: Vec<Extent<u64>>) -> Result<(), TestError> {
+    let told = tell_slice(rt, rows.as_slice());
+    drop(rows);
+    told
+}
+
+fn tell_slice(rt: &HostRuntime, rows: &[Extent<u64>]) -> Result<(), TestError> {
     for row in rows {
         print!(rt; " {}+{} at {}", row.lba, row.sectors, row.place)?;
     }
@@ -84,7 +96,8 @@ fn tell(rt: &HostRuntime, rows: &[Extent<u64>]) -> Result<(), TestError> {
 // Tells a look, and the first row of its sectors.
 fn tell_look(rt: &HostRuntime) -> Result<(), TestError> {
     let map = changed(rt, &[Set(0, 3, 0), Set(4, 9, 40)])?;
-    let rows = map.look(rt.alloc(), 2, 4)?;
-    tell(rt, rows.as_slice())?;
-    tell(rt, map.first_in(2, 4).as_slice())
+    let (rows, first) = (map.look(rt.alloc(), 2, 4), map.first_in(2, 4));
+    drop(map);
+    tell(rt, rows?)?;
+    tell_slice(rt, first.as_slice())
 }

@@ -1,11 +1,11 @@
 ghost use Rattle.std.specs.Prelude.{◌≡◌, IfOk};
 
-use crate::error::TestError;
 use crate::streams::{tell_reads, tell_write};
-use crate::telling::{heading, tell_faults, tell_text};
+use crate::telling::{tell_faults, tell_text};
 use lsvd_fault::{ReadSource, Sink, WriteSink};
 use std::io;
 use std::io::{ErrorKind, Read, Write};
+use test_output::{TestError, head};
 
 // A reader and a writer that a signal interrupts at each call, and a writer that takes nothing.
 #[derive(Drop)]
@@ -79,11 +79,11 @@ impl Write for InterruptedOnce {
 
 /// Tells what streams over readers and writers do: no call is made again, and each that fails is counted.
 pub fn tell_all(rt: &HostRuntime) -> Result<(), TestError> {
-    heading(rt, "reads of at most 5 bytes from readers")?;
+    head(rt, "reads of at most 5 bytes from readers")?;
     tell_reads(rt, &mut ReadSource::new(b"12345678".as_slice()), 3)?;
     tell_reads(rt, &mut ReadSource::new(Interrupted), 2)?;
     tell_reads(rt, &mut ReadSource::new(InterruptedOnce::NEW), 2)?;
-    heading(rt, "writes of abcd and of nothing to writers")?;
+    head(rt, "writes of abcd and of nothing to writers")?;
     tell_vec(rt)?;
     tell_writes(rt, &mut WriteSink::new(Interrupted))?;
     tell_writes(rt, &mut WriteSink::new(Full))?;

@@ -1,6 +1,5 @@
-use crate::error::TestError;
-use crate::telling::heading;
 use log_room::LogRoom;
+use test_output::{TestError, head};
 
 // A log's sectors, its head and how many sectors are in use, and the sectors of a record that is to come.
 const ROOMS: &[[u64; 4]] = &[
@@ -22,7 +21,7 @@ const ROOMS: &[[u64; 4]] = &[
 
 /// Tells where records stand that are entered into a log, and what room they take.
 pub fn tell_all(rt: &HostRuntime) -> Result<(), TestError> {
-    heading(
+    head(
         rt,
         "the room of a log: sectors, head and use; a record; its pad and place, head and use then",
     )?;
@@ -40,7 +39,7 @@ fn tell_room(
     sectors: u64,
 ) -> Result<(), TestError> {
     if log > 0x8000_0000 || head >= log || used > log || sectors > 65_537 {
-        return Err(TestError::Limit);
+        return Err(TestError::Refused);
     }
     let room = LogRoom::at(log, head, used);
     let (pad, at) = (room.pad_before(sectors), room.position(sectors));
@@ -51,7 +50,7 @@ fn tell_room(
 // Enters the record, and tells the room then.
 fn tell_entered(rt: &HostRuntime, mut room: LogRoom, sectors: u64) -> Result<(), TestError> {
     if sectors > 65_537 {
-        return Err(TestError::Limit);
+        return Err(TestError::Refused);
     }
     let (need, free) = (room.need(sectors), room.free());
     if free < need {

@@ -1,7 +1,7 @@
-use crate::error::TestError;
-use crate::telling::{heading, tell_faults, tell_text};
+use crate::telling::{tell_faults, tell_text};
 use lsvd_fault::{Failed, MemLink, MemSink, MemSource, Sink, Source, read_past_limit};
 use std::alloc::{AllocError, Global};
+use test_output::{TestError, head};
 
 // What each source gives.
 const BYTES: [u8; 8] = *b"12345678";
@@ -39,24 +39,31 @@ const LIMITS: &[(Calls, usize)] = &[
 
 /// Tells what ends in memory do that give less than they are asked for, or fail.
 pub fn tell_all(rt: &HostRuntime) -> Result<(), TestError> {
-    heading(rt, "reads of at most 5 bytes from memory")?;
+    head(rt, "reads of at most 5 bytes from memory")?;
     for (calls, count) in READS {
-        tell_reads(rt, &mut source(rt.alloc(), *calls)?, *count)?;
+        tell_source(rt, *calls, *count)?;
     }
-    heading(rt, "writes of abcd to memory")?;
+    head(rt, "writes of abcd to memory")?;
     for calls in WRITES {
         tell_sink(rt, *calls)?;
     }
-    heading(
+    head(
         rt,
         "a link in memory, one of whose writes and one of whose reads fail",
     )?;
     tell_link(rt)?;
-    heading(rt, "reading in pieces of 3 up to a limit")?;
+    head(rt, "reading in pieces of 3 up to a limit")?;
     for (calls, limit) in LIMITS {
         tell_limit(rt, *calls, *limit)?;
     }
     Ok(())
+}
+
+fn tell_source(rt: &HostRuntime, calls: Calls, count: usize) -> Result<(), TestError> {
+    let mut source = source(rt.alloc(), calls)?;
+    let told = tell_reads(rt, &mut source, count);
+    drop(source);
+    told
 }
 
 fn source(alloc: Global, (most, failing): Calls) -> Result<MemSource, AllocError> {
@@ -113,8 +120,14 @@ pub fn tell_write<S: Sink>(rt: &HostRuntime, sink: &mut S, piece: &[u8]) -> Resu
 // Tells what three writes and one of nothing answer, and the bytes and the count of faults then.
 fn tell_sink(rt: &HostRuntime, calls: Calls) -> Result<(), TestError> {
     let mut sink = sink(rt.alloc(), calls);
+    let told = tell_writes(rt, &mut sink);
+    drop(sink);
+    told
+}
+
+fn tell_writes(rt: &HostRuntime, sink: &mut MemSink) -> Result<(), TestError> {
     for piece in [b"abcd".as_slice(), b"abcd", b"abcd", b""] {
-        tell_write(rt, &mut sink, piece)?;
+        tell_write(rt, sink, piece)?;
     }
     tell_text(rt, sink.bytes())?;
     tell_faults(rt, sink.faults())
@@ -123,20 +136,35 @@ fn tell_sink(rt: &HostRuntime, calls: Calls) -> Result<(), TestError> {
 fn tell_link(rt: &HostRuntime) -> Result<(), TestError> {
     let incoming = source(rt.alloc(), (Some(4), Some(1)))?;
     let mut link = MemLink::new(incoming, sink(rt.alloc(), (Some(2), Some(0))));
-    tell_write(rt, &mut link, b"abc")?;
-    tell_faults(rt, Sink::faults(&link))?;
-    tell_reads(rt, &mut link, 4)?;
-    tell_write(rt, &mut link, b"abc")?;
+    let told = tell_calls(rt, &mut link);
+    drop(link);
+    told
+}
+
+fn tell_calls(rt: &HostRuntime, link: &mut MemLink) -> Result<(), TestError> {
+    tell_write(rt, link, b"abc")?;
+    tell_faults(rt, Sink::faults(link))?;
+    tell_reads(rt, link, 4)?;
+    tell_write(rt, link, b"abc")?;
     tell_text(rt, link.bytes())?;
-    tell_faults(rt, Source::faults(&link))
+    tell_faults(rt, Source::faults(link))
 }
 
 fn tell_limit(rt: &HostRuntime, calls: Calls, limit: usize) -> Result<(), TestError> {
-    let mut source = source(rt.alloc(), calls)?;
     print!(rt; " {limit}:")?;
-    match read_past_limit(rt.alloc(), &mut source, limit) {
-        Ok(bytes) => tell_text(rt, bytes.as_slice())?,
+    let mut source = source(rt.alloc(), calls)?;
+    let outcome = read_past_limit(rt.alloc(), &mut source, limit);
+    let faults = source.faults();
+    drop(source);
+    match outcome {
+        Ok(bytes) => tell_read(rt, bytes)?,
         Err(error) => print!(rt; " {error}")?,
     }
-    tell_faults(rt, source.faults())
+    tell_faults(rt, faults)
+}
+
+fn tell_read(rt: &HostRuntime, bytes: Vec<u8>) -> Result<(), TestError> {
+    let told = tell_text(rt, bytes.as_slice());
+    drop(bytes);
+    told
 }

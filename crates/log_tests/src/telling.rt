@@ -1,10 +1,4 @@
-use crate::error::TestError;
-
-/// Begins a topic.
-pub fn heading(rt: &HostRuntime, topic: &str) -> Result<(), TestError> {
-    println!(rt; "{topic}")?;
-    Ok(())
-}
+use test_output::TestError;
 
 /// Tells bytes that are letters and digits, on the line that was begun; a dash where there are none.
 pub fn tell_text(rt: &HostRuntime, bytes: &[u8]) -> Result<(), TestError> {

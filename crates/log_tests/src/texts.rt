@@ -1,15 +1,14 @@
-use crate::error::TestError;
-use crate::telling::heading;
 use cache_log::{AppendError, OpenError, ReadError};
 use commit_slot::LoadError;
 use log_record::Reason;
 use lsvd_device::FileError;
 use lsvd_fault::Failed;
 use std::fmt::Display;
+use test_output::{TestError, head};
 
 /// Tells the texts of errors.
 pub fn tell_all(rt: &HostRuntime) -> Result<(), TestError> {
-    heading(rt, "the texts of errors")?;
+    head(rt, "the texts of errors")?;
     tell(rt, Failed)?;
     tell(rt, lsvd_fault::ReadError::Failed)?;
     tell(rt, lsvd_fault::ReadError::OutOfMemory)?;

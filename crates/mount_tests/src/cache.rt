@@ -1,8 +1,8 @@
 // Cache devices that are not as the program leaves them.
 use crate::bytes::{UUID, add_commit, add_record};
-use crate::error::TestError;
 use lsvd_device::{Disk, MemDisk};
 use std::alloc::{AllocError, Global};
+use test_output::TestError;
 
 /// The bytes of the device: a log of 64 sectors.
 pub const SIZE: u64 = 4_096 + 512 * 64;
@@ -42,10 +42,8 @@ pub fn device(alloc: Global, size: u64, cache: Option<Cache>) -> Result<MemDisk,
 }
 
 fn fill(alloc: Global, disk: &mut MemDisk, cache: &Cache) -> Result<(), TestError> {
-    let commit = commit_of(alloc, cache)?;
-    write(disk, 1_024 * (cache.commit % 3), commit.as_slice())?;
-    let record = record_of(alloc, cache)?;
-    write(disk, 4_096, record.as_slice())?;
+    write(disk, 1_024 * (cache.commit % 3), commit_of(alloc, cache)?)?;
+    write(disk, 4_096, record_of(alloc, cache)?)?;
     disk.sync()?;
     Ok(())
 }
@@ -64,10 +62,16 @@ fn record_of(alloc: Global, cache: &Cache) -> Result<Vec<u8>, AllocError> {
     Ok(bytes)
 }
 
-fn write(disk: &mut MemDisk, at: u64, bytes: &[u8]) -> Result<(), TestError> {
+fn write(disk: &mut MemDisk, at: u64, bytes: Vec<u8>) -> Result<(), TestError> {
+    let written = write_slice(disk, at, bytes.as_slice());
+    drop(bytes);
+    written
+}
+
+fn write_slice(disk: &mut MemDisk, at: u64, bytes: &[u8]) -> Result<(), TestError> {
     let size = bytes.len() as u64;
     if disk.len() < size || disk.len() - size < at {
-        return Err(TestError::Unprepared);
+        return Err(TestError::Failed);
     }
     disk.write(at, bytes)?;
     Ok(())

@@ -1,10 +1,10 @@
 // Creations and mounts one after the other.
 use crate::answer::{Answer, created, kept, lost};
 use crate::cache::{SIZE, device};
-use crate::error::TestError;
 use lsvd_device::MemDisk;
 use lsvd_objstore::{FaultStore, MemStore, PlannedFault, Store};
 use std::alloc::Global;
+use test_output::TestError;
 
 #[derive(Clone, Copy, Debug)]
 enum Call {
@@ -31,13 +31,31 @@ const CALLS: &[Call] = &[
 /// Tells what calls answer, one after the other.
 pub fn tell_calls(rt: &HostRuntime) -> Result<(), TestError> {
     let mut store = MemStore::new(rt.alloc());
+    let told = tell_in(rt, &mut store, CALLS);
+    drop(store);
+    told
+}
+
+// Makes calls on one store and one device.
+fn tell_in<S: Store>(rt: &HostRuntime, store: &mut S, calls: &[Call]) -> Result<(), TestError> {
     let mut disk = device(rt.alloc(), SIZE, None)?;
-    for call in CALLS {
-        let (left, answer) = answered(rt.alloc(), *call, disk, &mut store)?;
-        disk = left;
-        tell_call(rt, *call, answer)?;
+    for call in calls {
+        disk = tell_on(rt, store, *call, disk)?;
     }
+    drop(disk);
     Ok(())
+}
+
+// Makes a call on a device, which is given back.
+fn tell_on<S: Store>(
+    rt: &HostRuntime,
+    store: &mut S,
+    call: Call,
+    disk: MemDisk,
+) -> Result<MemDisk, TestError> {
+    let (left, answer) = answered(rt.alloc(), call, disk, store)?;
+    tell_call(rt, call, answer)?;
+    Ok(left)
 }
 
 fn tell_call(rt: &HostRuntime, call: Call, answer: Answer) -> Result<(), TestError> {
@@ -56,7 +74,8 @@ fn answered<S: Store>(
         Call::Create => Ok(created(alloc, disk, store)),
         Call::Kept => Ok(kept(alloc, disk, store)),
         Call::Lost => {
-            let (_new, answer) = lost(alloc, device(alloc, SIZE, None)?, store);
+            let (new, answer) = lost(alloc, device(alloc, SIZE, None)?, store);
+            drop(new);
             Ok((disk, answer))
         }
     }
@@ -93,11 +112,7 @@ pub fn tell_broken_creations(rt: &HostRuntime) -> Result<(), TestError> {
 
 fn tell_broken(rt: &HostRuntime, fault: PlannedFault) -> Result<(), TestError> {
     let mut store = FaultStore::new(rt.alloc(), MemStore::new(rt.alloc()), &[fault])?;
-    let mut disk = device(rt.alloc(), SIZE, None)?;
-    for call in AFTER {
-        let (left, answer) = answered(rt.alloc(), *call, disk, &mut store)?;
-        disk = left;
-        tell_call(rt, *call, answer)?;
-    }
-    Ok(())
+    let told = tell_in(rt, &mut store, AFTER);
+    drop(store);
+    told
 }

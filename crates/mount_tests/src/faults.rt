@@ -1,13 +1,13 @@
 // Mounts in which a call fails.
 use crate::answer::Answer;
 use crate::cache::{LEFT, SIZE, device};
-use crate::error::TestError;
 use crate::scene::{Mount, mounted};
 use crate::store::{Change, Stored, change_all, put_volume};
 use crate::telling::tell_counted;
 use lsvd_device::{Disk, FuseDisk, MemDisk};
 use lsvd_objstore::{FaultStore, MemStore, PlannedFault};
 use std::alloc::Global;
+use test_output::TestError;
 use vol_mount::MountError;
 
 // An object past the first missing number, so that a mount removes one.
@@ -118,17 +118,30 @@ fn mounted_twice(
     failing: Failing,
     call: u64,
 ) -> Result<(Answer, Answer), TestError> {
-    let mut store = MemStore::new(alloc);
-    put_volume(alloc, &mut store)?;
-    change_all(alloc, &mut store, PAST)?;
     let disk = device_for(alloc, mount)?;
+    let mut store = store_of(alloc)?;
     match failing {
         Failing::Store { lands } => {
             let call = call.saturating_add(1);
             store_fails(alloc, mount, PlannedFault { call, lands }, disk, store)
         }
-        Failing::Device => Ok(device_fails(alloc, mount, call, disk, &mut store)),
+        Failing::Device => {
+            let answers = device_fails(alloc, mount, call, disk, &mut store);
+            drop(store);
+            Ok(answers)
+        }
     }
+}
+
+fn store_of(alloc: Global) -> Result<MemStore, TestError> {
+    let mut store = MemStore::new(alloc);
+    put_more(alloc, &mut store)?;
+    Ok(store)
+}
+
+fn put_more(alloc: Global, store: &mut MemStore) -> Result<(), TestError> {
+    put_volume(alloc, store)?;
+    change_all(alloc, store, PAST)
 }
 
 fn device_for(alloc: Global, mount: Mount) -> Result<MemDisk, TestError> {
@@ -147,7 +160,9 @@ fn store_fails(
 ) -> Result<(Answer, Answer), TestError> {
     let mut store = FaultStore::new(alloc, store, &[fault])?;
     let (disk, first) = mounted(alloc, mount, disk, &mut store);
-    let (_disk, second) = mounted(alloc, mount, disk, &mut store);
+    let (disk, second) = mounted(alloc, mount, disk, &mut store);
+    drop(disk);
+    drop(store);
     Ok((first, second))
 }
 
@@ -160,6 +175,7 @@ fn device_fails(
 ) -> (Answer, Answer) {
     let _is_disk = disk.len();
     let (disk, first) = mounted(alloc, mount, FuseDisk::new(disk, Some(call)), store);
-    let (_disk, second) = mounted(alloc, mount, disk.into_disk(), store);
+    let (disk, second) = mounted(alloc, mount, disk.into_disk(), store);
+    drop(disk);
     (first, second)
 }

@@ -2,7 +2,6 @@
 use crate::answer::Answer;
 use crate::bytes::OTHER;
 use crate::cache::{Cache, LEFT, SHORT, SIZE, device};
-use crate::error::TestError;
 use crate::scene::{Mount, mounted};
 use crate::store::Change::{Clone, Epoch, NoEpoch, NoObject, NoSuper, Object, OtherVolume};
 use crate::store::Stored::{Checkpoint, Copy, Cut, Data, Foreign, Misnamed};
@@ -10,6 +9,7 @@ use crate::store::{Change, change_all, put_volume};
 use crate::telling::tell_found;
 use lsvd_objstore::MemStore;
 use std::alloc::Global;
+use test_output::TestError;
 
 /// One mount.
 pub struct Row {
@@ -326,7 +326,9 @@ fn tell(rt: &HostRuntime, row: &Row) -> Result<(), TestError> {
 // What the mount answers, in a store of its own.
 fn answer_of(alloc: Global, row: &Row) -> Result<Answer, TestError> {
     let mut store = MemStore::new(alloc);
-    answer_in(alloc, &mut store, row)
+    let answer = answer_in(alloc, &mut store, row);
+    drop(store);
+    answer
 }
 
 // What the mount answers, in a store where nothing is yet.
@@ -334,6 +336,7 @@ fn answer_in(alloc: Global, store: &mut MemStore, row: &Row) -> Result<Answer, T
     put_volume(alloc, store)?;
     change_all(alloc, store, row.changes)?;
     let disk = device(alloc, row.size, row.cache)?;
-    let (_disk, answer) = mounted(alloc, row.mount, disk, store);
+    let (disk, answer) = mounted(alloc, row.mount, disk, store);
+    drop(disk);
     Ok(answer)
 }

@@ -1,12 +1,12 @@
 // Mounts with the cache whose device stops in the midst.
 use crate::answer::{Answer, kept};
 use crate::cache::{LEFT, SIZE, device};
-use crate::error::TestError;
 use crate::store::put_volume;
 use crate::telling::tell_counted;
 use lsvd_device::{Disk, Fate, FuseDisk, MemDisk, StoppedDisk};
 use lsvd_objstore::MemStore;
 use std::alloc::{AllocError, Global};
+use test_output::TestError;
 
 // The calls that a mount makes of its device, and one more, after which it is done.
 const CALLS: u64 = 17;
@@ -43,11 +43,25 @@ fn stopped_mounts(alloc: Global, fate: Fate) -> Result<(u64, Answer), TestError>
 // What a mount answers after two whose device stopped after so many calls.
 fn stopped_twice(alloc: Global, fate: Fate, first: u64, second: u64) -> Result<Answer, TestError> {
     let mut store = MemStore::new(alloc);
-    put_volume(alloc, &mut store)?;
+    let answer = stopped_twice_in(alloc, &mut store, fate, first, second);
+    drop(store);
+    answer
+}
+
+// The same, in a store where nothing is yet.
+fn stopped_twice_in(
+    alloc: Global,
+    store: &mut MemStore,
+    fate: Fate,
+    first: u64,
+    second: u64,
+) -> Result<Answer, TestError> {
+    put_volume(alloc, store)?;
     let disk = device(alloc, SIZE, Some(LEFT))?;
-    let disk = stopped_mount(alloc, fate, first, disk, &mut store)?;
-    let disk = stopped_mount(alloc, fate, second, disk, &mut store)?;
-    let (_disk, answer) = kept(alloc, disk, &mut store);
+    let disk = stopped_mount(alloc, fate, first, disk, store)?;
+    let disk = stopped_mount(alloc, fate, second, disk, store)?;
+    let (disk, answer) = kept(alloc, disk, store);
+    drop(disk);
     Ok(answer)
 }
 

@@ -2,12 +2,12 @@
 ghost use Rattle.lsvd_names.specs.Spelling.{IsName};
 
 use crate::bytes::{CLONE, OTHER, Object, SUPER, UUID, add_epoch, add_object};
-use crate::error::TestError;
 use crate::names::{epoch_name, object_name, other_super_name, super_name};
 use lsvd_base::ObjectBytes;
 use lsvd_names::ObjName;
 use lsvd_objstore::{MemStore, Store};
 use std::alloc::{AllocError, Global};
+use test_output::TestError;
 
 /// What stands under the number of an object.
 #[derive(Clone, Copy)]
@@ -89,8 +89,10 @@ fn make(alloc: Global, store: &mut MemStore, change: Change) -> Result<(), TestE
 fn put(alloc: Global, store: &mut MemStore, name: &ObjName, bytes: Vec<u8>) -> Result<(), TestError>
     requires { IsName name.now }
 {
-    let bytes = ObjectBytes::from_bytes(bytes)?;
-    store.put(alloc, name, &bytes)?;
+    let object = ObjectBytes::from_bytes(bytes)?;
+    let outcome = store.put(alloc, name, &object);
+    drop(object);
+    drop(outcome?);
     Ok(())
 }
 

@@ -1,7 +1,7 @@
 // What was answered, at the end of a line. An answer is told by a function that is given it, since the
 // toolchain has no proof of one that takes it out of a result by `?` and can fail after that.
 use crate::answer::Answer;
-use crate::error::TestError;
+use test_output::TestError;
 
 /// Tells an answer.
 pub fn tell_found(rt: &HostRuntime, found: Result<Answer, TestError>) -> Result<(), TestError> {

@@ -1,11 +1,11 @@
 // The texts of errors.
 use crate::bytes::OTHER;
-use crate::error::TestError;
 use log_record::Reason as RecordReason;
 use object_format::BadObject;
 use object_recovery::RecoverError;
 use super_format::Reason as SuperReason;
 use super_recovery::{BadSuper, SuperError};
+use test_output::TestError;
 use uuid::Uuid;
 use vol_mount::MountError;
 use vol_recover::CreateError;

@@ -1,11 +1,11 @@
 // Sessions whose input or link breaks off.
-use crate::error::TestError;
 use crate::greeting::input_of;
 use crate::requests::ASKINGS;
 use crate::volume::{link_of, serve};
 use lsvd_fault::{MemLink, MemSink, MemSource};
 use nbd_session::SessionEnd;
 use std::alloc::Global;
+use test_output::TestError;
 
 // The input is cut inside these messages, and between them: the flags, the option, two requests, of which the
 // second writes, and its data.
@@ -14,13 +14,27 @@ const CUTS: &[usize] = &[0, 3, 4, 5, 25, 26, 27, 53, 54, 82, 593, 594];
 /// Tells how a session ends of whose input only the first bytes come, and how many bytes are sent.
 pub fn tell_cuts(rt: &HostRuntime) -> Result<(), TestError> {
     let input = input_of(rt.alloc(), &ASKINGS)?;
+    let told = tell_fronts(rt, input.as_slice());
+    drop(input);
+    told
+}
+
+fn tell_fronts(rt: &HostRuntime, input: &[u8]) -> Result<(), TestError> {
     for size in CUTS {
-        let front = input.as_slice().get(..*size).unwrap_or(b"");
-        let mut link = link_of(rt.alloc(), front)?;
-        let end = serve(rt.alloc(), &mut link, None)?;
-        println!(rt; "{size} bytes: {end:?}, {} sent", link.bytes().len())?;
+        let front = input.get(..*size).unwrap_or(b"");
+        let (end, sent) = served(rt.alloc(), front)?;
+        println!(rt; "{size} bytes: {end:?}, {sent} sent")?;
     }
     Ok(())
+}
+
+// How a session on this input ends, and how many bytes are sent.
+fn served(alloc: Global, input: &[u8]) -> Result<(SessionEnd, usize), TestError> {
+    let mut link = link_of(alloc, input)?;
+    let end = serve(alloc, &mut link, None);
+    let sent = link.bytes().len();
+    drop(link);
+    Ok((end?, sent))
 }
 
 // How many calls fail.
@@ -30,10 +44,22 @@ const CALLS: u64 = 20;
 /// whole session sends.
 pub fn tell_faults(rt: &HostRuntime) -> Result<(), TestError> {
     let input = input_of(rt.alloc(), &ASKINGS)?;
-    let mut whole = link_of(rt.alloc(), input.as_slice())?;
-    serve(rt.alloc(), &mut whole, None)?;
+    let told = tell_faults_on(rt, input.as_slice());
+    drop(input);
+    told
+}
+
+fn tell_faults_on(rt: &HostRuntime, input: &[u8]) -> Result<(), TestError> {
+    let mut whole = link_of(rt.alloc(), input)?;
+    let told = tell_fronts_of(rt, input, &mut whole);
+    drop(whole);
+    told
+}
+
+fn tell_fronts_of(rt: &HostRuntime, input: &[u8], whole: &mut MemLink) -> Result<(), TestError> {
+    serve(rt.alloc(), whole, None)?;
     for is_read in [true, false] {
-        let count = ended_by_link(rt.alloc(), input.as_slice(), whole.bytes(), is_read)?;
+        let count = ended_by_link(rt.alloc(), input, whole.bytes(), is_read)?;
         println!(rt; "a read: {is_read}, {count} of {CALLS} sessions end by the link")?;
     }
     Ok(())
@@ -55,8 +81,10 @@ fn ended_by_link(
 }
 
 fn ends_by_link(alloc: Global, mut link: MemLink, output: &[u8]) -> Result<bool, TestError> {
-    let end = serve(alloc, &mut link, None)?;
-    Ok(end == SessionEnd::LinkFault && output.starts_with(link.bytes()))
+    let end = serve(alloc, &mut link, None);
+    let is_front = output.starts_with(link.bytes());
+    drop(link);
+    Ok(end? == SessionEnd::LinkFault && is_front)
 }
 
 fn failing_link(

@@ -1,4 +1,4 @@
-use crate::error::TestError;
+use test_output::{TestError, head};
 
 // The magics of replies, to an option and to a request.
 const OPTION_REPLY: &[u8] = b"\x00\x03\xe8\x89\x04\x55\x65\xa9";
@@ -18,8 +18,7 @@ struct Run {
 /// Tells bytes in lines, one for each reply.
 pub fn tell_bytes(rt: &HostRuntime, bytes: &[u8]) -> Result<(), TestError> {
     if bytes.is_empty() {
-        println!(rt; "  no bytes")?;
-        return Ok(());
+        return head(rt, "  no bytes");
     }
     let mut run = Run { byte: 0, count: 0 };
     print!(rt; "  ")?;
@@ -38,8 +37,7 @@ pub fn tell_bytes(rt: &HostRuntime, bytes: &[u8]) -> Result<(), TestError> {
         run.count = run.count.saturating_add(1);
     }
     tell_run(rt, run)?;
-    println!(rt; "")?;
-    Ok(())
+    head(rt, "")
 }
 
 fn begins_reply(bytes: &[u8], at: usize) -> bool {

@@ -1,11 +1,13 @@
 // Clients of a listener in memory, of which one writes a sector, and the next one reads it.
 use crate::dump::tell_bytes;
-use crate::error::TestError;
-use crate::greeting::{Asking, ENTERED_BYTES, input_of};
-use crate::volume::{TestOwner, link_of, owner_of};
+use crate::greeting::{Asking, ENTERED_BYTES};
+use crate::volume::{TestOwner, link_with, owner_of};
+use lsvd_fault::MemLink;
 use lsvd_listen::MemListener;
 use lsvd_objstore::MemStore;
+use nbd_session::SessionEnd;
 use std::alloc::{AllocError, Global};
+use test_output::{TestError, head};
 use volume_server::{Lane, Next, serve_next, serve_volume};
 
 static WRITING: [Asking; 1] = [Asking {
@@ -26,20 +28,37 @@ static READING: [Asking; 1] = [Asking {
 
 fn listener_of(alloc: Global) -> Result<MemListener, AllocError> {
     let mut links = Vec::new(alloc);
-    for askings in [&WRITING, &READING] {
-        let input = input_of(alloc, askings)?;
-        links.push(link_of(alloc, input.as_slice())?)?;
-    }
+    add_links(alloc, &mut links)?;
     Ok(MemListener::new(links))
+}
+
+fn add_links(alloc: Global, links: &mut Vec<MemLink>) -> Result<(), AllocError> {
+    for askings in [&WRITING, &READING] {
+        links.push(link_with(alloc, askings)?)?;
+    }
+    Ok(())
 }
 
 /// Tells what is sent to each, and that no third one comes.
 pub fn tell_clients(rt: &HostRuntime) -> Result<(), TestError> {
+    let mut listener = listener_of(rt.alloc())?;
     let mut owner = owner_of(rt.alloc(), None)?;
     let mut store = MemStore::new(rt.alloc());
-    let mut listener = listener_of(rt.alloc())?;
+    let told = tell_three(rt, &mut owner, &mut listener, &mut store);
+    drop(owner);
+    drop(store);
+    drop(listener);
+    told
+}
+
+fn tell_three(
+    rt: &HostRuntime,
+    owner: &mut TestOwner,
+    listener: &mut MemListener,
+    store: &mut MemStore,
+) -> Result<(), TestError> {
     for _ in 0..3 {
-        tell_client(rt, &mut owner, &mut listener, &mut store)?;
+        tell_client(rt, owner, listener, store)?;
     }
     Ok(())
 }
@@ -51,18 +70,21 @@ fn tell_client(
     store: &mut MemStore,
 ) -> Result<(), TestError> {
     match serve_next(rt.alloc(), owner, listener, store) {
-        Next::Served(link, end) => {
-            println!(rt; "served: {end:?}")?;
-            tell_bytes(rt, link.bytes().get(ENTERED_BYTES..).unwrap_or(b""))
-        }
-        Next::NoLink => tell(rt, "no link"),
-        Next::Failed => tell(rt, "failed"),
+        Next::Served(link, end) => tell_served(rt, link, end),
+        Next::NoLink => head(rt, "no link"),
+        Next::Failed => head(rt, "failed"),
     }
 }
 
-fn tell(rt: &HostRuntime, what: &str) -> Result<(), TestError> {
-    println!(rt; "{what}")?;
-    Ok(())
+fn tell_served(rt: &HostRuntime, link: MemLink, end: SessionEnd) -> Result<(), TestError> {
+    let told = tell_sent(rt, &link, end);
+    drop(link);
+    told
+}
+
+fn tell_sent(rt: &HostRuntime, link: &MemLink, end: SessionEnd) -> Result<(), TestError> {
+    println!(rt; "served: {end:?}")?;
+    tell_bytes(rt, link.bytes().get(ENTERED_BYTES..).unwrap_or(b""))
 }
 
 // How many clients are to be served, and the accept that fails.
@@ -78,9 +100,13 @@ pub fn tell_lanes(rt: &HostRuntime) -> Result<(), TestError> {
 }
 
 fn lane_of(alloc: Global, share: u64, failing: u64) -> Result<Lane, TestError> {
-    let mut store = MemStore::new(alloc);
-    let mut listener = listener_of(alloc)?.failing_at(failing);
     let volume = owner_of(alloc, None)?.into_volume();
+    let mut listener = listener_of(alloc)?.failing_at(failing);
+    let mut store = MemStore::new(alloc);
     let closing = serve_volume(alloc, volume, &mut listener, &mut store, share);
-    Ok(closing.lane)
+    drop(listener);
+    drop(store);
+    let lane = closing.lane;
+    drop(closing);
+    Ok(lane)
 }

@@ -1,9 +1,10 @@
 use crate::dump::tell_bytes;
-use crate::error::TestError;
 use crate::greeting::GREETING_BYTES;
 use crate::volume::{link_of, serve};
+use lsvd_fault::MemLink;
 use nbd_session::SessionEnd;
 use std::alloc::{AllocError, Global};
+use test_output::TestError;
 
 // What a client sends.
 struct Input {
@@ -92,18 +93,30 @@ const INPUTS: &[Input] = &[
 /// Tells how each of them ends, and what is sent after the greeting.
 pub fn tell_all(rt: &HostRuntime) -> Result<(), TestError> {
     let mut link = link_of(rt.alloc(), b"")?;
-    serve(rt.alloc(), &mut link, None)?;
-    tell_bytes(rt, link.bytes())?;
+    let told = tell_greeting(rt, &mut link);
+    drop(link);
+    told?;
     for input in INPUTS {
         tell(rt, input)?;
     }
     Ok(())
 }
 
+fn tell_greeting(rt: &HostRuntime, link: &mut MemLink) -> Result<(), TestError> {
+    serve(rt.alloc(), link, None)?;
+    tell_bytes(rt, link.bytes())
+}
+
 fn tell(rt: &HostRuntime, input: &Input) -> Result<(), TestError> {
     let mut link = link_of(rt.alloc(), input.bytes)?;
-    let end = serve(rt.alloc(), &mut link, None)?;
-    tell_end(rt, input.what, end)?;
+    let told = tell_session(rt, input.what, &mut link);
+    drop(link);
+    told
+}
+
+fn tell_session(rt: &HostRuntime, what: &str, link: &mut MemLink) -> Result<(), TestError> {
+    let end = serve(rt.alloc(), link, None)?;
+    tell_end(rt, what, end)?;
     tell_bytes(rt, link.bytes().get(GREETING_BYTES..).unwrap_or(b""))
 }
 
@@ -132,21 +145,27 @@ const MANY: &[u64] = &[1_023, 1_024];
 pub fn tell_long(rt: &HostRuntime) -> Result<(), TestError> {
     for (option, size) in LONG {
         println!(rt; "the option {option} with {size} bytes, and the option 2")?;
-        let input = long_option(rt.alloc(), *option, *size)?;
-        tell_last(rt, input.as_slice())?;
+        tell_last(rt, long_option(rt.alloc(), *option, *size)?)?;
     }
     for count in MANY {
         println!(rt; "{count} options, and the option 2")?;
-        let input = many_options(rt.alloc(), *count)?;
-        tell_last(rt, input.as_slice())?;
+        tell_last(rt, many_options(rt.alloc(), *count)?)?;
     }
     Ok(())
 }
 
 // The end, how many bytes are sent after the greeting, and the last of them.
-fn tell_last(rt: &HostRuntime, input: &[u8]) -> Result<(), TestError> {
-    let mut link = link_of(rt.alloc(), input)?;
-    let end = serve(rt.alloc(), &mut link, None)?;
+fn tell_last(rt: &HostRuntime, input: Vec<u8>) -> Result<(), TestError> {
+    let link = link_of(rt.alloc(), input.as_slice());
+    drop(input);
+    let mut link = link?;
+    let told = tell_last_of(rt, &mut link);
+    drop(link);
+    told
+}
+
+fn tell_last_of(rt: &HostRuntime, link: &mut MemLink) -> Result<(), TestError> {
+    let end = serve(rt.alloc(), link, None)?;
     let sent = link.bytes().get(GREETING_BYTES..).unwrap_or(b"");
     println!(rt; "{end:?}, {} bytes", sent.len())?;
     let from = sent.len().saturating_sub(40);
@@ -169,9 +188,13 @@ fn add_data(input: &mut Vec<u8>, option: u8, size: u32) -> Result<(), AllocError
 
 fn many_options(alloc: Global, count: u64) -> Result<Vec<u8>, AllocError> {
     let mut input = b"\x00\x00\x00\x03".to_vec(alloc)?;
+    add_options(&mut input, count)?;
+    Ok(input)
+}
+
+fn add_options(input: &mut Vec<u8>, count: u64) -> Result<(), AllocError> {
     for _ in 0..count {
         input.extend_from_slice(b"IHAVEOPT\x00\x00\x00\x63\x00\x00\x00\x00")?;
     }
-    input.extend_from_slice(ABORT)?;
-    Ok(input)
+    input.extend_from_slice(ABORT)
 }

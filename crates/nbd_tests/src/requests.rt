@@ -1,7 +1,8 @@
 use crate::dump::tell_bytes;
-use crate::error::TestError;
-use crate::greeting::{Asking, ENTERED_BYTES, input_of};
-use crate::volume::{link_of, serve};
+use crate::greeting::{Asking, ENTERED_BYTES};
+use crate::volume::{link_with, serve};
+use lsvd_fault::MemLink;
+use test_output::TestError;
 
 const READ: u16 = 0;
 
@@ -195,9 +196,14 @@ fn tell_session(rt: &HostRuntime, askings: &[Asking], fuse: Option<u64>) -> Resu
     for (cookie, asking) in askings.iter().enumerate() {
         tell_asking(rt, cookie, asking)?;
     }
-    let input = input_of(rt.alloc(), askings)?;
-    let mut link = link_of(rt.alloc(), input.as_slice())?;
-    let end = serve(rt.alloc(), &mut link, fuse)?;
+    let mut link = link_with(rt.alloc(), askings)?;
+    let told = tell_replies(rt, &mut link, fuse);
+    drop(link);
+    told
+}
+
+fn tell_replies(rt: &HostRuntime, link: &mut MemLink, fuse: Option<u64>) -> Result<(), TestError> {
+    let end = serve(rt.alloc(), link, fuse)?;
     println!(rt; "{end:?}")?;
     tell_bytes(rt, link.bytes().get(ENTERED_BYTES..).unwrap_or(b""))
 }

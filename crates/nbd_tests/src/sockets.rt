@@ -1,37 +1,62 @@
 // What comes through a Unix socket, of which no clause can speak.
-use crate::error::TestError;
 use lsvd_fault::{Failed, Sink, Source, write_all};
 use lsvd_listen::{Connection, Listener, SocketLink, SocketListener};
 use std::alloc::{AllocError, Global};
 use std::fs;
 use std::io::{ErrorKind, Read, Write};
 use std::os::unix::net::UnixStream;
+use test_output::{TestError, head};
 
 const PATH: &str = "socket_of_links";
 
 /// Tells what links over a socket do.
 pub fn tell_all(rt: &HostRuntime) -> Result<(), TestError> {
     let mut listener = SocketListener::bind(rt, PATH)?;
-    tell_first(rt, &mut listener)?;
-    tell_cut(rt, &mut listener)?;
+    let told = tell_clients(rt, &mut listener);
+    drop(listener);
+    told?;
     fs::remove_file(rt, PATH)?;
     Ok(())
 }
 
+fn tell_clients(rt: &HostRuntime, listener: &mut SocketListener) -> Result<(), TestError> {
+    tell_first(rt, listener)?;
+    tell_cut(rt, listener)
+}
+
 // A client that goes when it has read all that was sent to it.
 fn tell_first(rt: &HostRuntime, listener: &mut SocketListener) -> Result<(), TestError> {
-    let mut client = UnixStream::connect(rt, PATH)?;
+    let client = UnixStream::connect(rt, PATH)?;
     let mut link = next_of(listener)?;
-    tell_echoes(rt, &mut client, &mut link)?;
-    tell_held(rt, &mut client, &mut link)?;
+    let told = tell_read_out(rt, client, &mut link);
+    drop(link);
+    told
+}
+
+fn tell_read_out(
+    rt: &HostRuntime,
+    mut client: UnixStream,
+    link: &mut SocketLink,
+) -> Result<(), TestError> {
+    let told = tell_both(rt, &mut client, link);
     drop(client);
-    tell_gone(rt, &mut link)
+    told?;
+    tell_gone(rt, link)
+}
+
+fn tell_both(
+    rt: &HostRuntime,
+    client: &mut UnixStream,
+    link: &mut SocketLink,
+) -> Result<(), TestError> {
+    tell_echoes(rt, client, link)?;
+    tell_held(rt, client, link)
 }
 
 fn next_of(listener: &mut SocketListener) -> Result<SocketLink, TestError> {
     match listener.accept()? {
         Some(link) => Ok(link),
-        None => Err(TestError::Unprepared),
+        None => Err(TestError::Failed),
     }
 }
 
@@ -67,12 +92,26 @@ fn echo(
     most: usize,
 ) -> Result<bool, TestError> {
     let sent = pattern(alloc, len)?;
-    client.write_all(sent.as_slice())?;
-    let mut buffer = vec![in alloc; 0; most]?;
-    write_back(link, buffer.as_mut_slice(), len)?;
-    let mut back = vec![in alloc; 0; len]?;
-    client.read_exact(back.as_mut_slice())?;
-    Ok(back.as_slice() == sent.as_slice())
+    let is_same = is_echoed(alloc, client, link, sent.as_slice(), most);
+    drop(sent);
+    is_same
+}
+
+fn is_echoed(
+    alloc: Global,
+    client: &mut UnixStream,
+    link: &mut SocketLink,
+    sent: &[u8],
+    most: usize,
+) -> Result<bool, TestError> {
+    client.write_all(sent)?;
+    write_back(alloc, link, sent.len(), most)?;
+    let mut back = vec![in alloc; 0; sent.len()]?;
+    let outcome = client.read_exact(back.as_mut_slice());
+    let is_same = back.as_slice() == sent;
+    drop(back);
+    outcome?;
+    Ok(is_same)
 }
 
 fn pattern(alloc: Global, len: usize) -> Result<Vec<u8>, AllocError> {
@@ -83,7 +122,19 @@ fn pattern(alloc: Global, len: usize) -> Result<Vec<u8>, AllocError> {
     Ok(bytes)
 }
 
-fn write_back(link: &mut SocketLink, buffer: &mut [u8], len: usize) -> Result<(), TestError> {
+fn write_back(
+    alloc: Global,
+    link: &mut SocketLink,
+    len: usize,
+    most: usize,
+) -> Result<(), TestError> {
+    let mut buffer = vec![in alloc; 0; most]?;
+    let written = write_by(link, buffer.as_mut_slice(), len);
+    drop(buffer);
+    written
+}
+
+fn write_by(link: &mut SocketLink, buffer: &mut [u8], len: usize) -> Result<(), TestError> {
     let mut left = len;
     for _ in 0..len {
         if left == 0 {
@@ -159,7 +210,7 @@ fn tell_sent(rt: &HostRuntime, link: &mut SocketLink) -> Result<(), TestError> {
 
 // A client that is gone: the input ends, and what is sent is a fault.
 fn tell_gone(rt: &HostRuntime, link: &mut SocketLink) -> Result<(), TestError> {
-    println!(rt; "the client is gone")?;
+    head(rt, "the client is gone")?;
     tell_read(rt, link)?;
     tell_write(rt, link, b"3")?;
     tell_sent(rt, link)?;
@@ -177,10 +228,25 @@ fn tell_gone(rt: &HostRuntime, link: &mut SocketLink) -> Result<(), TestError> {
 fn tell_cut(rt: &HostRuntime, listener: &mut SocketListener) -> Result<(), TestError> {
     let client = UnixStream::connect(rt, PATH)?;
     let mut link = next_of(listener)?;
-    tell_write(rt, &mut link, b"unread")?;
-    tell_sent(rt, &mut link)?;
-    drop(client);
-    tell_gone(rt, &mut link)?;
+    let told = tell_unread(rt, client, &mut link);
+    drop(link);
+    told?;
     println!(rt; "{} links, {} faults", listener.given(), listener.faults())?;
     Ok(())
+}
+
+fn tell_unread(
+    rt: &HostRuntime,
+    client: UnixStream,
+    link: &mut SocketLink,
+) -> Result<(), TestError> {
+    let told = tell_written(rt, link);
+    drop(client);
+    told?;
+    tell_gone(rt, link)
+}
+
+fn tell_written(rt: &HostRuntime, link: &mut SocketLink) -> Result<(), TestError> {
+    tell_write(rt, link, b"unread")?;
+    tell_sent(rt, link)
 }

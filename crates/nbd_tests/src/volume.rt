@@ -1,10 +1,11 @@
-use crate::error::TestError;
+use crate::greeting::{Asking, input_of};
 use lsvd_base::Geometry;
 use lsvd_device::{Disk, FuseDisk, MemDisk};
 use lsvd_fault::{MemLink, MemSink, MemSource};
 use lsvd_objstore::{MemReceipt, MemStore};
 use nbd_session::{SessionEnd, serve_session};
 use std::alloc::{AllocError, Global};
+use test_output::TestError;
 use uuid::Uuid;
 use vol_core::create;
 use volume_owner::{Owner, a_new_volume_is_idle};
@@ -35,7 +36,10 @@ pub fn owner_of(alloc: Global, fuse: Option<u64>) -> Result<TestOwner, TestError
             a_new_volume_is_idle();
             Ok(Owner::new(volume))
         }
-        Err((_disk, failed)) => Err(failed.into()),
+        Err((disk, failed)) => {
+            drop(disk);
+            Err(failed.into())
+        }
     }
 }
 
@@ -47,11 +51,22 @@ pub fn serve(
 ) -> Result<SessionEnd, TestError> {
     let mut owner = owner_of(alloc, fuse)?;
     let mut store = MemStore::new(alloc);
-    Ok(serve_session(alloc, &mut owner, link, &mut store))
+    let end = serve_session(alloc, &mut owner, link, &mut store);
+    drop(owner);
+    drop(store);
+    Ok(end)
 }
 
 /// A link on which a client sends these bytes.
 pub fn link_of(alloc: Global, input: &[u8]) -> Result<MemLink, AllocError> {
     let source = MemSource::new(input.to_vec(alloc)?);
     Ok(MemLink::new(source, MemSink::new(alloc)))
+}
+
+/// A link on which a client makes these requests.
+pub fn link_with(alloc: Global, askings: &[Asking]) -> Result<MemLink, AllocError> {
+    let input = input_of(alloc, askings)?;
+    let link = link_of(alloc, input.as_slice());
+    drop(input);
+    link
 }

@@ -1,5 +1,3 @@
-use crate::error::TestError;
-use crate::lines::{head, tell};
 use crate::names::{EPOCH, HOLD, LAST, LATER, OBJECT, OTHER_HOLD, OTHER_SUPER, SUPER};
 use crate::objects::put;
 use crate::walk::walk;
@@ -8,6 +6,7 @@ use lsvd_objstore::{DirStore, DirectoryError, Store};
 use std::alloc::Global;
 use std::fs;
 use std::io::ErrorKind;
+use test_output::{TestError, head, tell};
 
 /// The directory of the store.
 pub const PATH: &str = "store";
@@ -17,6 +16,15 @@ const FILE: &str = "a file";
 /// Writes what a store over a directory holds.
 pub fn tell_all(rt: &HostRuntime) -> Result<(), TestError> {
     fs::write(rt, FILE, b"1".as_slice())?;
+    tell_none(rt)?;
+    fs::remove_file(rt, FILE)?;
+    tell_first_use(rt)?;
+    leftovers::tell_all(rt)?;
+    fs::remove_dir_all(rt, PATH)?;
+    tell_second_use(rt)
+}
+
+fn tell_none(rt: &HostRuntime) -> Result<(), TestError> {
     head(rt, "A directory that is no store, and why")?;
     tell(
         rt,
@@ -29,19 +37,18 @@ pub fn tell_all(rt: &HostRuntime) -> Result<(), TestError> {
         rt,
         "made where nothing is above it",
         &refused(DirStore::create(rt, "none/store")),
-    )?;
-    fs::remove_file(rt, FILE)?;
-    tell_first_use(rt)?;
-    leftovers::tell_all(rt)?;
-    fs::remove_dir_all(rt, PATH)?;
-    tell_second_use(rt)
+    )
 }
 
 // Why a directory is no store.
 fn refused(outcome: Result<DirStore, DirectoryError>) -> Option<ErrorKind> {
     match outcome {
         Err(DirectoryError::System(error)) => Some(error.kind()),
-        _ => None,
+        Err(DirectoryError::OutOfMemory) => None,
+        Ok(store) => {
+            drop(store);
+            None
+        }
     }
 }
 
@@ -52,8 +59,14 @@ fn tell_first_use(rt: &HostRuntime) -> Result<(), TestError> {
         "A store over a directory: after each put or removal what an object and an epoch have",
     )?;
     let mut store = DirStore::create(rt, PATH)?;
-    walk(rt, &mut store)?;
-    put_all(rt.alloc(), &mut store)?;
+    let told = tell_puts(rt, &mut store);
+    drop(store);
+    told
+}
+
+fn tell_puts(rt: &HostRuntime, store: &mut DirStore) -> Result<(), TestError> {
+    walk(rt, store)?;
+    put_all(rt.alloc(), store)?;
     tell(rt, "faults", &store.faults())?;
     tell(rt, "an error", &store.last_error().is_some())
 }
@@ -80,6 +93,12 @@ fn put_all(alloc: Global, store: &mut DirStore) -> Result<(), TestError> {
 // Makes the store anew: which files stay open, and which calls are faults.
 fn tell_second_use(rt: &HostRuntime) -> Result<(), TestError> {
     let mut store = DirStore::create(rt, PATH)?;
-    open_files::tell_all(rt, &mut store)?;
-    faults::tell_all(rt, &mut store)
+    let told = tell_files_and_faults(rt, &mut store);
+    drop(store);
+    told
+}
+
+fn tell_files_and_faults(rt: &HostRuntime, store: &mut DirStore) -> Result<(), TestError> {
+    open_files::tell_all(rt, store)?;
+    faults::tell_all(rt, store)
 }

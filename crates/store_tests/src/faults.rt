@@ -1,10 +1,9 @@
 use crate::directories::PATH;
-use crate::error::TestError;
-use crate::lines::{head, tell};
 use crate::names::{EPOCH, HOLD, OBJECT, name};
 use crate::objects::put;
 use lsvd_objstore::{DirReceipt, DirStore, Receipt, Store, StoreError};
 use std::fs;
+use test_output::{TestError, head, tell};
 
 const EPOCH_FILE: &str = "store/00000000-0000-4000-8000-000000000001.epoch.0000000000000001";
 

@@ -1,12 +1,11 @@
 use crate::directories::PATH;
-use crate::error::TestError;
-use crate::lines::{head, tell};
 use crate::names::{OBJECT, OTHER_SUPER, SUPER, THIRD_SUPER};
-use crate::objects::held;
+use crate::objects::is_held;
 use crate::walk::tell_list;
 use lsvd_objstore::DirStore;
 use std::fs;
 use std::fs::File;
+use test_output::{TestError, head, tell};
 
 // Files that are no objects' and were left by no put.
 const OTHERS: &[&str] = &[
@@ -31,10 +30,34 @@ pub fn tell_all(rt: &HostRuntime) -> Result<(), TestError> {
     }
     fs::write(rt, LEFT, b"half".as_slice())?;
     let writer = File::create(rt, GROWING)?;
+    let told = tell_opened(rt, &writer);
+    drop(writer);
+    told
+}
+
+fn tell_opened(rt: &HostRuntime, writer: &File) -> Result<(), TestError> {
     let is_locked = writer.try_lock().is_ok();
     let mut store = DirStore::open(rt, PATH)?;
+    let told = tell_store(rt, &mut store, writer, is_locked);
+    drop(store);
+    told
+}
+
+fn tell_store(
+    rt: &HostRuntime,
+    store: &mut DirStore,
+    writer: &File,
+    is_locked: bool,
+) -> Result<(), TestError> {
     head(rt, "That directory with other files, opened again")?;
-    tell_held(rt, &mut store)?;
+    tell_held(rt, store)?;
+    tell_locked(rt, store, is_locked)?;
+    writer.unlock()?;
+    store.clear()?;
+    tell_cleared(rt, store)
+}
+
+fn tell_locked(rt: &HostRuntime, store: &mut DirStore, is_locked: bool) -> Result<(), TestError> {
     head(
         rt,
         "It is cleared while a put is under way: is the lock had, and what is there of the two puts",
@@ -45,17 +68,14 @@ pub fn tell_all(rt: &HostRuntime) -> Result<(), TestError> {
         fs::exists(rt, LEFT)?,
         fs::exists(rt, GROWING)?
     )?;
-    writer.unlock()?;
-    store.clear()?;
-    tell_cleared(rt, &mut store)
+    Ok(())
 }
 
 fn tell_held(rt: &HostRuntime, store: &mut DirStore) -> Result<(), TestError> {
     for volume in [SUPER, OTHER_SUPER, THIRD_SUPER] {
         tell_list(rt, store, volume)?;
     }
-    let held = held(rt.alloc(), store, OBJECT)?;
-    let is_whole = held.is_some_and(|bytes| bytes.as_slice() == OBJECT.as_bytes());
+    let is_whole = is_held(rt.alloc(), store, OBJECT, OBJECT.as_bytes())?;
     tell(rt, "an object has its bytes", &is_whole)
 }
 

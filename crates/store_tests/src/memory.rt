@@ -1,9 +1,8 @@
-use crate::error::TestError;
-use crate::lines::{head, tell};
-use crate::names::{OBJECT, name};
-use crate::objects::{held, object};
+use crate::names::OBJECT;
+use crate::objects::{is_held, put};
 use crate::walk::walk;
 use lsvd_objstore::{FaultStore, MemStore, PlannedFault, Store};
+use test_output::{TestError, head, tell};
 
 /// Writes what a store in memory holds, and one before which calls fail.
 pub fn tell_all(rt: &HostRuntime) -> Result<(), TestError> {
@@ -23,9 +22,10 @@ pub fn tell_all(rt: &HostRuntime) -> Result<(), TestError> {
 fn tell_planned(rt: &HostRuntime, what: &str, lands: bool) -> Result<(), TestError> {
     let plan = [PlannedFault { call: 1, lands }];
     let mut store = FaultStore::new(rt.alloc(), MemStore::new(rt.alloc()), &plan)?;
-    let bytes = object(rt.alloc(), b"one")?;
-    let is_put = store.put(rt.alloc(), &name(OBJECT)?, &bytes).is_ok();
+    let is_put = put(rt.alloc(), &mut store, OBJECT, b"one").is_ok();
     let faults = store.faults();
-    let is_held = held(rt.alloc(), &mut store.into_store(), OBJECT)?.is_some();
-    tell(rt, what, &(is_put, is_held, faults))
+    let mut store = store.into_store();
+    let is_held = is_held(rt.alloc(), &mut store, OBJECT, b"one");
+    drop(store);
+    tell(rt, what, &(is_put, is_held?, faults))
 }

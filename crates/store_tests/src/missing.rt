@@ -1,6 +1,5 @@
-use crate::error::TestError;
-use crate::lines::head;
 use object_stream::first_missing;
+use test_output::{TestError, head};
 
 /// Writes the first missing number for each choice of objects that have landed.
 pub fn tell_all(rt: &HostRuntime) -> Result<(), TestError> {

@@ -1,8 +1,8 @@
 ghost use Rattle.std.specs.Prelude.{IfOk};
 ghost use Rattle.lsvd_names.specs.Spelling.{IsName};
 
-use crate::error::TestError;
 use lsvd_names::{Kind, ObjName};
+use test_output::TestError;
 
 pub const SUPER: &str = "00000000-0000-4000-8000-000000000001.super";
 

@@ -1,8 +1,8 @@
-use crate::error::TestError;
 use crate::names::name;
 use lsvd_base::ObjectBytes;
 use lsvd_objstore::{Receipt, Store};
 use std::alloc::{AllocError, Global};
+use test_output::TestError;
 
 /// The bytes of an object.
 pub fn object(alloc: Global, bytes: &[u8]) -> Result<ObjectBytes, AllocError> {
@@ -16,7 +16,11 @@ pub fn put<S: Store>(
     text: &str,
     bytes: &[u8],
 ) -> Result<S::Receipt, TestError> {
-    Ok(store.put(alloc, &name(text)?, &object(alloc, bytes)?)?)
+    let name = name(text)?;
+    let object = object(alloc, bytes)?;
+    let outcome = store.put(alloc, &name, &object);
+    drop(object);
+    Ok(outcome?)
 }
 
 /// Some bytes of a receipt, from a place on.
@@ -47,4 +51,19 @@ pub fn held<S: Store>(
     };
     let count = receipt.len() as usize;
     Ok(Some(part(alloc, store, &receipt, 0, count)?))
+}
+
+/// Whether there is an object with a name, and has these bytes.
+pub fn is_held<S: Store>(
+    alloc: Global,
+    store: &mut S,
+    text: &str,
+    bytes: &[u8],
+) -> Result<bool, TestError> {
+    let Some(found) = held(alloc, store, text)? else {
+        return Ok(false);
+    };
+    let is_same = found.as_slice() == bytes;
+    drop(found);
+    Ok(is_same)
 }

@@ -1,9 +1,9 @@
-use crate::error::TestError;
-use crate::lines::{head, tell};
 use crate::names::{OBJECT, numbered};
-use crate::objects::{held, object, part, put};
+use crate::objects::{is_held, object, part, put};
 use lsvd_objstore::{DirStore, Store};
+use std::alloc::{AllocError, Global};
 use std::fs;
+use test_output::{TestError, head, tell};
 
 const LAST_FILE: &str = "store/00000000-0000-4000-8000-000000000001.obj.0000000000000027";
 
@@ -24,9 +24,17 @@ pub fn tell_all(rt: &HostRuntime, store: &mut DirStore) -> Result<(), TestError>
 
 fn put_many(rt: &HostRuntime, store: &mut DirStore) -> Result<(), TestError> {
     for number in 0..OBJECTS {
-        let bytes = object(rt.alloc(), &number.to_be_bytes())?;
-        drop(store.put(rt.alloc(), &numbered(number)?, &bytes)?);
+        put_number(rt.alloc(), store, number)?;
     }
+    Ok(())
+}
+
+fn put_number(alloc: Global, store: &mut DirStore, number: u64) -> Result<(), TestError> {
+    let name = numbered(number)?;
+    let bytes = object(alloc, &number.to_be_bytes())?;
+    let outcome = store.put(alloc, &name, &bytes);
+    drop(bytes);
+    drop(outcome?);
     Ok(())
 }
 
@@ -34,19 +42,23 @@ fn put_many(rt: &HostRuntime, store: &mut DirStore) -> Result<(), TestError> {
 fn count_read(rt: &HostRuntime, store: &mut DirStore) -> Result<u64, TestError> {
     let mut count: u64 = 0;
     for number in 0..OBJECTS {
-        if is_number(rt, store, number)? {
+        if is_number(rt.alloc(), store, number)? {
             count = count.saturating_add(1);
         }
     }
     Ok(count)
 }
 
-fn is_number(rt: &HostRuntime, store: &mut DirStore, number: u64) -> Result<bool, TestError> {
-    let Some(receipt) = store.find(rt.alloc(), &numbered(number)?)? else {
+fn is_number(alloc: Global, store: &mut DirStore, number: u64) -> Result<bool, TestError> {
+    let Some(receipt) = store.find(alloc, &numbered(number)?)? else {
         return Ok(false);
     };
-    let bytes = part(rt.alloc(), store, &receipt, 0, 8)?;
-    Ok(bytes.as_slice() == number.to_be_bytes().as_slice())
+    let bytes = part(alloc, store, &receipt, 0, 8)?;
+    Ok(is_equal(bytes, &number.to_be_bytes()))
+}
+
+fn is_equal(bytes: Vec<u8>, others: &[u8]) -> bool {
+    bytes.as_slice() == others
 }
 
 // The file of the object that was read last is removed, and its bytes are read from the one that stayed open.
@@ -55,21 +67,36 @@ fn tell_removed(rt: &HostRuntime, store: &mut DirStore) -> Result<(), TestError>
         return Err(TestError::Refused);
     };
     fs::remove_file(rt, LAST_FILE)?;
-    let bytes = part(rt.alloc(), store, &last, 6, 2)?;
-    tell(
+    tell_end(rt, part(rt.alloc(), store, &last, 6, 2)?)
+}
+
+fn tell_end(rt: &HostRuntime, end: Vec<u8>) -> Result<(), TestError> {
+    let told = tell(
         rt,
         "the end of the last, whose file is removed",
-        &bytes.as_slice(),
-    )
+        &end.as_slice(),
+    );
+    drop(end);
+    told
 }
 
 // An object that is written in two whole pieces and a part of one.
 fn tell_long(rt: &HostRuntime, store: &mut DirStore) -> Result<(), TestError> {
-    let mut bytes = vec![in rt.alloc(); 0x41; 1 << 20]?;
+    let bytes = long(rt.alloc())?;
+    let is_same = is_put(rt.alloc(), store, bytes.as_slice());
+    drop(bytes);
+    tell(rt, "an object of 2,097,157 bytes has its bytes", &is_same?)
+}
+
+fn long(alloc: Global) -> Result<Vec<u8>, AllocError> {
+    let mut bytes = vec![in alloc; 0x41; 1 << 20]?;
     bytes.resize(2 << 20, 0x42)?;
     bytes.resize((2 << 20) + 5, 0x43)?;
-    drop(put(rt.alloc(), store, OBJECT, bytes.as_slice())?);
-    let found = held(rt.alloc(), store, OBJECT)?;
-    let is_same = found.is_some_and(|found| found.as_slice() == bytes.as_slice());
-    tell(rt, "an object of 2,097,157 bytes has its bytes", &is_same)
+    Ok(bytes)
+}
+
+// Puts an object of these bytes, and sees whether it has them.
+fn is_put(alloc: Global, store: &mut DirStore, bytes: &[u8]) -> Result<bool, TestError> {
+    drop(put(alloc, store, OBJECT, bytes)?);
+    is_held(alloc, store, OBJECT, bytes)
 }

@@ -1,8 +1,7 @@
 use crate::changes::entries;
-use crate::error::TestError;
-use crate::lines::{head, tell};
 use object_stream::{Content, CopiedSector, Owner, PlainStream, StreamObject};
 use std::alloc::{AllocError, Global};
+use test_output::{TestError, head, tell};
 
 // The object that a clone reads of the volume that it was made from, and the object 3.
 const OPENING: &[Option<Owner>] = &[
@@ -30,9 +29,15 @@ pub fn tell_all(rt: &HostRuntime) -> Result<(), TestError> {
         "The owners of sectors 0 to 3; objects 4 and 7 are data, 5 is a copy, 6 a checkpoint",
     )?;
     let stream = stream_of(rt.alloc())?;
+    let told = tell_stream(rt, &stream);
+    drop(stream);
+    told
+}
+
+fn tell_stream(rt: &HostRuntime, stream: &PlainStream) -> Result<(), TestError> {
     for number in [2, 3, 4, 5, 6, 7, 9] {
         println!(rt; "  up to object {number}: end {}", stream.end_at(number))?;
-        tell_owners(rt, &stream, number)?;
+        tell_owners(rt, stream, number)?;
     }
     tell(rt, "entries in no object", &stream.unsealed().len())
 }
@@ -58,13 +63,16 @@ fn stream_of(alloc: Global) -> Result<PlainStream, AllocError> {
 }
 
 fn objects(alloc: Global) -> Result<Vec<StreamObject>, AllocError> {
-    let copy = Content::Copy(COPIED.to_vec(alloc)?);
     let mut objects = Vec::with_capacity(alloc, 4)?;
-    add(&mut objects, Content::Data, 12)?;
-    add(&mut objects, copy, 12)?;
-    add(&mut objects, Content::Checkpoint, 12)?;
-    add(&mut objects, Content::Data, 13)?;
+    add_objects(alloc, &mut objects)?;
     Ok(objects)
+}
+
+fn add_objects(alloc: Global, objects: &mut Vec<StreamObject>) -> Result<(), AllocError> {
+    add(objects, Content::Data, 12)?;
+    add(objects, Content::Copy(COPIED.to_vec(alloc)?), 12)?;
+    add(objects, Content::Checkpoint, 12)?;
+    add(objects, Content::Data, 13)
 }
 
 fn add(objects: &mut Vec<StreamObject>, content: Content, end: u64) -> Result<(), AllocError> {

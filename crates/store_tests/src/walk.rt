@@ -1,8 +1,8 @@
-use crate::error::TestError;
 use crate::names::{EPOCH, OBJECT, OTHER_HOLD, name};
 use crate::objects::{held, put};
 use lsvd_objstore::Store;
 use std::alloc::Global;
+use test_output::TestError;
 
 // A put under a name, or a removal, which is made twice.
 struct Step {

@@ -1,5 +1,5 @@
-use crate::error::TestError;
 use batcher::{MAX_ENTRIES, fullness};
+use test_output::TestError;
 
 // The sectors of a batch, and counts of sectors and of entries.
 const BATCH: u64 = 16;

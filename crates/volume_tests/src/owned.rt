@@ -1,12 +1,12 @@
 ghost use Rattle.std.specs.Prelude.{◌≡◌, ◌%◌, length, IfOk};
 
 use crate::answer::filled_with;
-use crate::error::TestError;
 use crate::step::Byte;
 use lsvd_base::{Body, Geometry};
 use lsvd_device::MemDisk;
 use lsvd_objstore::{FaultStore, MemReceipt, MemStore, PlannedFault, Store};
 use std::alloc::{AllocError, Global};
+use test_output::{TestError, head};
 use uuid::Uuid;
 use vol_core::create;
 use volume_owner::{Owner, OwnerError, a_new_volume_is_idle};
@@ -47,7 +47,7 @@ const FAULTS: [PlannedFault; 3] = [
 
 /// Shows an owner whose batch and log are full time and again, over a store of which calls fail.
 pub fn tell_owner(rt: &HostRuntime) -> Result<(), TestError> {
-    println!(rt; "# An owner of a small log, over a store that fails")?;
+    head(rt, "# An owner of a small log, over a store that fails")?;
     let mut store = FaultStore::new(rt.alloc(), MemStore::new(rt.alloc()), &FAULTS)?;
     let mut owner = created(rt.alloc())?;
     let told = tell_requests(rt, &mut owner, &mut store);
@@ -89,7 +89,7 @@ fn write(
     number: u8,
 ) -> Result<Result<u64, OwnerError>, TestError> {
     if MOST < owner.steps() {
-        return Err(TestError::TooMany);
+        return Err(TestError::Refused);
     }
     let body = Body::filled(alloc, 8, number)?;
     let lba = 8 * u64::from(number.wrapping_sub(1) % 8);
@@ -99,12 +99,20 @@ fn write(
     }
 }
 
+// What a request is to this test that is not carried out.
+fn error_of(error: OwnerError) -> TestError {
+    match error {
+        OwnerError::Range | OwnerError::Eio => TestError::Failed,
+        OwnerError::OutOfMemory => TestError::Memory,
+    }
+}
+
 // Zeroes eight sectors.
 fn zero(alloc: Global, owner: &mut MemOwner, store: &mut Faulty) -> Result<u64, TestError> {
     if MOST < owner.steps() {
-        return Err(TestError::TooMany);
+        return Err(TestError::Refused);
     }
-    Ok(owner.zero(alloc, store, 8, 8)?)
+    owner.zero(alloc, store, 8, 8).map_err(error_of)
 }
 
 // Drains: what is left is put, and no more than that.
@@ -116,7 +124,7 @@ fn tell_drains(
     tell_drain(rt, owner, store)?;
     tell_drain(rt, owner, store)?;
     zero(rt.alloc(), owner, store)?;
-    println!(rt; "a zeroing")?;
+    head(rt, "a zeroing")?;
     tell_drain(rt, owner, store)
 }
 
@@ -132,9 +140,9 @@ fn drain(
     store: &mut Faulty,
 ) -> Result<(u64, usize), TestError> {
     if MOST < owner.steps() {
-        return Err(TestError::TooMany);
+        return Err(TestError::Refused);
     }
-    let count = owner.drain(alloc, store)?;
+    let count = owner.drain(alloc, store).map_err(error_of)?;
     let names = store.list(alloc, owner.uuid())?;
     Ok((count, names.as_slice().len()))
 }
@@ -156,11 +164,14 @@ fn read(
     lba: u64,
 ) -> Result<Byte, TestError> {
     if MOST < owner.steps() {
-        return Err(TestError::TooMany);
+        return Err(TestError::Refused);
     }
     let mut buf = eight_sectors(alloc)?;
-    owner.read(store, lba, buf.as_mut_slice())?;
-    Ok(Byte(filled_with(buf.as_slice())))
+    let outcome = owner.read(store, lba, buf.as_mut_slice());
+    let byte = filled_with(buf.as_slice());
+    drop(buf);
+    outcome.map_err(error_of)?;
+    Ok(Byte(byte))
 }
 
 // Eight sectors of a byte that no one writes.

@@ -1,11 +1,11 @@
 use crate::answer::{Answer, Objects, Sectors};
-use crate::error::TestError;
 use crate::real::GEOMETRY;
 use crate::step::{Byte, Step};
 use lsvd_base::Body;
 use plain_disk::{ObjectNumbers, PlainEvent, PlainReply};
 use plain_volume::PlainVolume;
 use std::alloc::{AllocError, Global};
+use test_output::TestError;
 
 /// The plain volume, with the read that is planned.
 #[derive(Drop)]
@@ -48,7 +48,7 @@ impl Plain {
                 self.objects = Some(objects);
                 Ok(planned)
             }
-            reply => Ok(answer_of(&reply)),
+            reply => Ok(answered_by(reply)),
         }
     }
 
@@ -104,8 +104,14 @@ fn event_of(alloc: Global, step: Step) -> Result<Option<PlainEvent>, AllocError>
 }
 
 fn step(volume: &mut PlainVolume, event: PlainEvent) -> Result<Answer, TestError> {
-    let reply = volume.step(event)?;
-    Ok(answer_of(&reply))
+    Ok(answered_by(volume.step(event)?))
+}
+
+// What a reply says that is needed no longer.
+fn answered_by(reply: PlainReply) -> Answer {
+    let answer = answer_of(&reply);
+    drop(reply);
+    answer
 }
 
 // Stops the volume, or looks at what it has open.

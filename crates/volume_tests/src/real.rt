@@ -3,7 +3,6 @@ ghost use Rattle.lsvd_objstore.specs.Memory.{told_receipt};
 ghost use Rattle.vol_core.specs.Step.{HasItsReceipt};
 
 use crate::answer::{Answer, Objects, Sectors};
-use crate::error::TestError;
 use crate::step::{Byte, Step};
 use batcher::Full;
 use lsvd_base::{Body, Entry, Geometry};
@@ -13,6 +12,7 @@ use lsvd_objstore::{MemReceipt, MemStore, Store};
 use object_uploads::Job;
 use read_plan::Plan;
 use std::alloc::Global;
+use test_output::TestError;
 use uuid::Uuid;
 use vol_core::{Event, Refusal, Reply, Volume, create};
 
@@ -106,7 +106,7 @@ fn step(volume: &mut MemVolume, event: Event<MemReceipt>) -> Result<Reply<MemRec
     requires { HasItsReceipt told_receipt event }
 {
     if MOST < volume.steps() {
-        return Err(TestError::TooMany);
+        return Err(TestError::Refused);
     }
     Ok(volume.step(event))
 }
@@ -125,8 +125,14 @@ fn make(volume: &mut MemVolume, made: Step) -> Result<Answer, TestError> {
 fn answered(volume: &mut MemVolume, event: Event<MemReceipt>) -> Result<Answer, TestError>
     requires { HasItsReceipt told_receipt event }
 {
-    let reply = step(volume, event)?;
-    Ok(answer_of(&reply))
+    Ok(answered_by(step(volume, event)?))
+}
+
+// What a reply says that is needed no longer.
+fn answered_by(reply: Reply<MemReceipt>) -> Answer {
+    let answer = answer_of(&reply);
+    drop(reply);
+    answer
 }
 
 fn write(
@@ -152,7 +158,7 @@ fn look(
             *plan = Some(planned);
             Ok(answer)
         }
-        reply => Ok(answer_of(&reply)),
+        reply => Ok(answered_by(reply)),
     }
 }
 
@@ -165,8 +171,11 @@ fn fetch(
         return Ok(Answer::Nothing);
     };
     let mut read = vec![in alloc; 9; plan.len()]?;
-    plan.fetch(store, read.as_mut_slice())?;
-    Ok(Answer::Data(Sectors::of(read.as_slice())))
+    let fetched = plan.fetch(store, read.as_mut_slice());
+    let sectors = Sectors::of(read.as_slice());
+    drop(read);
+    fetched?;
+    Ok(Answer::Data(sectors))
 }
 
 fn release(
@@ -188,7 +197,7 @@ fn take(volume: &mut MemVolume, jobs: &mut Vec<Job>) -> Result<Answer, TestError
             jobs.push_reserved(job);
             Ok(Answer::Taken(number))
         }
-        reply => Ok(answer_of(&reply)),
+        reply => Ok(answered_by(reply)),
     }
 }
 

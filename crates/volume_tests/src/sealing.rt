@@ -1,11 +1,11 @@
 ghost use Rattle.batcher.specs.Sealing.{IsExpectedOf};
 
-use crate::error::TestError;
 use Change::{Write, Zero};
 use batcher::{Batch, SealedBatch, data_sectors};
 use lsvd_base::{Body, Entry, Geometry, in_range};
 use object_format::Expected;
 use std::alloc::{AllocError, Global};
+use test_output::{TestError, head};
 
 // The volume, of whose batches twelve sectors of data make one full.
 const GEOMETRY: Geometry = Geometry {
@@ -41,7 +41,7 @@ const BATCHES: &[&[Change]] = &[
 
 /// Shows the rows of objects: they are the fewest that do what the entries do, which no clause says.
 pub fn tell_seals(rt: &HostRuntime) -> Result<(), TestError> {
-    println!(rt; "# The rows of sealed batches")?;
+    head(rt, "# The rows of sealed batches")?;
     for changes in BATCHES {
         println!(rt; "{changes:?}")?;
         let mut batch = Batch::new(rt.alloc(), GEOMETRY, 0);
@@ -58,8 +58,8 @@ fn tell_seal(rt: &HostRuntime, batch: &mut Batch, changes: &[Change]) -> Result<
         add(batch, entry)?;
     }
     match seal(rt.alloc(), batch)? {
-        Some(sealed) => tell_rows(rt, &sealed),
-        None => println!(rt; "  nothing").map_err(TestError::from),
+        Some(sealed) => tell_sealed(rt, sealed),
+        None => head(rt, "  nothing"),
     }
 }
 
@@ -77,10 +77,10 @@ fn entry_of(alloc: Global, change: Change) -> Result<Entry, AllocError> {
 fn add(batch: &mut Batch, entry: Entry) -> Result<(), TestError> {
     batch.reserve()?;
     if !in_range(&entry, &batch.geometry()) || MOST < batch.next_seq() {
-        return Err(TestError::TooMany);
+        return Err(TestError::Refused);
     }
     if batch.sectors().checked_add(data_sectors(&entry)).is_none() {
-        return Err(TestError::TooMany);
+        return Err(TestError::Refused);
     }
     batch.add(entry);
     Ok(())
@@ -105,6 +105,12 @@ fn expected_of(batch: &Batch) -> Expected
         ancestors: 0,
         end_before: Some(batch.first_seq()),
     }
+}
+
+fn tell_sealed(rt: &HostRuntime, sealed: SealedBatch) -> Result<(), TestError> {
+    let told = tell_rows(rt, &sealed);
+    drop(sealed);
+    told
 }
 
 fn tell_rows(rt: &HostRuntime, sealed: &SealedBatch) -> Result<(), TestError> {

@@ -1,6 +1,6 @@
-use crate::error::TestError;
 use obj_log::SealError;
 use read_plan::LookError;
+use test_output::{TestError, head};
 use volume_owner::OwnerError;
 
 const SEALS: &[SealError] = &[SealError::Nothing, SealError::Busy, SealError::OutOfMemory];
@@ -11,7 +11,7 @@ const REQUESTS: &[OwnerError] = &[OwnerError::Range, OwnerError::Eio, OwnerError
 
 /// Shows what errors say of themselves.
 pub fn tell_texts(rt: &HostRuntime) -> Result<(), TestError> {
-    println!(rt; "# What errors say")?;
+    head(rt, "# What errors say")?;
     for error in SEALS {
         println!(rt; "no object is sealed: {error}")?;
     }

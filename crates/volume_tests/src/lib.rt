@@ -1,14 +1,13 @@
 //! Shows what the crates of a volume do where no clause of theirs and no script of the program says it.
 //!
-//! It makes no claim: it prints what was answered, under a heading for each topic, and `stdout` beside `src/`
-//! has what it must print. In short runs the plain volume stands beside the real one, and where they answer
-//! otherwise both answers are printed. A step for which memory ran out is made once more, so that each
-//! allocation may be let fail in turn (`scripts/short_memory`).
-//! It stands on `vol_core`, `volume_owner`, `plain_disk` and the crates below them.
+//! Its contract is its output, which stands in the stored one of the program `area_tests`:
+//! what was answered, under a heading for each topic. In short runs the plain volume stands beside the real
+//! one, and where they answer otherwise both answers are printed. A step for which memory ran out is made
+//! once more, so that each allocation may be let fail in turn (`scripts/short_memory`).
+//! It stands on `test_output`, `vol_core`, `volume_owner`, `plain_volume` and the crates below them.
 #![tactic(auto)]
 
 mod answer;
-mod error;
 mod fullness;
 mod owned;
 mod plain;
@@ -20,7 +19,6 @@ mod step;
 mod texts;
 
 use answer::Answer;
-use error::TestError;
 use fullness::tell_fullness;
 use owned::tell_owner;
 use plain::Plain;
@@ -29,26 +27,28 @@ use real::Real;
 use rows::ROWS;
 use sealing::tell_seals;
 use step::{Row, Step};
+use test_output::{TestError, head};
 use texts::tell_texts;
 
-fn main(rt: HostRuntime) -> Result<(), TestError> {
-    tell_fullness(&rt)?;
-    tell_seals(&rt)?;
-    println!(rt; "# The plain volume beside the real one")?;
+/// Tells what batches, volumes and an owner of one answer, and the texts of errors.
+pub fn tell_all(rt: &HostRuntime) -> Result<(), TestError> {
+    tell_fullness(rt)?;
+    tell_seals(rt)?;
+    head(rt, "# The plain volume beside the real one")?;
     for row in ROWS {
-        tell_row(&rt, row)?;
+        tell_row(rt, row)?;
     }
-    println!(rt; "# The plain volume over stops")?;
+    head(rt, "# The plain volume over stops")?;
     for row in PLAIN_ROWS {
-        tell_plain_row(&rt, row)?;
+        tell_plain_row(rt, row)?;
     }
-    tell_owner(&rt)?;
-    tell_texts(&rt)
+    tell_owner(rt)?;
+    tell_texts(rt)
 }
 
 // Makes a row's steps on both volumes.
 fn tell_row(rt: &HostRuntime, row: &Row) -> Result<(), TestError> {
-    println!(rt; "{}", row.name)?;
+    head(rt, row.name)?;
     let mut real = Real::new(rt.alloc())?;
     let mut plain = Plain::new(rt.alloc());
     let told = tell_steps(rt, &mut plain, &mut real, row);
@@ -95,7 +95,7 @@ fn tell(rt: &HostRuntime, step: &Step, answer: Answer) -> Result<(), TestError> 
 
 // Makes a row's steps on the plain volume.
 fn tell_plain_row(rt: &HostRuntime, row: &Row) -> Result<(), TestError> {
-    println!(rt; "{}", row.name)?;
+    head(rt, row.name)?;
     let mut plain = Plain::new(rt.alloc());
     let told = tell_plain_steps(rt, &mut plain, row);
     drop(plain);
