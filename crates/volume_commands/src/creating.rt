@@ -96,7 +96,10 @@ fn create_volume<W: World>(
             volume,
             store,
         }),
-        Err((_, error)) => Err(error.into()),
+        Err((disk, error)) => {
+            drop(disk);
+            Err(error.into())
+        }
     }
 }
 

@@ -8,21 +8,17 @@ use crate::world::WorldError;
 use lsvd_fault::Failed;
 use object_format::BadObject;
 use super_recovery::SuperError;
-use thiserror::Error;
 use vol_recover::{CreateError, MountError};
 use volume_owner::OwnerError;
 
 /// Why a command ended before its work was done.
-#[derive(Clone, Copy, Debug, PartialEq, Eq, Error)]
-pub enum CommandError {
+#[derive(Clone, Copy)]
+pub(crate) enum CommandError {
     /// The volume is not created or not mounted, for this reason.
-    #[error("the volume is refused: {0:?}")]
     Refused(Refusal),
     /// A call of the world failed, or one of a disk or of a store that it gave.
-    #[error("a call to the outside failed")]
     Fault,
     /// Memory ran out.
-    #[error("out of memory")]
     OutOfMemory,
 }
 

@@ -98,7 +98,10 @@ fn serve<W: World>(
         → CountsNone (W.faults world.old) (W.faults world.new) (W.Out.faults out.old) (W.Out.faults out.new) }
 {
     let mut opened = open(alloc, request, world)?;
-    tell_mounted(out, opened.mounted.entries, opened.mounted.number)?;
+    if let Err(Failed) = tell_mounted(out, opened.mounted.entries, opened.mounted.number) {
+        drop(opened);
+        return Err(CommandError::Fault);
+    }
     let served = serve_clients(
         alloc,
         opened.mounted.volume,
@@ -156,7 +159,13 @@ fn open<W: World>(
     }
     let disk = world.disk(request.cache, length)?;
     let mounted = mount(alloc, disk, &mut store, request)?;
-    let clients = world.listen(request.socket)?;
+    let clients = match world.listen(request.socket) {
+        Ok(clients) => clients,
+        Err(error) => {
+            drop(mounted);
+            return Err(error.into());
+        }
+    };
     Ok(Opened {
         mounted,
         store,
