@@ -37,15 +37,24 @@ pub enum Answer {
         entries: u64,
         number: u64,
     },
+    /// The entry was not entered: the unsealed entries have this many sectors of data, at least those of a
+    /// batch.
     BatchFull(u64),
+    /// The entry was not entered: there are this many unsealed entries, the most of a batch.
     EntriesFull(u64),
+    /// The entry was not entered: its record, with the pad before it, needs `need` sectors of the log, and
+    /// `free` are free.
     NoRoom {
         need: u64,
         free: u64,
     },
+    /// The volume does not take a request for these sectors.
     Range,
+    /// There is nothing to seal or to put.
     Nothing,
+    /// No object was sealed: 16 objects are not acknowledged.
     Busy,
+    /// The device failed a call of the request.
     Fault,
 }
 
