@@ -1,6 +1,6 @@
 -- What commands are answered, by what the steps of a rig answer; and why the others are not.
 use Rattle.std.proofs.Common.{◌≡◌, ℕ, Bool, true, false, List, [], ◌∷◌, length, map, refl, sym, ◌∙◌, ap, subst}
-use Rattle.std.specs.Prelude.{Option, Some, None, is_some, IsTrue, Result, Ok, Err, IfOk, IfErr, IsErrAnd}
+use Rattle.std.specs.Prelude.{Option, Some, None, is_some, IsTrue, Result, Err, IfOk}
 use Rattle.lsvd_base.specs.declared.geometry.Geometry.{Geometry}
 use Rattle.lsvd_device.specs.declared.fate.Fate.{Fate}
 use Rattle.lsvd_device.specs.declared.fate.Fate.TheVariants as fates
@@ -24,19 +24,12 @@ use Rattle.transcript.specs.declared.reason.Reason.TheVariants.{NotAllowed, Lett
 use Rattle.replay_rig.specs.declared.answer.Answer.{Answer}
 use Rattle.replay_rig.specs.declared.answer.Answer.TheVariants as answers
 use Rattle.vol_replay.specs.declared.line.Refusal.{Refusal}
-use Rattle.vol_replay.specs.declared.line.Refusal.TheVariants.{Bad, OutOfMemory}
+use Rattle.vol_replay.specs.declared.line.Refusal.TheVariants.{Bad}
 use Rattle.replay_rig.specs.Answers.{SaysReply}
 use Rattle.vol_replay.specs.Answers.{TellsAnswer}
 use Rattle.replay_rig.specs.Steps.{AnswersEvent, AnswersRead, FailsPut, StopsAfter, IsMountTold, MountsKeptRig, MountsLostRig}
 use Rattle.vol_replay.specs.Lines.{is_crash, AnswersIn, AnswersCommand, IsUnanswered}
 use Rattle.replay_rig.specs.Rig.{RigState, ShowsPlain}
-
--- a command is not answered where memory ran out
-pub unanswered : {T : Type 0} (result : Result T Refusal) (rig : Option RigState) (command : Command)
-    → IsErrAnd result (λ refusal. refusal ≡ OutOfMemory)
-    → IfErr result (IsUnanswered rig command)
-unanswered (Ok made) rig command lacks = absurd lacks
-unanswered (Err refusal) rig command lacks = subst (IsUnanswered rig command) (sym lacks) tt
 
 -- ---- events
 

@@ -101,7 +101,13 @@ fn crash_keep(
         drop(rig);
         return Err(Refusal::Bad(Reason::Letters));
     }
-    let fates = fates_of(alloc, device, pending)?;
+    let fates = match fates_of(alloc, device, pending) {
+        Ok(fates) => fates,
+        Err(AllocError) => {
+            drop(rig);
+            return Err(Refusal::OutOfMemory);
+        }
+    };
     Ok(rig.crash_keep(alloc, &fates, objects)?)
 }
 

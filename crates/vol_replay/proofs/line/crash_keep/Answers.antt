@@ -1,8 +1,7 @@
 use Rattle.std.proofs.Common.{sym, ◌∙◌, ap, length}
-use Rattle.std.specs.Prelude.{Some, IsTrue}
-use Rattle.replay_script.specs.declared.command.Command.TheVariants as commands
+use Rattle.std.specs.Prelude.{IsTrue}
 use Rattle.transcript.specs.Letters.{fits_writes, fits_objects}
-use Rattle.vol_replay.proofs.Commands.{unanswered, fit_kept, unfit_kept, unfit_writes, keep_in}
+use Rattle.vol_replay.proofs.Commands.{fit_kept, unfit_kept, unfit_writes, keep_in}
 use Rattle.vol_replay.proofs.line.crash_keep.Goals as goal
 use Rattle.vol_replay.proofs.line.crash_keep.Goals.{then-not-fits_writes-via-then-not-fits_writes}
 use Rattle.vol_replay.proofs.line.crash_keep.Goals.{then-not-fits_writes-via-else-not-fits_writes+then-not-fits_objects}
@@ -20,16 +19,11 @@ returns-then-not-fits_writes-clause-refused c =
           w.under_way.ensures
     ]
 
-pub returns-in_err-fates-clause-refused : goal.returns-in_err-fates-clause-refused
-returns-in_err-fates-clause-refused c =
-    unanswered c.from_residual.result (Some c.args.rig) (commands.CrashKeep c.args.device.now c.args.objects.now)
-    c.from_residual.ensures.1
-
 pub fates_of-requires : goal.fates_of-requires
 fates_of-requires c = sym c.fits_writes.ensures ∙ c.if-not-fits_writes.false
 
 pub crash_keep-requires-clause-fates : goal.crash_keep-requires-clause-fates
-crash_keep-requires-clause-fates c = λ plain shown. ap length c.deref.ensures.value ∙ c.in_ok-fates.ensures.count
+crash_keep-requires-clause-fates c = λ plain shown. ap length c.deref.ensures.value ∙ c.in-Ok.ensures.count
     ∙ c.pending-pending.ensures plain shown
 
 pub returns-clause-ok : goal.returns-clause-ok
@@ -43,5 +37,5 @@ returns-clause-ok c =
     record {
       by = keep_in device objects c.deref.result.now c.pending-pending.result c.in_ok-crash_keep.field-0.1 c.args.rig
           c.in_ok-crash_keep.field-0.0
-          fit c.pending-pending.ensures (c.deref.ensures.value ∙ c.in_ok-fates.ensures.fates) c.in_ok-crash_keep.ensures.ok;
+          fit c.pending-pending.ensures (c.deref.ensures.value ∙ c.in-Ok.ensures.fates) c.in_ok-crash_keep.ensures.ok;
     }
