@@ -35,10 +35,11 @@ use Rattle.vol_core.specs.declared.reply.Reply.TheVariants as told
 use Rattle.vol_core.specs.Events.{Tells, TellsRefusal}
 use Rattle.vol_core.specs.Volume.{VolumeState, SteppedVolume}
 use Rattle.batcher.specs.declared.full.Full.TheVariants as full
+use Rattle.vol_core.specs.Step.{Steps}
 use Rattle.replay_rig.specs.declared.answer.Answer.{Answer}
 use Rattle.replay_rig.specs.declared.answer.Answer.TheVariants as answers
 use Rattle.replay_rig.specs.Answers.{SaysReply, SaysCounts}
-use Rattle.replay_rig.specs.Steps.{StepsVolume, AnswersRead}
+use Rattle.replay_rig.specs.Steps.{AnswersRead}
 use Rattle.replay_rig.specs.Rig.{RigState, rig_of, IsYoung, ShowsPlain}
 use Rattle.replay_rig.proofs.Says.{IsCountReply, says_reply, lacks_unsaid}
 use Rattle.replay_rig.proofs.Stepped.{ShowsVolume, volume_shown, step_of_plain, KeepsUnderWay, same_under_way}
@@ -111,7 +112,7 @@ no_room_needed (Some budget) is = (omega arith, omega arith)
 -- the rig a line later, where the volume looked as the plain one does
 looked_rig : (lba sectors : ℕ) (old : RigState) (volume : SteppedVolume) (plain : PlainState) (reply : Reply Kept)
     (asked : PlainEvent)
-    → (h : ShowsPlain old plain) → StepsVolume (Look lba sectors) reply old.volume volume → asked ≡ events.Look lba sectors
+    → (h : ShowsPlain old plain) → Steps told_receipt (Look lba sectors) reply old.volume volume → asked ≡ events.Look lba sectors
     → ShowsVolume h.epoch volume.volume (plain_after asked plain)
     → ShowsPlain (rig_of volume old.objects old.puts old.is_stopping (old.lines + 1)) (plain_after asked plain)
 looked_rig lba sectors old volume plain reply asked h of is now =
@@ -122,7 +123,7 @@ looked_rig lba sectors old volume plain reply asked h of is now =
 
 pub look_shows : (lba sectors : ℕ) (old : RigState) (volume : SteppedVolume) (plain : PlainState) (reply : Reply Kept)
     → ShowsPlain old plain
-    → StepsVolume (Look lba sectors) reply old.volume volume
+    → Steps told_receipt (Look lba sectors) reply old.volume volume
     → (now : PlainState) × ShowsPlain (rig_of volume old.objects old.puts old.is_stopping (old.lines + 1)) now
 look_shows lba sectors old volume plain reply h of =
     elim (step_of_plain h.epoch (Look lba sectors) reply plain old.volume volume (volume_shown old plain h)
@@ -182,7 +183,7 @@ plans_none volume reply front bytes objects false passes none tells = record { c
 
 pub read_refused : (lba sectors : ℕ) (old : RigState) (volume : SteppedVolume) (reply : Reply Kept)
     (result : Result Answer AllocError)
-    → ((plan : PlanState) → reply ≡ told.Planned plan → ⊥) → StepsVolume (Look lba sectors) reply old.volume volume
+    → ((plan : PlanState) → reply ≡ told.Planned plan → ⊥) → Steps told_receipt (Look lba sectors) reply old.volume volume
     → IfOk result (SaysCounts reply)
     → IfOk result (λ answer. AnswersRead lba sectors answer old
     (rig_of volume old.objects old.puts old.is_stopping (old.lines + 1)))
@@ -220,7 +221,7 @@ record IsPlanned (lba sectors : ℕ) (plan : PlanState) (old : RigState) (middle
 
 is_planned : (lba sectors : ℕ) (old : RigState) (middle : SteppedVolume) (plain : PlainState) (plan : PlanState)
     → ShowsPlain old plain
-    → StepsVolume (Look lba sectors) (told.Planned plan) old.volume middle → IsPlanned lba sectors plan old middle plain
+    → Steps told_receipt (Look lba sectors) (told.Planned plan) old.volume middle → IsPlanned lba sectors plan old middle plain
 is_planned lba sectors old middle plain plan h of =
     let rig : RigState = rig_of middle old.objects old.puts old.is_stopping (old.lines + 1) in
     elim (step_of_plain h.epoch (Look lba sectors) (told.Planned plan) plain old.volume middle (volume_shown old plain h)
@@ -241,8 +242,8 @@ is_planned lba sectors old middle plain plan h of =
 -- and after it was given back
 given_back : (lba sectors : ℕ) (old : RigState) (middle volume : SteppedVolume) (plain : PlainState) (plan : PlanState)
     (reply : Reply Kept)
-    → ShowsPlain old plain → StepsVolume (Look lba sectors) (told.Planned plan) old.volume middle
-    → StepsVolume (Release plan) reply middle volume
+    → ShowsPlain old plain → Steps told_receipt (Look lba sectors) (told.Planned plan) old.volume middle
+    → Steps told_receipt (Release plan) reply middle volume
     → ShowsPlain (rig_of middle old.objects old.puts old.is_stopping (old.lines + 1))
     (plain_after (events.Look lba sectors) plain)
     → ShowsPlain (rig_of volume old.objects old.puts old.is_stopping (old.lines + 1))
@@ -253,7 +254,7 @@ given_back lba sectors old middle volume plain plan reply h of back shown =
     let between : RigState = rig_of middle old.objects old.puts old.is_stopping (old.lines + 1) in
     let released = release_reads looked plan.objects in
     let young = young_after_read old volume plain next (then_reads plain looked next (look_reads plain lba sectors) released)
-    (omega (arith, of.steps, back.steps)) (omega (arith, of.commits, back.commits)) h.young in
+    (omega (arith, of.count, back.count)) (omega (arith, of.step.numbers.commits, back.step.numbers.commits)) h.young in
     elim (step_of_plain shown.epoch (Release plan) reply looked middle volume (volume_shown between looked shown)
     (no_room_needed middle.volume.log.commits.disk.budget shown.pending.told) back) [
       | inl s ↦
@@ -265,8 +266,8 @@ given_back lba sectors old middle volume plain plan reply h of back shown =
 
 pub read_shows : (lba sectors : ℕ) (old : RigState) (middle volume : SteppedVolume) (plain : PlainState) (plan : PlanState)
     (reply : Reply Kept)
-    → ShowsPlain old plain → StepsVolume (Look lba sectors) (told.Planned plan) old.volume middle
-    → StepsVolume (Release plan) reply middle volume
+    → ShowsPlain old plain → Steps told_receipt (Look lba sectors) (told.Planned plan) old.volume middle
+    → Steps told_receipt (Release plan) reply middle volume
     → (now : PlainState) × ShowsPlain (rig_of volume old.objects old.puts old.is_stopping (old.lines + 1)) now
 read_shows lba sectors old middle volume plain plan reply h of back =
     let planned = is_planned lba sectors old middle plain plan h of in (
@@ -284,8 +285,8 @@ told_here G P rows (now ∷ past) entries is has known = subst (λ e. IfSome e (
 
 pub read_planned : (lba sectors : ℕ) (old : RigState) (middle volume : SteppedVolume) (plan : PlanState) (reply : Reply Kept)
     (held : Vec ℕ)
-    → IsOnDisk old.volume.volume.log → StepsVolume (Look lba sectors) (told.Planned plan) old.volume middle
-    → StepsVolume (Release plan) reply middle volume → GivesNoOther plan held.items
+    → IsOnDisk old.volume.volume.log → Steps told_receipt (Look lba sectors) (told.Planned plan) old.volume middle
+    → Steps told_receipt (Release plan) reply middle volume → GivesNoOther plan held.items
     → AnswersRead lba sectors (answers.Sectors held) old (rig_of volume old.objects old.puts old.is_stopping (old.lines + 1))
 read_planned lba sectors old middle volume plan reply held on_disk of back only = record {
   by = λ plain h.

@@ -14,12 +14,12 @@ use Rattle.pending_meaning.proofs.Shown.{still_shows_pending}
 use Rattle.vol_core.specs.declared.event.Event.{Event}
 use Rattle.vol_core.specs.declared.reply.Reply.{Reply}
 use Rattle.vol_core.specs.Volume.{VolumeState, SteppedVolume, with_budget_of}
-use Rattle.vol_core.specs.Step.{HasBytesOf}
+use Rattle.vol_core.specs.Step.{HasBytesOf, Steps}
 use Rattle.vol_core.specs.Events.{Asks}
 use Rattle.vol_core.specs.Stops.{HasOwnCommits}
 use Rattle.replay_rig.specs.declared.answer.Answer.{Answer}
 use Rattle.replay_rig.specs.Answers.{SaysReply, SaysCounts}
-use Rattle.replay_rig.specs.Steps.{StepsVolume, is_counted, AnswersEvent, AnswersAsked, IsUntouched}
+use Rattle.replay_rig.specs.Steps.{is_counted, AnswersEvent, AnswersAsked, IsUntouched}
 use Rattle.replay_rig.specs.Rig.{RigState, rig_of, script_uuid, ShowsPlain}
 use Rattle.replay_rig.proofs.Says.{says_reply, lacks_unsaid, counted_asks, counted_reply}
 use Rattle.replay_rig.proofs.Stepped.{ShowsVolume, volume_shown, HasRoomForEvent, step_of_plain, bytes_kept}
@@ -102,7 +102,7 @@ later_rig old lines plain later h = record {
 -- where memory ran out in a step, the rig shows what it showed, a line later
 pub no_step_rig : (old : RigState) (volume : SteppedVolume) (plain : PlainState) (event : Event Kept) (reply : Reply Kept)
     → (h : ShowsPlain old plain)
-    → StepsVolume event reply old.volume volume → ShowsVolume h.epoch volume.volume plain
+    → Steps told_receipt event reply old.volume volume → ShowsVolume h.epoch volume.volume plain
     → ShowsPlain (rig_of volume old.objects old.puts old.is_stopping (old.lines + 1)) plain
 no_step_rig old volume plain event reply h of now = record {
   shows = now.shows;
@@ -116,15 +116,15 @@ no_step_rig old volume plain event reply h of now = record {
   stopping = h.stopping;
   puts = h.puts;
   put_objects = h.put_objects;
-  bytes = bytes_kept old.volume.volume volume.volume old.puts of.bytes
+  bytes = bytes_kept old.volume.volume volume.volume old.puts of.step.bytes
       (on_its_way old.volume.volume plain old.puts h.shows h.puts)
       (on_its_way volume.volume plain old.puts now.shows h.puts) h.bytes;
   stored = h.stored;
   young = record {
     entries = omega (arith, h.young.entries);
     objects = omega (arith, h.young.objects);
-    commits = omega (arith, h.young.commits, of.commits);
-    steps = omega (arith, h.young.steps, of.steps);
+    commits = omega (arith, h.young.commits, of.step.numbers.commits);
+    steps = omega (arith, h.young.steps, of.count);
   };
 }
 
@@ -144,7 +144,7 @@ pub record CountsOn (event : Event Kept) (reply : Reply Kept) (old : RigState) (
 
 pub counts_on : (event : Event Kept) (reply : Reply Kept) (old : RigState) (middle volume : SteppedVolume) (plain : PlainState)
     → is_counted event ≡ true → IsUntouched old.volume middle → HasRoomForEvent event middle.volume
-    → StepsVolume event reply middle volume
+    → Steps told_receipt event reply middle volume
     → ShowsPlain old plain
     → CountsOn event reply old middle volume plain
     ⊎ (ShowsPlain (rig_of volume old.objects old.puts old.is_stopping (old.lines + 1)) plain
@@ -172,7 +172,7 @@ counts_on event reply old middle volume plain is of room steps h =
 pub counted_shows : (event : Event Kept) (reply : Reply Kept) (old : RigState) (middle volume : SteppedVolume)
     (plain : PlainState)
     → is_counted event ≡ true → IsUntouched old.volume middle → HasRoomForEvent event middle.volume
-    → StepsVolume event reply middle volume
+    → Steps told_receipt event reply middle volume
     → ShowsPlain old plain → (now : PlainState)
     × ShowsPlain (rig_of volume old.objects old.puts old.is_stopping (old.lines + 1)) now
 counted_shows event reply old middle volume plain is of room steps h =
@@ -185,7 +185,7 @@ counted_shows event reply old middle volume plain is of room steps h =
 pub counted_answers : (event : Event Kept) (reply : Reply Kept) (old : RigState) (middle volume : SteppedVolume)
     (result : Result Answer AllocError)
     → is_counted event ≡ true → IsUntouched old.volume middle → HasRoomForEvent event middle.volume
-    → StepsVolume event reply middle volume
+    → Steps told_receipt event reply middle volume
     → IfOk result (SaysCounts reply)
     → IfOk result (λ answer. AnswersAsked event answer old (rig_of volume old.objects old.puts old.is_stopping (old.lines + 1)))
 counted_answers event reply old middle volume (Err error) is of room steps says = tt

@@ -24,13 +24,12 @@ use Rattle.vol_core.specs.declared.reply.Reply.{Reply}
 use Rattle.vol_core.specs.Volume.{VolumeState, SteppedVolume}
 use Rattle.vol_core.specs.Shows.{Shows}
 use Rattle.vol_core.specs.Events.{Asks, Tells}
-use Rattle.vol_core.specs.Step.{most_of_step, may_lack_memory, lacks_memory, passing, IsOnItsWay}
+use Rattle.vol_core.specs.Step.{most_of_step, may_lack_memory, lacks_memory, passing, IsOnItsWay, Steps}
 use Rattle.vol_core.specs.Step.{HasBytesOf, KeepsBytes}
 use Rattle.vol_core.specs.Stops.{HasOwnCommits}
 use Rattle.replay_rig.specs.Puts.{PutView}
 use Rattle.replay_rig.specs.Rig.{RigState, rig_of, script_uuid, expected_of_plain, AreUnderWay, IsFirstUnderWay, HasBytesOfObject}
 use Rattle.replay_rig.specs.Rig.{HasStored, IsYoung, ShowsPlain}
-use Rattle.replay_rig.specs.Steps.{StepsVolume}
 use Rattle.replay_rig.proofs.PlainLemmas.{GrowsByOne, event_grows, still_opens}
 
 -- ---- one step
@@ -66,12 +65,12 @@ HasRoomForEvent event volume = HasRoom (most_of_step event).changes (most_of_ste
 
 pub step_of_plain : (epoch : ℕ) (event : Event Kept) (reply : Reply Kept) (plain : PlainState) (old new : SteppedVolume)
     → ShowsVolume epoch old.volume plain
-    → HasRoomForEvent event old.volume → StepsVolume event reply old new
+    → HasRoomForEvent event old.volume → Steps told_receipt event reply old new
     → StepsPlain epoch event reply plain old.volume new.volume ⊎ StepsNot epoch event reply plain new.volume
 step_of_plain epoch event reply plain old new h room of =
-    let own = (of.stops epoch h.own).own in
-    let uuid = of.sizes.uuid ∙ h.uuid_is in
-    elim (of.step plain h.shows) [
+    let own = (of.step.stops epoch h.own).own in
+    let uuid = of.step.sizes.uuid ∙ h.uuid_is in
+    elim (of.step.step plain h.shows) [
       | inl s ↦
           let told = s.told room in
           let same : passing s.left plain ≡ plain = ap (λ f. passing f plain) (told.0 ∙ sym h.shows.fuse) in
@@ -210,7 +209,7 @@ same_under_way window = record { under_way = λ puts are. are; back = λ number 
 -- The rig shows the plain volume after an event that leaves the puts alone.
 pub goes_on_with : (old : RigState) (volume : SteppedVolume) (lines : ℕ) (event : Event Kept) (reply : Reply Kept)
     (asked : PlainEvent) (plain : PlainState)
-    → (h : ShowsPlain old plain) → StepsVolume event reply old.volume volume
+    → (h : ShowsPlain old plain) → Steps told_receipt event reply old.volume volume
     → ShowsVolume h.epoch volume.volume (plain_after asked plain)
     → KeepsUnderWay plain.window (plain_after asked plain).window → old.lines ≤ lines
     → IsYoung (rig_of volume old.objects old.puts old.is_stopping lines) (plain_after asked plain)
@@ -233,7 +232,7 @@ goes_on_with old volume lines event reply asked plain h of now keeps later young
       stopping = h.stopping ∙ sym grows.told;
       puts = under_way;
       put_objects = put_objects_still plain next old.puts grows object_stays h.put_objects;
-      bytes = bytes_kept old.volume.volume volume.volume old.puts of.bytes
+      bytes = bytes_kept old.volume.volume volume.volume old.puts of.step.bytes
           (on_its_way old.volume.volume plain old.puts h.shows h.puts)
           (on_its_way volume.volume next old.puts now.shows under_way) h.bytes;
       stored = stored_still plain next old.objects grows object_stays keeps.back keeps.forth h.stored;
@@ -243,12 +242,12 @@ goes_on_with old volume lines event reply asked plain h of now keeps later young
 -- one line later
 pub goes_on : (old : RigState) (volume : SteppedVolume) (event : Event Kept) (reply : Reply Kept) (asked : PlainEvent)
     (plain : PlainState)
-    → (h : ShowsPlain old plain) → StepsVolume event reply old.volume volume
+    → (h : ShowsPlain old plain) → Steps told_receipt event reply old.volume volume
     → ShowsVolume h.epoch volume.volume (plain_after asked plain)
     → KeepsUnderWay plain.window (plain_after asked plain).window
     → ShowsPlain (rig_of volume old.objects old.puts old.is_stopping (old.lines + 1)) (plain_after asked plain)
 goes_on old volume event reply asked plain h of now keeps =
     goes_on_with old volume (old.lines + 1) event reply asked plain h of now keeps (omega arith)
     (young_still old volume old.objects old.puts old.is_stopping plain (plain_after asked plain) (event_grows plain asked)
-    (omega (arith, of.steps))
-    (omega (arith, of.commits)) h.young)
+    (omega (arith, of.count))
+    (omega (arith, of.step.numbers.commits)) h.young)

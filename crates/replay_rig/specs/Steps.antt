@@ -1,5 +1,5 @@
 -- Contract: what a line makes of a rig, by each plain volume that it showed.
-use Rattle.std.specs.Prelude.{◌≡◌, ℕ, ◌+◌, ◌≤◌, Some, is_some, IsTrue, Bool, true, false, List, map}
+use Rattle.std.specs.Prelude.{◌≡◌, ℕ, Some, is_some, IsTrue, Bool, true, false, List, map}
 use Rattle.object_stream.specs.Landed.{Numbers}
 use Rattle.lsvd_device.specs.declared.fate.Fate.{Fate}
 use Rattle.lsvd_objstore.specs.Memory.{Kept, told_receipt}
@@ -10,10 +10,7 @@ use Rattle.plain_disk.specs.Step.{plain_reply, plain_after}
 use Rattle.plain_disk.specs.Stops.{stopping_after_calls, recovered_number, mounted_kept, mounted_lost}
 use Rattle.vol_core.specs.declared.event.Event.{Event}
 use Rattle.vol_core.specs.declared.event.Event.TheVariants.{Write, Zero, Flush, Seal, Status}
-use Rattle.vol_core.specs.declared.reply.Reply.{Reply}
 use Rattle.vol_core.specs.Events.{Asks}
-use Rattle.vol_core.specs.Step.{StepsAsPlain, HasSameSizes, KeepsBytes}
-use Rattle.vol_core.specs.Stops.{StepKeeps}
 use Rattle.vol_core.specs.Volume.{SteppedVolume, with_budget_of}
 use Rattle.vol_core.specs.Shows.{Shows}
 use Rattle.log_meaning.specs.Fuses.{fuse_in}
@@ -31,15 +28,6 @@ use Rattle.replay_rig.specs.Rig.{RigState, ShowsPlain}
 pub record AnswersEvent (event : PlainEvent) (answer : Answer) (old new : RigState) : Type 0 where
   pub by : (plain : PlainState) → ShowsPlain old plain → SaysReply (plain_reply plain event) answer
       × ShowsPlain new (plain_after event plain)
-
--- what a step of a volume promises, as far as a rig takes it
-pub record StepsVolume (event : Event Kept) (reply : Reply Kept) (old new : SteppedVolume) : Type 0 where
-  pub step : StepsAsPlain told_receipt event reply old.volume new.volume
-  pub steps : new.steps ≡ old.steps + 1
-  pub sizes : HasSameSizes old.volume new.volume
-  pub stops : StepKeeps old.volume new.volume
-  pub bytes : KeepsBytes old.volume new.volume
-  pub commits : new.volume.log.commits.number ≤ old.volume.log.commits.number + 2
 
 -- an event of a volume that hands nothing out but counts, and leaves the puts alone
 abbrev pub is_counted : Event Kept → Bool

@@ -5,15 +5,13 @@ ghost use Rattle.lsvd_device.specs.Memory.{HasRoom};
 ghost use Rattle.upload_window.specs.Window.{is_started};
 ghost use Rattle.plain_disk.specs.declared.event.PlainEvent.TheVariants as events;
 ghost use Rattle.plain_disk.specs.State.{PlainState, created_volume};
-ghost use Rattle.lsvd_objstore.specs.Memory.{told_receipt};
-ghost use Rattle.vol_core.specs.Shows.{max_number};
-ghost use Rattle.vol_core.specs.Step.{most_of_step, HasItsReceipt};
+ghost use Rattle.vol_core.specs.Step.{most_of_step};
 ghost use Rattle.transcript.specs.Letters.{under_way};
 ghost use Rattle.replay_rig.specs.Steps.{AnswersEvent, is_counted, AnswersAsked, AnswersRead, FailsPut};
 ghost use Rattle.read_plan.specs.Plan.{GivesNoOther};
 ghost use Rattle.replay_rig.specs.Puts.{is_put_out, put_of};
 ghost use Rattle.replay_rig.specs.Crash.{IsPutAs};
-ghost use Rattle.replay_rig.specs.Steps.{IsUntouched, StepsVolume, StopsAfter, MountsKeptRig, MountsLostRig};
+ghost use Rattle.replay_rig.specs.Steps.{IsUntouched, StopsAfter, MountsKeptRig, MountsLostRig};
 ghost use Rattle.replay_rig.specs.Rig.{rig_of, ShowsPlain, IsKeptByRig};
 
 use crate::answer::{Answer, answer_of};
@@ -126,12 +124,12 @@ impl Rig {
     {
         self.lines += 1;
         self.volume.is_ordered();
-        let plan = match step(&mut self.volume, Event::Look { lba, sectors }) {
+        let plan = match self.volume.step(Event::Look { lba, sectors }) {
             Reply::Planned(plan) => plan,
             reply => return answer_of(reply),
         };
         let outcome = fetched(alloc, &plan, &mut self.store);
-        drop(step(&mut self.volume, Event::Release(plan)));
+        drop(self.volume.step(Event::Release(plan)));
         let bytes = outcome?;
         Ok(Answer::Sectors(bytes))
     }
@@ -163,7 +161,7 @@ impl Rig {
         self.lines += 1;
         self.puts.reserve()?;
         self.volume.is_ordered();
-        let job = match step(&mut self.volume, Event::TakeJob) {
+        let job = match self.volume.step(Event::TakeJob) {
             Reply::Taken(job) => job,
             reply => {
                 drop(reply);
@@ -195,7 +193,7 @@ impl Rig {
         self.lines += 1;
         let receipt = put_out(alloc, &self.puts, &mut self.store, number)?;
         let job = self.puts.finish(number);
-        answer_of(step(&mut self.volume, Event::JobDone { job, receipt }))
+        answer_of(self.volume.step(Event::JobDone { job, receipt }))
     }
 
     /// Fails the put of this number, which is out (a condition).
@@ -208,7 +206,7 @@ impl Rig {
     {
         self.lines += 1;
         let job = self.puts.fail(number)?;
-        drop(step(&mut self.volume, Event::JobFailed(job)));
+        drop(self.volume.step(Event::JobFailed(job)));
         Ok(Answer::Failed(number))
     }
 
@@ -230,7 +228,7 @@ impl Rig {
     {
         self.lines += 1;
         match make_room(&mut self.volume, &event) {
-            Ok(()) => answer_of(step(&mut self.volume, event)),
+            Ok(()) => answer_of(self.volume.step(event)),
             Err(error) => {
                 drop(event);
                 Err(error)
@@ -349,15 +347,6 @@ fn put_out(
 {
     let object = puts.object(number)?;
     put_object(alloc, store, number, &object)
-}
-
-// A step of a volume.
-fn step(volume: &mut ScriptVolume, event: Event<MemReceipt>) -> Reply<MemReceipt>
-    requires steps { volume.old.steps < max_number }
-    requires receipt { HasItsReceipt told_receipt event }
-    ensures { StepsVolume event result volume.old volume.new }
-{
-    volume.step(event)
 }
 
 // Makes room on the device of a volume for what an event may ask for.

@@ -18,16 +18,11 @@ use Rattle.vol_core.specs.declared.reply.Refusal.{Refusal}
 use Rattle.vol_core.specs.declared.reply.Refusal.TheVariants as refusals
 use Rattle.vol_core.specs.declared.reply.Reply.{Reply}
 use Rattle.vol_core.specs.declared.reply.Reply.TheVariants as told
-use Rattle.vol_core.specs.Volume.{VolumeState, SteppedVolume}
+use Rattle.vol_core.specs.Volume.{VolumeState}
 use Rattle.vol_core.specs.Step.{KeepsBytes}
 use Rattle.vol_core.specs.Calls.{Seals, Takes, Finishes, Returns, IsRefusedEntry, Enters}
 use Rattle.vol_core.proofs.StepLemmas.{with_objects}
 use Rattle.vol_core.proofs.EnterSteps.{with_both}
-
--- the step is that of the volume as it is seen before
-pub bytes_seen : (new : VolumeState) (inside seen : SteppedVolume) → inside ≡ seen → KeepsBytes inside.volume new
-    → KeepsBytes seen.volume new
-bytes_seen new inside seen same keeps = subst (λ (s : SteppedVolume). KeepsBytes s.volume new) same keeps
 
 -- ---- the bytes at an index
 

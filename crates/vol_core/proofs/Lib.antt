@@ -19,3 +19,4 @@ mod LookSteps
 mod CommitStops
 mod StopSteps
 mod BytesLemmas
+mod StepsOf

@@ -26,7 +26,7 @@ use Rattle.vol_core.specs.declared.reply.Reply.{Reply}
 use Rattle.vol_core.specs.Volume.{VolumeState, SteppedVolume}
 use Rattle.vol_core.specs.Shows.{Shows, IsSmall, NumbersGrow, IsVolume}
 use Rattle.vol_core.specs.Events.{Asks, Tells}
-use Rattle.vol_core.specs.Step.{passing, IsStep, IsNoStep, StepsAsPlain}
+use Rattle.vol_core.specs.Step.{passing, IsStep, IsNoStep, StepsAsPlain, StepOf}
 use Rattle.vol_core.specs.Calls.{HasRoomForStep}
 
 -- ---- other calls
@@ -77,11 +77,6 @@ numbers_stay old new same_log same_objects =
     let number = ap (λ (l : LogState). l.commits.number) same_log in
     record { entries = omega (arith, next); objects = omega (arith, last); commits = omega (arith, number) }
 
--- they grow from those of the volume as it is seen before
-pub numbers_seen : (new : VolumeState) (inside seen : SteppedVolume) → inside ≡ seen → NumbersGrow inside.volume new
-    → NumbersGrow seen.volume new
-numbers_seen new inside seen same grow = subst (λ (s : SteppedVolume). NumbersGrow s.volume new) same grow
-
 -- a step leaves them small
 pub small_of : (old new : VolumeState) (steps : ℕ) → NumbersGrow old new → HasRoomForStep (record { volume = old; steps = steps })
     → IsSmall new steps
@@ -115,9 +110,9 @@ steps_keep_volume state event reply old new steps is ready as_plain grow =
 -- the step is that of the volume as it is seen before
 pub step_seen : {R : Type 0} (state : R → ReceiptState) (event : Event R) (reply : Reply R) (new : VolumeState)
     (inside seen : SteppedVolume)
-    → inside ≡ seen → StepsAsPlain state event reply inside.volume new → StepsAsPlain state event reply seen.volume new
-step_seen state event reply new inside seen same steps =
-    subst (λ (s : SteppedVolume). StepsAsPlain state event reply s.volume new) same steps
+    → inside ≡ seen → StepOf state event reply inside.volume new → StepOf state event reply seen.volume new
+step_seen state event reply new inside seen same step =
+    subst (λ (s : SteppedVolume). StepOf state event reply s.volume new) same step
 
 -- ---- only the objects change
 

@@ -1,8 +1,7 @@
 -- What a stop keeps at each moment of a step.
-use Rattle.std.proofs.Common.{◌≡◌, ℕ, Bool, List, [], refl, sym, ◌∙◌, ap, subst}
+use Rattle.std.proofs.Common.{◌≡◌, ℕ, Bool, List, [], refl, sym, ◌∙◌, subst}
 use Rattle.std.specs.Prelude.{Option, Some, None, OnSome, Result, Ok, Err}
 use Rattle.std.proofs.Math.Path.{subst₂}
-use Rattle.lsvd_objstore.specs.Store.{ReceiptState}
 use Rattle.lsvd_base.specs.declared.entry.Entry.{Entry}
 use Rattle.lsvd_base.specs.declared.geometry.Geometry.{Geometry}
 use Rattle.commit_slot.specs.Commits.{IsAsBefore}
@@ -10,7 +9,6 @@ use Rattle.cache_log.specs.declared.error.AppendError.{AppendError}
 use Rattle.cache_log.specs.declared.error.AppendError.TheVariants.{NoRoom, DeviceFault}
 use Rattle.cache_log.specs.Log.{LogState, HasSameEntries}
 use Rattle.cache_log.specs.Committed.{IsOnDisk}
-use Rattle.object_uploads.specs.State.{JobState}
 use Rattle.volume_maps.specs.Maps.{MapsState}
 use Rattle.read_plan.specs.Look.{ReadsRange}
 use Rattle.object_uploads.specs.Order.{IsUploads}
@@ -27,10 +25,10 @@ use Rattle.stop_meaning.proofs.StopLemmas.{now_keeps}
 use Rattle.stop_meaning.proofs.CommittedLemmas.{same_has_committed}
 use Rattle.vol_core.specs.declared.reply.Reply.{Reply}
 use Rattle.vol_core.specs.declared.reply.Reply.TheVariants as told
-use Rattle.vol_core.specs.Volume.{VolumeState, SteppedVolume}
+use Rattle.vol_core.specs.Volume.{VolumeState}
 use Rattle.vol_core.specs.Stops.{owner_in, HasOwnCommits, KeepsNow, StepKeeps}
 use Rattle.vol_core.specs.Shows.{Shows}
-use Rattle.vol_core.specs.Calls.{Seals, Takes, Finishes, Returns, CommitsFrom, ComesToLog, IsRefusedEntry, Enters}
+use Rattle.vol_core.specs.Calls.{CommitsFrom, ComesToLog, IsRefusedEntry, Enters}
 use Rattle.vol_core.proofs.StepLemmas.{with_objects}
 use Rattle.vol_core.proofs.FlushLemmas.{with_log}
 use Rattle.vol_core.proofs.CommitStops.{commit_owns, commit_keeps_stops, enter_owns, enter_keeps_stops}
@@ -41,11 +39,6 @@ use Rattle.vol_core.proofs.LoggedLemmas.{logged_alike}
 on_some : {A : Type 0} (R : Type 0) (told : Option A) → R → OnSome told R
 on_some R None is = tt
 on_some R (Some x) is = is
-
--- the step is that of the volume as it is seen before
-pub keeps_seen : (new : VolumeState) (inside seen : SteppedVolume) → inside ≡ seen → StepKeeps inside.volume new
-    → StepKeeps seen.volume new
-keeps_seen new inside seen same keeps = subst (λ (s : SteppedVolume). StepKeeps s.volume new) same keeps
 
 -- ---- a volume that shows a plain one
 
@@ -116,38 +109,9 @@ look_keeps old log pins is = still_keeps old (record old { log = log; pins = pin
 
 -- ---- only the objects change
 
-module _ (old : VolumeState) (objects : ObjLogState) where
-  objects_keep : IsOfSameVolume old.objects objects → StepKeeps old (with_objects objects old)
-  objects_keep same = still_keeps old (with_objects objects old) same (still old.log)
-
-  by_list : (list : ObjLogState) → objects ≡ list → IsOfSameVolume old.objects list → StepKeeps old (with_objects objects old)
-  by_list list is same = objects_keep (subst (IsOfSameVolume old.objects) (sym is) same)
-
-  pub seal_keeps : {R : Type 0} (reply : Reply R) → Seals reply old.objects objects → StepKeeps old (with_objects objects old)
-  seal_keeps (told.Sealed number) seals = objects_keep (record { uuid = seals.0.uploads.uuid; geometry = seals.0.geometry })
-  seal_keeps told.Nothing seals = objects_keep (record { uuid = seals.0.uploads.uuid; geometry = seals.0.geometry })
-  seal_keeps told.Busy seals = objects_keep (record { uuid = seals.0.uploads.uuid; geometry = seals.0.geometry })
-  seal_keeps told.OutOfMemory seals = objects_keep (record { uuid = seals.uploads.uuid; geometry = seals.geometry })
-  seal_keeps reply seals = absurd seals
-
-  pub taking_keeps : {R : Type 0} (reply : Reply R) → Takes reply old.objects objects → StepKeeps old (with_objects objects old)
-  taking_keeps (told.Taken job) taken = by_list _ taken.2 (record { uuid = refl; geometry = refl })
-  taking_keeps told.Nothing taken = by_list old.objects taken.1 (record { uuid = refl; geometry = refl })
-  taking_keeps reply taken = absurd taken
-
-  pub returning_keeps : {R : Type 0} (job : JobState) (reply : Reply R) → Returns job reply old.objects objects
-      → StepKeeps old (with_objects objects old)
-  returning_keeps job told.Returned returned = by_list _ returned.1 (record { uuid = refl; geometry = refl })
-  returning_keeps job (told.NotReturned back) returned = by_list old.objects returned.2 (record { uuid = refl; geometry = refl })
-  returning_keeps job reply returned = absurd returned
-
-  pub finishing_keeps : {R : Type 0} (state : R → ReceiptState) (job : JobState) (receipt : R) (reply : Reply R)
-      → Finishes state job receipt reply old.objects objects → StepKeeps old (with_objects objects old)
-  finishing_keeps state job receipt (told.Done frontier) done =
-      objects_keep (record { uuid = done.1.uuid; geometry = ap (λ b. b.geometry) done.2 })
-  finishing_keeps state job receipt (told.NotDone back given) done =
-      by_list old.objects done.3 (record { uuid = refl; geometry = refl })
-  finishing_keeps state job receipt reply done = absurd done
+pub objects_keep : (old : VolumeState) (objects : ObjLogState) → IsOfSameVolume old.objects objects
+    → StepKeeps old (with_objects objects old)
+objects_keep old objects same = still_keeps old (with_objects objects old) same (still old.log)
 
 -- ---- a flush
 

@@ -21,9 +21,10 @@ use Rattle.vol_core.specs.declared.event.Event.TheVariants.{Write, Zero, Flush, 
 use Rattle.vol_core.specs.declared.reply.Refusal.TheVariants as refusals
 use Rattle.vol_core.specs.declared.reply.Reply.{Reply}
 use Rattle.vol_core.specs.declared.reply.Reply.TheVariants as told
-use Rattle.vol_core.specs.Volume.{VolumeState}
-use Rattle.vol_core.specs.Shows.{Shows}
+use Rattle.vol_core.specs.Volume.{VolumeState, SteppedVolume}
+use Rattle.vol_core.specs.Shows.{Shows, NumbersGrow}
 use Rattle.vol_core.specs.Events.{Asks, Tells}
+use Rattle.vol_core.specs.Stops.{StepKeeps}
 
 -- ---- conditions
 
@@ -149,3 +150,25 @@ abbrev pub KeepsBytes : (old new : VolumeState) → Type 0
 KeepsBytes old new =
     (number : ℕ) (bytes : List ℕ) → IsOnItsWay old number → HasBytesOf old number bytes → IsOnItsWay new number
     → HasBytesOf new number bytes
+
+-- ---- what a step promises
+
+-- What a step is of an event: its reply, and the volume after it. It is one of the plain volume, hands back what it did not use,
+-- and gives a plan all its bytes. It changes no size, and lets the numbers grow by one entry, one object and two commits at most.
+-- A stop at each of its moments keeps the entries, a failed call is counted once and told, and bytes on their way stay.
+pub record StepOf {R : Type 0} (state : R → ReceiptState) (event : Event R) (reply : Reply R) (old new : VolumeState) :
+    Type 0 where
+  pub step : StepsAsPlain state event reply old new
+  pub back : HandsBack event reply
+  pub plan : HasItsBytes event reply
+  pub sizes : HasSameSizes old new
+  pub numbers : NumbersGrow old new
+  pub stops : StepKeeps old new
+  pub faults : CountsFault reply old new
+  pub bytes : KeepsBytes old new
+
+-- the same of a volume that counts its steps
+pub record Steps {R : Type 0} (state : R → ReceiptState) (event : Event R) (reply : Reply R) (old new : SteppedVolume) :
+    Type 0 where
+  pub step : StepOf state event reply old.volume new.volume
+  pub count : new.steps ≡ old.steps + 1

@@ -8,10 +8,9 @@ ghost use Rattle.plain_disk.specs.State.{PlainState};
 ghost use Rattle.log_meaning.specs.Fuses.{fuse_in};
 ghost use Rattle.vol_core.specs.Volume.{volume_of, with_budget_of};
 ghost use Rattle.vol_core.specs.declared.event.Event.TheVariants as events;
-ghost use Rattle.vol_core.specs.Shows.{Shows, IsVolume, IsSmall, NumbersGrow, max_number};
-ghost use Rattle.vol_core.specs.Step.{passing, HasItsReceipt, StepsAsPlain, HandsBack, HasItsBytes};
-ghost use Rattle.vol_core.specs.Step.{HasSameSizes, tells_fault, CountsFault, KeepsBytes};
-ghost use Rattle.vol_core.specs.Stops.{HasOwnCommits, KeepsNow, StepKeeps};
+ghost use Rattle.vol_core.specs.Shows.{Shows, IsVolume, IsSmall, max_number};
+ghost use Rattle.vol_core.specs.Step.{passing, HasItsReceipt, StepOf, Steps};
+ghost use Rattle.vol_core.specs.Stops.{HasOwnCommits, KeepsNow};
 ghost use Rattle.vol_core.specs.Calls.{HasRoomForStep, event_of};
 
 use crate::committing::commit;
@@ -90,15 +89,7 @@ impl<D: Disk, R: Receipt> Volume<D, R> {
     pub fn step(&mut self, event: Event<R>) -> Reply<R>
         requires steps { self.old.steps < max_number }
         requires receipt { HasItsReceipt R.state event }
-        ensures step { StepsAsPlain R.state event result self.old.volume self.new.volume }
-        ensures back { HandsBack event result }
-        ensures plan { HasItsBytes event result }
-        ensures steps { self.new.steps ≡ self.old.steps + 1 }
-        ensures sizes { HasSameSizes self.old.volume self.new.volume }
-        ensures numbers { NumbersGrow self.old.volume self.new.volume }
-        ensures stops { StepKeeps self.old.volume self.new.volume }
-        ensures faults { CountsFault result self.old.volume self.new.volume }
-        ensures bytes { KeepsBytes self.old.volume self.new.volume }
+        ensures { Steps R.state event result self.old self.new }
     {
         self.count_step();
         self.answer(event)
@@ -211,15 +202,8 @@ impl<D: Disk, R: Receipt> Volume<D, R> {
     fn answer(&mut self, event: Event<R>) -> Reply<R>
         requires ready { HasRoomForStep self.old }
         requires receipt { HasItsReceipt R.state event }
-        ensures step { StepsAsPlain R.state event result self.old.volume self.new.volume }
-        ensures back { HandsBack event result }
-        ensures plan { HasItsBytes event result }
+        ensures step { StepOf R.state event result self.old.volume self.new.volume }
         ensures steps { self.new.steps ≡ self.old.steps }
-        ensures sizes { HasSameSizes self.old.volume self.new.volume }
-        ensures numbers { NumbersGrow self.old.volume self.new.volume }
-        ensures stops { StepKeeps self.old.volume self.new.volume }
-        ensures faults { CountsFault result self.old.volume self.new.volume }
-        ensures bytes { KeepsBytes self.old.volume self.new.volume }
     {
         match event {
             Event::Write { lba, body } => self.enter(Entry::Write { lba, body }),
@@ -238,14 +222,8 @@ impl<D: Disk, R: Receipt> Volume<D, R> {
     // Enters an entry.
     fn enter(&mut self, entry: Entry) -> Reply<R>
         requires { HasRoomForStep self.old }
-        ensures step { StepsAsPlain R.state (event_of entry) result self.old.volume self.new.volume }
-        ensures back { HandsBack (event_of entry) result }
+        ensures step { StepOf R.state (event_of entry) result self.old.volume self.new.volume }
         ensures steps { self.new.steps ≡ self.old.steps }
-        ensures sizes { HasSameSizes self.old.volume self.new.volume }
-        ensures numbers { NumbersGrow self.old.volume self.new.volume }
-        ensures stops { StepKeeps self.old.volume self.new.volume }
-        ensures faults { CountsFault result self.old.volume self.new.volume }
-        ensures bytes { KeepsBytes self.old.volume self.new.volume }
     {
         self.objects.ordered();
         self.log.on_disk();
@@ -255,14 +233,8 @@ impl<D: Disk, R: Receipt> Volume<D, R> {
     // Commits all entries so far, with the log's tail at the frontier's end.
     fn flush(&mut self) -> Reply<R>
         requires { HasRoomForStep self.old }
-        ensures step { StepsAsPlain R.state events.Flush result self.old.volume self.new.volume }
-        ensures back { HandsBack events.Flush result }
+        ensures step { StepOf R.state events.Flush result self.old.volume self.new.volume }
         ensures steps { self.new.steps ≡ self.old.steps }
-        ensures sizes { HasSameSizes self.old.volume self.new.volume }
-        ensures numbers { NumbersGrow self.old.volume self.new.volume }
-        ensures stops { StepKeeps self.old.volume self.new.volume }
-        ensures faults { CountsFault result self.old.volume self.new.volume }
-        ensures bytes { KeepsBytes self.old.volume self.new.volume }
     {
         self.objects.ordered();
         self.log.on_disk();
@@ -275,15 +247,8 @@ impl<D: Disk, R: Receipt> Volume<D, R> {
     // Plans a read.
     fn look(&mut self, lba: u64, sectors: u64) -> Reply<R>
         requires { HasRoomForStep self.old }
-        ensures step { StepsAsPlain R.state (events.Look lba sectors) result self.old.volume self.new.volume }
-        ensures back { HandsBack (events.Look lba sectors) result }
-        ensures plan { HasItsBytes (events.Look lba sectors) result }
+        ensures step { StepOf R.state (events.Look lba sectors) result self.old.volume self.new.volume }
         ensures steps { self.new.steps ≡ self.old.steps }
-        ensures sizes { HasSameSizes self.old.volume self.new.volume }
-        ensures numbers { NumbersGrow self.old.volume self.new.volume }
-        ensures stops { StepKeeps self.old.volume self.new.volume }
-        ensures faults { CountsFault result self.old.volume self.new.volume }
-        ensures bytes { KeepsBytes self.old.volume self.new.volume }
     {
         self.objects.ordered();
         if !self.geometry().may_transfer(lba, sectors) {
@@ -300,14 +265,8 @@ impl<D: Disk, R: Receipt> Volume<D, R> {
     // Gives the plan of a read back.
     fn release(&mut self, plan: Plan<R>) -> Reply<R>
         requires { HasRoomForStep self.old }
-        ensures step { StepsAsPlain R.state (events.Release plan) result self.old.volume self.new.volume }
-        ensures back { HandsBack (events.Release plan) result }
+        ensures step { StepOf R.state (events.Release plan) result self.old.volume self.new.volume }
         ensures steps { self.new.steps ≡ self.old.steps }
-        ensures sizes { HasSameSizes self.old.volume self.new.volume }
-        ensures numbers { NumbersGrow self.old.volume self.new.volume }
-        ensures stops { StepKeeps self.old.volume self.new.volume }
-        ensures faults { CountsFault result self.old.volume self.new.volume }
-        ensures bytes { KeepsBytes self.old.volume self.new.volume }
     {
         if !self.pins.has_all(plan.objects()) {
             return Reply::NotReleased(plan);
@@ -319,14 +278,8 @@ impl<D: Disk, R: Receipt> Volume<D, R> {
     // Seals the next data object.
     fn seal(&mut self) -> Reply<R>
         requires { HasRoomForStep self.old }
-        ensures step { StepsAsPlain R.state events.Seal result self.old.volume self.new.volume }
-        ensures back { HandsBack events.Seal result }
+        ensures step { StepOf R.state events.Seal result self.old.volume self.new.volume }
         ensures steps { self.new.steps ≡ self.old.steps }
-        ensures sizes { HasSameSizes self.old.volume self.new.volume }
-        ensures numbers { NumbersGrow self.old.volume self.new.volume }
-        ensures stops { StepKeeps self.old.volume self.new.volume }
-        ensures faults { CountsFault result self.old.volume self.new.volume }
-        ensures bytes { KeepsBytes self.old.volume self.new.volume }
     {
         self.objects.ordered();
         seal(self.alloc, &mut self.objects)
@@ -335,14 +288,8 @@ impl<D: Disk, R: Receipt> Volume<D, R> {
     // Begins the put of the lowest ready object.
     fn take_job(&mut self) -> Reply<R>
         requires { HasRoomForStep self.old }
-        ensures step { StepsAsPlain R.state events.TakeJob result self.old.volume self.new.volume }
-        ensures back { HandsBack events.TakeJob result }
+        ensures step { StepOf R.state events.TakeJob result self.old.volume self.new.volume }
         ensures steps { self.new.steps ≡ self.old.steps }
-        ensures sizes { HasSameSizes self.old.volume self.new.volume }
-        ensures numbers { NumbersGrow self.old.volume self.new.volume }
-        ensures stops { StepKeeps self.old.volume self.new.volume }
-        ensures faults { CountsFault result self.old.volume self.new.volume }
-        ensures bytes { KeepsBytes self.old.volume self.new.volume }
     {
         take_job(&mut self.objects)
     }
@@ -351,15 +298,8 @@ impl<D: Disk, R: Receipt> Volume<D, R> {
     fn job_done(&mut self, job: Job, receipt: R) -> Reply<R>
         requires ready { HasRoomForStep self.old }
         requires receipt { HasItsReceipt R.state (events.JobDone job receipt) }
-        ensures step { StepsAsPlain R.state (events.JobDone job receipt) result self.old.volume
-            self.new.volume }
-        ensures back { HandsBack (events.JobDone job receipt) result }
+        ensures step { StepOf R.state (events.JobDone job receipt) result self.old.volume self.new.volume }
         ensures steps { self.new.steps ≡ self.old.steps }
-        ensures sizes { HasSameSizes self.old.volume self.new.volume }
-        ensures numbers { NumbersGrow self.old.volume self.new.volume }
-        ensures stops { StepKeeps self.old.volume self.new.volume }
-        ensures faults { CountsFault result self.old.volume self.new.volume }
-        ensures bytes { KeepsBytes self.old.volume self.new.volume }
     {
         self.objects.ordered();
         let reply = job_done(&mut self.objects, job, receipt);
@@ -370,23 +310,15 @@ impl<D: Disk, R: Receipt> Volume<D, R> {
     // Makes the object of a put that failed ready again.
     fn job_failed(&mut self, job: Job) -> Reply<R>
         requires { HasRoomForStep self.old }
-        ensures step { StepsAsPlain R.state (events.JobFailed job) result self.old.volume self.new.volume }
-        ensures back { HandsBack (events.JobFailed job) result }
+        ensures step { StepOf R.state (events.JobFailed job) result self.old.volume self.new.volume }
         ensures steps { self.new.steps ≡ self.old.steps }
-        ensures sizes { HasSameSizes self.old.volume self.new.volume }
-        ensures numbers { NumbersGrow self.old.volume self.new.volume }
-        ensures stops { StepKeeps self.old.volume self.new.volume }
-        ensures faults { CountsFault result self.old.volume self.new.volume }
-        ensures bytes { KeepsBytes self.old.volume self.new.volume }
     {
         job_failed(&mut self.objects, job)
     }
 
     // Tells the counts.
     fn status(&self) -> Reply<R>
-        ensures step { StepsAsPlain R.state events.Status result self.now.volume self.now.volume }
-        ensures back { HandsBack events.Status result }
-        ensures faults { tells_fault result ≡ false }
+        ensures { StepOf R.state events.Status result self.now.volume self.now.volume }
     {
         self.objects.ordered();
         Reply::Told {

@@ -24,7 +24,7 @@ use Rattle.vol_core.specs.Volume.{VolumeState, SteppedVolume}
 use Rattle.vol_core.specs.Shows.{Shows}
 use Rattle.vol_core.specs.Calls.{event_of}
 use Rattle.vol_core.specs.Events.{Asks, Tells, TellsRefusal}
-use Rattle.vol_core.specs.Step.{passing, IsStep, IsNoStep, lacks_memory, tells_fault, HandsBack}
+use Rattle.vol_core.specs.Step.{passing, IsStep, IsNoStep, lacks_memory, tells_fault, HandsBack, Steps}
 use Rattle.vol_core.proofs.StepLemmas.{passing_keeps}
 use Rattle.volume_owner.specs.Owner.{IsIdle}
 use Rattle.volume_owner.specs.History.{GoesOn}
@@ -39,7 +39,7 @@ use Rattle.volume_owner.proofs.ReplyLemmas.{is_again, reply_cases}
 use Rattle.volume_owner.proofs.ReplyLemmas.{is_again, reply_cases}
 use Rattle.volume_owner.proofs.TellsLemmas.{tells_entered}
 use Rattle.volume_owner.proofs.WindowLemmas.{any_started}
-use Rattle.volume_owner.proofs.StepLemmas.{goes_on_passing, shown_work, length_is, IsIdlePlain, shown_idle, idle_shown, Steps}
+use Rattle.volume_owner.proofs.StepLemmas.{goes_on_passing, shown_work, length_is, IsIdlePlain, shown_idle, idle_shown}
 
 -- ---- what is told
 
@@ -191,19 +191,19 @@ module _ {R : Type 0} (state : R → ReceiptState) (entry : Entry) (reply : Repl
   pub entered_makes : (count : ℕ) → reply ≡ told.Entered count → MakesSteps 1 (entry ∷ []) old new
   entered_makes count is = record {
     adds = λ plain shows.
-        elim (entering state entry reply plain old.volume new.volume shows (of.step plain shows)) [
+        elim (entering state entry reply plain old.volume new.volume shows (of.step.step plain shows)) [
           | inl e ↦ (e.after, e.shows, e.goes)
           | inr o ↦ absurd (o.other count is)
         ];
-    sizes = of.sizes;
-    own = λ epoch own. (of.stops epoch own).own;
-    steps = omega (arith, of.steps);
+    sizes = of.step.sizes;
+    own = λ epoch own. (of.step.stops epoch own).own;
+    steps = omega (arith, of.count);
   }
 
   pub entered_length : (count : ℕ) (plain : PlainState) → Shows old.volume plain → reply ≡ told.Entered count
       → IsLengthOf count new.volume
   entered_length count plain shows is =
-      elim (entering state entry reply plain old.volume new.volume shows (of.step plain shows)) [
+      elim (entering state entry reply plain old.volume new.volume shows (of.step.step plain shows)) [
         | inl e ↦
             let told_it = e.told_is in
             let count_is : count ≡ history_length plain + 1 = cc in
@@ -217,20 +217,20 @@ module _ {R : Type 0} (state : R → ReceiptState) (entry : Entry) (reply : Repl
   pub refused_makes : ((count : ℕ) → reply ≡ told.Entered count → ⊥) → MakesSteps 1 [] old new
   refused_makes other = record {
     adds = λ plain shows.
-        elim (entering state entry reply plain old.volume new.volume shows (of.step plain shows)) [
+        elim (entering state entry reply plain old.volume new.volume shows (of.step.step plain shows)) [
           | inl e ↦ absurd (other (history_length plain + 1) e.told_is)
           | inr o ↦ (o.after, o.shows, o.goes)
         ];
-    sizes = of.sizes;
-    own = λ epoch own. (of.stops epoch own).own;
-    steps = omega (arith, of.steps);
+    sizes = of.step.sizes;
+    own = λ epoch own. (of.step.stops epoch own).own;
+    steps = omega (arith, of.count);
   }
 
   -- either way the volume is idle still
   pub entering_idle : (plain : PlainState) → Shows old.volume plain → IsIdle old.volume → IsIdle new.volume
   entering_idle plain shows idle =
       let was = shown_idle old.volume plain shows idle in
-      elim (entering state entry reply plain old.volume new.volume shows (of.step plain shows)) [
+      elim (entering state entry reply plain old.volume new.volume shows (of.step.step plain shows)) [
         | inl e ↦ idle_shown new.volume e.after e.shows (still_idle plain e.after e.window e.pins was)
         | inr o ↦ idle_shown new.volume o.after o.shows (still_idle plain o.after o.window o.pins was)
       ]
@@ -242,7 +242,7 @@ module _ {R : Type 0} (state : R → ReceiptState) (entry : Entry) (reply : Repl
       × (work_of new.volume ≡ work_of old.volume)
   again_work plain back why shows inside is again =
       let was = shown_work old.volume plain shows in
-      elim (entering state entry reply plain old.volume new.volume shows (of.step plain shows)) [
+      elim (entering state entry reply plain old.volume new.volume shows (of.step.step plain shows)) [
         | inl e ↦ (let told_it = e.told_is in let bad : ⊥ = cc in absurd bad)
         | inr o ↦
             let now = shown_work new.volume o.after o.shows in

@@ -40,7 +40,7 @@ use Rattle.vol_core.specs.declared.reply.Reply.TheVariants as told
 use Rattle.vol_core.specs.Volume.{VolumeState, SteppedVolume}
 use Rattle.vol_core.specs.Shows.{Shows}
 use Rattle.vol_core.specs.Events.{Asks, Tells, IsOfPut, IsOfDonePut}
-use Rattle.vol_core.specs.Step.{passing, IsStep, IsNoStep, lacks_memory, tells_fault}
+use Rattle.vol_core.specs.Step.{passing, IsStep, IsNoStep, lacks_memory, tells_fault, Steps}
 use Rattle.volume_owner.specs.Owner.{IsIdle}
 use Rattle.volume_owner.specs.Calls.{MakesSteps}
 use Rattle.volume_owner.specs.declared.error.OwnerError.{OwnerError}
@@ -51,7 +51,7 @@ use Rattle.volume_owner.proofs.WindowLemmas.{any_started, none_is_ready, started
 use Rattle.volume_owner.proofs.WindowLemmas.{entered_none, ready_is_open, marked_numbers, marked_long}
 use Rattle.volume_owner.proofs.TellsLemmas.{tells_taken, tells_no_fault}
 use Rattle.volume_owner.proofs.ReplyLemmas.{job_cases, seal_cases, memory_is_no_fault}
-use Rattle.volume_owner.proofs.StepLemmas.{shown_work, shown_idle, idle_shown, plans_shown, plans_plain, Steps, quiet_makes}
+use Rattle.volume_owner.proofs.StepLemmas.{shown_work, shown_idle, idle_shown, plans_shown, plans_plain, quiet_makes}
 
 -- ---- events that ask nothing of the device
 
@@ -100,12 +100,12 @@ pub silent_faults : {R : Type 0} (state : R → ReceiptState) (event : Event R) 
     → new.volume.log.commits.disk.faults ≡ old.volume.log.commits.disk.faults
 silent_faults state event reply plain old new silent shows of =
     let none : tells_fault reply ≡ false =
-    elim (of.step plain shows) [
+    elim (of.step.step plain shows) [
       | inl s ↦ tells_no_fault state old.volume reply (plain_reply (passing s.left plain) s.asked) s.tells
           (silent_reply (passing s.left plain) s.asked (silent s.asked s.asks))
       | inr n ↦ memory_is_no_fault reply n.lacks
     ] in
-    subst (λ b. Counts b old.volume.log.commits.disk.faults new.volume.log.commits.disk.faults) none of.faults
+    subst (λ b. Counts b old.volume.log.commits.disk.faults new.volume.log.commits.disk.faults) none of.step.faults
 
 -- ---- a put begins
 
@@ -167,7 +167,7 @@ module _ {R : Type 0} (state : R → ReceiptState) (reply : Reply R) (old new : 
     (of : Steps state asks.TakeJob reply old new)
     (plain : PlainState) (shows : Shows old.volume plain) where
   taking : IsAfterTake state reply plain old.volume new.volume
-  taking = after_take_by state reply plain old.volume new.volume shows (of.step plain shows)
+  taking = after_take_by state reply plain old.volume new.volume shows (of.step.step plain shows)
 
   pub take_makes : MakesSteps 1 [] old new
   take_makes = quiet_makes state asks.TakeJob reply old new (λ asked is. ap is_quiet is) of
@@ -202,9 +202,9 @@ module _ {R : Type 0} (state : R → ReceiptState) (reply : Reply R) (old new : 
         record {
           out = record {
             started = ap (is_started n) now ∙ started_once n objects open_;
-            sealed = of.bytes n job.bytes old_open number.1.bytes new_open;
+            sealed = of.step.bytes n job.bytes old_open number.1.bytes new_open;
           };
-          named = number.1.named ∙ ap (λ u. name_of u n) (sym of.sizes.uuid);
+          named = number.1.named ∙ ap (λ u. name_of u n) (sym of.step.sizes.uuid);
           alone = ap (λ (o : List OpenObject). any_started (with_started n false o)) now ∙ begun_alone n objects was.puts;
           plans = plans_shown new.volume after.after after.shows (after.pins ∙ was.plans);
         },
@@ -292,7 +292,7 @@ module _ {R : Type 0} (state : R → ReceiptState) (job : JobState) (receipt : R
 
   pub done_leaves : IsIdle new.volume × (work_of new.volume < work_of old.volume)
   done_leaves =
-      let after = after_done_by (of.step plain shows) in
+      let after = after_done_by (of.step.step plain shows) in
       let n : ℕ = job.name.number in
       let objects : List OpenObject = plain.window.objects in
       let alone : any_started (with_started n false objects) ≡ false =
@@ -342,7 +342,7 @@ module _ {R : Type 0} (state : R → ReceiptState) (job : JobState) (reply : Rep
 
   pub failed_idle : IsIdle new.volume
   failed_idle =
-      let after = after_failed_by (of.step plain shows) in
+      let after = after_failed_by (of.step.step plain shows) in
       let n : ℕ = job.name.number in
       let alone : any_started (with_started n false plain.window.objects) ≡ false =
       ap (λ (w : WindowState). any_started (with_started n false w.objects)) (sym shows.objects.window) ∙ taken.alone in
@@ -487,7 +487,7 @@ module _ {R : Type 0} (state : R → ReceiptState) (reply : Reply R) (old new : 
   sealed_leaves idle none =
       let was = shown_idle old.volume plain shows idle in
       let empty : plain.window.objects ≡ [] = ap (λ (w : WindowState). w.objects) (sym shows.objects.window) ∙ none in
-      let after = sealing empty (of.step plain shows) in
+      let after = sealing empty (of.step.step plain shows) in
       let before = shown_work old.volume plain shows in
       let later = shown_work new.volume after.after after.shows in
       let no_objects = ap (λ (o : List OpenObject). length o) empty in

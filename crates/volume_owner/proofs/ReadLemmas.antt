@@ -28,7 +28,7 @@ use Rattle.vol_core.specs.declared.reply.Reply.TheVariants as told
 use Rattle.vol_core.specs.Volume.{VolumeState, SteppedVolume}
 use Rattle.vol_core.specs.Shows.{Shows}
 use Rattle.vol_core.specs.Events.{Tells}
-use Rattle.vol_core.specs.Step.{passing, IsStep, IsNoStep, lacks_memory, tells_fault}
+use Rattle.vol_core.specs.Step.{passing, IsStep, IsNoStep, lacks_memory, tells_fault, Steps}
 use Rattle.vol_core.proofs.StepLemmas.{passing_keeps}
 use Rattle.volume_owner.specs.Owner.{IsIdle}
 use Rattle.volume_owner.specs.Calls.{IsLengthOf, IsDurable, HasSectors, MakesSteps}
@@ -41,7 +41,7 @@ use Rattle.volume_owner.proofs.PlainLemmas.{is_quiet}
 use Rattle.volume_owner.proofs.WindowLemmas.{any_started}
 use Rattle.volume_owner.proofs.TellsLemmas.{tells_flushed, tells_planned, tells_failed}
 use Rattle.volume_owner.proofs.ReplyLemmas.{count_cases, plan_cases}
-use Rattle.volume_owner.proofs.StepLemmas.{shown_work, length_is, IsIdlePlain, shown_idle, idle_shown, Steps, quiet_makes}
+use Rattle.volume_owner.proofs.StepLemmas.{shown_work, length_is, IsIdlePlain, shown_idle, idle_shown, quiet_makes}
 use Rattle.volume_owner.proofs.HelpLemmas.{is_silent, silent_faults}
 
 -- ---- a flush
@@ -79,7 +79,7 @@ module _ {R : Type 0} (state : R → ReceiptState) (reply : Reply R) (old new : 
     (of : Steps state asks.Flush reply old new)
     (plain : PlainState) (shows : Shows old.volume plain) where
   flushing : IsAfterFlush state reply plain old.volume new.volume
-  flushing = after_flush_by state reply plain old.volume new.volume (of.step plain shows)
+  flushing = after_flush_by state reply plain old.volume new.volume (of.step.step plain shows)
 
   pub flush_makes : MakesSteps 1 [] old new
   flush_makes = quiet_makes state asks.Flush reply old new (λ asked is. ap is_quiet is) of
@@ -256,7 +256,7 @@ module _ {R : Type 0} (state : R → ReceiptState) (reply : Reply R) (lba sector
       → ((plan : PlanState) → reply ≡ told.Planned plan → ⊥) → IsIdle new.volume
   not_looked_idle plain shows idle not_planned =
       let was = shown_idle old.volume plain shows idle in
-      elim (after_look_by plain (of.step plain shows)) [
+      elim (after_look_by plain (of.step.step plain shows)) [
         | inl a ↦
             looked_idle_by plain a.left a.now (may_transfer plain.geometry lba sectors)
             (passes_look (passing a.left plain) lba sectors) was not_planned a.tells a.shows
@@ -287,7 +287,7 @@ module _ {R : Type 0} (state : R → ReceiptState) (reply : Reply R) (lba sector
 
   pub looked : (plan : PlanState) (plain : PlainState) → Shows old.volume plain → reply ≡ told.Planned plan → IsLooked plan plain
   looked plan plain shows is =
-      elim (after_look_by plain (of.step plain shows)) [
+      elim (after_look_by plain (of.step.step plain shows)) [
         | inl a ↦
             looked_by plan plain a.left a.now (may_transfer plain.geometry lba sectors)
             (passes_look (passing a.left plain) lba sectors)
@@ -302,7 +302,8 @@ module _ {R : Type 0} (state : R → ReceiptState) (reply : Reply R) (lba sector
   pub look_faults : (plan : PlanState) → reply ≡ told.Planned plan
       → new.volume.log.commits.disk.faults ≡ old.volume.log.commits.disk.faults
   look_faults plan is =
-      subst (λ b. Counts b old.volume.log.commits.disk.faults new.volume.log.commits.disk.faults) (ap tells_fault is) of.faults
+      subst (λ b. Counts b old.volume.log.commits.disk.faults new.volume.log.commits.disk.faults) (ap tells_fault is)
+      of.step.faults
 
   -- ---- the plan is given back
 
@@ -340,7 +341,7 @@ module _ {R : Type 0} (state : R → ReceiptState) (reply : Reply R) (lba sector
           let was = shown_idle old.volume plain shows idle in
           let look = looked plan plain shows is in
           released_by look.after (ap (λ (w : WindowState). any_started w.objects) look.window ∙ was.puts)
-          (look.pins ∙ ap (λ (p : List ℕ). p ++ plan.objects) was.plans) (given.step look.after look.shows)
+          (look.pins ∙ ap (λ (p : List ℕ). p ++ plan.objects) was.plans) (given.step.step look.after look.shows)
 
   -- ---- what it gives
 

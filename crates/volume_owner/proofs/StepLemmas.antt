@@ -20,8 +20,7 @@ use Rattle.vol_core.specs.declared.reply.Reply.{Reply}
 use Rattle.vol_core.specs.Volume.{VolumeState, SteppedVolume}
 use Rattle.vol_core.specs.Shows.{Shows}
 use Rattle.vol_core.specs.Events.{Asks}
-use Rattle.vol_core.specs.Step.{passing, IsStep, IsNoStep, StepsAsPlain, HasSameSizes, KeepsBytes, CountsFault}
-use Rattle.vol_core.specs.Stops.{StepKeeps}
+use Rattle.vol_core.specs.Step.{passing, IsStep, IsNoStep, HasSameSizes, Steps}
 use Rattle.vol_core.proofs.StepLemmas.{passing_keeps}
 use Rattle.volume_owner.specs.Owner.{IsIdle}
 use Rattle.volume_owner.specs.History.{GoesOn}
@@ -162,16 +161,6 @@ idle_shown volume plain shows idle = record {
 
 -- ---- a step
 
--- what a step promises, as far as an owner takes it
-pub record Steps {R : Type 0} (state : R → ReceiptState) (event : Event R) (reply : Reply R) (old new : SteppedVolume) :
-    Type 0 where
-  pub step : StepsAsPlain state event reply old.volume new.volume
-  pub steps : new.steps ≡ old.steps + 1
-  pub sizes : HasSameSizes old.volume new.volume
-  pub stops : StepKeeps old.volume new.volume
-  pub bytes : KeepsBytes old.volume new.volume
-  pub faults : CountsFault reply old.volume new.volume
-
 -- a step that enters nothing
 pub quiet_after : {R : Type 0} (state : R → ReceiptState) (event : Event R) (reply : Reply R) (plain : PlainState)
     (old new : VolumeState)
@@ -188,8 +177,8 @@ pub quiet_makes : {R : Type 0} (state : R → ReceiptState) (event : Event R) (r
     → ((asked : PlainEvent) → Asks state old.volume event asked → is_quiet asked ≡ true) → Steps state event reply old new
     → MakesSteps 1 [] old new
 quiet_makes state event reply old new quiet of = record {
-  adds = λ plain shows. quiet_after state event reply plain old.volume new.volume quiet shows (of.step plain shows);
-  sizes = of.sizes;
-  own = λ epoch own. (of.stops epoch own).own;
-  steps = omega (arith, of.steps);
+  adds = λ plain shows. quiet_after state event reply plain old.volume new.volume quiet shows (of.step.step plain shows);
+  sizes = of.step.sizes;
+  own = λ epoch own. (of.step.stops epoch own).own;
+  steps = omega (arith, of.count);
 }

@@ -1,10 +1,9 @@
 use Rattle.std.proofs.Common.{sym, ◌∙◌, ap, subst}
 use Rattle.lsvd_fault.specs.Faults.{Counts}
 use Rattle.vol_core.specs.Calls.{event_of}
-use Rattle.vol_core.specs.Step.{HandsBack}
+use Rattle.vol_core.specs.Step.{HandsBack, Steps}
 use Rattle.volume_owner.specs.Calls.{MakesSteps}
 use Rattle.volume_owner.specs.Helping.{entered_by, attempt_failed, MayTryAgain}
-use Rattle.volume_owner.proofs.StepLemmas.{Steps}
 use Rattle.volume_owner.proofs.EnterLemmas.{attempt_makes, attempt_counts, attempt_hands, attempt_fault, entering_idle}
 use Rattle.volume_owner.proofs.entering.try_entry.Given as given
 use Rattle.volume_owner.proofs.entering.try_entry.Goals as goal
@@ -14,14 +13,7 @@ steps : (g : given.Over) (c : goal.After-attempt_of g)
     → Steps g.R.Receipt.state (event_of c.args.entry) c.step.result c.args.volume.now c.step.new.self
 steps g c =
     subst (λ e. Steps g.R.Receipt.state e c.step.result c.args.volume.now c.step.new.self) c.event_for.ensures
-    (record {
-      step = c.step.ensures.step;
-      steps = c.step.ensures.steps;
-      sizes = c.step.ensures.sizes;
-      stops = c.step.ensures.stops;
-      bytes = c.step.ensures.bytes;
-      faults = c.step.ensures.faults;
-    })
+    c.step.ensures
 
 pub returns : goal.returns
 returns g c =
@@ -34,13 +26,13 @@ returns g c =
     let plain = c.is_volume.ensures.plain in
     let shows = c.is_volume.ensures.shows in
     let is = c.attempt_of.ensures in
-    let back = subst (λ e. HandsBack e reply) c.event_for.ensures c.step.ensures.back in
+    let back = subst (λ e. HandsBack e reply) c.event_for.ensures c.step.ensures.step.back in
     record {
       steps = subst (λ a. MakesSteps 1 (entered_by entry a) old new) (sym is) (attempt_makes state entry reply old new of);
       count = λ count told. attempt_counts state entry reply old new of plain shows count (sym is ∙ told);
       back = subst (λ a. MayTryAgain entry a old.volume new.volume) (sym is)
           (attempt_hands state entry reply old new of plain shows c.requires.range back);
       faults = subst (λ b. Counts b old.volume.log.commits.disk.faults new.volume.log.commits.disk.faults)
-          (sym (ap attempt_failed is ∙ attempt_fault reply)) of.faults;
+          (sym (ap attempt_failed is ∙ attempt_fault reply)) of.step.faults;
       idle = entering_idle state entry reply old new of plain shows c.requires.idle;
     }

@@ -1,12 +1,10 @@
 use Rattle.std.proofs.Common.{arith, ◌<◌, Bool, false, [], sym, ◌∙◌, subst, Err}
 use Rattle.lsvd_objstore.specs.Store.{StoreState}
-use Rattle.vol_core.specs.declared.event.Event.TheVariants as asks
 use Rattle.vol_core.specs.Volume.{SteppedVolume}
 use Rattle.volume_owner.specs.Calls.{IsCall}
 use Rattle.volume_owner.specs.Errors.{is_eio}
 use Rattle.volume_owner.specs.declared.error.OwnerError.{OwnerError}
 use Rattle.volume_owner.specs.Helping.{work_of}
-use Rattle.volume_owner.proofs.StepLemmas.{Steps}
 use Rattle.volume_owner.proofs.CallLemmas.{quiet_call, call_then, call_ends_none, same_eio, memory_alone, memory_no_range}
 use Rattle.volume_owner.proofs.HelpLemmas.{take_makes, take_faults, handed_job, taken_is, none_taken, helped_as}
 use Rattle.volume_owner.proofs.helping.help.Goals as goal
@@ -19,14 +17,7 @@ put-requires-clause-job g c =
     let mid : SteppedVolume = c.step.new.self in
     let plain = c.is_volume.ensures.plain in
     let shows = c.is_volume.ensures.shows in
-    let of : Steps state asks.TakeJob reply old mid = record {
-      step = c.step.ensures.step;
-      steps = c.step.ensures.steps;
-      sizes = c.step.ensures.sizes;
-      stops = c.step.ensures.stops;
-      bytes = c.step.ensures.bytes;
-      faults = c.step.ensures.faults;
-    } in
+    let of = c.step.ensures in
     let taken = taken_is state reply old mid of plain shows c.in-Some.job c.requires.idle
     (handed_job reply c.in-Some.job (sym c.job_of.ensures ∙ c.in-Some.is)) in
     taken.0
@@ -39,14 +30,7 @@ returns-in_err-put-in-Some-clause-help g c =
     let mid : SteppedVolume = c.step.new.self in
     let plain = c.is_volume.ensures.plain in
     let shows = c.is_volume.ensures.shows in
-    let of : Steps state asks.TakeJob reply old mid = record {
-      step = c.step.ensures.step;
-      steps = c.step.ensures.steps;
-      sizes = c.step.ensures.sizes;
-      stops = c.step.ensures.stops;
-      bytes = c.step.ensures.bytes;
-      faults = c.step.ensures.faults;
-    } in
+    let of = c.step.ensures in
     let last : SteppedVolume = c.put.new.volume in
     let first : StoreState = g.S.Store.state c.args.store.now in
     let second : StoreState = g.S.Store.state c.put.new.store in
@@ -66,14 +50,7 @@ returns-in_ok-put-in-Some-clause-help g c =
     let mid : SteppedVolume = c.step.new.self in
     let plain = c.is_volume.ensures.plain in
     let shows = c.is_volume.ensures.shows in
-    let of : Steps state asks.TakeJob reply old mid = record {
-      step = c.step.ensures.step;
-      steps = c.step.ensures.steps;
-      sizes = c.step.ensures.sizes;
-      stops = c.step.ensures.stops;
-      bytes = c.step.ensures.bytes;
-      faults = c.step.ensures.faults;
-    } in
+    let of = c.step.ensures in
     let first : StoreState = g.S.Store.state c.args.store.now in
     call_then 1 1 [] false old mid c.put.new.volume first first (g.S.Store.state c.put.new.store)
     (quiet_call 1 [] old mid first (take_makes state reply old mid of plain shows)
@@ -87,14 +64,7 @@ returns-in_ok-put-in-Some-clause-less g c =
     let mid : SteppedVolume = c.step.new.self in
     let plain = c.is_volume.ensures.plain in
     let shows = c.is_volume.ensures.shows in
-    let of : Steps state asks.TakeJob reply old mid = record {
-      step = c.step.ensures.step;
-      steps = c.step.ensures.steps;
-      sizes = c.step.ensures.sizes;
-      stops = c.step.ensures.stops;
-      bytes = c.step.ensures.bytes;
-      faults = c.step.ensures.faults;
-    } in
+    let of = c.step.ensures in
     let taken = taken_is state reply old mid of plain shows c.in-Some.job c.requires.idle
     (handed_job reply c.in-Some.job (sym c.job_of.ensures ∙ c.in-Some.is)) in
     subst (λ w. work_of c.put.new.volume.volume < w) taken.1 c.in_ok-put-in-Some.ensures.less
@@ -107,18 +77,11 @@ seal-requires g c =
     let mid : SteppedVolume = c.step.new.self in
     let plain = c.is_volume.ensures.plain in
     let shows = c.is_volume.ensures.shows in
-    let of : Steps state asks.TakeJob reply old mid = record {
-      step = c.step.ensures.step;
-      steps = c.step.ensures.steps;
-      sizes = c.step.ensures.sizes;
-      stops = c.step.ensures.stops;
-      bytes = c.step.ensures.bytes;
-      faults = c.step.ensures.faults;
-    } in
+    let of = c.step.ensures in
     let left = none_taken state reply old mid of plain shows c.requires.idle c.is_ordered.ensures.uploads (sym c.job_of.ensures
     ∙ c.in-None.is) in
     record {
-      steps = omega (arith, c.requires.steps, of.steps);
+      steps = omega (arith, c.requires.steps, of.count);
       idle = left.1;
       none = left.0;
     }
@@ -131,14 +94,7 @@ returns-in-None g c =
     let mid : SteppedVolume = c.step.new.self in
     let plain = c.is_volume.ensures.plain in
     let shows = c.is_volume.ensures.shows in
-    let of : Steps state asks.TakeJob reply old mid = record {
-      step = c.step.ensures.step;
-      steps = c.step.ensures.steps;
-      sizes = c.step.ensures.sizes;
-      stops = c.step.ensures.stops;
-      bytes = c.step.ensures.bytes;
-      faults = c.step.ensures.faults;
-    } in
+    let of = c.step.ensures in
     let left = none_taken state reply old mid of plain shows c.requires.idle c.is_ordered.ensures.uploads (sym c.job_of.ensures
     ∙ c.in-None.is) in
     let first : StoreState = g.S.Store.state c.args.store.now in

@@ -4,11 +4,9 @@ use Rattle.lsvd_objstore.specs.Store.{StoreState}
 use Rattle.lsvd_names.specs.declared.name.ObjName.{ObjName}
 use Rattle.object_stream.specs.Replay.{name_of}
 use Rattle.object_uploads.specs.State.{JobState}
-use Rattle.vol_core.specs.declared.event.Event.TheVariants as asks
 use Rattle.vol_core.specs.Volume.{SteppedVolume}
 use Rattle.volume_owner.specs.Calls.{IsCall}
 use Rattle.volume_owner.specs.Errors.{is_eio}
-use Rattle.volume_owner.proofs.StepLemmas.{Steps}
 use Rattle.volume_owner.proofs.CallLemmas.{job_name, put_call, failed_put_call}
 use Rattle.volume_owner.proofs.HelpLemmas.{done_makes, done_faults, done_leaves, failed_makes, failed_faults, failed_idle}
 use Rattle.volume_owner.proofs.helping.put.Goals as goal
@@ -29,14 +27,7 @@ returns-in-Ok-clause-call g c =
     let shows = c.is_volume.ensures.shows in
     let receipt = c.in-Ok.receipt in
     let named : (state receipt).name ≡ job.name = c.in-Ok.ensures.receipt.named ∙ name_is ∙ sym taken.named in
-    let of : Steps state (asks.JobDone job receipt) c.step.result old c.step.new.self = record {
-      step = c.step.ensures.step;
-      steps = c.step.ensures.steps;
-      sizes = c.step.ensures.sizes;
-      stops = c.step.ensures.stops;
-      bytes = c.step.ensures.bytes;
-      faults = c.step.ensures.faults;
-    } in
+    let of = c.step.ensures in
     put_call uuid job.name.number name c.object.result.now old c.step.new.self (g.S.Store.state c.args.store.now)
     (g.S.Store.state c.put.new.self)
     refl name_is c.in-Ok.ensures.put c.in-Ok.ensures.count
@@ -59,14 +50,7 @@ returns-in-Ok-clause-less g c =
     let shows = c.is_volume.ensures.shows in
     let receipt = c.in-Ok.receipt in
     let named : (state receipt).name ≡ job.name = c.in-Ok.ensures.receipt.named ∙ name_is ∙ sym taken.named in
-    let of : Steps state (asks.JobDone job receipt) c.step.result old c.step.new.self = record {
-      step = c.step.ensures.step;
-      steps = c.step.ensures.steps;
-      sizes = c.step.ensures.sizes;
-      stops = c.step.ensures.stops;
-      bytes = c.step.ensures.bytes;
-      faults = c.step.ensures.faults;
-    } in
+    let of = c.step.ensures in
     (done_leaves state job receipt c.step.result old c.step.new.self of plain shows taken named).1
 
 pub returns-in-Ok-clause-idle : goal.returns-in-Ok-clause-idle
@@ -85,14 +69,7 @@ returns-in-Ok-clause-idle g c =
     let shows = c.is_volume.ensures.shows in
     let receipt = c.in-Ok.receipt in
     let named : (state receipt).name ≡ job.name = c.in-Ok.ensures.receipt.named ∙ name_is ∙ sym taken.named in
-    let of : Steps state (asks.JobDone job receipt) c.step.result old c.step.new.self = record {
-      step = c.step.ensures.step;
-      steps = c.step.ensures.steps;
-      sizes = c.step.ensures.sizes;
-      stops = c.step.ensures.stops;
-      bytes = c.step.ensures.bytes;
-      faults = c.step.ensures.faults;
-    } in
+    let of = c.step.ensures in
     (done_leaves state job receipt c.step.result old c.step.new.self of plain shows taken named).0
 
 pub returns-in-Err-clause-call : goal.returns-in-Err-clause-call
@@ -109,14 +86,7 @@ returns-in-Err-clause-call g c =
     (ap (λ (n : ObjName). n.number) c.name.ensures) in
     let plain = c.is_volume.ensures.plain in
     let shows = c.is_volume.ensures.shows in
-    let of : Steps state (asks.JobFailed job) c.step-in-Err.result old c.step-in-Err.new.self = record {
-      step = c.step-in-Err.ensures.step;
-      steps = c.step-in-Err.ensures.steps;
-      sizes = c.step-in-Err.ensures.sizes;
-      stops = c.step-in-Err.ensures.stops;
-      bytes = c.step-in-Err.ensures.bytes;
-      faults = c.step-in-Err.ensures.faults;
-    } in
+    let of = c.step-in-Err.ensures in
     let error : StoreError = c.in-Err.error in
     let first : StoreState = g.S.Store.state c.args.store.now in
     let second : StoreState = g.S.Store.state c.put.new.self in
@@ -141,12 +111,5 @@ returns-in-Err-clause-idle g c =
     (ap (λ (n : ObjName). n.number) c.name.ensures) in
     let plain = c.is_volume.ensures.plain in
     let shows = c.is_volume.ensures.shows in
-    let of : Steps state (asks.JobFailed job) c.step-in-Err.result old c.step-in-Err.new.self = record {
-      step = c.step-in-Err.ensures.step;
-      steps = c.step-in-Err.ensures.steps;
-      sizes = c.step-in-Err.ensures.sizes;
-      stops = c.step-in-Err.ensures.stops;
-      bytes = c.step-in-Err.ensures.bytes;
-      faults = c.step-in-Err.ensures.faults;
-    } in
+    let of = c.step-in-Err.ensures in
     failed_idle state job c.step-in-Err.result old c.step-in-Err.new.self of plain shows taken

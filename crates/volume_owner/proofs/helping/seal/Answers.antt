@@ -1,11 +1,9 @@
 use Rattle.std.proofs.Common.{Bool, sym, subst}
 use Rattle.std.specs.Prelude.{Result, IfOk, IsOkUnless}
-use Rattle.vol_core.specs.declared.event.Event.TheVariants as asks
 use Rattle.vol_core.specs.Volume.{SteppedVolume}
 use Rattle.volume_owner.specs.declared.error.OwnerError.{OwnerError}
 use Rattle.volume_owner.specs.declared.error.OwnerError.TheVariants as errors
 use Rattle.volume_owner.specs.Helping.{HasHelped}
-use Rattle.volume_owner.proofs.StepLemmas.{Steps}
 use Rattle.volume_owner.proofs.ReplyLemmas.{seal_alone}
 use Rattle.volume_owner.proofs.HelpLemmas.{seal_makes, seal_faults, sealed_leaves}
 use Rattle.volume_owner.proofs.helping.seal.Goals as goal
@@ -18,14 +16,7 @@ returns g c =
     let new : SteppedVolume = c.step.new.self in
     let plain = c.is_volume.ensures.plain in
     let shows = c.is_volume.ensures.shows in
-    let of : Steps state asks.Seal reply old new = record {
-      step = c.step.ensures.step;
-      steps = c.step.ensures.steps;
-      sizes = c.step.ensures.sizes;
-      stops = c.step.ensures.stops;
-      bytes = c.step.ensures.bytes;
-      faults = c.step.ensures.faults;
-    } in
+    let of = c.step.ensures in
     let left = sealed_leaves state reply old new of plain shows c.requires.idle c.requires.none in
     record {
       steps = seal_makes state reply old new of plain shows;

@@ -1,8 +1,6 @@
 use Rattle.std.proofs.Common.{sym, ◌∙◌, subst}
 use Rattle.lsvd_fault.specs.Faults.{Counts}
-use Rattle.vol_core.specs.declared.event.Event.TheVariants as asks
 use Rattle.vol_core.specs.Volume.{SteppedVolume}
-use Rattle.volume_owner.proofs.StepLemmas.{Steps}
 use Rattle.volume_owner.proofs.ReadLemmas.{flush_makes, flush_idle, flush_work, flushed_is, not_flushed, flushed_reply}
 use Rattle.volume_owner.proofs.reading.flush.Goals as goal
 
@@ -14,14 +12,7 @@ returns-in-Some g c =
     let new : SteppedVolume = c.step.new.self in
     let plain = c.is_volume.ensures.plain in
     let shows = c.is_volume.ensures.shows in
-    let of : Steps state asks.Flush reply old new = record {
-      step = c.step.ensures.step;
-      steps = c.step.ensures.steps;
-      sizes = c.step.ensures.sizes;
-      stops = c.step.ensures.stops;
-      bytes = c.step.ensures.bytes;
-      faults = c.step.ensures.faults;
-    } in
+    let of = c.step.ensures in
     let is = flushed_is state reply old new of plain shows c.in-Some.count
     (flushed_reply reply c.in-Some.count (sym c.count_of.ensures ∙ c.in-Some.is)) in
     record {
@@ -29,7 +20,7 @@ returns-in-Some g c =
       count = is.0;
       durable = is.1;
       work = flush_work state reply old new of plain shows;
-      faults = subst (λ b. Counts b old.volume.log.commits.disk.faults new.volume.log.commits.disk.faults) is.2 of.faults;
+      faults = subst (λ b. Counts b old.volume.log.commits.disk.faults new.volume.log.commits.disk.faults) is.2 of.step.faults;
       idle = flush_idle state reply old new of plain shows c.requires.idle;
     }
 
@@ -41,20 +32,13 @@ returns-in-None g c =
     let new : SteppedVolume = c.step.new.self in
     let plain = c.is_volume.ensures.plain in
     let shows = c.is_volume.ensures.shows in
-    let of : Steps state asks.Flush reply old new = record {
-      step = c.step.ensures.step;
-      steps = c.step.ensures.steps;
-      sizes = c.step.ensures.sizes;
-      stops = c.step.ensures.stops;
-      bytes = c.step.ensures.bytes;
-      faults = c.step.ensures.faults;
-    } in
+    let of = c.step.ensures in
     let fault = not_flushed state reply old new of plain shows (sym c.count_of.ensures ∙ c.in-None.is) in
     record {
       steps = flush_makes state reply old new of plain shows;
       count = tt;
       durable = tt;
       work = flush_work state reply old new of plain shows;
-      faults = subst (λ b. Counts b old.volume.log.commits.disk.faults new.volume.log.commits.disk.faults) fault of.faults;
+      faults = subst (λ b. Counts b old.volume.log.commits.disk.faults new.volume.log.commits.disk.faults) fault of.step.faults;
       idle = flush_idle state reply old new of plain shows c.requires.idle;
     }

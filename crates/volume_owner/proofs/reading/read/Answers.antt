@@ -3,13 +3,12 @@ use Rattle.lsvd_base.specs.Limits.{may_transfer}
 use Rattle.lsvd_fault.specs.Faults.{Counts}
 use Rattle.lsvd_objstore.specs.Store.{StoreState}
 use Rattle.read_plan.specs.Plan.{PlanState}
-use Rattle.vol_core.specs.declared.event.Event.TheVariants as asks
 use Rattle.vol_core.specs.Volume.{SteppedVolume}
 use Rattle.volume_owner.specs.Owner.{most_of_call}
 use Rattle.volume_owner.specs.Errors.{is_eio}
 use Rattle.volume_owner.specs.declared.error.OwnerError.{OwnerError}
 use Rattle.volume_owner.specs.declared.error.OwnerError.TheVariants as errors
-use Rattle.volume_owner.proofs.StepLemmas.{Steps, makes_fewer}
+use Rattle.volume_owner.proofs.StepLemmas.{makes_fewer}
 use Rattle.volume_owner.proofs.CallLemmas.{call_ends_none, disk_call, read_call, handed_on}
 use Rattle.volume_owner.proofs.ReadLemmas.{planned_reply, no_plan, look_makes, look_faults, look_shown, not_looked_idle}
 use Rattle.volume_owner.proofs.ReadLemmas.{release_makes, release_faults, released_idle, looked_length, looked_sectors}
@@ -25,19 +24,12 @@ returns-in_err-plan-clause-call g c =
     let mid : SteppedVolume = c.step.new.self in
     let plain = c.is_volume.ensures.plain in
     let shows = c.is_volume.ensures.shows in
-    let of : Steps state (asks.Look lba sectors) reply old mid = record {
-      step = c.step.ensures.step;
-      steps = c.step.ensures.steps;
-      sizes = c.step.ensures.sizes;
-      stops = c.step.ensures.stops;
-      bytes = c.step.ensures.bytes;
-      faults = c.step.ensures.faults;
-    } in
+    let of = c.step.ensures in
     let error : OwnerError = c.in_err-plan.field-0.0 in
     let none = no_plan reply error (sym c.plan_of.ensures ∙ c.in_err-plan.was) in
     let first : StoreState = g.S.Store.state c.args.store.now in
     let counts = subst (λ b. Counts b old.volume.log.commits.disk.faults mid.volume.log.commits.disk.faults) (sym none.1)
-    of.faults in
+    of.step.faults in
     call_ends_none most_of_call c.from_residual.result error old mid first first c.from_residual.ensures.1
     (disk_call most_of_call [] (is_eio {T = ℕ} (Err error)) old mid first
     (makes_fewer 1 most_of_call [] old mid (omega arith) (look_makes state reply lba sectors old mid of)) counts)
@@ -52,14 +44,7 @@ returns-in_err-plan-clause-idle g c =
     let mid : SteppedVolume = c.step.new.self in
     let plain = c.is_volume.ensures.plain in
     let shows = c.is_volume.ensures.shows in
-    let of : Steps state (asks.Look lba sectors) reply old mid = record {
-      step = c.step.ensures.step;
-      steps = c.step.ensures.steps;
-      sizes = c.step.ensures.sizes;
-      stops = c.step.ensures.stops;
-      bytes = c.step.ensures.bytes;
-      faults = c.step.ensures.faults;
-    } in
+    let of = c.step.ensures in
     let error : OwnerError = c.in_err-plan.field-0.0 in
     let none = no_plan reply error (sym c.plan_of.ensures ∙ c.in_err-plan.was) in
     not_looked_idle state reply lba sectors old mid of plain shows c.requires.idle none.0
@@ -74,14 +59,7 @@ returns-in_err-plan-clause-range g c =
     let mid : SteppedVolume = c.step.new.self in
     let plain = c.is_volume.ensures.plain in
     let shows = c.is_volume.ensures.shows in
-    let of : Steps state (asks.Look lba sectors) reply old mid = record {
-      step = c.step.ensures.step;
-      steps = c.step.ensures.steps;
-      sizes = c.step.ensures.sizes;
-      stops = c.step.ensures.stops;
-      bytes = c.step.ensures.bytes;
-      faults = c.step.ensures.faults;
-    } in
+    let of = c.step.ensures in
     let error : OwnerError = c.in_err-plan.field-0.0 in
     let none = no_plan reply error (sym c.plan_of.ensures ∙ c.in_err-plan.was) in
     let is = handed_on c.from_residual.result error c.from_residual.ensures.1 in
@@ -102,25 +80,11 @@ returns-in_err-fetched-clause-call g c =
     let mid : SteppedVolume = c.step.new.self in
     let plain = c.is_volume.ensures.plain in
     let shows = c.is_volume.ensures.shows in
-    let of : Steps state (asks.Look lba sectors) reply old mid = record {
-      step = c.step.ensures.step;
-      steps = c.step.ensures.steps;
-      sizes = c.step.ensures.sizes;
-      stops = c.step.ensures.stops;
-      bytes = c.step.ensures.bytes;
-      faults = c.step.ensures.faults;
-    } in
+    let of = c.step.ensures in
     let plan : PlanState = c.in_ok-plan.plan in
     let planned = planned_reply reply plan (sym c.plan_of.ensures ∙ c.in_ok-plan.was) in
     let last : SteppedVolume = c.step-2.new.self in
-    let given : Steps state (asks.Release plan) c.step-2.result mid last = record {
-      step = c.step-2.ensures.step;
-      steps = c.step-2.ensures.steps;
-      sizes = c.step-2.ensures.sizes;
-      stops = c.step-2.ensures.stops;
-      bytes = c.step-2.ensures.bytes;
-      faults = c.step-2.ensures.faults;
-    } in
+    let given = c.step-2.ensures in
     let first : StoreState = g.S.Store.state c.args.store.now in
     let second : StoreState = g.S.Store.state c.fetch-fetched.new.store in
     let shown = look_shown state reply lba sectors old mid of plan plain shows planned in
@@ -145,25 +109,11 @@ returns-in_err-fetched-clause-idle g c =
     let mid : SteppedVolume = c.step.new.self in
     let plain = c.is_volume.ensures.plain in
     let shows = c.is_volume.ensures.shows in
-    let of : Steps state (asks.Look lba sectors) reply old mid = record {
-      step = c.step.ensures.step;
-      steps = c.step.ensures.steps;
-      sizes = c.step.ensures.sizes;
-      stops = c.step.ensures.stops;
-      bytes = c.step.ensures.bytes;
-      faults = c.step.ensures.faults;
-    } in
+    let of = c.step.ensures in
     let plan : PlanState = c.in_ok-plan.plan in
     let planned = planned_reply reply plan (sym c.plan_of.ensures ∙ c.in_ok-plan.was) in
     let last : SteppedVolume = c.step-2.new.self in
-    let given : Steps state (asks.Release plan) c.step-2.result mid last = record {
-      step = c.step-2.ensures.step;
-      steps = c.step-2.ensures.steps;
-      sizes = c.step-2.ensures.sizes;
-      stops = c.step-2.ensures.stops;
-      bytes = c.step-2.ensures.bytes;
-      faults = c.step-2.ensures.faults;
-    } in
+    let given = c.step-2.ensures in
     released_idle state reply lba sectors old mid of plan c.step-2.result last given plain shows c.requires.idle planned
 
 pub returns-clause-idle : goal.returns-clause-idle
@@ -176,25 +126,11 @@ returns-clause-idle g c =
     let mid : SteppedVolume = c.step.new.self in
     let plain = c.is_volume.ensures.plain in
     let shows = c.is_volume.ensures.shows in
-    let of : Steps state (asks.Look lba sectors) reply old mid = record {
-      step = c.step.ensures.step;
-      steps = c.step.ensures.steps;
-      sizes = c.step.ensures.sizes;
-      stops = c.step.ensures.stops;
-      bytes = c.step.ensures.bytes;
-      faults = c.step.ensures.faults;
-    } in
+    let of = c.step.ensures in
     let plan : PlanState = c.in_ok-plan.plan in
     let planned = planned_reply reply plan (sym c.plan_of.ensures ∙ c.in_ok-plan.was) in
     let last : SteppedVolume = c.step-2.new.self in
-    let given : Steps state (asks.Release plan) c.step-2.result mid last = record {
-      step = c.step-2.ensures.step;
-      steps = c.step-2.ensures.steps;
-      sizes = c.step-2.ensures.sizes;
-      stops = c.step-2.ensures.stops;
-      bytes = c.step-2.ensures.bytes;
-      faults = c.step-2.ensures.faults;
-    } in
+    let given = c.step-2.ensures in
     released_idle state reply lba sectors old mid of plan c.step-2.result last given plain shows c.requires.idle planned
 
 pub returns-clause-call : goal.returns-clause-call
@@ -207,25 +143,11 @@ returns-clause-call g c =
     let mid : SteppedVolume = c.step.new.self in
     let plain = c.is_volume.ensures.plain in
     let shows = c.is_volume.ensures.shows in
-    let of : Steps state (asks.Look lba sectors) reply old mid = record {
-      step = c.step.ensures.step;
-      steps = c.step.ensures.steps;
-      sizes = c.step.ensures.sizes;
-      stops = c.step.ensures.stops;
-      bytes = c.step.ensures.bytes;
-      faults = c.step.ensures.faults;
-    } in
+    let of = c.step.ensures in
     let plan : PlanState = c.in_ok-plan.plan in
     let planned = planned_reply reply plan (sym c.plan_of.ensures ∙ c.in_ok-plan.was) in
     let last : SteppedVolume = c.step-2.new.self in
-    let given : Steps state (asks.Release plan) c.step-2.result mid last = record {
-      step = c.step-2.ensures.step;
-      steps = c.step-2.ensures.steps;
-      sizes = c.step-2.ensures.sizes;
-      stops = c.step-2.ensures.stops;
-      bytes = c.step-2.ensures.bytes;
-      faults = c.step-2.ensures.faults;
-    } in
+    let given = c.step-2.ensures in
     let first : StoreState = g.S.Store.state c.args.store.now in
     let second : StoreState = g.S.Store.state c.fetch-fetched.new.store in
     let shown = look_shown state reply lba sectors old mid of plan plain shows planned in
@@ -248,14 +170,7 @@ returns-clause-front g c =
     let mid : SteppedVolume = c.step.new.self in
     let plain = c.is_volume.ensures.plain in
     let shows = c.is_volume.ensures.shows in
-    let of : Steps state (asks.Look lba sectors) reply old mid = record {
-      step = c.step.ensures.step;
-      steps = c.step.ensures.steps;
-      sizes = c.step.ensures.sizes;
-      stops = c.step.ensures.stops;
-      bytes = c.step.ensures.bytes;
-      faults = c.step.ensures.faults;
-    } in
+    let of = c.step.ensures in
     let plan : PlanState = c.in_ok-plan.plan in
     let planned = planned_reply reply plan (sym c.plan_of.ensures ∙ c.in_ok-plan.was) in
     λ other others. c.front-front.ensures ∙ looked_length state reply lba sectors old mid of plan plain shows planned other others
@@ -270,14 +185,7 @@ returns-clause-bytes g c =
     let mid : SteppedVolume = c.step.new.self in
     let plain = c.is_volume.ensures.plain in
     let shows = c.is_volume.ensures.shows in
-    let of : Steps state (asks.Look lba sectors) reply old mid = record {
-      step = c.step.ensures.step;
-      steps = c.step.ensures.steps;
-      sizes = c.step.ensures.sizes;
-      stops = c.step.ensures.stops;
-      bytes = c.step.ensures.bytes;
-      faults = c.step.ensures.faults;
-    } in
+    let of = c.step.ensures in
     let plan : PlanState = c.in_ok-plan.plan in
     let planned = planned_reply reply plan (sym c.plan_of.ensures ∙ c.in_ok-plan.was) in
     let long : length c.fetch-fetched.new.buf ≡ length c.args.buf.now = c.fetch-fetched.auto.buf in

@@ -1,6 +1,6 @@
 use Rattle.std.proofs.Common.{◌+◌, ap, subst, arith}
 use Rattle.std.specs.Prelude.{IfOk}
-use Rattle.replay_rig.specs.Steps.{AnswersAsked, StepsVolume}
+use Rattle.replay_rig.specs.Steps.{AnswersAsked}
 use Rattle.replay_rig.specs.Rig.{RigState, rig_of}
 use Rattle.replay_rig.proofs.Says.{counted_receipt}
 use Rattle.replay_rig.proofs.Rooms.{untouched_rig, few_steps, counted_shows, counted_answers}
@@ -27,16 +27,16 @@ pub invariant_of-self : goal.invariant_of-self
 invariant_of-self c =
     let inside = c.self.inside in
     let old : RigState = rig_of inside.volume inside.store inside.puts.list inside.is_stopping inside.lines in
-    counted_shows c.args.event c.step.result old c.make_room.new.volume c.step.new.volume c.self.invariant.0 c.requires.counted
+    counted_shows c.args.event c.step.result old c.make_room.new.volume c.step.new.self c.self.invariant.0 c.requires.counted
     c.make_room.ensures.same c.in-Ok.ensures.room c.step.ensures c.self.invariant.1
 
 pub returns-in-Ok-clause-ok : goal.returns-in-Ok-clause-ok
 returns-in-Ok-clause-ok c =
     let inside = c.self.inside in
     let old : RigState = rig_of inside.volume inside.store inside.puts.list inside.is_stopping inside.lines in
-    let now : RigState = rig_of c.step.new.volume inside.store inside.puts.list inside.is_stopping (inside.lines + 1) in
+    let now : RigState = rig_of c.step.new.self inside.store inside.puts.list inside.is_stopping (inside.lines + 1) in
     subst (λ r. IfOk c.answer_of.result (λ answer. AnswersAsked c.args.event answer r now)) c.self.view_is
-    (counted_answers c.args.event c.step.result old c.make_room.new.volume c.step.new.volume c.answer_of.result
+    (counted_answers c.args.event c.step.result old c.make_room.new.volume c.step.new.self c.answer_of.result
     c.requires.counted c.make_room.ensures.same c.in-Ok.ensures.room c.step.ensures c.answer_of.ensures)
 
 pub returns-in-Ok-clause-lines : goal.returns-in-Ok-clause-lines

@@ -2,10 +2,12 @@ use Rattle.std.proofs.Common.{◌+◌, ◌∙◌, ap, subst, arith}
 use Rattle.lsvd_names.specs.declared.name.ObjName.{ObjName}
 use Rattle.plain_disk.specs.declared.event.PlainEvent.TheVariants as events
 use Rattle.plain_disk.specs.Step.{plain_after}
+use Rattle.lsvd_objstore.specs.Memory.{told_receipt}
 use Rattle.vol_core.specs.declared.event.Event.TheVariants.{TakeJob}
 use Rattle.vol_core.specs.declared.reply.Reply.TheVariants as told
+use Rattle.vol_core.specs.Step.{Steps}
 use Rattle.replay_rig.specs.declared.answer.Answer.TheVariants as answers
-use Rattle.replay_rig.specs.Steps.{StepsVolume, AnswersEvent}
+use Rattle.replay_rig.specs.Steps.{AnswersEvent}
 use Rattle.replay_rig.specs.Puts.{with_begun}
 use Rattle.replay_rig.specs.Rig.{RigState, rig_of}
 use Rattle.replay_rig.proofs.Putting.{begun_none, begun_some}
@@ -26,10 +28,10 @@ pub invariant_of-self-in_default : goal.invariant_of-self-in_default
 invariant_of-self-in_default c =
     let inside = c.self.inside in
     let old : RigState = rig_of inside.volume inside.store inside.puts.list inside.is_stopping inside.lines in
-    let of : StepsVolume TakeJob c.step.result inside.volume c.step.new.volume = c.step.ensures in
+    let of : Steps told_receipt TakeJob c.step.result inside.volume c.step.new.self = c.step.ensures in
     let known = c.self.invariant in (
       plain_after events.TakeJob known.0,
-      ((begun_none old c.step.new.volume c.step.result c.reserve.new.self.list c.reserve.ensures.list c.in_default.not-Taken
+      ((begun_none old c.step.new.self c.step.result c.reserve.new.self.list c.reserve.ensures.list c.in_default.not-Taken
           of).by
           known.0 known.1).1,
     )
@@ -38,11 +40,11 @@ pub returns-in_default : goal.returns-in_default
 returns-in_default c =
     let inside = c.self.inside in
     let old : RigState = rig_of inside.volume inside.store inside.puts.list inside.is_stopping inside.lines in
-    let of : StepsVolume TakeJob c.step.result inside.volume c.step.new.volume = c.step.ensures in
-    let now : RigState = rig_of c.step.new.volume inside.store c.reserve.new.self.list inside.is_stopping (inside.lines + 1) in
+    let of : Steps told_receipt TakeJob c.step.result inside.volume c.step.new.self = c.step.ensures in
+    let now : RigState = rig_of c.step.new.self inside.store c.reserve.new.self.list inside.is_stopping (inside.lines + 1) in
     record {
       ok = subst (λ r. AnswersEvent events.TakeJob answers.Nothing r now) c.self.view_is
-          (begun_none old c.step.new.volume c.step.result c.reserve.new.self.list c.reserve.ensures.list
+          (begun_none old c.step.new.self c.step.result c.reserve.new.self.list c.reserve.ensures.list
           c.in_default.not-Taken of);
       lines = (let same = ap (λ (r : RigState). r.lines) c.self.view_is in omega (arith, same));
     }
@@ -51,12 +53,12 @@ pub invariant_of-self-2 : goal.invariant_of-self-2
 invariant_of-self-2 c =
     let inside = c.self.inside in
     let old : RigState = rig_of inside.volume inside.store inside.puts.list inside.is_stopping inside.lines in
-    let of : StepsVolume TakeJob (told.Taken c.in-Taken.job) inside.volume c.step.new.volume = c.in-Taken.ensures in
+    let of : Steps told_receipt TakeJob (told.Taken c.in-Taken.job) inside.volume c.step.new.self = c.in-Taken.ensures in
     let known = c.self.invariant in
     let same = c.begin.ensures ∙ ap (λ puts. with_begun c.in-Taken.job.name.number c.in-Taken.job.bytes puts)
     c.in_ok-reserve.ensures.list in (
       plain_after events.TakeJob known.0,
-      ((begun_some old c.step.new.volume c.in-Taken.job c.name.result.now.number c.begin.new.self.list
+      ((begun_some old c.step.new.self c.in-Taken.job c.name.result.now.number c.begin.new.self.list
           (ap (λ (n : ObjName). n.number) c.name.ensures) same
           c.is_ordered.ensures.uploads of).by known.0 known.1).1,
     )
@@ -65,12 +67,12 @@ pub returns-clause-ok : goal.returns-clause-ok
 returns-clause-ok c =
     let inside = c.self.inside in
     let old : RigState = rig_of inside.volume inside.store inside.puts.list inside.is_stopping inside.lines in
-    let of : StepsVolume TakeJob (told.Taken c.in-Taken.job) inside.volume c.step.new.volume = c.in-Taken.ensures in
-    let now : RigState = rig_of c.step.new.volume inside.store c.begin.new.self.list inside.is_stopping (inside.lines + 1) in
+    let of : Steps told_receipt TakeJob (told.Taken c.in-Taken.job) inside.volume c.step.new.self = c.in-Taken.ensures in
+    let now : RigState = rig_of c.step.new.self inside.store c.begin.new.self.list inside.is_stopping (inside.lines + 1) in
     let same = c.begin.ensures ∙ ap (λ puts. with_begun c.in-Taken.job.name.number c.in-Taken.job.bytes puts)
     c.in_ok-reserve.ensures.list in
     subst (λ r. AnswersEvent events.TakeJob (answers.Put c.name.result.now.number) r now) c.self.view_is
-    (begun_some old c.step.new.volume c.in-Taken.job c.name.result.now.number c.begin.new.self.list
+    (begun_some old c.step.new.self c.in-Taken.job c.name.result.now.number c.begin.new.self.list
     (ap (λ (n : ObjName). n.number) c.name.ensures) same
     c.is_ordered.ensures.uploads of)
 

@@ -44,7 +44,7 @@ invariant_of-self-2 c =
     let known = c.self.invariant in
     let taken = c.in_ok-job.ensures.ok in (
       plain_after (events.JobFailed (Some n)) known.0,
-      ((failed_answers n old c.step.new.volume c.in_ok-job.job c.step.result c.fail.new.self.list
+      ((failed_answers n old c.step.new.self c.in_ok-job.job c.step.result c.fail.new.self.list
           (λ plain h. c.requires.out plain (subst (λ r. ShowsPlain r plain) c.self.view_is h)) taken.0 taken.1
           c.in_ok-job.ensures.list c.step.ensures).by known.0 known.1).1,
     )
@@ -54,10 +54,10 @@ returns-clause-ok c =
     let inside = c.self.inside in
     let old : RigState = rig_of inside.volume inside.store inside.puts.list inside.is_stopping inside.lines in
     let n : ℕ = c.args.number in
-    let now : RigState = rig_of c.step.new.volume inside.store c.fail.new.self.list inside.is_stopping (inside.lines + 1) in
+    let now : RigState = rig_of c.step.new.self inside.store c.fail.new.self.list inside.is_stopping (inside.lines + 1) in
     let taken = c.in_ok-job.ensures.ok in
     subst (λ r. FailsPut n (answers.Failed n) r now) c.self.view_is
-    (failed_answers n old c.step.new.volume c.in_ok-job.job c.step.result c.fail.new.self.list
+    (failed_answers n old c.step.new.self c.in_ok-job.job c.step.result c.fail.new.self.list
     (λ plain h. c.requires.out plain (subst (λ r. ShowsPlain r plain) c.self.view_is h)) taken.0 taken.1
     c.in_ok-job.ensures.list c.step.ensures)
 

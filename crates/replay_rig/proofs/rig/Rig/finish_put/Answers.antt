@@ -36,7 +36,7 @@ invariant_of-self-2 c =
     let inside = c.self.inside in
     let old : RigState = rig_of inside.volume inside.store inside.puts.list inside.is_stopping inside.lines in
     let n : ℕ = c.args.number in
-    done_shows n old c.step.new.volume c.put_out.new.store c.finish-job.result c.in_ok-receipt.receipt c.step.result
+    done_shows n old c.step.new.self c.put_out.new.store c.finish-job.result c.in_ok-receipt.receipt c.step.result
     c.finish-job.new.self.list c.self.invariant.0
     (made_put n old c.put_out.new.store c.finish-job.result c.in_ok-receipt.receipt
     (λ plain h. c.requires.out plain (subst (λ r. ShowsPlain r plain) c.self.view_is h)) c.in_ok-receipt.ensures.ok
@@ -48,10 +48,10 @@ returns-clause-ok c =
     let inside = c.self.inside in
     let old : RigState = rig_of inside.volume inside.store inside.puts.list inside.is_stopping inside.lines in
     let n : ℕ = c.args.number in
-    let now : RigState = rig_of c.step.new.volume c.put_out.new.store c.finish-job.new.self.list inside.is_stopping
+    let now : RigState = rig_of c.step.new.self c.put_out.new.store c.finish-job.new.self.list inside.is_stopping
     (inside.lines + 1) in
     subst (λ r. IfOk c.answer_of.result (λ answer. AnswersEvent (events.JobDone (Some n)) answer r now)) c.self.view_is
-    (done_answers n old c.step.new.volume c.put_out.new.store c.finish-job.result c.in_ok-receipt.receipt c.step.result
+    (done_answers n old c.step.new.self c.put_out.new.store c.finish-job.result c.in_ok-receipt.receipt c.step.result
     c.finish-job.new.self.list c.answer_of.result
     (made_put n old c.put_out.new.store c.finish-job.result c.in_ok-receipt.receipt
     (λ plain h. c.requires.out plain (subst (λ r. ShowsPlain r plain) c.self.view_is h)) c.in_ok-receipt.ensures.ok

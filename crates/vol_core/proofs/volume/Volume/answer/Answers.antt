@@ -1,146 +1,32 @@
 -- Each arm hands on what its call tells, of the event that the arm is for.
 use Rattle.vol_core.proofs.volume.Volume.answer.Goals as goal
 
-pub returns-in-Write : goal.returns-in-Write
-returns-in-Write g c =
-    let is = c.in-Write.is in
-    let told = c.enter.ensures in
-    record {
-      step = rw is told.step;
-      back = rw is told.back;
-      plan = rw is tt;
-      steps = told.steps;
-      sizes = told.sizes;
-      numbers = told.numbers;
-      stops = told.stops;
-      faults = told.faults;
-      bytes = told.bytes;
-    }
+pub returns-in-Write-clause-step : goal.returns-in-Write-clause-step
+returns-in-Write-clause-step g c = rw c.in-Write.is c.enter.ensures.step
 
-pub returns-in-Zero : goal.returns-in-Zero
-returns-in-Zero g c =
-    let is = c.in-Zero.is in
-    let told = c.enter-in-Zero.ensures in
-    record {
-      step = rw is told.step;
-      back = rw is told.back;
-      plan = rw is tt;
-      steps = told.steps;
-      sizes = told.sizes;
-      numbers = told.numbers;
-      stops = told.stops;
-      faults = told.faults;
-      bytes = told.bytes;
-    }
+pub returns-in-Zero-clause-step : goal.returns-in-Zero-clause-step
+returns-in-Zero-clause-step g c = rw c.in-Zero.is c.enter-in-Zero.ensures.step
 
-pub returns-in-Flush : goal.returns-in-Flush
-returns-in-Flush g c =
-    let is = c.in-Flush.is in
-    let told = c.flush.ensures in
-    record {
-      step = rw is told.step;
-      back = rw is told.back;
-      plan = rw is tt;
-      steps = told.steps;
-      sizes = told.sizes;
-      numbers = told.numbers;
-      stops = told.stops;
-      faults = told.faults;
-      bytes = told.bytes;
-    }
+pub returns-in-Flush-clause-step : goal.returns-in-Flush-clause-step
+returns-in-Flush-clause-step g c = rw c.in-Flush.is c.flush.ensures.step
 
-pub returns-in-Look : goal.returns-in-Look
-returns-in-Look g c =
-    let is = c.in-Look.is in
-    let told = c.look.ensures in
-    record {
-      step = rw is told.step;
-      back = rw is told.back;
-      plan = rw is told.plan;
-      steps = told.steps;
-      sizes = told.sizes;
-      numbers = told.numbers;
-      stops = told.stops;
-      faults = told.faults;
-      bytes = told.bytes;
-    }
+pub returns-in-Look-clause-step : goal.returns-in-Look-clause-step
+returns-in-Look-clause-step g c = rw c.in-Look.is c.look.ensures.step
 
-pub returns-in-Release : goal.returns-in-Release
-returns-in-Release g c =
-    let is = c.in-Release.is in
-    let told = c.release.ensures in
-    record {
-      step = rw is told.step;
-      back = rw is told.back;
-      plan = rw is tt;
-      steps = told.steps;
-      sizes = told.sizes;
-      numbers = told.numbers;
-      stops = told.stops;
-      faults = told.faults;
-      bytes = told.bytes;
-    }
+pub returns-in-Release-clause-step : goal.returns-in-Release-clause-step
+returns-in-Release-clause-step g c = rw c.in-Release.is c.release.ensures.step
 
-pub returns-in-Seal : goal.returns-in-Seal
-returns-in-Seal g c =
-    let is = c.in-Seal.is in
-    let told = c.seal.ensures in
-    record {
-      step = rw is told.step;
-      back = rw is told.back;
-      plan = rw is tt;
-      steps = told.steps;
-      sizes = told.sizes;
-      numbers = told.numbers;
-      stops = told.stops;
-      faults = told.faults;
-      bytes = told.bytes;
-    }
+pub returns-in-Seal-clause-step : goal.returns-in-Seal-clause-step
+returns-in-Seal-clause-step g c = rw c.in-Seal.is c.seal.ensures.step
 
-pub returns-in-TakeJob : goal.returns-in-TakeJob
-returns-in-TakeJob g c =
-    let is = c.in-TakeJob.is in
-    let told = c.take_job.ensures in
-    record {
-      step = rw is told.step;
-      back = rw is told.back;
-      plan = rw is tt;
-      steps = told.steps;
-      sizes = told.sizes;
-      numbers = told.numbers;
-      stops = told.stops;
-      faults = told.faults;
-      bytes = told.bytes;
-    }
+pub returns-in-TakeJob-clause-step : goal.returns-in-TakeJob-clause-step
+returns-in-TakeJob-clause-step g c = rw c.in-TakeJob.is c.take_job.ensures.step
 
-pub returns-in-JobDone : goal.returns-in-JobDone
-returns-in-JobDone g c =
-    let is = c.in-JobDone.is in
-    let told = c.job_done.ensures in
-    record {
-      step = rw is told.step;
-      back = rw is told.back;
-      plan = rw is tt;
-      steps = told.steps;
-      sizes = told.sizes;
-      numbers = told.numbers;
-      stops = told.stops;
-      faults = told.faults;
-      bytes = told.bytes;
-    }
+pub returns-in-JobDone-clause-step : goal.returns-in-JobDone-clause-step
+returns-in-JobDone-clause-step g c = rw c.in-JobDone.is c.job_done.ensures.step
 
-pub returns-in-JobFailed : goal.returns-in-JobFailed
-returns-in-JobFailed g c =
-    let is = c.in-JobFailed.is in
-    let told = c.job_failed.ensures in
-    record {
-      step = rw is told.step;
-      back = rw is told.back;
-      plan = rw is tt;
-      steps = told.steps;
-      sizes = told.sizes;
-      numbers = told.numbers;
-      stops = told.stops;
-      faults = told.faults;
-      bytes = told.bytes;
-    }
+pub returns-in-JobFailed-clause-step : goal.returns-in-JobFailed-clause-step
+returns-in-JobFailed-clause-step g c = rw c.in-JobFailed.is c.job_failed.ensures.step
+
+pub returns-in-Status-clause-step : goal.returns-in-Status-clause-step
+returns-in-Status-clause-step g c = rw c.in-Status.is c.status.ensures

@@ -1,11 +1,10 @@
-use Rattle.std.proofs.Common.{subst, sym}
-use Rattle.vol_core.specs.Volume.{VolumeState, SteppedVolume, volume_of}
-use Rattle.vol_core.specs.Step.{StepsAsPlain}
+use Rattle.std.proofs.Common.{rules, subst, sym}
+use Rattle.vol_core.specs.Volume.{VolumeState, volume_of}
 use Rattle.vol_core.specs.Calls.{HasRoomForStep, event_of}
-use Rattle.vol_core.proofs.StepLemmas.{steps_keep_volume, numbers_seen}
+use Rattle.vol_core.proofs.StepLemmas.{steps_keep_volume, step_seen}
 use Rattle.vol_core.proofs.EnterSteps.{with_both, may_enter, enter_steps, enter_grow}
-use Rattle.vol_core.proofs.BytesLemmas.{bytes_seen, entering_keeps_bytes}
-use Rattle.vol_core.proofs.StopSteps.{keeps_seen, entering_keeps_stops}
+use Rattle.vol_core.proofs.BytesLemmas.{entering_keeps_bytes}
+use Rattle.vol_core.proofs.StopSteps.{entering_keeps_stops}
 use Rattle.vol_core.proofs.volume.Volume.enter.Goals as goal
 
 pub enter-requires : goal.enter-requires
@@ -33,38 +32,21 @@ pub returns-clause-step : goal.returns-clause-step
 returns-clause-step g c =
     let inside = c.self.inside in
     let volume : VolumeState = volume_of inside.objects inside.log inside.pins inside.checkpoint in
+    let entry = c.args.entry in
     let objects = c.enter.new.objects in
     let log = c.enter.new.log in
-    subst (λ (s : SteppedVolume). StepsAsPlain g.R.Receipt.state (event_of c.args.entry) c.enter.result s.volume
-    (with_both objects log volume)) c.self.view_is
-    (enter_steps g.R.Receipt.state c.args.entry c.enter.result volume objects log c.ordered.ensures c.on_disk.ensures
-    c.enter.ensures)
-
-pub returns-clause-stops : goal.returns-clause-stops
-returns-clause-stops g c =
-    let inside = c.self.inside in
-    let volume : VolumeState = volume_of inside.objects inside.log inside.pins inside.checkpoint in
-    let objects = c.enter.new.objects in
-    let log = c.enter.new.log in
-    keeps_seen (with_both objects log volume) _ _ c.self.view_is
-    (entering_keeps_stops c.args.entry volume c.ordered.ensures c.on_disk.ensures c.enter.result objects log c.enter.ensures)
-
-pub returns-clause-numbers : goal.returns-clause-numbers
-returns-clause-numbers g c =
-    let inside = c.self.inside in
-    let volume : VolumeState = volume_of inside.objects inside.log inside.pins inside.checkpoint in
-    let objects = c.enter.new.objects in
-    let log = c.enter.new.log in
+    let reply = c.enter.result in
     let is = c.self.invariant in
-    numbers_seen (with_both objects log volume) _ _ c.self.view_is
-    (enter_grow g.R.Receipt.state c.args.entry c.enter.result volume objects log is.plain c.ordered.ensures c.on_disk.ensures
-    c.enter.ensures is.shows)
-
-pub returns-clause-bytes : goal.returns-clause-bytes
-returns-clause-bytes g c =
-    let inside = c.self.inside in
-    let volume : VolumeState = volume_of inside.objects inside.log inside.pins inside.checkpoint in
-    let objects = c.enter.new.objects in
-    let log = c.enter.new.log in
-    bytes_seen (with_both objects log volume) _ _ c.self.view_is
-    (entering_keeps_bytes c.args.entry volume objects log c.enter.result c.enter.ensures)
+    step_seen g.R.Receipt.state (event_of entry) reply (with_both objects log volume) _ _ c.self.view_is
+    (record {
+      step = enter_steps g.R.Receipt.state entry reply volume objects log c.ordered.ensures c.on_disk.ensures c.enter.ensures;
+      back = search rules;
+      plan = search rules;
+      sizes = search rules;
+      numbers =
+          enter_grow g.R.Receipt.state entry reply volume objects log is.plain c.ordered.ensures c.on_disk.ensures
+          c.enter.ensures is.shows;
+      stops = entering_keeps_stops entry volume c.ordered.ensures c.on_disk.ensures reply objects log c.enter.ensures;
+      faults = search rules;
+      bytes = entering_keeps_bytes entry volume objects log reply c.enter.ensures;
+    })

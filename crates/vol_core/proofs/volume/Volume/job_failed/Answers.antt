@@ -2,56 +2,24 @@ use Rattle.std.proofs.Common.{subst, sym}
 use Rattle.vol_core.specs.declared.event.Event.TheVariants as events
 use Rattle.vol_core.specs.Volume.{VolumeState, volume_of}
 use Rattle.vol_core.specs.Calls.{HasRoomForStep}
-use Rattle.vol_core.proofs.StepLemmas.{with_objects, steps_keep_volume, step_seen, numbers_seen}
-use Rattle.vol_core.proofs.ObjectSteps.{returned_steps, returned_grow}
-use Rattle.vol_core.proofs.BytesLemmas.{bytes_seen, returning_keeps_bytes}
-use Rattle.vol_core.proofs.StopSteps.{keeps_seen, returning_keeps}
+use Rattle.vol_core.proofs.StepLemmas.{with_objects, steps_keep_volume, step_seen}
+use Rattle.vol_core.proofs.StepsOf.{step_of_return}
 use Rattle.vol_core.proofs.volume.Volume.job_failed.Goals as goal
 
 pub invariant_of-self : goal.invariant_of-self
 invariant_of-self g c =
-    let state = g.R.Receipt.state in
     let inside = c.self.inside in
     let volume : VolumeState = volume_of inside.objects inside.log inside.pins inside.checkpoint in
-    let reply = c.job_failed.result in
     let objects = c.job_failed.new.objects in
-    let job = c.args.job in
+    let step = step_of_return g.R.Receipt.state volume objects c.args.job c.job_failed.result c.job_failed.ensures in
     let ready = subst HasRoomForStep (sym c.self.view_is) c.requires in
-    steps_keep_volume state (events.JobFailed job) reply volume (with_objects objects volume) inside.steps c.self.invariant ready
-    (returned_steps state volume objects job reply c.job_failed.ensures)
-    (returned_grow volume objects job reply c.job_failed.ensures)
+    steps_keep_volume g.R.Receipt.state (events.JobFailed c.args.job) c.job_failed.result volume (with_objects objects volume)
+    inside.steps c.self.invariant ready step.step step.numbers
 
 pub returns-clause-step : goal.returns-clause-step
 returns-clause-step g c =
-    let state = g.R.Receipt.state in
-    let inside = c.self.inside in
-    let volume : VolumeState = volume_of inside.objects inside.log inside.pins inside.checkpoint in
-    let reply = c.job_failed.result in
-    let objects = c.job_failed.new.objects in
-    let job = c.args.job in
-    step_seen state (events.JobFailed job) reply (with_objects objects volume) _ _ c.self.view_is
-    (returned_steps state volume objects job reply c.job_failed.ensures)
-
-pub returns-clause-stops : goal.returns-clause-stops
-returns-clause-stops g c =
     let inside = c.self.inside in
     let volume : VolumeState = volume_of inside.objects inside.log inside.pins inside.checkpoint in
     let objects = c.job_failed.new.objects in
-    keeps_seen (with_objects objects volume) _ _ c.self.view_is (returning_keeps volume objects c.args.job c.job_failed.result
-    c.job_failed.ensures)
-
-pub returns-clause-numbers : goal.returns-clause-numbers
-returns-clause-numbers g c =
-    let inside = c.self.inside in
-    let volume : VolumeState = volume_of inside.objects inside.log inside.pins inside.checkpoint in
-    let objects = c.job_failed.new.objects in
-    numbers_seen (with_objects objects volume) _ _ c.self.view_is (returned_grow volume objects c.args.job c.job_failed.result
-    c.job_failed.ensures)
-
-pub returns-clause-bytes : goal.returns-clause-bytes
-returns-clause-bytes g c =
-    let inside = c.self.inside in
-    let volume : VolumeState = volume_of inside.objects inside.log inside.pins inside.checkpoint in
-    let objects = c.job_failed.new.objects in
-    bytes_seen (with_objects objects volume) _ _ c.self.view_is
-    (returning_keeps_bytes volume objects c.args.job c.job_failed.result c.job_failed.ensures)
+    step_seen g.R.Receipt.state (events.JobFailed c.args.job) c.job_failed.result (with_objects objects volume) _ _ c.self.view_is
+    (step_of_return g.R.Receipt.state volume objects c.args.job c.job_failed.result c.job_failed.ensures)

@@ -1,32 +1,34 @@
-use Rattle.std.proofs.Common.{false, true, refl, sym, ap, subst, Err}
+use Rattle.std.proofs.Common.{rules, false, true, refl, sym, ap, subst, Err}
 use Rattle.cache_log.specs.Log.{LogState}
 use Rattle.vol_core.specs.declared.event.Event.TheVariants as events
 use Rattle.vol_core.specs.declared.reply.Reply.TheVariants as replies
 use Rattle.vol_core.specs.Volume.{VolumeState, SteppedVolume, volume_of}
 use Rattle.vol_core.specs.Shows.{NumbersGrow}
-use Rattle.vol_core.specs.Step.{StepsAsPlain, HasItsBytes}
+use Rattle.vol_core.specs.Step.{StepsAsPlain, StepOf, HasItsBytes}
 use Rattle.vol_core.specs.Calls.{HasRoomForStep}
-use Rattle.vol_core.proofs.StepLemmas.{steps_keep_volume, numbers_stay, numbers_seen}
+use Rattle.vol_core.proofs.StepLemmas.{steps_keep_volume, step_seen, numbers_stay}
 use Rattle.vol_core.proofs.LookLemmas.{may_of_own, log_has_read, objects_have_read}
 use Rattle.vol_core.proofs.LookSteps.{with_reads, planned_steps, fault_steps, memory_steps, range_steps, reads_grow}
-use Rattle.vol_core.proofs.BytesLemmas.{bytes_seen, same_bytes}
-use Rattle.vol_core.proofs.StopSteps.{keeps_seen, still, read_is_still, look_keeps, IsStill}
+use Rattle.vol_core.proofs.BytesLemmas.{same_bytes}
+use Rattle.vol_core.proofs.StopSteps.{still, read_is_still, look_keeps, IsStill}
+use Rattle.vol_core.proofs.StepsOf.{step_of_pins}
 use Rattle.vol_core.proofs.volume.Volume.look.Given as given
 use Rattle.vol_core.proofs.volume.Volume.look.Goals.{Joined-look, in-Ok, in-Err-Fault, in-Err-OutOfMemory}
 use Rattle.vol_core.proofs.volume.Volume.look.Goals as goal
 
 pub returns-then-not-may_transfer-clause-step : goal.returns-then-not-may_transfer-clause-step
 returns-then-not-may_transfer-clause-step g c =
+    let state = g.R.Receipt.state in
     let inside = c.self.inside in
     let volume : VolumeState = volume_of inside.objects inside.log inside.pins inside.checkpoint in
     let lba = c.args.lba in
     let sectors = c.args.sectors in
-    subst (λ (s : SteppedVolume). StepsAsPlain g.R.Receipt.state (events.Look lba sectors) replies.Range s.volume s.volume)
-    c.self.view_is
-    (range_steps g.R.Receipt.state volume lba sectors
+    subst (λ (s : SteppedVolume). StepOf state (events.Look lba sectors) replies.Range s.volume s.volume) c.self.view_is
+    (step_of_pins state (events.Look lba sectors) replies.Range volume volume.pins
+    (range_steps state volume lba sectors
     (may_of_own volume inside.steps c.args.self.now c.geometry.result lba sectors c.may_transfer.result false c.self.view_is
     c.geometry.ensures
-    c.may_transfer.ensures c.if-not-may_transfer.true))
+    c.may_transfer.ensures c.if-not-may_transfer.true)) tt tt refl)
 
 pub look-requires-clause-log : goal.look-requires-clause-log
 look-requires-clause-log g c =
@@ -114,15 +116,6 @@ invariant_of-self g c =
     steps_keep_volume g.R.Receipt.state (events.Look c.args.lba c.args.sectors) c.match-look.result volume
     (with_reads c.look.new.log c.look.new.pins volume) inside.steps c.self.invariant ready (steps g c) (grow g c)
 
-pub returns-clause-step : goal.returns-clause-step
-returns-clause-step g c =
-    let inside = c.self.inside in
-    let volume : VolumeState = volume_of inside.objects inside.log inside.pins inside.checkpoint in
-    subst
-    (λ (s : SteppedVolume). StepsAsPlain g.R.Receipt.state (events.Look c.args.lba c.args.sectors) c.match-look.result s.volume
-    (with_reads c.look.new.log c.look.new.pins volume))
-    c.self.view_is (steps g c)
-
 -- the log's device holds what it held
 is_still : (g : given.Over) (c : Joined-look g) → IsStill c.self.inside.log c.look.new.log
 is_still g c =
@@ -138,36 +131,30 @@ is_still g c =
           subst (IsStill log) (sym (w.in-Err-OutOfMemory.ensures.memory (ap Err w.in-Err-OutOfMemory.field-0-is))) (still log)
     ]
 
-pub returns-clause-stops : goal.returns-clause-stops
-returns-clause-stops g c =
-    let inside = c.self.inside in
-    let volume : VolumeState = volume_of inside.objects inside.log inside.pins inside.checkpoint in
-    let log : LogState = c.look.new.log in
-    keeps_seen (record volume { log = log; pins = c.look.new.pins }) _ _ c.self.view_is
-    (look_keeps volume log c.look.new.pins (is_still g c))
-
-pub returns-clause-numbers : goal.returns-clause-numbers
-returns-clause-numbers g c =
-    let inside = c.self.inside in
-    let volume : VolumeState = volume_of inside.objects inside.log inside.pins inside.checkpoint in
-    numbers_seen (with_reads c.look.new.log c.look.new.pins volume) _ _ c.self.view_is (grow g c)
-
-pub returns-then-not-may_transfer-clause-bytes : goal.returns-then-not-may_transfer-clause-bytes
-returns-then-not-may_transfer-clause-bytes g c = same_bytes c.args.self.now.volume c.args.self.now.volume refl refl
-
-pub returns-clause-bytes : goal.returns-clause-bytes
-returns-clause-bytes g c =
-    let inside = c.self.inside in
-    let volume : VolumeState = volume_of inside.objects inside.log inside.pins inside.checkpoint in
-    let now : VolumeState = with_reads c.look.new.log c.look.new.pins volume in
-    bytes_seen now _ _ c.self.view_is (same_bytes volume now refl refl)
-
 -- a plan has the bytes of its sectors
-pub returns-clause-plan : goal.returns-clause-plan
-returns-clause-plan g c =
+has_its_bytes : (g : given.Over) (c : Joined-look g) → HasItsBytes (events.Look c.args.lba c.args.sectors) c.match-look.result
+has_its_bytes g c =
     elim c.match-look.branch [
       | in-Ok w ↦ subst (λ reply. HasItsBytes (events.Look c.args.lba c.args.sectors) reply) (sym w.result-is)
           w.in-Ok.ensures.plan.size
       | in-Err-Fault w ↦ subst (λ reply. HasItsBytes (events.Look c.args.lba c.args.sectors) reply) (sym w.result-is) tt
       | in-Err-OutOfMemory w ↦ subst (λ reply. HasItsBytes (events.Look c.args.lba c.args.sectors) reply) (sym w.result-is) tt
     ]
+
+pub returns-clause-step : goal.returns-clause-step
+returns-clause-step g c =
+    let inside = c.self.inside in
+    let volume : VolumeState = volume_of inside.objects inside.log inside.pins inside.checkpoint in
+    let log : LogState = c.look.new.log in
+    let new : VolumeState = with_reads log c.look.new.pins volume in
+    step_seen g.R.Receipt.state (events.Look c.args.lba c.args.sectors) c.match-look.result new _ _ c.self.view_is
+    (record {
+      step = steps g c;
+      back = tt;
+      plan = has_its_bytes g c;
+      sizes = record { geometry = refl; uuid = refl };
+      numbers = grow g c;
+      stops = look_keeps volume log c.look.new.pins (is_still g c);
+      faults = search rules;
+      bytes = same_bytes volume new refl refl;
+    })

@@ -2,51 +2,24 @@ use Rattle.std.proofs.Common.{subst, sym}
 use Rattle.vol_core.specs.declared.event.Event.TheVariants as events
 use Rattle.vol_core.specs.Volume.{VolumeState, volume_of}
 use Rattle.vol_core.specs.Calls.{HasRoomForStep}
-use Rattle.vol_core.proofs.StepLemmas.{with_objects, steps_keep_volume, step_seen, numbers_seen}
-use Rattle.vol_core.proofs.ObjectSteps.{seal_steps, sealed_grow}
-use Rattle.vol_core.proofs.BytesLemmas.{bytes_seen, seal_keeps_bytes}
-use Rattle.vol_core.proofs.StopSteps.{keeps_seen, seal_keeps}
+use Rattle.vol_core.proofs.StepLemmas.{with_objects, steps_keep_volume, step_seen}
+use Rattle.vol_core.proofs.StepsOf.{step_of_seal}
 use Rattle.vol_core.proofs.volume.Volume.seal.Goals as goal
 
 pub invariant_of-self : goal.invariant_of-self
 invariant_of-self g c =
-    let state = g.R.Receipt.state in
     let inside = c.self.inside in
     let volume : VolumeState = volume_of inside.objects inside.log inside.pins inside.checkpoint in
-    let reply = c.seal.result in
     let objects = c.seal.new.objects in
+    let step = step_of_seal g.R.Receipt.state volume objects c.seal.result c.ordered.ensures c.seal.ensures in
     let ready = subst HasRoomForStep (sym c.self.view_is) c.requires in
-    steps_keep_volume state events.Seal reply volume (with_objects objects volume) inside.steps c.self.invariant ready
-    (seal_steps state volume objects reply c.ordered.ensures c.seal.ensures)
-    (sealed_grow volume objects reply c.seal.ensures)
+    steps_keep_volume g.R.Receipt.state events.Seal c.seal.result volume (with_objects objects volume) inside.steps
+    c.self.invariant ready step.step step.numbers
 
 pub returns-clause-step : goal.returns-clause-step
 returns-clause-step g c =
-    let state = g.R.Receipt.state in
-    let inside = c.self.inside in
-    let volume : VolumeState = volume_of inside.objects inside.log inside.pins inside.checkpoint in
-    let reply = c.seal.result in
-    let objects = c.seal.new.objects in
-    step_seen state events.Seal reply (with_objects objects volume) _ _ c.self.view_is
-    (seal_steps state volume objects reply c.ordered.ensures c.seal.ensures)
-
-pub returns-clause-stops : goal.returns-clause-stops
-returns-clause-stops g c =
     let inside = c.self.inside in
     let volume : VolumeState = volume_of inside.objects inside.log inside.pins inside.checkpoint in
     let objects = c.seal.new.objects in
-    keeps_seen (with_objects objects volume) _ _ c.self.view_is (seal_keeps volume objects c.seal.result c.seal.ensures)
-
-pub returns-clause-numbers : goal.returns-clause-numbers
-returns-clause-numbers g c =
-    let inside = c.self.inside in
-    let volume : VolumeState = volume_of inside.objects inside.log inside.pins inside.checkpoint in
-    let objects = c.seal.new.objects in
-    numbers_seen (with_objects objects volume) _ _ c.self.view_is (sealed_grow volume objects c.seal.result c.seal.ensures)
-
-pub returns-clause-bytes : goal.returns-clause-bytes
-returns-clause-bytes g c =
-    let inside = c.self.inside in
-    let volume : VolumeState = volume_of inside.objects inside.log inside.pins inside.checkpoint in
-    let objects = c.seal.new.objects in
-    bytes_seen (with_objects objects volume) _ _ c.self.view_is (seal_keeps_bytes volume objects c.seal.result c.seal.ensures)
+    step_seen g.R.Receipt.state events.Seal c.seal.result (with_objects objects volume) _ _ c.self.view_is
+    (step_of_seal g.R.Receipt.state volume objects c.seal.result c.ordered.ensures c.seal.ensures)

@@ -1,22 +1,24 @@
-use Rattle.std.proofs.Common.{subst}
+use Rattle.std.proofs.Common.{refl, subst}
 use Rattle.vol_core.specs.declared.event.Event.TheVariants as events
 use Rattle.vol_core.specs.declared.reply.Reply.TheVariants as replies
 use Rattle.vol_core.specs.Volume.{VolumeState, SteppedVolume, volume_of}
-use Rattle.vol_core.specs.Step.{StepsAsPlain}
+use Rattle.vol_core.specs.Step.{StepOf}
 use Rattle.vol_core.proofs.ObjectSteps.{status_steps}
+use Rattle.vol_core.proofs.StepsOf.{step_of_pins}
 use Rattle.vol_core.proofs.volume.Volume.status.Goals as goal
 
-pub returns-clause-step : goal.returns-clause-step
-returns-clause-step g c =
+pub returns : goal.returns
+returns g c =
     let state = g.R.Receipt.state in
     let inside = c.self.inside in
     let volume : VolumeState = volume_of inside.objects inside.log inside.pins inside.checkpoint in
     let writes = c.next_seq.result in
     let sealed = c.last.result in
     let frontier = c.frontier.result in
+    let reply = replies.Told writes sealed frontier inside.checkpoint in
     let steps =
     status_steps state volume c.batch.result.now writes sealed frontier c.ordered.ensures c.batch.ensures c.next_seq.ensures
     c.last.ensures
     c.frontier.ensures.is in
-    let reply = replies.Told writes sealed frontier inside.checkpoint in
-    subst (λ (s : SteppedVolume). StepsAsPlain state events.Status reply s.volume s.volume) c.self.view_is steps
+    subst (λ (s : SteppedVolume). StepOf state events.Status reply s.volume s.volume) c.self.view_is
+    (step_of_pins state events.Status reply volume volume.pins steps tt tt refl)
