@@ -1,8 +1,8 @@
 //! The formats of docs/FORMATS.md, byte by byte: what is written of each is told in hexadecimal and read
 //! again, and what is refused is told with its reason.
 //!
-//! Its contract is its output, of which each value is the document's; it says no other. They are in the
-//! stored output of the program `area_tests`. The crate stands on `test_output`, the crates of the
+//! Its contract is its output, of which each value is the document's; it says no other. The stored output
+//! of the program `area_tests` has these values. The crate stands on `test_output`, the crates of the
 //! formats, and the kit's `hex` and `uuid`.
 #![tactic(auto)]
 
