@@ -1,58 +1,31 @@
 -- What a session adds to the history of its volume.
-use Rattle.std.proofs.Common.{◌≡◌, ℕ, ◌+◌, ◌^◌, ◌≤◌, Bool, true, false, List, [], ◌∷◌, ◌++◌, length, append-nil, append_assoc}
-use Rattle.std.proofs.Common.{refl, sym, ◌∙◌, ap, subst, inl, inr, arith}
+use Rattle.std.proofs.Common.{◌≡◌, ℕ, ◌+◌, ◌^◌, ◌≤◌, Bool, true, false, List, [], ◌∷◌, ◌++◌, length, append-nil}
+use Rattle.std.proofs.Common.{refl, sym, ap, subst, inl, inr, arith}
 use Rattle.std.specs.Prelude.{Option, Some, None, Ok, Err}
 use Rattle.lsvd_base.specs.declared.entry.Entry.{Entry}
 use Rattle.lsvd_objstore.specs.Store.{StoreState, ReceiptState, Becomes}
-use Rattle.object_stream.specs.declared.object.StreamObject.{StreamObject}
-use Rattle.plain_disk.specs.State.{PlainState}
+use Rattle.vol_core.specs.declared.event.Event.TheVariants as events
 use Rattle.vol_core.specs.Volume.{VolumeState}
-use Rattle.volume_owner.specs.History.{GoesOn}
 use Rattle.volume_owner.specs.Calls.{Adds, KeepsOtherNames}
 use Rattle.volume_owner.proofs.PlainLemmas.{goes_on_nothing}
-use Rattle.volume_owner.proofs.StepLemmas.{same_sizes}
+use Rattle.volume_owner.proofs.StepLemmas.{goes_on_more, same_sizes}
+use Rattle.volume_owner.proofs.ActLemmas.{step_acts}
+use Rattle.volume_owner.proofs.StoreLemmas.{keeps_nothing, keeps_then, made_keeps}
 use Rattle.volume_owner.proofs.CallLemmas.{becomes_same, becomes_then}
 use Rattle.nbd_session.specs.declared.asking.Asked.{Asked}
 use Rattle.nbd_session.specs.declared.asking.Asked.TheVariants.{Read, Write, Zero, Flush, Disconnect, Refused}
 use Rattle.nbd_session.specs.declared.outcome.ReplyError.TheVariants as errors
 use Rattle.nbd_session.specs.declared.session.SessionEnd.{SessionEnd}
 use Rattle.nbd_session.specs.declared.session.SessionEnd.TheVariants as ends
-use Rattle.nbd_session.specs.Exchanges.{Outcome, Moment, Calls, Flushes, ReadsSectors, as_list, EntersIt, FlushesIf, EntersEntry}
+use Rattle.volume_owner.specs.Acts.{Moment, moment_of}
+use Rattle.volume_owner.specs.Standing.{KeepsStore}
+use Rattle.nbd_session.specs.Exchanges.{Outcome, Calls, Flushes, ReadsSectors, as_list, EntersIt, FlushesIf, EntersEntry}
 use Rattle.nbd_session.specs.Exchanges.{FlushesAll, CarriesOut, write_of, zero_of, asked_at, RequestExchange, IsRequestExchange}
 use Rattle.nbd_session.specs.Exchanges.{AreRequestExchanges}
 use Rattle.nbd_session.specs.Session.{LinkBytes, EndsSession, Transmits}
 use Rattle.nbd_session.specs.History.{Grows, LeavesRoom, MayAdd, entered_in}
 
 -- ---- one after the other
-
-goes_on_more : (xs ys : List Entry) (plain mid after : PlainState) → GoesOn xs plain mid → GoesOn ys mid after
-    → GoesOn (xs ++ ys) plain after
-goes_on_more xs ys plain mid after first second = record {
-  opens =
-      second.opens
-      ∙ ap (λ (m : PlainState). record m {
-        entries = m.entries ++ ys;
-        objects = after.objects;
-        window = after.window;
-        pins = after.pins;
-        cache = after.cache;
-      }) first.opens
-      ∙ ap (λ (es : List Entry). record plain {
-        entries = es;
-        objects = after.objects;
-        window = after.window;
-        pins = after.pins;
-        cache = after.cache;
-      })
-      (append_assoc plain.entries xs ys);
-  objects = (
-    first.objects.0 ++ second.objects.0,
-    second.objects.1 ∙ ap (λ (o : List StreamObject). o ++ second.objects.0) first.objects.1
-        ∙ append_assoc plain.objects first.objects.0 second.objects.0,
-  );
-  frontier = omega (arith, first.frontier, second.frontier);
-  committed = omega (arith, first.committed, second.committed);
-}
 
 adds_more : (xs ys : List Entry) (old mid new : VolumeState) → Adds xs old mid → Adds ys mid new → Adds (xs ++ ys) old new
 adds_more xs ys old mid new first second plain shows =
@@ -66,6 +39,7 @@ grows_nothing moment = record {
   sizes = record { geometry = refl; uuid = refl };
   own = λ epoch own. own;
   store = becomes_same moment.volume.volume.objects.uploads.uuid moment.store.objects;
+  stands = keeps_nothing moment;
 }
 
 pub grows_more : (xs ys : List Entry) (old mid new : Moment) → Grows xs old mid → Grows ys mid new → Grows (xs ++ ys) old new
@@ -76,20 +50,24 @@ grows_more xs ys old mid new first second = record {
   store =
       becomes_then old.volume.volume.objects.uploads.uuid old.store.objects mid.store.objects new.store.objects first.store
       (subst (λ u. Becomes (KeepsOtherNames u) mid.store.objects new.store.objects) first.sizes.uuid second.store);
+  stands = keeps_then xs ys old mid new first.stands second.stands;
 }
 
 -- ---- calls of the owner
 
-called : (added : List Entry) (failed : Bool) (old new : Moment) → Calls added failed old new → Grows added old new
-called added failed old new call = record {
+called : {R : Type 0} (state : R → ReceiptState) (added : List Entry) (failed : Bool) (old new : Moment)
+    → Calls state added failed old new → Grows added old new
+called state added failed old new call = record {
   adds = call.steps.adds;
   sizes = call.steps.sizes;
   own = call.steps.own;
   store = call.store;
+  stands = made_keeps state added (moment_of old.volume old.store) (moment_of new.volume new.store) call.acts;
 }
 
-flushed : (failed : Bool) (old new : Moment) → Flushes failed old new → Grows [] old new
-flushed failed old new flushes = record {
+flushed : {R : Type 0} (state : R → ReceiptState) (failed : Bool) (old new : Moment) → Flushes state failed old new
+    → Grows [] old new
+flushed state failed old new flushes = record {
   adds = flushes.steps.adds;
   sizes = flushes.steps.sizes;
   own = flushes.steps.own;
@@ -97,15 +75,21 @@ flushed failed old new flushes = record {
       subst (λ (s : StoreState). Becomes (KeepsOtherNames old.volume.volume.objects.uploads.uuid) old.store.objects s.objects)
       (sym flushes.store)
       (becomes_same old.volume.volume.objects.uploads.uuid old.store.objects);
+  stands =
+      subst (λ (s : StoreState). KeepsStore [] (moment_of old.volume old.store) (moment_of new.volume s)) (sym flushes.store)
+      (made_keeps state [] (moment_of old.volume old.store) (moment_of new.volume old.store)
+      (step_acts state events.Flush [] old.volume new.volume old.store (λ volume store. tt) (λ volume. tt) flushes.step));
 }
 
-flushed_if : (durable : Bool) (old new : Moment) → FlushesIf durable old new → Grows [] old new
-flushed_if false old new same = subst (Grows [] old) (sym same) (grows_nothing old)
-flushed_if true old new flushes = flushed false old new flushes
+flushed_if : {R : Type 0} (state : R → ReceiptState) (durable : Bool) (old new : Moment) → FlushesIf state durable old new
+    → Grows [] old new
+flushed_if state false old new same = subst (Grows [] old) (sym same) (grows_nothing old)
+flushed_if state true old new flushes = flushed state false old new flushes
 
-entered : (entry : Option Entry) (old new : Moment) → EntersIt entry old new → Grows (as_list entry) old new
-entered None old new same = subst (Grows [] old) (sym same) (grows_nothing old)
-entered (Some entry) old new call = called (entry ∷ []) false old new call
+entered : {R : Type 0} (state : R → ReceiptState) (entry : Option Entry) (old new : Moment) → EntersIt state entry old new
+    → Grows (as_list entry) old new
+entered state None old new same = subst (Grows [] old) (sym same) (grows_nothing old)
+entered state (Some entry) old new call = called state (entry ∷ []) false old new call
 
 -- ---- a request
 
@@ -117,15 +101,16 @@ record GrowsByOne (added : List Entry) (old new : Moment) : Type 0 where
 none_more : (added : List Entry) (old new : Moment) → added ≡ [] → Grows [] old new → GrowsByOne added old new
 none_more added old new none grows = subst (λ a. GrowsByOne a old new) (sym none) (record { few = omega arith; grows = grows })
 
-one_more : (entry : Option Entry) (added : List Entry) (old mid new : Moment) → added ≡ as_list entry → EntersIt entry old mid
+one_more : {R : Type 0} (state : R → ReceiptState) (entry : Option Entry) (added : List Entry) (old mid new : Moment)
+    → added ≡ as_list entry → EntersIt state entry old mid
     → Grows [] mid new
     → GrowsByOne added old new
-one_more entry added old mid new is enters grows =
+one_more state entry added old mid new is enters grows =
     subst (λ a. GrowsByOne a old new) (sym is) (record {
       few = few entry;
       grows =
           subst (λ a. Grows a old new) (append-nil (as_list entry))
-          (grows_more (as_list entry) [] old mid new (entered entry old mid enters) grows);
+          (grows_more (as_list entry) [] old mid new (entered state entry old mid enters) grows);
     })
   where
     few : (entry : Option Entry) → length (as_list entry) ≤ 1
@@ -135,29 +120,31 @@ one_more entry added old mid new is enters grows =
 read_grows : {R : Type 0} (state : R → ReceiptState) (lba sectors : ℕ) (outcome : Outcome) (old new : Moment)
     → ReadsSectors state lba sectors outcome old new
     → Grows [] old new
-read_grows state lba sectors (Ok content) old new reads = called [] false old new reads.2
+read_grows state lba sectors (Ok content) old new reads = called state [] false old new reads.2
 read_grows state lba sectors (Err (errors.Refused why)) old new reads = absurd reads
-read_grows state lba sectors (Err errors.Io) old new reads = called [] true old new reads
-read_grows state lba sectors (Err errors.NoMemory) old new reads = called [] false old new reads
+read_grows state lba sectors (Err errors.Io) old new reads = called state [] true old new reads
+read_grows state lba sectors (Err errors.NoMemory) old new reads = called state [] false old new reads
 
-entry_grows : (entry : Option Entry) (durable : Bool) (outcome : Outcome) (added : List Entry) (old new : Moment)
-    → EntersEntry entry durable outcome added old new → GrowsByOne added old new
-entry_grows entry durable (Ok content) added old new enters =
-    one_more entry added old enters.2 new enters.1 enters.3 (flushed_if durable enters.2 new enters.4)
-entry_grows entry durable (Err (errors.Refused why)) added old new enters = absurd enters
-entry_grows entry durable (Err errors.Io) added old new (inl failed) =
-    none_more added old new failed.1 (called [] true old new failed.2)
-entry_grows entry durable (Err errors.Io) added old new (inr failed) =
-    one_more entry added old failed.2 new failed.1 failed.3 (flushed true failed.2 new failed.4)
-entry_grows entry durable (Err errors.NoMemory) added old new enters =
-    none_more added old new enters.0 (called [] false old new enters.1)
+entry_grows : {R : Type 0} (state : R → ReceiptState) (entry : Option Entry) (durable : Bool) (outcome : Outcome)
+    (added : List Entry) (old new : Moment)
+    → EntersEntry state entry durable outcome added old new → GrowsByOne added old new
+entry_grows state entry durable (Ok content) added old new enters =
+    one_more state entry added old enters.2 new enters.1 enters.3 (flushed_if state durable enters.2 new enters.4)
+entry_grows state entry durable (Err (errors.Refused why)) added old new enters = absurd enters
+entry_grows state entry durable (Err errors.Io) added old new (inl failed) =
+    none_more added old new failed.1 (called state [] true old new failed.2)
+entry_grows state entry durable (Err errors.Io) added old new (inr failed) =
+    one_more state entry added old failed.2 new failed.1 failed.3 (flushed state true failed.2 new failed.4)
+entry_grows state entry durable (Err errors.NoMemory) added old new enters =
+    none_more added old new enters.0 (called state [] false old new enters.1)
 
-flush_grows : (outcome : Outcome) (added : List Entry) (old new : Moment) → FlushesAll outcome added old new
+flush_grows : {R : Type 0} (state : R → ReceiptState) (outcome : Outcome) (added : List Entry) (old new : Moment)
+    → FlushesAll state outcome added old new
     → GrowsByOne added old new
-flush_grows (Ok content) added old new flushes = none_more added old new flushes.1 (flushed false old new flushes.2)
-flush_grows (Err (errors.Refused why)) added old new flushes = absurd flushes
-flush_grows (Err errors.Io) added old new flushes = none_more added old new flushes.0 (flushed true old new flushes.1)
-flush_grows (Err errors.NoMemory) added old new flushes = absurd flushes
+flush_grows state (Ok content) added old new flushes = none_more added old new flushes.1 (flushed state false old new flushes.2)
+flush_grows state (Err (errors.Refused why)) added old new flushes = absurd flushes
+flush_grows state (Err errors.Io) added old new flushes = none_more added old new flushes.0 (flushed state true old new flushes.1)
+flush_grows state (Err errors.NoMemory) added old new flushes = absurd flushes
 
 stays : (old new : Moment) → new ≡ old → Grows [] old new
 stays old new same = subst (Grows [] old) (sym same) (grows_nothing old)
@@ -171,10 +158,10 @@ request_grows : {R : Type 0} (state : R → ReceiptState) (asked : Asked) (conte
 request_grows state (Read lba sectors) content outcome added old new done =
     none_more added old new done.0 (read_grows state lba sectors outcome old new done.1)
 request_grows state (Write lba sectors durable) content outcome added old new done =
-    entry_grows (write_of lba content) durable outcome added old new done
+    entry_grows state (write_of lba content) durable outcome added old new done
 request_grows state (Zero lba sectors durable) content outcome added old new done =
-    entry_grows (zero_of lba sectors) durable outcome added old new done
-request_grows state Flush content outcome added old new done = flush_grows outcome added old new done
+    entry_grows state (zero_of lba sectors) durable outcome added old new done
+request_grows state Flush content outcome added old new done = flush_grows state outcome added old new done
 request_grows state Disconnect content outcome added old new done = unchanged added old new done.1 done.2
 request_grows state (Refused why) content outcome added old new done = unchanged added old new done.1 done.2
 
@@ -194,13 +181,15 @@ TakesFew old new = new.volume.steps ≤ old.volume.steps + 2 ^ 41
 same_steps : (old new : Moment) → new ≡ old → TakesFew old new
 same_steps old new same = omega (arith, ap (λ (m : Moment). m.volume.steps) same)
 
-entered_steps : (entry : Option Entry) (old new : Moment) → EntersIt entry old new → new.volume.steps ≤ old.volume.steps + 2 ^ 40
-entered_steps None old new same = omega (arith, ap (λ (m : Moment). m.volume.steps) same)
-entered_steps (Some entry) old new call = call.steps.steps
+entered_steps : {R : Type 0} (state : R → ReceiptState) (entry : Option Entry) (old new : Moment) → EntersIt state entry old new
+    → new.volume.steps ≤ old.volume.steps + 2 ^ 40
+entered_steps state None old new same = omega (arith, ap (λ (m : Moment). m.volume.steps) same)
+entered_steps state (Some entry) old new call = call.steps.steps
 
-flushed_steps : (durable : Bool) (old new : Moment) → FlushesIf durable old new → new.volume.steps ≤ old.volume.steps + 1
-flushed_steps false old new same = omega (arith, ap (λ (m : Moment). m.volume.steps) same)
-flushed_steps true old new flushes = flushes.steps.steps
+flushed_steps : {R : Type 0} (state : R → ReceiptState) (durable : Bool) (old new : Moment) → FlushesIf state durable old new
+    → new.volume.steps ≤ old.volume.steps + 1
+flushed_steps state false old new same = omega (arith, ap (λ (m : Moment). m.volume.steps) same)
+flushed_steps state true old new flushes = flushes.steps.steps
 
 read_steps : {R : Type 0} (state : R → ReceiptState) (lba sectors : ℕ) (outcome : Outcome) (old new : Moment)
     → ReadsSectors state lba sectors outcome old new → TakesFew old new
@@ -209,31 +198,33 @@ read_steps state lba sectors (Err (errors.Refused why)) old new reads = absurd r
 read_steps state lba sectors (Err errors.Io) old new reads = omega (arith, reads.steps.steps)
 read_steps state lba sectors (Err errors.NoMemory) old new reads = omega (arith, reads.steps.steps)
 
-entry_steps : (entry : Option Entry) (durable : Bool) (outcome : Outcome) (added : List Entry) (old new : Moment)
-    → EntersEntry entry durable outcome added old new → TakesFew old new
-entry_steps entry durable (Ok content) added old new enters =
-    omega (arith, entered_steps entry old enters.2 enters.3, flushed_steps durable enters.2 new enters.4)
-entry_steps entry durable (Err (errors.Refused why)) added old new enters = absurd enters
-entry_steps entry durable (Err errors.Io) added old new (inl failed) = omega (arith, failed.2.steps.steps)
-entry_steps entry durable (Err errors.Io) added old new (inr failed) =
-    omega (arith, entered_steps entry old failed.2 failed.3, failed.4.steps.steps)
-entry_steps entry durable (Err errors.NoMemory) added old new enters = omega (arith, enters.1.steps.steps)
+entry_steps : {R : Type 0} (state : R → ReceiptState) (entry : Option Entry) (durable : Bool) (outcome : Outcome)
+    (added : List Entry) (old new : Moment)
+    → EntersEntry state entry durable outcome added old new → TakesFew old new
+entry_steps state entry durable (Ok content) added old new enters =
+    omega (arith, entered_steps state entry old enters.2 enters.3, flushed_steps state durable enters.2 new enters.4)
+entry_steps state entry durable (Err (errors.Refused why)) added old new enters = absurd enters
+entry_steps state entry durable (Err errors.Io) added old new (inl failed) = omega (arith, failed.2.steps.steps)
+entry_steps state entry durable (Err errors.Io) added old new (inr failed) =
+    omega (arith, entered_steps state entry old failed.2 failed.3, failed.4.steps.steps)
+entry_steps state entry durable (Err errors.NoMemory) added old new enters = omega (arith, enters.1.steps.steps)
 
-flush_steps : (outcome : Outcome) (added : List Entry) (old new : Moment) → FlushesAll outcome added old new → TakesFew old new
-flush_steps (Ok content) added old new flushes = omega (arith, flushes.2.steps.steps)
-flush_steps (Err (errors.Refused why)) added old new flushes = absurd flushes
-flush_steps (Err errors.Io) added old new flushes = omega (arith, flushes.1.steps.steps)
-flush_steps (Err errors.NoMemory) added old new flushes = absurd flushes
+flush_steps : {R : Type 0} (state : R → ReceiptState) (outcome : Outcome) (added : List Entry) (old new : Moment)
+    → FlushesAll state outcome added old new → TakesFew old new
+flush_steps state (Ok content) added old new flushes = omega (arith, flushes.2.steps.steps)
+flush_steps state (Err (errors.Refused why)) added old new flushes = absurd flushes
+flush_steps state (Err errors.Io) added old new flushes = omega (arith, flushes.1.steps.steps)
+flush_steps state (Err errors.NoMemory) added old new flushes = absurd flushes
 
 request_steps : {R : Type 0} (state : R → ReceiptState) (asked : Asked) (content : List ℕ) (outcome : Outcome)
     (added : List Entry) (old new : Moment)
     → CarriesOut state asked content outcome added old new → TakesFew old new
 request_steps state (Read lba sectors) content outcome added old new done = read_steps state lba sectors outcome old new done.1
 request_steps state (Write lba sectors durable) content outcome added old new done =
-    entry_steps (write_of lba content) durable outcome added old new done
+    entry_steps state (write_of lba content) durable outcome added old new done
 request_steps state (Zero lba sectors durable) content outcome added old new done =
-    entry_steps (zero_of lba sectors) durable outcome added old new done
-request_steps state Flush content outcome added old new done = flush_steps outcome added old new done
+    entry_steps state (zero_of lba sectors) durable outcome added old new done
+request_steps state Flush content outcome added old new done = flush_steps state outcome added old new done
 request_steps state Disconnect content outcome added old new done = same_steps old new done.2
 request_steps state (Refused why) content outcome added old new done = same_steps old new done.2
 

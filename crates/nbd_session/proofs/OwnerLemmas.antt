@@ -9,35 +9,24 @@ use Rattle.lsvd_base.specs.declared.entry.Entry.TheVariants as entries
 use Rattle.lsvd_base.specs.Limits.{covers, may_transfer}
 use Rattle.lsvd_base.specs.Range.{is_in_range}
 use Rattle.lsvd_objstore.specs.Store.{ReceiptState}
-use Rattle.vol_core.specs.Volume.{SteppedVolume}
 use Rattle.volume_owner.specs.declared.error.OwnerError.{OwnerError}
 use Rattle.volume_owner.specs.declared.error.OwnerError.TheVariants as owner_errors
 use Rattle.volume_owner.specs.Errors.{is_eio}
 use Rattle.volume_owner.specs.Owner.{most_of_call}
-use Rattle.volume_owner.specs.Calls.{MakesSteps}
-use Rattle.volume_owner.proofs.PlainLemmas.{goes_on_nothing}
-use Rattle.volume_owner.proofs.CallLemmas.{quiet_call}
+use Rattle.volume_owner.proofs.CallLemmas.{nothing_call}
 use Rattle.nbd_session.specs.declared.asking.Asked.{Asked}
 use Rattle.nbd_session.specs.declared.asking.Asked.TheVariants.{Flush}
 use Rattle.nbd_session.specs.declared.outcome.ReplyError.{ReplyError}
 use Rattle.nbd_session.specs.declared.outcome.ReplyError.TheVariants as errors
-use Rattle.nbd_session.specs.Exchanges.{Outcome, Moment, Calls, FlushesAll, CarriesOut, write_of, zero_of, as_list, EntersIt}
+use Rattle.volume_owner.specs.Acts.{Moment}
+use Rattle.nbd_session.specs.Exchanges.{Outcome, Calls, FlushesAll, CarriesOut, write_of, zero_of, as_list, EntersIt}
 use Rattle.nbd_session.specs.Exchanges.{EntersEntry, of_owner}
 use Rattle.nbd_session.specs.Steps.{IsContent, WriteFits, FlushesOrNot, done_by}
 
 -- ---- nothing was called
 
-makes_nothing : (most : ℕ) (stepped : SteppedVolume) → MakesSteps most [] stepped stepped
-makes_nothing most stepped = record {
-  adds = λ plain shows. (plain, shows, goes_on_nothing plain);
-  sizes = record { geometry = refl; uuid = refl };
-  own = λ epoch own. own;
-  steps = omega arith;
-}
-
-pub calls_nothing : (moment : Moment) → Calls [] false moment moment
-calls_nothing moment = quiet_call most_of_call [] moment.volume moment.volume moment.store
-    (makes_nothing most_of_call moment.volume) refl
+pub calls_nothing : {R : Type 0} (state : R → ReceiptState) (moment : Moment) → Calls state [] false moment moment
+calls_nothing state moment = nothing_call state most_of_call moment.volume moment.store
 
 -- ---- ranges
 
@@ -74,22 +63,25 @@ pub zero_is : (lba sectors : ℕ) → (sectors ≡ 0 → ⊥) → zero_of lba se
 zero_is lba sectors some = ap (λ (b : Bool). if b then None else Some (entries.Zero lba sectors)) (ne_eqb sectors 0 some)
 
 -- it was not entered
-pub not_entered : (entry : Entry) (durable : Bool) (error : OwnerError) (passes : Bool) (old new : Moment) → passes ≡ true
-    → (IsErrOf {T = ℕ} (Err error) owner_errors.Range ↔ (passes ≡ false)) → Calls [] (is_eio {T = ℕ} (Err error)) old new
-    → EntersEntry (Some entry) durable (Err (of_owner error)) [] old new
-not_entered entry durable owner_errors.Range passes old new is refused call = absurd (not_refused passes is refused)
-not_entered entry durable owner_errors.Eio passes old new is refused call = inl (refl, refl, call)
-not_entered entry durable owner_errors.OutOfMemory passes old new is refused call = (refl, call)
+pub not_entered : {R : Type 0} (state : R → ReceiptState) (entry : Entry) (durable : Bool) (error : OwnerError) (passes : Bool)
+    (old new : Moment) → passes ≡ true
+    → (IsErrOf {T = ℕ} (Err error) owner_errors.Range ↔ (passes ≡ false)) → Calls state [] (is_eio {T = ℕ} (Err error)) old new
+    → EntersEntry state (Some entry) durable (Err (of_owner error)) [] old new
+not_entered state entry durable owner_errors.Range passes old new is refused call = absurd (not_refused passes is refused)
+not_entered state entry durable owner_errors.Eio passes old new is refused call = inl (refl, refl, call)
+not_entered state entry durable owner_errors.OutOfMemory passes old new is refused call = (refl, call)
 
 -- it was, or there is none, and it was flushed, if it was to be, or that failed
-pub entered_and_flushed : (entry : Option Entry) (durable : Bool) (result : Result (Unit {0}) ReplyError) (old mid new : Moment)
-    → EntersIt entry old mid → FlushesOrNot durable result mid new
-    → (entered : List Entry) × EntersEntry entry durable (done_by result) entered old new
-entered_and_flushed entry durable (Ok done) old mid new enters flushes = (as_list entry, (refl, refl, mid, enters, flushes))
-entered_and_flushed entry durable (Err (errors.Refused why)) old mid new enters flushes = absurd flushes
-entered_and_flushed entry durable (Err errors.Io) old mid new enters flushes =
+pub entered_and_flushed : {R : Type 0} (state : R → ReceiptState) (entry : Option Entry) (durable : Bool)
+    (result : Result (Unit {0}) ReplyError) (old mid new : Moment)
+    → EntersIt state entry old mid → FlushesOrNot state durable result mid new
+    → (entered : List Entry) × EntersEntry state entry durable (done_by result) entered old new
+entered_and_flushed state entry durable (Ok done) old mid new enters flushes =
+    (as_list entry, (refl, refl, mid, enters, flushes))
+entered_and_flushed state entry durable (Err (errors.Refused why)) old mid new enters flushes = absurd flushes
+entered_and_flushed state entry durable (Err errors.Io) old mid new enters flushes =
     (as_list entry, inr (flushes.0, refl, mid, enters, flushes.1))
-entered_and_flushed entry durable (Err errors.NoMemory) old mid new enters flushes = absurd flushes
+entered_and_flushed state entry durable (Err errors.NoMemory) old mid new enters flushes = absurd flushes
 
 -- ---- a write
 
@@ -104,21 +96,23 @@ pub is_kept : (content : List ℕ) (body : Option (List ℕ)) (bytes : List ℕ)
 is_kept content body bytes sectors some is size = record { same = subst (IsContent content) some is; size = size }
 
 -- there are none
-pub nothing_written : (lba : ℕ) (content bytes : List ℕ) (sectors : ℕ) (moment : Moment) → IsKept content bytes sectors
-    → sectors ≡ 0
-    → EntersIt (write_of lba content) moment moment
-nothing_written lba content bytes sectors moment kept none =
+pub nothing_written : {R : Type 0} (state : R → ReceiptState) (lba : ℕ) (content bytes : List ℕ) (sectors : ℕ) (moment : Moment)
+    → IsKept content bytes sectors → sectors ≡ 0
+    → EntersIt state (write_of lba content) moment moment
+nothing_written state lba content bytes sectors moment kept none =
     let empty : length content ≡ 0 = omega (arith, kept.size, ap length kept.same, none) in
-    subst (λ (e : Option Entry). EntersIt e moment moment) (sym (write_is_none lba content empty)) refl
+    subst (λ (e : Option Entry). EntersIt state e moment moment) (sym (write_is_none lba content empty)) refl
 
 -- they were written
-pub written : (lba : ℕ) (content bytes : List ℕ) (sectors : ℕ) (old new : Moment) → IsKept content bytes sectors
+pub written : {R : Type 0} (state : R → ReceiptState) (lba : ℕ) (content bytes : List ℕ) (sectors : ℕ) (old new : Moment)
+    → IsKept content bytes sectors
     → (sectors ≡ 0 → ⊥)
-    → Calls (entries.Write lba bytes ∷ []) false old new → EntersIt (write_of lba content) old new
-written lba content bytes sectors old new kept some call =
+    → Calls state (entries.Write lba bytes ∷ []) false old new → EntersIt state (write_of lba content) old new
+written state lba content bytes sectors old new kept some call =
     let size = ap length kept.same in
-    subst (λ (e : Option Entry). EntersIt e old new) (sym (write_is lba content (some_data (length content) (size_is size))))
-    (subst (λ (b : List ℕ). Calls (entries.Write lba b ∷ []) false old new) kept.same call)
+    subst (λ (e : Option Entry). EntersIt state e old new)
+    (sym (write_is lba content (some_data (length content) (size_is size))))
+    (subst (λ (b : List ℕ). Calls state (entries.Write lba b ∷ []) false old new) kept.same call)
   where
     size_is : length bytes ≡ length content → 512 * sectors ≡ length content
     size_is same = kept.size ∙ same
@@ -128,18 +122,18 @@ written lba content bytes sectors old new kept some call =
     some_data (suc count) is = omega arith
 
 -- they were not
-pub not_written : (geometry : Geometry) (lba : ℕ) (content bytes : List ℕ) (sectors : ℕ) (durable : Bool) (error : OwnerError)
-    (old new : Moment)
+pub not_written : {R : Type 0} (state : R → ReceiptState) (geometry : Geometry) (lba : ℕ) (content bytes : List ℕ) (sectors : ℕ)
+    (durable : Bool) (error : OwnerError) (old new : Moment)
     → IsKept content bytes sectors → (sectors ≡ 0 → ⊥) → WriteFits geometry lba bytes
     → (IsErrOf {T = ℕ} (Err error) owner_errors.Range ↔ (is_in_range geometry (entries.Write lba bytes) ≡ false))
-    → Calls [] (is_eio {T = ℕ} (Err error)) old new
-    → EntersEntry (write_of lba content) durable (Err (of_owner error)) [] old new
-not_written geometry lba content bytes sectors durable error old new kept some fits refused call =
+    → Calls state [] (is_eio {T = ℕ} (Err error)) old new
+    → EntersEntry state (write_of lba content) durable (Err (of_owner error)) [] old new
+not_written state geometry lba content bytes sectors durable error old new kept some fits refused call =
     let size : 512 * sectors ≡ length content = kept.size ∙ ap length kept.same in
     let more : 0 < length content = some_data (length content) size in
     let passes = may_be_transferred geometry lba (length bytes / 512) (sectors_of (length bytes) kept.size) fits.0 fits.1 in
-    subst (λ (e : Option Entry). EntersEntry e durable (Err (of_owner error)) [] old new) (sym (write_is lba content more))
-    (not_entered (entries.Write lba content) durable error (is_in_range geometry (entries.Write lba bytes)) old new passes
+    subst (λ (e : Option Entry). EntersEntry state e durable (Err (of_owner error)) [] old new) (sym (write_is lba content more))
+    (not_entered state (entries.Write lba content) durable error (is_in_range geometry (entries.Write lba bytes)) old new passes
     refused call)
   where
     some_data : (count : ℕ) → 512 * sectors ≡ count → 0 < count
@@ -152,23 +146,27 @@ not_written geometry lba content bytes sectors durable error old new kept some f
 -- ---- a zeroing
 
 -- there is nothing to zero
-pub nothing_zeroed : (lba sectors : ℕ) (moment : Moment) → sectors ≡ 0 → EntersIt (zero_of lba sectors) moment moment
-nothing_zeroed lba sectors moment none = subst (λ (n : ℕ). EntersIt (zero_of lba n) moment moment) (sym none) refl
+pub nothing_zeroed : {R : Type 0} (state : R → ReceiptState) (lba sectors : ℕ) (moment : Moment) → sectors ≡ 0
+    → EntersIt state (zero_of lba sectors) moment moment
+nothing_zeroed state lba sectors moment none = subst (λ (n : ℕ). EntersIt state (zero_of lba n) moment moment) (sym none) refl
 
-pub zeroed : (lba sectors : ℕ) (old new : Moment) → (sectors ≡ 0 → ⊥) → Calls (entries.Zero lba sectors ∷ []) false old new
-    → EntersIt (zero_of lba sectors) old new
-zeroed lba sectors old new some call = subst (λ (e : Option Entry). EntersIt e old new) (sym (zero_is lba sectors some)) call
+pub zeroed : {R : Type 0} (state : R → ReceiptState) (lba sectors : ℕ) (old new : Moment) → (sectors ≡ 0 → ⊥)
+    → Calls state (entries.Zero lba sectors ∷ []) false old new
+    → EntersIt state (zero_of lba sectors) old new
+zeroed state lba sectors old new some call =
+    subst (λ (e : Option Entry). EntersIt state e old new) (sym (zero_is lba sectors some)) call
 
-pub not_zeroed : (geometry : Geometry) (lba sectors : ℕ) (durable : Bool) (error : OwnerError) (old new : Moment)
+pub not_zeroed : {R : Type 0} (state : R → ReceiptState) (geometry : Geometry) (lba sectors : ℕ) (durable : Bool)
+    (error : OwnerError) (old new : Moment)
     → (sectors ≡ 0 → ⊥)
     → IsTrue (covers geometry lba sectors)
     → (IsErrOf {T = ℕ} (Err error) owner_errors.Range ↔ (is_in_range geometry (entries.Zero lba sectors) ≡ false))
-    → Calls [] (is_eio {T = ℕ} (Err error)) old new
-    → EntersEntry (zero_of lba sectors) durable (Err (of_owner error)) [] old new
-not_zeroed geometry lba sectors durable error old new some covered refused call =
+    → Calls state [] (is_eio {T = ℕ} (Err error)) old new
+    → EntersEntry state (zero_of lba sectors) durable (Err (of_owner error)) [] old new
+not_zeroed state geometry lba sectors durable error old new some covered refused call =
     let passes = may_be_zeroed geometry lba sectors (one_or_more sectors some) covered in
-    subst (λ (e : Option Entry). EntersEntry e durable (Err (of_owner error)) [] old new) (sym (zero_is lba sectors some))
-    (not_entered (entries.Zero lba sectors) durable error (is_in_range geometry (entries.Zero lba sectors)) old new passes
+    subst (λ (e : Option Entry). EntersEntry state e durable (Err (of_owner error)) [] old new) (sym (zero_is lba sectors some))
+    (not_entered state (entries.Zero lba sectors) durable error (is_in_range geometry (entries.Zero lba sectors)) old new passes
     refused call)
   where
     one_or_more : (n : ℕ) → (n ≡ 0 → ⊥) → 0 < n
@@ -177,20 +175,21 @@ not_zeroed geometry lba sectors durable error old new some covered refused call 
 
 -- ---- a flush
 
-flushed_or_not : (result : Result (Unit {0}) ReplyError) (old new : Moment) → FlushesOrNot true result old new
-    → (entered : List Entry) × FlushesAll (done_by result) entered old new
-flushed_or_not (Ok done) old new flushes = ([], (refl, refl, flushes))
-flushed_or_not (Err (errors.Refused why)) old new flushes = absurd flushes
-flushed_or_not (Err errors.Io) old new flushes = ([], (refl, flushes.1))
-flushed_or_not (Err errors.NoMemory) old new flushes = absurd flushes
+flushed_or_not : {R : Type 0} (state : R → ReceiptState) (result : Result (Unit {0}) ReplyError) (old new : Moment)
+    → FlushesOrNot state true result old new
+    → (entered : List Entry) × FlushesAll state (done_by result) entered old new
+flushed_or_not state (Ok done) old new flushes = ([], (refl, refl, flushes))
+flushed_or_not state (Err (errors.Refused why)) old new flushes = absurd flushes
+flushed_or_not state (Err errors.Io) old new flushes = ([], (refl, flushes.1))
+flushed_or_not state (Err errors.NoMemory) old new flushes = absurd flushes
 
 pub all_flushed : {R : Type 0} (state : R → ReceiptState) (asked : Asked) (content : List ℕ)
     (result : Result (Unit {0}) ReplyError) (outcome : Outcome)
-    (old new : Moment) → asked ≡ Flush → outcome ≡ done_by result → FlushesOrNot true result old new
+    (old new : Moment) → asked ≡ Flush → outcome ≡ done_by result → FlushesOrNot state true result old new
     → (entered : List Entry) × CarriesOut state asked content outcome entered old new
 all_flushed state asked content result outcome old new is comes flushes =
-    let flushed = flushed_or_not result old new flushes in (
+    let flushed = flushed_or_not state result old new flushes in (
       flushed.0,
       subst (λ (a : Asked). CarriesOut state a content outcome flushed.0 old new) (sym is)
-          (subst (λ (o : Outcome). FlushesAll o flushed.0 old new) (sym comes) flushed.1),
+          (subst (λ (o : Outcome). FlushesAll state o flushed.0 old new) (sym comes) flushed.1),
     )

@@ -20,7 +20,8 @@ use Rattle.nbd_session.specs.declared.asking.Asked.TheVariants as askings
 use Rattle.nbd_session.specs.declared.outcome.ReplyError.{ReplyError}
 use Rattle.nbd_session.specs.Requests.{asked_of, is_to_disconnect}
 use Rattle.nbd_session.specs.Exchanges.{ClientRequest, client_request_bytes, IsClientRequest, content_size, reply_number}
-use Rattle.nbd_session.specs.Exchanges.{request_reply_bytes, Outcome, Moment, CarriesOut, asked_at, RequestExchange}
+use Rattle.volume_owner.specs.Acts.{Moment}
+use Rattle.nbd_session.specs.Exchanges.{request_reply_bytes, Outcome, CarriesOut, asked_at, RequestExchange}
 use Rattle.nbd_session.specs.Exchanges.{IsRequestExchange, max_session_steps}
 use Rattle.nbd_session.specs.Session.{LinkBytes, asked_bytes, answered_bytes}
 use Rattle.nbd_session.specs.Steps.{IsContent, ServesRequest}

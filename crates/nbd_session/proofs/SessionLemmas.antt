@@ -17,7 +17,8 @@ use Rattle.nbd_options.specs.Negotiation.{Negotiates}
 use Rattle.vol_core.specs.Volume.{SteppedVolume}
 use Rattle.nbd_session.specs.declared.session.SessionEnd.{SessionEnd}
 use Rattle.nbd_session.specs.declared.session.SessionEnd.TheVariants as ends
-use Rattle.nbd_session.specs.Exchanges.{Moment, RequestExchange, IsRequestExchange, AreRequestExchanges, max_session_steps}
+use Rattle.volume_owner.specs.Acts.{Moment}
+use Rattle.nbd_session.specs.Exchanges.{RequestExchange, IsRequestExchange, AreRequestExchanges, max_session_steps}
 use Rattle.nbd_session.specs.Session.{LinkBytes, max_requests, asked_bytes, answered_bytes, HasServed, EndsSession, Transmits}
 use Rattle.nbd_session.specs.Session.{ended_in, IsSession, export_with, export_of}
 use Rattle.nbd_session.specs.Steps.{ServesRequest, of_wire}

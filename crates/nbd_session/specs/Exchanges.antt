@@ -5,13 +5,14 @@ use Rattle.std.specs.Prelude.{Some, IsSome, Result, Ok, Err, if◌then◌else◌
 use Rattle.lsvd_base.specs.declared.entry.Entry.{Entry}
 use Rattle.lsvd_base.specs.declared.entry.Entry.TheVariants as entries
 use Rattle.lsvd_fault.specs.Faults.{Counts}
-use Rattle.lsvd_objstore.specs.Store.{StoreState, ReceiptState}
+use Rattle.lsvd_objstore.specs.Store.{ReceiptState}
 use Rattle.nbd_wire.specs.declared.message.Request.{Request}
 use Rattle.nbd_wire.specs.Messages.{request_bytes, IsRequest, simple_reply_bytes}
-use Rattle.vol_core.specs.Volume.{SteppedVolume}
+use Rattle.vol_core.specs.declared.event.Event.TheVariants as events
 use Rattle.volume_owner.specs.declared.error.OwnerError.{OwnerError}
 use Rattle.volume_owner.specs.declared.error.OwnerError.TheVariants as owner_errors
 use Rattle.volume_owner.specs.Owner.{most_of_call}
+use Rattle.volume_owner.specs.Acts.{Moment, MakesStep}
 use Rattle.volume_owner.specs.Calls.{MakesSteps, IsCall, IsDurable, HasSectors}
 use Rattle.nbd_session.specs.declared.asking.Asked.{Asked}
 use Rattle.nbd_session.specs.declared.asking.Asked.TheVariants.{Read, Write, Zero, Flush, Disconnect, Refused}
@@ -67,17 +68,13 @@ of_owner owner_errors.OutOfMemory = errors.NoMemory
 
 -- ---- the volume
 
--- a volume and its store at a moment
-pub record Moment : Type 0 where
-  pub volume : SteppedVolume
-  pub store : StoreState
-
 -- one call of the owner was made, which added these entries, and which failed or not
-abbrev pub Calls : (added : List Entry) → (failed : Bool) → Moment → Moment → Type 0
-Calls added failed old new = IsCall most_of_call added failed old.volume new.volume old.store new.store
+abbrev pub Calls : {R : Type 0} → (R → ReceiptState) → (added : List Entry) → (failed : Bool) → Moment → Moment → Type 0
+Calls state added failed old new = IsCall state most_of_call added failed old.volume new.volume old.store new.store
 
 -- the owner was asked to flush: each entry is durable then, or a call of the disk failed
-pub record Flushes (failed : Bool) (old new : Moment) : Type 0 where
+pub record Flushes {R : Type 0} (state : R → ReceiptState) (failed : Bool) (old new : Moment) : Type 0 where
+  pub step : MakesStep state events.Flush [] old.volume new.volume
   pub steps : MakesSteps 1 [] old.volume new.volume
   pub faults : Counts failed old.volume.volume.log.commits.disk.faults new.volume.volume.log.commits.disk.faults
   pub store : new.store ≡ old.store
@@ -88,10 +85,10 @@ pub record Flushes (failed : Bool) (old new : Moment) : Type 0 where
 -- the sectors are read, which changes nothing of the history
 abbrev pub ReadsSectors : {R : Type 0} → (R → ReceiptState) → (lba sectors : ℕ) → Outcome → Moment → Moment → Type 0
 ReadsSectors state lba sectors (Ok content) old new =
-    (length content ≡ 512 * sectors) × HasSectors state old.volume.volume lba content × Calls [] false old new
+    (length content ≡ 512 * sectors) × HasSectors state old.volume.volume lba content × Calls state [] false old new
 ReadsSectors state lba sectors (Err (errors.Refused why)) old new = ⊥
-ReadsSectors state lba sectors (Err errors.Io) old new = Calls [] true old new
-ReadsSectors state lba sectors (Err errors.NoMemory) old new = Calls [] false old new
+ReadsSectors state lba sectors (Err errors.Io) old new = Calls state [] true old new
+ReadsSectors state lba sectors (Err errors.NoMemory) old new = Calls state [] false old new
 
 -- the entry of a write of these data, and that of a zeroing; there is none of nothing
 abbrev pub write_of : (lba : ℕ) → List ℕ → Option Entry
@@ -106,32 +103,34 @@ as_list None = []
 as_list (Some entry) = entry ∷ []
 
 -- the entry, if there is one, was entered
-abbrev pub EntersIt : Option Entry → Moment → Moment → Type 0
-EntersIt None old new = new ≡ old
-EntersIt (Some entry) old new = Calls (entry ∷ []) false old new
+abbrev pub EntersIt : {R : Type 0} → (R → ReceiptState) → Option Entry → Moment → Moment → Type 0
+EntersIt state None old new = new ≡ old
+EntersIt state (Some entry) old new = Calls state (entry ∷ []) false old new
 
 -- it was flushed, if it was to be
-abbrev pub FlushesIf : (durable : Bool) → Moment → Moment → Type 0
-FlushesIf false old new = new ≡ old
-FlushesIf true old new = Flushes false old new
+abbrev pub FlushesIf : {R : Type 0} → (R → ReceiptState) → (durable : Bool) → Moment → Moment → Type 0
+FlushesIf state false old new = new ≡ old
+FlushesIf state true old new = Flushes state false old new
 
 -- the entry was entered, if there is one, and then it was flushed, if it was to be; or it was not entered; or it was, and the
 -- flush failed
-abbrev pub EntersEntry : Option Entry → (durable : Bool) → Outcome → (entered : List Entry) → Moment → Moment → Type 0
-EntersEntry entry durable (Ok content) entered old new =
-    (content ≡ []) × (entered ≡ as_list entry) × (mid : Moment) × EntersIt entry old mid × FlushesIf durable mid new
-EntersEntry entry durable (Err (errors.Refused why)) entered old new = ⊥
-EntersEntry entry durable (Err errors.Io) entered old new =
-    (IsSome entry × (entered ≡ []) × Calls [] true old new)
-    ⊎ ((durable ≡ true) × (entered ≡ as_list entry) × (mid : Moment) × EntersIt entry old mid × Flushes true mid new)
-EntersEntry entry durable (Err errors.NoMemory) entered old new = (entered ≡ []) × Calls [] false old new
+abbrev pub EntersEntry : {R : Type 0} → (R → ReceiptState) → Option Entry → (durable : Bool) → Outcome → (entered : List Entry)
+    → Moment → Moment → Type 0
+EntersEntry state entry durable (Ok content) entered old new =
+    (content ≡ []) × (entered ≡ as_list entry) × (mid : Moment) × EntersIt state entry old mid × FlushesIf state durable mid new
+EntersEntry state entry durable (Err (errors.Refused why)) entered old new = ⊥
+EntersEntry state entry durable (Err errors.Io) entered old new =
+    (IsSome entry × (entered ≡ []) × Calls state [] true old new)
+    ⊎ ((durable ≡ true) × (entered ≡ as_list entry) × (mid : Moment) × EntersIt state entry old mid
+    × Flushes state true mid new)
+EntersEntry state entry durable (Err errors.NoMemory) entered old new = (entered ≡ []) × Calls state [] false old new
 
 -- each entry so far was made durable, or that failed
-abbrev pub FlushesAll : Outcome → (entered : List Entry) → Moment → Moment → Type 0
-FlushesAll (Ok content) entered old new = (content ≡ []) × (entered ≡ []) × Flushes false old new
-FlushesAll (Err (errors.Refused why)) entered old new = ⊥
-FlushesAll (Err errors.Io) entered old new = (entered ≡ []) × Flushes true old new
-FlushesAll (Err errors.NoMemory) entered old new = ⊥
+abbrev pub FlushesAll : {R : Type 0} → (R → ReceiptState) → Outcome → (entered : List Entry) → Moment → Moment → Type 0
+FlushesAll state (Ok content) entered old new = (content ≡ []) × (entered ≡ []) × Flushes state false old new
+FlushesAll state (Err (errors.Refused why)) entered old new = ⊥
+FlushesAll state (Err errors.Io) entered old new = (entered ≡ []) × Flushes state true old new
+FlushesAll state (Err errors.NoMemory) entered old new = ⊥
 
 -- what was asked, with these data, has this outcome, and these entries were entered
 abbrev pub CarriesOut : {R : Type 0} → (R → ReceiptState) → Asked → (content : List ℕ) → Outcome → (entered : List Entry) → Moment
@@ -139,10 +138,10 @@ abbrev pub CarriesOut : {R : Type 0} → (R → ReceiptState) → Asked → (con
 CarriesOut state (Read lba sectors) content outcome entered old new = (entered ≡ [])
     × ReadsSectors state lba sectors outcome old new
 CarriesOut state (Write lba sectors durable) content outcome entered old new =
-    EntersEntry (write_of lba content) durable outcome entered old new
+    EntersEntry state (write_of lba content) durable outcome entered old new
 CarriesOut state (Zero lba sectors durable) content outcome entered old new =
-    EntersEntry (zero_of lba sectors) durable outcome entered old new
-CarriesOut state Flush content outcome entered old new = FlushesAll outcome entered old new
+    EntersEntry state (zero_of lba sectors) durable outcome entered old new
+CarriesOut state Flush content outcome entered old new = FlushesAll state outcome entered old new
 CarriesOut state Disconnect content outcome entered old new = (outcome ≡ Ok []) × (entered ≡ []) × (new ≡ old)
 CarriesOut state (Refused why) content outcome entered old new = (outcome ≡ Err (errors.Refused why)) × (entered ≡ [])
     × (new ≡ old)

@@ -4,19 +4,22 @@ use Rattle.lsvd_base.specs.declared.entry.Entry.{Entry}
 use Rattle.lsvd_objstore.specs.Store.{ReceiptState, Becomes}
 use Rattle.vol_core.specs.Step.{HasSameSizes}
 use Rattle.vol_core.specs.Stops.{HasOwnCommits}
+use Rattle.volume_owner.specs.Acts.{Moment}
 use Rattle.volume_owner.specs.Calls.{Adds, KeepsOtherNames}
+use Rattle.volume_owner.specs.Standing.{KeepsStore}
 use Rattle.nbd_session.specs.declared.session.SessionEnd.{SessionEnd}
 use Rattle.nbd_session.specs.declared.session.SessionEnd.TheVariants.{Ended, Closed, Spent, LinkFault, OutOfMemory}
-use Rattle.nbd_session.specs.Exchanges.{Moment, RequestExchange, AreRequestExchanges, max_session_steps}
+use Rattle.nbd_session.specs.Exchanges.{RequestExchange, AreRequestExchanges, max_session_steps}
 use Rattle.nbd_session.specs.Session.{LinkBytes, Transmits}
 
 -- A volume's history has these entries more. Its sizes stay, the commits stay its own, and the store has changed under the names
--- of the volume's own numbered objects alone.
+-- of the volume's own numbered objects alone. Where the store stood for what the volume showed, it stands for what it shows now.
 pub record Grows (added : List Entry) (old new : Moment) : Type 0 where
   pub adds : Adds added old.volume.volume new.volume.volume
   pub sizes : HasSameSizes old.volume.volume new.volume.volume
   pub own : (epoch : ℕ) → HasOwnCommits epoch old.volume.volume → HasOwnCommits epoch new.volume.volume
   pub store : Becomes (KeepsOtherNames old.volume.volume.objects.uploads.uuid) old.store.objects new.store.objects
+  pub stands : KeepsStore added old new
 
 -- Each request is made where the volume has made fewer than the most steps of a session, and takes few itself. So a volume that
 -- had room for calls of its owner before a session has room after it.

@@ -15,7 +15,8 @@ use Rattle.vol_core.specs.Volume.{SteppedVolume}
 use Rattle.nbd_session.specs.declared.asking.Asked.TheVariants.{Disconnect}
 use Rattle.nbd_session.specs.declared.session.SessionEnd.{SessionEnd}
 use Rattle.nbd_session.specs.declared.session.SessionEnd.TheVariants.{Ended, Closed, Spent, LinkFault, OutOfMemory}
-use Rattle.nbd_session.specs.Exchanges.{IsClientRequest, client_request_bytes, request_reply_bytes, Moment, asked_at}
+use Rattle.volume_owner.specs.Acts.{Moment}
+use Rattle.nbd_session.specs.Exchanges.{IsClientRequest, client_request_bytes, request_reply_bytes, asked_at}
 use Rattle.nbd_session.specs.Exchanges.{RequestExchange, IsRequestExchange, AreRequestExchanges, max_session_steps}
 
 -- ---- a link

@@ -13,7 +13,8 @@ use Rattle.nbd_session.specs.declared.outcome.ReplyError.{ReplyError}
 use Rattle.nbd_session.specs.declared.outcome.ReplyError.TheVariants as errors
 use Rattle.nbd_session.specs.declared.session.SessionEnd.{SessionEnd}
 use Rattle.nbd_session.specs.declared.session.SessionEnd.TheVariants as ends
-use Rattle.nbd_session.specs.Exchanges.{Outcome, Moment, Flushes, FlushesIf, RequestExchange, IsRequestExchange}
+use Rattle.volume_owner.specs.Acts.{Moment}
+use Rattle.nbd_session.specs.Exchanges.{Outcome, Flushes, FlushesIf, RequestExchange, IsRequestExchange}
 use Rattle.nbd_session.specs.Session.{LinkBytes, Passes, asked_bytes, answered_bytes, Disconnects, EndsSession}
 
 -- ---- the data of a write
@@ -46,11 +47,12 @@ abbrev pub WriteFits : Geometry → (lba : ℕ) → List ℕ → Type 0
 WriteFits geometry lba content = (length content / 512 ≤ geometry.max_write) × IsTrue (covers geometry lba (length content / 512))
 
 -- it was flushed, if it was to be, or that failed
-abbrev pub FlushesOrNot : (durable : Bool) → Result (Unit {0}) ReplyError → Moment → Moment → Type 0
-FlushesOrNot durable (Ok done) old new = FlushesIf durable old new
-FlushesOrNot durable (Err (errors.Refused why)) old new = ⊥
-FlushesOrNot durable (Err errors.Io) old new = (durable ≡ true) × Flushes true old new
-FlushesOrNot durable (Err errors.NoMemory) old new = ⊥
+abbrev pub FlushesOrNot : {R : Type 0} → (R → ReceiptState) → (durable : Bool) → Result (Unit {0}) ReplyError → Moment → Moment
+    → Type 0
+FlushesOrNot state durable (Ok done) old new = FlushesIf state durable old new
+FlushesOrNot state durable (Err (errors.Refused why)) old new = ⊥
+FlushesOrNot state durable (Err errors.Io) old new = (durable ≡ true) × Flushes state true old new
+FlushesOrNot state durable (Err errors.NoMemory) old new = ⊥
 
 -- what comes of a request without data in its answer
 abbrev pub done_by : Result (Unit {0}) ReplyError → Outcome

@@ -96,8 +96,8 @@ fn write<D: Disk, R: Receipt, S: Store<Receipt = R>>(
     requires room { owner.old.steps < max_session_steps }
     requires fits { IfSome body (WriteFits owner.old.volume.objects.batch.geometry lba) }
     ensures { (content : List ℕ) → IsContent content body
-        → (entered : List Entry) × EntersEntry (write_of lba content) is_durable (done_by result) entered
-        (record { volume = owner.old; store = S.state store.old })
+        → (entered : List Entry) × EntersEntry R.state (write_of lba content) is_durable (done_by result)
+        entered (record { volume = owner.old; store = S.state store.old })
         (record { volume = owner.new; store = S.state store.new }) }
 {
     let Some(body) = body else {
@@ -122,8 +122,8 @@ fn zero<D: Disk, R: Receipt, S: Store<Receipt = R>>(
 ) -> Result<(), ReplyError>
     requires room { owner.old.steps < max_session_steps }
     requires fits { MayBeTaken owner.old.volume.objects.batch.geometry (Asked.Zero lba sectors is_durable) }
-    ensures { (entered : List Entry) × EntersEntry (zero_of lba sectors) is_durable (done_by result) entered
-        (record { volume = owner.old; store = S.state store.old })
+    ensures { (entered : List Entry) × EntersEntry R.state (zero_of lba sectors) is_durable (done_by result)
+        entered (record { volume = owner.old; store = S.state store.old })
         (record { volume = owner.new; store = S.state store.new }) }
 {
     if sectors == 0 {
@@ -139,7 +139,7 @@ fn flush_if<D: Disk, R: Receipt>(
     is_durable: bool,
 ) -> Result<(), ReplyError>
     requires { owner.old.steps ≤ max_steps }
-    ensures { (store : StoreState) → FlushesOrNot is_durable result
+    ensures { (store : StoreState) → FlushesOrNot R.state is_durable result
         (record { volume = owner.old; store = store }) (record { volume = owner.new; store = store }) }
 {
     if is_durable {

@@ -1,2 +1,3 @@
 pub mod Puts
+pub mod Stored
 pub mod Laws

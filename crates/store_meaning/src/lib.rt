@@ -1,4 +1,5 @@
-//! What the puts of a volume mean: the objects of the plain volume that a store has after a stop.
+//! What the puts of a volume mean: the objects of the plain volume that a store has while they are under way,
+//! and after a stop.
 //!
 //! Its contract: these definitions, and the laws that a job has the bytes of the plain volume's object, and
 //! that whatever a stop leaves of the store has the plain volume's objects up to the one before the first

@@ -11,7 +11,7 @@ use Rattle.lsvd_objstore.specs.Store.{StoreState, ReceiptState}
 use Rattle.command_line.specs.declared.serve.ServeRequest.{ServeRequest}
 use Rattle.vol_mount.specs.Mounted.{MountedState}
 use Rattle.volume_owner.specs.Calls.{IsLengthOf}
-use Rattle.nbd_session.specs.Exchanges.{Moment}
+use Rattle.volume_owner.specs.Acts.{Moment}
 use Rattle.volume_server.specs.Serving.{AreClients}
 use Rattle.volume_server.specs.declared.serving.LaneEnd.{LaneEnd}
 use Rattle.volume_server.specs.declared.serving.LaneEnd.TheVariants as lanes

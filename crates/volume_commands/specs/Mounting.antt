@@ -14,7 +14,7 @@ use Rattle.vol_mount.specs.Mounting.{MountsStored, MountsLeft}
 use Rattle.vol_mount.specs.Refusals.{IsWhyLost, IsWhyNotLeft}
 use Rattle.vol_recover.specs.Describing.{OfVolume, IsWhyNotDescribed, IsWhyOf}
 use Rattle.volume_owner.specs.Calls.{IsLengthOf}
-use Rattle.nbd_session.specs.Exchanges.{Moment}
+use Rattle.volume_owner.specs.Acts.{Moment}
 use Rattle.volume_server.specs.Serving.{AreClients}
 use Rattle.volume_commands.specs.declared.error.CommandError.TheVariants as errors
 use Rattle.volume_commands.specs.declared.refusal.Refusal.{Refusal}

@@ -3,7 +3,7 @@ ghost use Rattle.std.specs.Prelude.{length, take};
 ghost use Rattle.std.specs.Io.KnownBytes.{Appends};
 ghost use Rattle.lsvd_device.specs.Device.{IsDisk};
 ghost use Rattle.lsvd_fault.specs.Faults.{Counts, CountsOne};
-ghost use Rattle.nbd_session.specs.Exchanges.{Moment};
+ghost use Rattle.volume_owner.specs.Acts.{Moment};
 ghost use Rattle.nbd_session.specs.History.{most_steps};
 ghost use Rattle.volume_owner.specs.Calls.{IsLengthOf};
 ghost use Rattle.volume_server.specs.Serving.{AreClients};

@@ -1,5 +1,5 @@
 -- Calls of an owner, made of steps and puts.
-use Rattle.std.proofs.Common.{◌≡◌, ℕ, ◌+◌, ◌≤◌, inl, inr, Bool, true, false, List, [], refl, sym, ◌∙◌, ap, subst}
+use Rattle.std.proofs.Common.{arith, ◌≡◌, ℕ, ◌+◌, ◌≤◌, inl, inr, Bool, true, false, List, [], refl, sym, ◌∙◌, ap, subst}
 use Rattle.std.specs.Prelude.{Option, Some, None, Result, Ok, Err, IsOkUnless, IsErrOf, IsErrAnd}
 use Rattle.lsvd_base.specs.declared.entry.Entry.{Entry}
 use Rattle.lsvd_fault.specs.Faults.{Counts}
@@ -7,13 +7,16 @@ use Rattle.lsvd_names.specs.declared.name.ObjName.{ObjName}
 use Rattle.lsvd_objstore.specs.declared.error.StoreError.{StoreError}
 use Rattle.lsvd_objstore.specs.declared.error.StoreError.TheVariants as store_errors
 use Rattle.lsvd_objstore.specs.Objects.{Objects, found, IsPut, MayBePut}
-use Rattle.lsvd_objstore.specs.Store.{StoreState, OnlyCounts, Becomes, has_failed}
+use Rattle.lsvd_objstore.specs.Store.{StoreState, ReceiptState, OnlyCounts, Becomes, has_failed}
 use Rattle.object_stream.specs.Replay.{name_of}
 use Rattle.vol_core.specs.Volume.{SteppedVolume}
+use Rattle.volume_owner.specs.Acts.{moment_of, IsMadeOfActs}
 use Rattle.volume_owner.specs.Calls.{KeepsOtherNames, CountsEitherFault, MakesSteps, IsCall, added_by}
 use Rattle.volume_owner.specs.declared.error.OwnerError.{OwnerError}
 use Rattle.volume_owner.specs.declared.error.OwnerError.TheVariants as errors
 use Rattle.volume_owner.specs.Errors.{is_eio, of_store}
+use Rattle.volume_owner.proofs.PlainLemmas.{goes_on_nothing}
+use Rattle.volume_owner.proofs.ActLemmas.{no_acts, made_then, get_acts}
 use Rattle.volume_owner.proofs.StepLemmas.{makes_then, makes_fewer}
 
 -- ---- the store
@@ -59,28 +62,46 @@ store_counts true disk old_store new_store counts = inr (refl, counts)
 
 -- ---- calls
 
-pub quiet_call : (most : ℕ) (added : List Entry) (old new : SteppedVolume) (store : StoreState) → MakesSteps most added old new
-    → new.volume.log.commits.disk.faults ≡ old.volume.log.commits.disk.faults → IsCall most added false old new store store
-quiet_call most added old new store makes same = record {
+pub quiet_call : {R : Type 0} (state : R → ReceiptState) (most : ℕ) (added : List Entry) (old new : SteppedVolume)
+    (store : StoreState)
+    → IsMadeOfActs state added (moment_of old store) (moment_of new store) → MakesSteps most added old new
+    → new.volume.log.commits.disk.faults ≡ old.volume.log.commits.disk.faults → IsCall state most added false old new store store
+quiet_call state most added old new store acts makes same = record {
+  acts = acts;
   steps = makes;
   store = becomes_same old.volume.objects.uploads.uuid store.objects;
   faults = (same, refl);
 }
 
-pub disk_call : (most : ℕ) (added : List Entry) (failed : Bool) (old new : SteppedVolume) (store : StoreState)
-    → MakesSteps most added old new
+-- nothing was done
+pub nothing_call : {R : Type 0} (state : R → ReceiptState) (most : ℕ) (volume : SteppedVolume) (store : StoreState)
+    → IsCall state most [] false volume volume store store
+nothing_call state most volume store = quiet_call state most [] volume volume store (no_acts state (moment_of volume store))
+    (record {
+      adds = λ plain shows. (plain, shows, goes_on_nothing plain);
+      sizes = record { geometry = refl; uuid = refl };
+      own = λ epoch own. own;
+      steps = omega arith;
+    }) refl
+
+pub disk_call : {R : Type 0} (state : R → ReceiptState) (most : ℕ) (added : List Entry) (failed : Bool) (old new : SteppedVolume)
+    (store : StoreState)
+    → IsMadeOfActs state added (moment_of old store) (moment_of new store) → MakesSteps most added old new
     → Counts failed old.volume.log.commits.disk.faults new.volume.log.commits.disk.faults
-    → IsCall most added failed old new store store
-disk_call most added failed old new store makes counts = record {
+    → IsCall state most added failed old new store store
+disk_call state most added failed old new store acts makes counts = record {
+  acts = acts;
   steps = makes;
   store = becomes_same old.volume.objects.uploads.uuid store.objects;
   faults = disk_counts failed old.volume.log.commits.disk.faults new.volume.log.commits.disk.faults store.faults counts;
 }
 
-pub call_then : (m n : ℕ) (added : List Entry) (failed : Bool) (old mid new : SteppedVolume) (first second third : StoreState)
-    → IsCall m [] false old mid first second → IsCall n added failed mid new second third
-    → IsCall (m + n) added failed old new first third
-call_then m n added failed old mid new first second third one two = record {
+pub call_then : {R : Type 0} (state : R → ReceiptState) (m n : ℕ) (added : List Entry) (failed : Bool)
+    (old mid new : SteppedVolume) (first second third : StoreState)
+    → IsCall state m [] false old mid first second → IsCall state n added failed mid new second third
+    → IsCall state (m + n) added failed old new first third
+call_then state m n added failed old mid new first second third one two = record {
+  acts = made_then state [] added (moment_of old first) (moment_of mid second) (moment_of new third) one.acts two.acts;
   steps = makes_then m n added old mid new one.steps two.steps;
   store =
       becomes_then old.volume.objects.uploads.uuid first.objects second.objects third.objects one.store
@@ -91,9 +112,11 @@ call_then m n added failed old mid new first second third one two = record {
       one.faults.1 two.faults);
 }
 
-pub call_fewer : (m n : ℕ) (added : List Entry) (failed : Bool) (old new : SteppedVolume) (first second : StoreState) → m ≤ n
-    → IsCall m added failed old new first second → IsCall n added failed old new first second
-call_fewer m n added failed old new first second less call = record {
+pub call_fewer : {R : Type 0} (state : R → ReceiptState) (m n : ℕ) (added : List Entry) (failed : Bool)
+    (old new : SteppedVolume) (first second : StoreState) → m ≤ n
+    → IsCall state m added failed old new first second → IsCall state n added failed old new first second
+call_fewer state m n added failed old new first second less call = record {
+  acts = call.acts;
   steps = makes_fewer m n added old new less call.steps;
   store = call.store;
   faults = call.faults;
@@ -108,14 +131,16 @@ pub job_name : (name job : ObjName) (uuid told : List ℕ) (number : ℕ) → na
 job_name name job uuid told number is same_uuid same_number =
     is ∙ ap (λ u. name_of u number) same_uuid ∙ ap (name_of uuid) same_number
 
-pub put_call : (uuid : List ℕ) (number : ℕ) (name : ObjName) (bytes : List ℕ) (old new : SteppedVolume)
-    (first second : StoreState)
+pub put_call : {R : Type 0} (state : R → ReceiptState) (uuid : List ℕ) (number : ℕ) (name : ObjName) (bytes : List ℕ)
+    (old new : SteppedVolume) (first second : StoreState)
+    → IsMadeOfActs state [] (moment_of old first) (moment_of new second)
     → old.volume.objects.uploads.uuid ≡ uuid → name ≡ name_of uuid number
     → Becomes (IsPut name bytes) first.objects second.objects
     → second.faults ≡ first.faults → MakesSteps 1 [] old new
     → new.volume.log.commits.disk.faults ≡ old.volume.log.commits.disk.faults
-    → IsCall 1 [] false old new first second
-put_call uuid number name bytes old new first second uuid_is is put counted makes same = record {
+    → IsCall state 1 [] false old new first second
+put_call state uuid number name bytes old new first second acts uuid_is is put counted makes same = record {
+  acts = acts;
   steps = makes;
   store = subst (λ u. Becomes (KeepsOtherNames u) first.objects second.objects) (sym uuid_is)
       (becomes_by (IsPut name bytes) (KeepsOtherNames uuid) (put_keeps uuid number name bytes is) first.objects
@@ -123,15 +148,19 @@ put_call uuid number name bytes old new first second uuid_is is put counted make
   faults = (same, counted);
 }
 
-pub failed_put_call : (T : Type 0) (error : StoreError) (uuid : List ℕ) (number : ℕ) (name : ObjName) (bytes : List ℕ)
-    (old new : SteppedVolume)
-    (first second : StoreState) → old.volume.objects.uploads.uuid ≡ uuid → name ≡ name_of uuid number
+pub failed_put_call : {R : Type 0} (state : R → ReceiptState) (T : Type 0) (error : StoreError) (uuid : List ℕ) (number : ℕ)
+    (name : ObjName) (bytes : List ℕ) (old new : SteppedVolume) (first second : StoreState)
+    → (error ≡ store_errors.Failed → IsMadeOfActs state [] (moment_of old first) (moment_of new second))
+    → IsMadeOfActs state [] (moment_of old first) (moment_of new first)
+    → old.volume.objects.uploads.uuid ≡ uuid → name ≡ name_of uuid number
     → (error ≡ store_errors.Failed → Becomes (MayBePut name bytes) first.objects second.objects)
     → (error ≡ store_errors.OutOfMemory → second ≡ first) → Counts (has_failed {T = T} (Err error)) first.faults second.faults
     → MakesSteps 1 [] old new → new.volume.log.commits.disk.faults ≡ old.volume.log.commits.disk.faults
-    → IsCall 1 [] (is_eio {T = Unit {0}} (Err (of_store error))) old new first second
-failed_put_call T store_errors.Failed uuid number name bytes old new first second uuid_is is failed unchanged counts makes same =
+    → IsCall state 1 [] (is_eio {T = Unit {0}} (Err (of_store error))) old new first second
+failed_put_call state T store_errors.Failed uuid number name bytes old new first second put_failed returned uuid_is is failed
+    unchanged counts makes same =
     record {
+      acts = put_failed refl;
       steps = makes;
       store = subst (λ u. Becomes (KeepsOtherNames u) first.objects second.objects) (sym uuid_is)
           (becomes_by (MayBePut name bytes) (KeepsOtherNames uuid) (may_keep uuid number name bytes is) first.objects
@@ -139,9 +168,10 @@ failed_put_call T store_errors.Failed uuid number name bytes old new first secon
           (failed refl));
       faults = inr (same, counts);
     }
-failed_put_call T store_errors.OutOfMemory uuid number name bytes old new first second uuid_is is failed unchanged counts
-    makes same =
-    subst (λ s. IsCall 1 [] false old new first s) (sym (unchanged refl)) (quiet_call 1 [] old new first makes same)
+failed_put_call state T store_errors.OutOfMemory uuid number name bytes old new first second put_failed returned uuid_is is
+    failed unchanged counts makes same =
+    subst (λ s. IsCall state 1 [] false old new first s) (sym (unchanged refl))
+    (quiet_call state 1 [] old new first returned makes same)
 
 -- ---- want of memory
 
@@ -167,20 +197,21 @@ handed_on (Ok value) error is = let bad : ⊥ = is in absurd bad
 handed_on (Err other) error is = ap Err is
 
 -- a call that ends with it
-pub call_ends : (entry : Entry) (most : ℕ) (result : Result ℕ OwnerError) (error : OwnerError) (old new : SteppedVolume)
-    (first second : StoreState)
-    → IsErrAnd result (λ e. e ≡ error) → IsCall most [] (is_eio {T = ℕ} (Err error)) old new first second
-    → IsCall most (added_by entry result) (is_eio result) old new first second
-call_ends entry most result error old new first second is call =
-    subst (λ (r : Result ℕ OwnerError). IsCall most (added_by entry r) (is_eio r) old new first second)
+pub call_ends : {R : Type 0} (state : R → ReceiptState) (entry : Entry) (most : ℕ) (result : Result ℕ OwnerError)
+    (error : OwnerError) (old new : SteppedVolume) (first second : StoreState)
+    → IsErrAnd result (λ e. e ≡ error) → IsCall state most [] (is_eio {T = ℕ} (Err error)) old new first second
+    → IsCall state most (added_by entry result) (is_eio result) old new first second
+call_ends state entry most result error old new first second is call =
+    subst (λ (r : Result ℕ OwnerError). IsCall state most (added_by entry r) (is_eio r) old new first second)
     (sym (handed_on result error is)) call
 
-pub call_ends_none : {T : Type 0} (most : ℕ) (result : Result T OwnerError) (error : OwnerError) (old new : SteppedVolume)
-    (first second : StoreState)
-    → IsErrAnd result (λ e. e ≡ error) → IsCall most [] (is_eio {T = T} (Err error)) old new first second
-    → IsCall most [] (is_eio result) old new first second
-call_ends_none {T} most result error old new first second is call =
-    subst (λ (r : Result T OwnerError). IsCall most [] (is_eio r) old new first second) (sym (handed_on result error is)) call
+pub call_ends_none : {R T : Type 0} (state : R → ReceiptState) (most : ℕ) (result : Result T OwnerError) (error : OwnerError)
+    (old new : SteppedVolume) (first second : StoreState)
+    → IsErrAnd result (λ e. e ≡ error) → IsCall state most [] (is_eio {T = T} (Err error)) old new first second
+    → IsCall state most [] (is_eio result) old new first second
+call_ends_none {R} {T} state most result error old new first second is call =
+    subst (λ (r : Result T OwnerError). IsCall state most [] (is_eio r) old new first second) (sym (handed_on result error is))
+    call
 
 -- the same error tells the same of any call
 pub same_eio : (A B : Type 0) (error : OwnerError) → is_eio {T = A} (Err error) ≡ is_eio {T = B} (Err error)
@@ -191,16 +222,23 @@ same_eio A B errors.OutOfMemory = refl
 -- ---- a read
 
 -- a look, a fetch, and the release of the plan
-pub read_call : (most : ℕ) (failed : Bool) (old mid last : SteppedVolume) (first second : StoreState) → 2 ≤ most
+pub read_call : {R : Type 0} (state : R → ReceiptState) (most : ℕ) (failed : Bool) (old mid last : SteppedVolume)
+    (first second : StoreState) → 2 ≤ most
+    → IsMadeOfActs state [] (moment_of old first) (moment_of mid first)
+    → IsMadeOfActs state [] (moment_of mid second) (moment_of last second)
     → MakesSteps 1 [] old mid → MakesSteps 1 [] mid last
     → mid.volume.log.commits.disk.faults ≡ old.volume.log.commits.disk.faults
     → last.volume.log.commits.disk.faults ≡ mid.volume.log.commits.disk.faults
-    → OnlyCounts first second → Counts failed first.faults second.faults → IsCall most [] failed old last first second
-read_call most failed old mid last first second two look release looked released only counts =
+    → OnlyCounts first second → Counts failed first.faults second.faults → IsCall state most [] failed old last first second
+read_call state most failed old mid last first second two look_acts release_acts look release looked released only counts =
     let uuid : List ℕ = old.volume.objects.uploads.uuid in
     let disk : ℕ = old.volume.log.commits.disk.faults in
     let objects : second.objects ≡ first.objects = ap (λ (s : StoreState). s.objects) only in
+    let got = get_acts state failed mid first second only counts in
     record {
+      acts =
+          made_then state [] [] (moment_of old first) (moment_of mid first) (moment_of last second) look_acts
+          (made_then state [] [] (moment_of mid first) (moment_of mid second) (moment_of last second) got release_acts);
       steps = makes_fewer 2 most [] old last two (makes_then 1 1 [] old mid last look release);
       store = subst (λ o. Becomes (KeepsOtherNames uuid) first.objects o) (sym objects) (becomes_same uuid first.objects);
       faults = subst (λ d. CountsEitherFault failed disk d first.faults second.faults) (sym (released ∙ looked))

@@ -69,25 +69,25 @@ after_entry plain (entries.Zero lba sectors) = refl
 -- ---- the step
 
 -- the entry was entered, and the reply tells the length of the history
-record IsIn {R : Type 0} (entry : Entry) (reply : Reply R) (plain : PlainState) (new : VolumeState) : Type 0 where
-  told_is : reply ≡ told.Entered (history_length plain + 1)
-  after : PlainState
-  shows : Shows new after
-  goes : GoesOn (entry ∷ []) plain after
-  window : after.window ≡ plain.window
-  pins : after.pins ≡ plain.pins
+pub record IsIn {R : Type 0} (entry : Entry) (reply : Reply R) (plain : PlainState) (new : VolumeState) : Type 0 where
+  pub told_is : reply ≡ told.Entered (history_length plain + 1)
+  pub after : PlainState
+  pub shows : Shows new after
+  pub goes : GoesOn (entry ∷ []) plain after
+  pub window : after.window ≡ plain.window
+  pub pins : after.pins ≡ plain.pins
 
 -- it was not: the volume has the same entries and objects, and the reply tells why
-record IsOut {R : Type 0} (state : R → ReceiptState) (entry : Entry) (reply : Reply R) (plain : PlainState)
+pub record IsOut {R : Type 0} (state : R → ReceiptState) (entry : Entry) (reply : Reply R) (plain : PlainState)
     (old new : VolumeState) : Type 0 where
-  other : (count : ℕ) → reply ≡ told.Entered count → ⊥
-  after : PlainState
-  shows : Shows new after
-  goes : GoesOn [] plain after
-  unsealed : unsealed_entries after ≡ unsealed_entries plain
-  window : after.window ≡ plain.window
-  pins : after.pins ≡ plain.pins
-  why : ((left : Fuse) × Tells state old reply (enter_reply (passing left plain) entry)) ⊎ (lacks_memory reply ≡ true)
+  pub other : (count : ℕ) → reply ≡ told.Entered count → ⊥
+  pub after : PlainState
+  pub shows : Shows new after
+  pub goes : GoesOn [] plain after
+  pub unsealed : unsealed_entries after ≡ unsealed_entries plain
+  pub window : after.window ≡ plain.window
+  pub pins : after.pins ≡ plain.pins
+  pub why : ((left : Fuse) × Tells state old reply (enter_reply (passing left plain) entry)) ⊎ (lacks_memory reply ≡ true)
 
 entering_by : {R : Type 0} (state : R → ReceiptState) (entry : Entry) (reply : Reply R) (plain : PlainState)
     (old new : VolumeState)
@@ -128,7 +128,8 @@ entering_by state entry reply plain old new left now false shows is tells now_sh
       why = inl (left, tells);
     })
 
-entering : {R : Type 0} (state : R → ReceiptState) (entry : Entry) (reply : Reply R) (plain : PlainState) (old new : VolumeState)
+pub entering : {R : Type 0} (state : R → ReceiptState) (entry : Entry) (reply : Reply R) (plain : PlainState)
+    (old new : VolumeState)
     → Shows old plain → IsStep state (event_of entry) reply plain old new ⊎ IsNoStep (event_of entry) reply plain old new
     → IsIn entry reply plain new ⊎ IsOut state entry reply plain old new
 entering state entry reply plain old new shows (inl s) =

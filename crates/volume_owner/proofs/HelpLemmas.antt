@@ -136,7 +136,7 @@ after_take_by state reply plain old new shows (inl s) =
     }
 after_take_by state reply plain old new shows (inr n) = (let may = n.may in let bad : ⊥ = cc in absurd bad)
 
-taken_number : {R : Type 0} (state : R → ReceiptState) (volume : VolumeState) (lowest : Option ℕ) (job : JobState)
+pub taken_number : {R : Type 0} (state : R → ReceiptState) (volume : VolumeState) (lowest : Option ℕ) (job : JobState)
     → Tells {R = R} state volume (told.Taken job) (reply_of_taken lowest)
     → (lowest ≡ Some job.name.number) × IsJobOf volume.objects.uploads job.name.number job
 taken_number state volume None job tells = (let is = tells.0 in let bad : ⊥ = cc in absurd bad)

@@ -6,8 +6,13 @@ pub mod ReplyLemmas
 pub mod StepLemmas
 pub mod EnterLemmas
 pub mod HelpLemmas
+pub mod ActLemmas
 pub mod CallLemmas
 pub mod BoundLemmas
 pub mod LoopLemmas
 pub mod ReadLemmas
+pub mod MarkLemmas
+pub mod StandLemmas
+pub mod KeepLemmas
+pub mod StoreLemmas
 pub mod New

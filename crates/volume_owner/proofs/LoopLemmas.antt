@@ -1,16 +1,19 @@
 -- Helps one after the other, with attempts to enter an entry between them or without: how far they have come.
-use Rattle.std.proofs.Common.{arith, ◌≡◌, ℕ, ◌+◌, ◌*◌, ◌-◌, ◌≤◌, ◌<◌, Bool, true, false, List, [], refl}
+use Rattle.std.proofs.Common.{arith, ◌≡◌, ℕ, ◌+◌, ◌*◌, ◌-◌, ◌≤◌, ◌<◌, Bool, true, false, List, []}
 use Rattle.lsvd_base.specs.declared.entry.Entry.{Entry}
 use Rattle.lsvd_fault.specs.Faults.{Counts}
-use Rattle.lsvd_objstore.specs.Store.{StoreState}
+use Rattle.lsvd_objstore.specs.Store.{StoreState, ReceiptState}
 use Rattle.object_uploads.specs.Order.{IsUploads}
+use Rattle.vol_core.specs.declared.event.Event.TheVariants as asks
+use Rattle.vol_core.specs.Calls.{event_of}
 use Rattle.vol_core.specs.Volume.{VolumeState, SteppedVolume}
 use Rattle.vol_core.specs.Shows.{IsVolume, max_number}
 use Rattle.volume_owner.specs.Owner.{IsIdle, max_steps, most_of_call}
+use Rattle.volume_owner.specs.Acts.{MakesStep}
 use Rattle.volume_owner.specs.Calls.{MakesSteps, IsCall}
 use Rattle.volume_owner.specs.Helping.{work_of, HasHelped}
-use Rattle.volume_owner.proofs.PlainLemmas.{goes_on_nothing}
-use Rattle.volume_owner.proofs.CallLemmas.{becomes_same, disk_call, call_then, call_fewer}
+use Rattle.volume_owner.proofs.ActLemmas.{step_acts, entry_acts}
+use Rattle.volume_owner.proofs.CallLemmas.{nothing_call, disk_call, call_then, call_fewer}
 use Rattle.volume_owner.proofs.BoundLemmas.{work_bound}
 
 -- how many steps helps made that left as much work
@@ -18,25 +21,17 @@ abbrev pub helping_steps : (old now : SteppedVolume) → ℕ
 helping_steps old now = 3 * (work_of old.volume - work_of now.volume)
 
 -- helps made this volume and this store of others, and entered nothing
-pub record IsHelped (old now : SteppedVolume) (first second : StoreState) : Type 0 where
+pub record IsHelped {R : Type 0} (state : R → ReceiptState) (old now : SteppedVolume) (first second : StoreState) : Type 0 where
   pub less : work_of now.volume ≤ work_of old.volume
-  pub call : IsCall (helping_steps old now) [] false old now first second
+  pub call : IsCall state (helping_steps old now) [] false old now first second
   pub idle : IsIdle now.volume
 
 -- the first time
-pub helped_first : (old : SteppedVolume) (store : StoreState) → IsIdle old.volume → IsHelped old old store store
-helped_first old store idle = record {
+pub helped_first : {R : Type 0} (state : R → ReceiptState) (old : SteppedVolume) (store : StoreState) → IsIdle old.volume
+    → IsHelped state old old store store
+helped_first state old store idle = record {
   less = omega arith;
-  call = record {
-    steps = record {
-      adds = λ plain shows. (plain, shows, goes_on_nothing plain);
-      sizes = record { geometry = refl; uuid = refl };
-      own = λ epoch own. own;
-      steps = omega arith;
-    };
-    store = becomes_same old.volume.objects.uploads.uuid store.objects;
-    faults = (refl, refl);
-  };
+  call = nothing_call state (helping_steps old old) old store;
   idle = idle;
 }
 
@@ -46,7 +41,8 @@ pub helped_some : (has_helped : Bool) (old new : VolumeState) → 0 < work_of ol
 helped_some true old new some less = less
 helped_some false old new some none = (let nothing = none.0 in omega (arith, some, nothing))
 
-module _ (old now : SteppedVolume) (first second : StoreState) (helped : IsHelped old now first second) where
+module _ {R : Type 0} (state : R → ReceiptState) (old now : SteppedVolume) (first second : StoreState)
+    (helped : IsHelped state old now first second) where
   -- the steps are few enough for more
   pub helped_few : old.steps ≤ max_steps → IsVolume old
       → IsUploads old.volume.objects.uploads.queue old.volume.objects.uploads.window
@@ -58,46 +54,58 @@ module _ (old now : SteppedVolume) (first second : StoreState) (helped : IsHelpe
 
   -- three steps more, which end it
   pub helped_ends : (added : List Entry) (failed : Bool) (new : SteppedVolume) (third : StoreState) → IsVolume old
-      → IsUploads old.volume.objects.uploads.queue old.volume.objects.uploads.window → IsCall 3 added failed now new second third
-      → IsCall most_of_call added failed old new first third
+      → IsUploads old.volume.objects.uploads.queue old.volume.objects.uploads.window
+      → IsCall state 3 added failed now new second third
+      → IsCall state most_of_call added failed old new first third
   helped_ends added failed new third is uploads call =
       let bound = work_bound old.volume is.plain is.shows uploads in
-      call_fewer (helping_steps old now + 3) most_of_call added failed old new first third (omega (arith, bound))
-      (call_then (helping_steps old now) 3 added failed old now new first second third helped.call call)
+      call_fewer state (helping_steps old now + 3) most_of_call added failed old new first third (omega (arith, bound))
+      (call_then state (helping_steps old now) 3 added failed old now new first second third helped.call call)
 
   -- or after which it goes on, with less left
-  pub helped_more : (new : SteppedVolume) (third : StoreState) → IsCall 3 [] false now new second third
+  pub helped_more : (new : SteppedVolume) (third : StoreState) → IsCall state 3 [] false now new second third
       → work_of new.volume < work_of now.volume
-      → IsIdle new.volume → IsHelped old new first third
+      → IsIdle new.volume → IsHelped state old new first third
   helped_more new third call less idle = record {
     less = omega (arith, helped.less, less);
-    call = call_fewer (helping_steps old now + 3) (helping_steps old new) [] false old new first third
+    call = call_fewer state (helping_steps old now + 3) (helping_steps old new) [] false old new first third
         (omega (arith, helped.less, less))
-        (call_then (helping_steps old now) 3 [] false old now new first second third helped.call call);
+        (call_then state (helping_steps old now) 3 [] false old now new first second third helped.call call);
     idle = idle;
   }
 
 -- ---- what these steps are
 
-pub one_attempt : (added : List Entry) (failed : Bool) (now new : SteppedVolume) (store : StoreState) → MakesSteps 1 added now new
+pub one_attempt : {R : Type 0} (state : R → ReceiptState) (entry : Entry) (added : List Entry) (failed : Bool)
+    (now new : SteppedVolume) (store : StoreState)
+    → MakesStep state (event_of entry) added now new → MakesSteps 1 added now new
     → Counts failed now.volume.log.commits.disk.faults new.volume.log.commits.disk.faults
-    → IsCall 3 added failed now new store store
-one_attempt added failed now new store makes counts =
-    call_fewer 1 3 added failed now new store store (omega arith) (disk_call 1 added failed now new store makes counts)
+    → IsCall state 3 added failed now new store store
+one_attempt state entry added failed now new store step makes counts =
+    call_fewer state 1 3 added failed now new store store (omega arith)
+    (disk_call state 1 added failed now new store (entry_acts state entry added now new store step) makes counts)
 
-pub attempt_and_help : (failed : Bool) (now mid new : SteppedVolume) (second third : StoreState) → MakesSteps 1 [] now mid
-    → mid.volume.log.commits.disk.faults ≡ now.volume.log.commits.disk.faults → IsCall 2 [] failed mid new second third
-    → IsCall 3 [] failed now new second third
-attempt_and_help failed now mid new second third makes counts help =
-    call_then 1 2 [] failed now mid new second second third (disk_call 1 [] false now mid second makes counts) help
+pub attempt_and_help : {R : Type 0} (state : R → ReceiptState) (entry : Entry) (failed : Bool) (now mid new : SteppedVolume)
+    (second third : StoreState)
+    → MakesStep state (event_of entry) [] now mid → MakesSteps 1 [] now mid
+    → mid.volume.log.commits.disk.faults ≡ now.volume.log.commits.disk.faults → IsCall state 2 [] failed mid new second third
+    → IsCall state 3 [] failed now new second third
+attempt_and_help state entry failed now mid new second third step makes counts help =
+    call_then state 1 2 [] failed now mid new second second third
+    (disk_call state 1 [] false now mid second (entry_acts state entry [] now mid second step) makes counts) help
 
-pub one_help : (failed : Bool) (now new : SteppedVolume) (second third : StoreState) → IsCall 2 [] failed now new second third
-    → IsCall 3 [] failed now new second third
-one_help failed now new second third help = call_fewer 2 3 [] failed now new second third (omega arith) help
+pub one_help : {R : Type 0} (state : R → ReceiptState) (failed : Bool) (now new : SteppedVolume) (second third : StoreState)
+    → IsCall state 2 [] failed now new second third
+    → IsCall state 3 [] failed now new second third
+one_help state failed now new second third help = call_fewer state 2 3 [] failed now new second third (omega arith) help
 
-pub help_and_flush : (failed : Bool) (now mid new : SteppedVolume) (second third : StoreState)
-    → IsCall 2 [] false now mid second third
-    → MakesSteps 1 [] mid new → Counts failed mid.volume.log.commits.disk.faults new.volume.log.commits.disk.faults
-    → IsCall 3 [] failed now new second third
-help_and_flush failed now mid new second third help makes counts =
-    call_then 2 1 [] failed now mid new second third third help (disk_call 1 [] failed mid new third makes counts)
+pub help_and_flush : {R : Type 0} (state : R → ReceiptState) (failed : Bool) (now mid new : SteppedVolume)
+    (second third : StoreState)
+    → IsCall state 2 [] false now mid second third
+    → MakesStep state asks.Flush [] mid new → MakesSteps 1 [] mid new
+    → Counts failed mid.volume.log.commits.disk.faults new.volume.log.commits.disk.faults
+    → IsCall state 3 [] failed now new second third
+help_and_flush state failed now mid new second third help step makes counts =
+    call_then state 2 1 [] failed now mid new second third third help
+    (disk_call state 1 [] failed mid new third
+    (step_acts state asks.Flush [] mid new third (λ volume s. tt) (λ volume. tt) step) makes counts)

@@ -70,6 +70,36 @@ goes_on_then added plain mid after first second = record {
   committed = omega (arith, first.committed, second.committed);
 }
 
+-- the entries of both
+pub goes_on_more : (xs ys : List Entry) (plain mid after : PlainState) → GoesOn xs plain mid → GoesOn ys mid after
+    → GoesOn (xs ++ ys) plain after
+goes_on_more xs ys plain mid after first second = record {
+  opens =
+      second.opens
+      ∙ ap (λ (m : PlainState). record m {
+        entries = m.entries ++ ys;
+        objects = after.objects;
+        window = after.window;
+        pins = after.pins;
+        cache = after.cache;
+      }) first.opens
+      ∙ ap (λ (es : List Entry). record plain {
+        entries = es;
+        objects = after.objects;
+        window = after.window;
+        pins = after.pins;
+        cache = after.cache;
+      })
+      (append_assoc plain.entries xs ys);
+  objects = (
+    first.objects.0 ++ second.objects.0,
+    second.objects.1 ∙ ap (λ (o : List StreamObject). o ++ second.objects.0) first.objects.1
+        ∙ append_assoc plain.objects first.objects.0 second.objects.0,
+  );
+  frontier = omega (arith, first.frontier, second.frontier);
+  committed = omega (arith, first.committed, second.committed);
+}
+
 pub adds_then : (added : List Entry) (old mid new : VolumeState) → Adds [] old mid → Adds added mid new → Adds added old new
 adds_then added old mid new first second plain shows =
     let one = first plain shows in

@@ -12,6 +12,7 @@ use Rattle.vol_core.specs.Volume.{VolumeState, SteppedVolume}
 use Rattle.vol_core.specs.Shows.{Shows}
 use Rattle.vol_core.specs.Step.{HasSameSizes}
 use Rattle.vol_core.specs.Stops.{HasOwnCommits}
+use Rattle.volume_owner.specs.Acts.{moment_of, IsMadeOfActs}
 use Rattle.volume_owner.specs.History.{GoesOn}
 
 -- ---- the history
@@ -71,10 +72,12 @@ pub record MakesSteps (most : ℕ) (added : List Entry) (old new : SteppedVolume
   pub own : (epoch : ℕ) → HasOwnCommits epoch old.volume → HasOwnCommits epoch new.volume
   pub steps : new.steps ≤ old.steps + most
 
--- A call made steps of a volume, and puts of its objects into a store: the store has changed under the names of the volume's own
--- numbered objects alone. One call of the disk or of the store failed in it, or none did.
-pub record IsCall (most : ℕ) (added : List Entry) (failed : Bool) (old new : SteppedVolume) (old_store new_store : StoreState) :
-    Type 0 where
+-- A call is made of acts: of steps of a volume, of puts of its objects into a store, each of which is out, and of gets; the
+-- volume is told that a put is done only where the store has the object. So the store has changed under the names of the volume's
+-- own numbered objects alone. One call of the disk or of the store failed in it, or none did.
+pub record IsCall {R : Type 0} (state : R → ReceiptState) (most : ℕ) (added : List Entry) (failed : Bool)
+    (old new : SteppedVolume) (old_store new_store : StoreState) : Type 0 where
+  pub acts : IsMadeOfActs state added (moment_of old old_store) (moment_of new new_store)
   pub steps : MakesSteps most added old new
   pub store : Becomes (KeepsOtherNames old.volume.objects.uploads.uuid) old_store.objects new_store.objects
   pub faults : CountsEitherFault failed old.volume.log.commits.disk.faults new.volume.log.commits.disk.faults old_store.faults

@@ -19,7 +19,7 @@ pub(crate) fn drain<D: Disk, R: Receipt, S: Store<Receipt = R>>(
 ) -> Result<u64, OwnerError>
     requires steps { volume.old.steps ≤ max_steps }
     requires idle { IsIdle volume.old.volume }
-    ensures call { IsCall most_of_call [] (is_eio result) volume.old volume.new (S.state store.old)
+    ensures call { IsCall R.state most_of_call [] (is_eio result) volume.old volume.new (S.state store.old)
         (S.state store.new) }
     ensures count { IfOk result (λ count. IsLengthOf count volume.new.volume) }
     ensures drained { OnOk result (IsDrained volume.new.volume) }

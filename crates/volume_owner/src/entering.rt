@@ -4,6 +4,7 @@ ghost use Rattle.lsvd_fault.specs.Faults.{Counts};
 ghost use Rattle.vol_core.specs.Calls.{event_of};
 ghost use Rattle.vol_core.specs.Shows.{max_number};
 ghost use Rattle.volume_owner.specs.Owner.{IsIdle, max_steps, most_of_call};
+ghost use Rattle.volume_owner.specs.Acts.{MakesStep};
 ghost use Rattle.volume_owner.specs.Calls.{MakesSteps, IsCall, IsLengthOf, added_by};
 ghost use Rattle.volume_owner.specs.Errors.{is_eio};
 ghost use Rattle.volume_owner.specs.Helping.{entered_by, attempt_failed, MayTryAgain};
@@ -26,7 +27,7 @@ pub(crate) fn enter<D: Disk, R: Receipt, S: Store<Receipt = R>>(
 ) -> Result<u64, OwnerError>
     requires steps { volume.old.steps ≤ max_steps }
     requires idle { IsIdle volume.old.volume }
-    ensures call { IsCall most_of_call (added_by entry result) (is_eio result) volume.old volume.new
+    ensures call { IsCall R.state most_of_call (added_by entry result) (is_eio result) volume.old volume.new
         (S.state store.old) (S.state store.new) }
     ensures count { IfOk result (λ count. IsLengthOf count volume.new.volume) }
     ensures range { IsErrOf result OwnerError.Range ↔ (is_in_range volume.old.volume.objects.batch.geometry
@@ -55,6 +56,7 @@ fn try_entry<D: Disk, R: Receipt>(volume: &mut Volume<D, R>, entry: Entry) -> At
     requires steps { volume.old.steps < max_number }
     requires idle { IsIdle volume.old.volume }
     requires range { is_in_range volume.old.volume.objects.batch.geometry entry ≡ true }
+    ensures step { MakesStep R.state (event_of entry) (entered_by entry result) volume.old volume.new }
     ensures steps { MakesSteps 1 (entered_by entry result) volume.old volume.new }
     ensures count { (count : ℕ) → result ≡ Attempt.Entered count → IsLengthOf count volume.new.volume }
     ensures back { MayTryAgain entry result volume.old.volume volume.new.volume }

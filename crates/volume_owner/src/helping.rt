@@ -1,8 +1,10 @@
 ghost use Rattle.std.specs.Prelude.{◌≡◌, ◌+◌, ◌<◌, [], length, IfOk, OnOk, IsErrOf, IsOkUnless};
 ghost use Rattle.lsvd_names.specs.Spelling.{IsUuid, IsName};
 ghost use Rattle.object_stream.specs.Replay.{name_of};
+ghost use Rattle.vol_core.specs.declared.event.Event.TheVariants as events;
 ghost use Rattle.vol_core.specs.Shows.{max_number};
 ghost use Rattle.volume_owner.specs.Owner.{IsIdle};
+ghost use Rattle.volume_owner.specs.Acts.{MakesStep};
 ghost use Rattle.volume_owner.specs.Calls.{MakesSteps, IsCall};
 ghost use Rattle.volume_owner.specs.Errors.{is_eio};
 ghost use Rattle.volume_owner.specs.Helping.{work_of, HasHelped, IsTaken};
@@ -28,7 +30,8 @@ pub(crate) fn help<D: Disk, R: Receipt, S: Store<Receipt = R>>(
 ) -> Result<bool, OwnerError>
     requires steps { volume.old.steps + 1 < max_number }
     requires idle { IsIdle volume.old.volume }
-    ensures help { IsCall 2 [] (is_eio result) volume.old volume.new (S.state store.old) (S.state store.new) }
+    ensures help { IsCall R.state 2 [] (is_eio result) volume.old volume.new (S.state store.old)
+        (S.state store.new) }
     ensures less { IfOk result (λ has_helped. HasHelped has_helped volume.old.volume volume.new.volume) }
     ensures error { IsErrOf result OwnerError.Range → ⊥ }
     ensures idle { IsIdle volume.new.volume }
@@ -53,7 +56,8 @@ fn put<D: Disk, R: Receipt, S: Store<Receipt = R>>(
 ) -> Result<(), OwnerError>
     requires steps { volume.old.steps < max_number }
     requires job { IsTaken job volume.old.volume }
-    ensures call { IsCall 1 [] (is_eio result) volume.old volume.new (S.state store.old) (S.state store.new) }
+    ensures call { IsCall R.state 1 [] (is_eio result) volume.old volume.new (S.state store.old)
+        (S.state store.new) }
     ensures less { OnOk result (work_of volume.new.volume < work_of volume.old.volume) }
     ensures error { IsErrOf result OwnerError.Range → ⊥ }
     ensures idle { IsIdle volume.new.volume }
@@ -78,6 +82,7 @@ fn seal<D: Disk, R: Receipt>(volume: &mut Volume<D, R>) -> Result<bool, OwnerErr
     requires steps { volume.old.steps < max_number }
     requires idle { IsIdle volume.old.volume }
     requires none { volume.old.volume.objects.uploads.window.objects ≡ [] }
+    ensures step { MakesStep R.state events.Seal [] volume.old volume.new }
     ensures steps { MakesSteps 1 [] volume.old volume.new }
     ensures less { IfOk result (λ has_sealed. HasHelped has_sealed volume.old.volume volume.new.volume) }
     ensures error { IsOkUnless result OwnerError.OutOfMemory }

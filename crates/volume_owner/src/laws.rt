@@ -6,6 +6,9 @@ ghost use Rattle.vol_core.specs.Creating.{IsCreated};
 ghost use Rattle.vol_core.specs.Shows.{Shows};
 ghost use Rattle.vol_core.specs.Volume.{VolumeState, SteppedVolume};
 ghost use Rattle.volume_owner.specs.Owner.{IsIdle};
+ghost use Rattle.volume_owner.specs.Standing.{ActsKeepStore, StopsKeepStore};
+
+use lsvd_objstore::Receipt;
 
 /// A law: a volume may have an owner where no put is under way and no plan is out in a plain volume that it
 /// shows. So it is of one that was just created.
@@ -15,4 +18,11 @@ pub fn a_new_volume_is_idle()
         → IsIdle volume }
     ensures created { (uuid : List ℕ) (geometry : Geometry) (stepped : SteppedVolume)
         → IsCreated uuid geometry stepped → IsIdle stepped.volume }
+{}
+
+/// A law: where the store stands for what the volume shows, it stands after each act of a call, and so at
+/// each moment between them; and whatever a stop inside an act leaves of it stands for what was shown before.
+pub fn acts_keep_the_store<R: Receipt>()
+    ensures acts { ActsKeepStore R.state }
+    ensures stops { StopsKeepStore R.state }
 {}

@@ -5,8 +5,10 @@
 //! Its contract: a write or a zeroing that is answered is the one entry that the call added to the history,
 //! and one that is refused adds none; a flush that is answered has committed the whole history; a drain that
 //! is answered has done so too, and left nothing to seal or to put; a read gives the sectors of the history.
-//! `Eio` is answered exactly where one call of the disk or of the store failed. It stands on `vol_core` for
-//! the volume, on `object_uploads` and `read_plan` for puts and plans, and on `lsvd_objstore` for the store.
+//! Each call is made of steps of the volume, puts of its objects and gets, over which the store goes on
+//! standing for the volume. `Eio` is answered exactly where one call of the disk or of the store failed. It
+//! stands on `vol_core` for the volume, on `object_uploads` and `read_plan` for puts and plans, on
+//! `lsvd_objstore` for the store, and on `store_meaning` for what stands in it.
 #![tactic(auto)]
 
 mod draining;
@@ -19,5 +21,5 @@ mod reading;
 mod replies;
 
 pub use error::OwnerError;
-pub use laws::a_new_volume_is_idle;
+pub use laws::{a_new_volume_is_idle, acts_keep_the_store};
 pub use owner::Owner;

@@ -4,7 +4,9 @@ ghost use Rattle.lsvd_base.specs.declared.entry.Entry.TheVariants as entries;
 ghost use Rattle.lsvd_base.specs.Limits.{is_within_limits, may_transfer};
 ghost use Rattle.lsvd_base.specs.Range.{is_in_range};
 ghost use Rattle.lsvd_fault.specs.Faults.{Counts};
+ghost use Rattle.vol_core.specs.declared.event.Event.TheVariants as events;
 ghost use Rattle.volume_owner.specs.Owner.{IsIdle, max_steps, most_of_call};
+ghost use Rattle.volume_owner.specs.Acts.{MakesStep};
 ghost use Rattle.volume_owner.specs.Calls.{MakesSteps, IsCall, IsLengthOf, IsDurable, IsDrained, HasSectors};
 ghost use Rattle.volume_owner.specs.Calls.{added_by};
 ghost use Rattle.volume_owner.specs.Errors.{is_eio};
@@ -65,8 +67,8 @@ impl<D: Disk, R: Receipt> Owner<D, R> {
         body: Body,
     ) -> Result<u64, OwnerError>
         requires { self.old.steps ≤ max_steps }
-        ensures call { IsCall most_of_call (added_by (entries.Write lba body) result) (is_eio result) self.old
-            self.new (S.state store.old) (S.state store.new) }
+        ensures call { IsCall R.state most_of_call (added_by (entries.Write lba body) result)
+            (is_eio result) self.old self.new (S.state store.old) (S.state store.new) }
         ensures count { IfOk result (λ count. IsLengthOf count self.new.volume) }
         ensures range { IsErrOf result OwnerError.Range
             ↔ (is_in_range self.old.volume.objects.batch.geometry (entries.Write lba body) ≡ false) }
@@ -86,8 +88,8 @@ impl<D: Disk, R: Receipt> Owner<D, R> {
         sectors: u64,
     ) -> Result<u64, OwnerError>
         requires { self.old.steps ≤ max_steps }
-        ensures call { IsCall most_of_call (added_by (entries.Zero lba sectors) result) (is_eio result)
-            self.old self.new (S.state store.old) (S.state store.new) }
+        ensures call { IsCall R.state most_of_call (added_by (entries.Zero lba sectors) result)
+            (is_eio result) self.old self.new (S.state store.old) (S.state store.new) }
         ensures count { IfOk result (λ count. IsLengthOf count self.new.volume) }
         ensures range { IsErrOf result OwnerError.Range
             ↔ (is_in_range self.old.volume.objects.batch.geometry (entries.Zero lba sectors) ≡ false) }
@@ -99,6 +101,7 @@ impl<D: Disk, R: Receipt> Owner<D, R> {
     /// the disk failed, which that counted.
     pub fn flush(&mut self) -> Result<u64, Failed>
         requires { self.old.steps ≤ max_steps }
+        ensures step { MakesStep R.state events.Flush [] self.old self.new }
         ensures steps { MakesSteps 1 [] self.old self.new }
         ensures faults { Counts (is_err result) self.old.volume.log.commits.disk.faults
             self.new.volume.log.commits.disk.faults }
@@ -120,7 +123,7 @@ impl<D: Disk, R: Receipt> Owner<D, R> {
         store: &mut S,
     ) -> Result<u64, OwnerError>
         requires { self.old.steps ≤ max_steps }
-        ensures call { IsCall most_of_call [] (is_eio result) self.old self.new (S.state store.old)
+        ensures call { IsCall R.state most_of_call [] (is_eio result) self.old self.new (S.state store.old)
             (S.state store.new) }
         ensures count { IfOk result (λ count. IsLengthOf count self.new.volume) }
         ensures drained { OnOk result (IsDrained self.new.volume) }
@@ -144,7 +147,7 @@ impl<D: Disk, R: Receipt> Owner<D, R> {
     ) -> Result<u64, OwnerError>
         requires steps { self.old.steps ≤ max_steps }
         requires whole { length buf.old % 512 ≡ 0 }
-        ensures call { IsCall most_of_call [] (is_eio result) self.old self.new (S.state store.old)
+        ensures call { IsCall R.state most_of_call [] (is_eio result) self.old self.new (S.state store.old)
             (S.state store.new) }
         ensures front { IfOk result (λ front. IsLengthOf front self.old.volume) }
         ensures bytes { OnOk result (HasSectors R.state self.old.volume lba buf.new) }

@@ -2,8 +2,10 @@ ghost use Rattle.std.specs.Prelude.{◌≡◌, ◌<◌, ◌≤◌, ◌↔◌, �
 ghost use Rattle.std.specs.Prelude.{is_err};
 ghost use Rattle.lsvd_base.specs.Limits.{may_transfer};
 ghost use Rattle.lsvd_fault.specs.Faults.{Counts};
+ghost use Rattle.vol_core.specs.declared.event.Event.TheVariants as events;
 ghost use Rattle.vol_core.specs.Shows.{max_number};
 ghost use Rattle.volume_owner.specs.Owner.{IsIdle, max_steps, most_of_call};
+ghost use Rattle.volume_owner.specs.Acts.{MakesStep};
 ghost use Rattle.volume_owner.specs.Calls.{MakesSteps, IsCall, IsLengthOf, IsDurable, HasSectors};
 ghost use Rattle.volume_owner.specs.Errors.{is_eio};
 ghost use Rattle.volume_owner.specs.Helping.{work_of};
@@ -27,7 +29,7 @@ pub(crate) fn read<D: Disk, R: Receipt, S: Store<Receipt = R>>(
     requires steps { volume.old.steps ≤ max_steps }
     requires idle { IsIdle volume.old.volume }
     requires whole { length buf.old % 512 ≡ 0 }
-    ensures call { IsCall most_of_call [] (is_eio result) volume.old volume.new (S.state store.old)
+    ensures call { IsCall R.state most_of_call [] (is_eio result) volume.old volume.new (S.state store.old)
         (S.state store.new) }
     ensures front { IfOk result (λ front. IsLengthOf front volume.old.volume) }
     ensures bytes { OnOk result (HasSectors R.state volume.old.volume lba buf.new) }
@@ -53,6 +55,7 @@ pub(crate) fn read<D: Disk, R: Receipt, S: Store<Receipt = R>>(
 pub(crate) fn flush<D: Disk, R: Receipt>(volume: &mut Volume<D, R>) -> Result<u64, Failed>
     requires steps { volume.old.steps < max_number }
     requires idle { IsIdle volume.old.volume }
+    ensures step { MakesStep R.state events.Flush [] volume.old volume.new }
     ensures steps { MakesSteps 1 [] volume.old volume.new }
     ensures count { IfOk result (λ count. IsLengthOf count volume.new.volume) }
     ensures durable { OnOk result (IsDurable volume.new.volume) }

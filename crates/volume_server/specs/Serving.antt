@@ -4,7 +4,7 @@ use Rattle.lsvd_base.specs.declared.entry.Entry.{Entry}
 use Rattle.lsvd_fault.specs.Faults.{CountsOne, counted_with}
 use Rattle.lsvd_objstore.specs.Store.{ReceiptState}
 use Rattle.nbd_session.specs.declared.session.SessionEnd.{SessionEnd}
-use Rattle.nbd_session.specs.Exchanges.{Moment}
+use Rattle.volume_owner.specs.Acts.{Moment}
 use Rattle.nbd_session.specs.History.{Grows, LeavesRoom}
 use Rattle.nbd_session.specs.Session.{LinkBytes, IsSession, export_of}
 use Rattle.volume_server.specs.declared.next.Next.{Next}

@@ -12,7 +12,7 @@ use Rattle.volume_owner.proofs.LoopLemmas.{helped_first, helped_few, helped_ends
 use Rattle.volume_owner.proofs.draining.drain.Goals as goal
 
 pub loop-init : goal.loop-init
-loop-init g c = helped_first c.args.volume.now (g.S.Store.state c.args.store.now) c.requires.idle
+loop-init g c = helped_first g.R.Receipt.state c.args.volume.now (g.S.Store.state c.args.store.now) c.requires.idle
 
 pub help-requires-clause-steps : goal.help-requires-clause-steps
 help-requires-clause-steps g c =
@@ -20,7 +20,7 @@ help-requires-clause-steps g c =
     let now : SteppedVolume = c.loop.volume in
     let first : StoreState = g.S.Store.state c.args.store.now in
     let second : StoreState = g.S.Store.state c.loop.store in
-    let few = helped_few old now first second c.loop.invariant c.requires.steps c.is_volume.ensures
+    let few = helped_few g.R.Receipt.state old now first second c.loop.invariant c.requires.steps c.is_volume.ensures
     c.is_ordered.ensures.uploads in
     omega (arith, few)
 
@@ -34,10 +34,11 @@ returns-in_err-help-clause-call g c =
     let third : StoreState = g.S.Store.state c.help.new.store in
     let error : OwnerError = c.in_err-help.field-0.0 in
     let failed = is_eio {T = Bool} (Err error) in
-    call_ends_none most_of_call c.from_residual.result error old new first third c.from_residual.ensures.1
-    (subst (λ b. IsCall most_of_call [] b old new first third) (same_eio Bool ℕ error)
-    (helped_ends old now first second c.loop.invariant [] failed new third c.is_volume.ensures c.is_ordered.ensures.uploads
-    (one_help failed now new second third c.in_err-help.ensures.help)))
+    call_ends_none g.R.Receipt.state most_of_call c.from_residual.result error old new first third c.from_residual.ensures.1
+    (subst (λ b. IsCall g.R.Receipt.state most_of_call [] b old new first third) (same_eio Bool ℕ error)
+    (helped_ends g.R.Receipt.state old now first second c.loop.invariant [] failed new third c.is_volume.ensures
+    c.is_ordered.ensures.uploads
+    (one_help g.R.Receipt.state failed now new second third c.in_err-help.ensures.help)))
 
 pub loop-preserved : goal.loop-preserved
 loop-preserved g c =
@@ -48,7 +49,8 @@ loop-preserved g c =
     let second : StoreState = g.S.Store.state c.loop.store in
     let third : StoreState = g.S.Store.state c.help.new.store in
     let less = subst (λ b. HasHelped b now.volume new.volume) c.if-branch.true c.in_ok-help.ensures.less in
-    helped_more old now first second c.loop.invariant new third (one_help false now new second third c.in_ok-help.ensures.help)
+    helped_more g.R.Receipt.state old now first second c.loop.invariant new third
+    (one_help g.R.Receipt.state false now new second third c.in_ok-help.ensures.help)
     less c.in_ok-help.ensures.idle
 
 pub flush-requires-clause-steps : goal.flush-requires-clause-steps
@@ -57,7 +59,7 @@ flush-requires-clause-steps g c =
     let now : SteppedVolume = c.loop.volume in
     let first : StoreState = g.S.Store.state c.args.store.now in
     let second : StoreState = g.S.Store.state c.loop.store in
-    let few = helped_few old now first second c.loop.invariant c.requires.steps c.is_volume.ensures
+    let few = helped_few g.R.Receipt.state old now first second c.loop.invariant c.requires.steps c.is_volume.ensures
     c.is_ordered.ensures.uploads in
     let two = c.in_ok-help.ensures.help.steps.steps in
     omega (arith, few, two)
@@ -71,10 +73,12 @@ returns-in_err-flush-clause-call g c =
     let first : StoreState = g.S.Store.state c.args.store.now in
     let second : StoreState = g.S.Store.state c.loop.store in
     let third : StoreState = g.S.Store.state c.help.new.store in
-    call_ends_none most_of_call c.from_residual-in_err-flush.result errors.Eio old new first third
+    call_ends_none g.R.Receipt.state most_of_call c.from_residual-in_err-flush.result errors.Eio old new first third
     c.from_residual-in_err-flush.ensures.1
-    (helped_ends old now first second c.loop.invariant [] true new third c.is_volume.ensures c.is_ordered.ensures.uploads
-    (help_and_flush true now mid new second third c.in_ok-help.ensures.help c.in_err-flush.ensures.steps
+    (helped_ends g.R.Receipt.state old now first second c.loop.invariant [] true new third c.is_volume.ensures
+    c.is_ordered.ensures.uploads
+    (help_and_flush g.R.Receipt.state true now mid new second third c.in_ok-help.ensures.help c.in_err-flush.ensures.step
+    c.in_err-flush.ensures.steps
     c.in_err-flush.ensures.faults))
 
 pub returns-clause-call : goal.returns-clause-call
@@ -86,6 +90,8 @@ returns-clause-call g c =
     let first : StoreState = g.S.Store.state c.args.store.now in
     let second : StoreState = g.S.Store.state c.loop.store in
     let third : StoreState = g.S.Store.state c.help.new.store in
-    helped_ends old now first second c.loop.invariant [] false new third c.is_volume.ensures c.is_ordered.ensures.uploads
-    (help_and_flush false now mid new second third c.in_ok-help.ensures.help c.in_ok-flush.ensures.steps
+    helped_ends g.R.Receipt.state old now first second c.loop.invariant [] false new third c.is_volume.ensures
+    c.is_ordered.ensures.uploads
+    (help_and_flush g.R.Receipt.state false now mid new second third c.in_ok-help.ensures.help c.in_ok-flush.ensures.step
+    c.in_ok-flush.ensures.steps
     c.in_ok-flush.ensures.faults)

@@ -3,7 +3,8 @@ use Rattle.volume_owner.proofs.LoopLemmas.{IsHelped}
 use Rattle.volume_owner.proofs.draining.drain.Given as goal
 
 abbrev pub invariant-loop : goal.invariant-loop
-invariant-loop g l = IsHelped l.initial.volume l.volume (g.S.Store.state l.initial.store) (g.S.Store.state l.store)
+invariant-loop g l = IsHelped g.R.Receipt.state l.initial.volume l.volume (g.S.Store.state l.initial.store)
+    (g.S.Store.state l.store)
 
 abbrev pub decreases-loop : goal.decreases-loop
 decreases-loop g l = work_of l.volume.volume

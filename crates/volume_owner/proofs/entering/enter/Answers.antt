@@ -17,7 +17,7 @@ try_entry-requires-clause-steps g c =
     let now : SteppedVolume = c.loop-count.volume in
     let first : StoreState = g.S.Store.state c.args.store.now in
     let second : StoreState = g.S.Store.state c.loop-count.store in
-    let few = helped_few old now first second c.loop-count.invariant.1 c.requires.steps c.is_volume.ensures
+    let few = helped_few g.R.Receipt.state old now first second c.loop-count.invariant.1 c.requires.steps c.is_volume.ensures
     c.is_ordered.ensures.uploads in
     omega (arith, few)
 
@@ -27,7 +27,7 @@ help-requires-clause-steps g c =
     let now : SteppedVolume = c.loop-count.volume in
     let first : StoreState = g.S.Store.state c.args.store.now in
     let second : StoreState = g.S.Store.state c.loop-count.store in
-    let few = helped_few old now first second c.loop-count.invariant.1 c.requires.steps c.is_volume.ensures
+    let few = helped_few g.R.Receipt.state old now first second c.loop-count.invariant.1 c.requires.steps c.is_volume.ensures
     c.is_ordered.ensures.uploads in
     let one = c.in-Again.ensures.steps.steps in
     omega (arith, few, one)
@@ -40,10 +40,11 @@ returns-in-Entered-clause-call g c =
     let new : SteppedVolume = c.try_entry.new.volume in
     let first : StoreState = g.S.Store.state c.args.store.now in
     let second : StoreState = g.S.Store.state c.loop-count.store in
-    subst (λ e. IsCall most_of_call (e ∷ []) false old new first second) c.loop-count.invariant.0
-    (helped_ends old now first second c.loop-count.invariant.1 (left ∷ []) false new second c.is_volume.ensures
+    subst (λ e. IsCall g.R.Receipt.state most_of_call (e ∷ []) false old new first second) c.loop-count.invariant.0
+    (helped_ends g.R.Receipt.state old now first second c.loop-count.invariant.1 (left ∷ []) false new second c.is_volume.ensures
     c.is_ordered.ensures.uploads
-    (one_attempt (left ∷ []) false now new second c.in-Entered.ensures.steps c.in-Entered.ensures.faults))
+    (one_attempt g.R.Receipt.state left (left ∷ []) false now new second c.in-Entered.ensures.step c.in-Entered.ensures.steps
+    c.in-Entered.ensures.faults))
 
 pub returns-in-Failed-clause-call : goal.returns-in-Failed-clause-call
 returns-in-Failed-clause-call g c =
@@ -52,8 +53,10 @@ returns-in-Failed-clause-call g c =
     let new : SteppedVolume = c.try_entry.new.volume in
     let first : StoreState = g.S.Store.state c.args.store.now in
     let second : StoreState = g.S.Store.state c.loop-count.store in
-    helped_ends old now first second c.loop-count.invariant.1 [] true new second c.is_volume.ensures c.is_ordered.ensures.uploads
-    (one_attempt [] true now new second c.in-Failed.ensures.steps c.in-Failed.ensures.faults)
+    helped_ends g.R.Receipt.state old now first second c.loop-count.invariant.1 [] true new second c.is_volume.ensures
+    c.is_ordered.ensures.uploads
+    (one_attempt g.R.Receipt.state c.loop-count.left [] true now new second c.in-Failed.ensures.step c.in-Failed.ensures.steps
+    c.in-Failed.ensures.faults)
 
 pub returns-in-OutOfMemory-clause-call : goal.returns-in-OutOfMemory-clause-call
 returns-in-OutOfMemory-clause-call g c =
@@ -62,8 +65,11 @@ returns-in-OutOfMemory-clause-call g c =
     let new : SteppedVolume = c.try_entry.new.volume in
     let first : StoreState = g.S.Store.state c.args.store.now in
     let second : StoreState = g.S.Store.state c.loop-count.store in
-    helped_ends old now first second c.loop-count.invariant.1 [] false new second c.is_volume.ensures c.is_ordered.ensures.uploads
-    (one_attempt [] false now new second c.in-OutOfMemory.ensures.steps c.in-OutOfMemory.ensures.faults)
+    helped_ends g.R.Receipt.state old now first second c.loop-count.invariant.1 [] false new second c.is_volume.ensures
+    c.is_ordered.ensures.uploads
+    (one_attempt g.R.Receipt.state c.loop-count.left [] false now new second c.in-OutOfMemory.ensures.step
+    c.in-OutOfMemory.ensures.steps
+    c.in-OutOfMemory.ensures.faults)
 
 pub loop-count-preserved : goal.loop-count-preserved
 loop-count-preserved g c =
@@ -78,9 +84,9 @@ loop-count-preserved g c =
     let lower = helped_some c.in_ok-help.field-0 mid.volume new.volume back.1 c.in_ok-help.ensures.less in
     let less : work_of new.volume < work_of now.volume = subst (λ n. work_of new.volume < n) back.2 lower in (
       back.0 ∙ c.loop-count.invariant.0,
-      helped_more old now first second c.loop-count.invariant.1 new third
-          (attempt_and_help false now mid new second third c.in-Again.ensures.steps c.in-Again.ensures.faults
-          c.in_ok-help.ensures.help)
+      helped_more g.R.Receipt.state old now first second c.loop-count.invariant.1 new third
+          (attempt_and_help g.R.Receipt.state c.loop-count.left false now mid new second third c.in-Again.ensures.step
+          c.in-Again.ensures.steps c.in-Again.ensures.faults c.in_ok-help.ensures.help)
           less c.in_ok-help.ensures.idle,
     )
 
@@ -96,9 +102,10 @@ returns-in_err-help-clause-call g c =
     let third : StoreState = g.S.Store.state c.help.new.store in
     let error : OwnerError = c.in_err-help.field-0.0 in
     let failed = is_eio {T = Bool} (Err error) in
-    let fails = helped_ends old now first second c.loop-count.invariant.1 [] failed new third c.is_volume.ensures
+    let fails = helped_ends g.R.Receipt.state old now first second c.loop-count.invariant.1 [] failed new third
+    c.is_volume.ensures
     c.is_ordered.ensures.uploads
-    (attempt_and_help failed now mid new second third c.in-Again.ensures.steps c.in-Again.ensures.faults
-    c.in_err-help.ensures.help) in
-    call_ends entry most_of_call c.from_residual.result error old new first third c.from_residual.ensures.1
-    (subst (λ b. IsCall most_of_call [] b old new first third) (same_eio Bool ℕ error) fails)
+    (attempt_and_help g.R.Receipt.state c.loop-count.left failed now mid new second third c.in-Again.ensures.step
+    c.in-Again.ensures.steps c.in-Again.ensures.faults c.in_err-help.ensures.help) in
+    call_ends g.R.Receipt.state entry most_of_call c.from_residual.result error old new first third c.from_residual.ensures.1
+    (subst (λ b. IsCall g.R.Receipt.state most_of_call [] b old new first third) (same_eio Bool ℕ error) fails)

@@ -2,8 +2,10 @@ use Rattle.std.proofs.Common.{sym, ◌∙◌, ap, subst}
 use Rattle.lsvd_fault.specs.Faults.{Counts}
 use Rattle.vol_core.specs.Calls.{event_of}
 use Rattle.vol_core.specs.Step.{HandsBack, Steps}
+use Rattle.volume_owner.specs.Acts.{MakesStep}
 use Rattle.volume_owner.specs.Calls.{MakesSteps}
 use Rattle.volume_owner.specs.Helping.{entered_by, attempt_failed, MayTryAgain}
+use Rattle.volume_owner.proofs.ActLemmas.{attempt_step}
 use Rattle.volume_owner.proofs.EnterLemmas.{attempt_makes, attempt_counts, attempt_hands, attempt_fault, entering_idle}
 use Rattle.volume_owner.proofs.entering.try_entry.Given as given
 use Rattle.volume_owner.proofs.entering.try_entry.Goals as goal
@@ -28,6 +30,8 @@ returns g c =
     let is = c.attempt_of.ensures in
     let back = subst (λ e. HandsBack e reply) c.event_for.ensures c.step.ensures.step.back in
     record {
+      step = subst (λ a. MakesStep state (event_of entry) (entered_by entry a) old new) (sym is)
+          (attempt_step state entry reply old new of);
       steps = subst (λ a. MakesSteps 1 (entered_by entry a) old new) (sym is) (attempt_makes state entry reply old new of);
       count = λ count told. attempt_counts state entry reply old new of plain shows count (sym is ∙ told);
       back = subst (λ a. MayTryAgain entry a old.volume new.volume) (sym is)

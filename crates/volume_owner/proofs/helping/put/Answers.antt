@@ -1,12 +1,15 @@
 use Rattle.std.proofs.Common.{◌≡◌, ℕ, List, [], refl, sym, ◌∙◌, ap, subst, Err}
+use Rattle.lsvd_fault.specs.Faults.{Counts}
 use Rattle.lsvd_objstore.specs.declared.error.StoreError.{StoreError}
-use Rattle.lsvd_objstore.specs.Store.{StoreState}
+use Rattle.lsvd_objstore.specs.Store.{StoreState, has_failed}
 use Rattle.lsvd_names.specs.declared.name.ObjName.{ObjName}
 use Rattle.object_stream.specs.Replay.{name_of}
 use Rattle.object_uploads.specs.State.{JobState}
+use Rattle.vol_core.specs.declared.event.Event.TheVariants as asks
 use Rattle.vol_core.specs.Volume.{SteppedVolume}
 use Rattle.volume_owner.specs.Calls.{IsCall}
 use Rattle.volume_owner.specs.Errors.{is_eio}
+use Rattle.volume_owner.proofs.ActLemmas.{step_act, done_acts, failed_acts, no_want}
 use Rattle.volume_owner.proofs.CallLemmas.{job_name, put_call, failed_put_call}
 use Rattle.volume_owner.proofs.HelpLemmas.{done_makes, done_faults, done_leaves, failed_makes, failed_faults, failed_idle}
 use Rattle.volume_owner.proofs.helping.put.Goals as goal
@@ -28,8 +31,12 @@ returns-in-Ok-clause-call g c =
     let receipt = c.in-Ok.receipt in
     let named : (state receipt).name ≡ job.name = c.in-Ok.ensures.receipt.named ∙ name_is ∙ sym taken.named in
     let of = c.step.ensures in
-    put_call uuid job.name.number name c.object.result.now old c.step.new.self (g.S.Store.state c.args.store.now)
-    (g.S.Store.state c.put.new.self)
+    let first : StoreState = g.S.Store.state c.args.store.now in
+    let second : StoreState = g.S.Store.state c.put.new.self in
+    put_call state uuid job.name.number name c.object.result.now old c.step.new.self first second
+    (done_acts state job name c.object.result.now c.step.result old c.step.new.self first second taken
+    (name_is ∙ sym taken.named) c.object.ensures receipt c.in-Ok.ensures.put (c.in-Ok.ensures.asked (λ is. cc))
+    c.in-Ok.ensures.count of)
     refl name_is c.in-Ok.ensures.put c.in-Ok.ensures.count
     (done_makes state job receipt c.step.result old c.step.new.self of plain shows taken named)
     (done_faults state job receipt c.step.result old c.step.new.self of plain shows taken named)
@@ -90,8 +97,14 @@ returns-in-Err-clause-call g c =
     let error : StoreError = c.in-Err.error in
     let first : StoreState = g.S.Store.state c.args.store.now in
     let second : StoreState = g.S.Store.state c.put.new.self in
-    subst (λ e. IsCall 1 [] (is_eio {T = Unit {0}} (Err e)) old c.step-in-Err.new.self first second) (sym c.into.ensures)
-    (failed_put_call g.row.R.Denot error uuid job.name.number name c.object.result.now old c.step-in-Err.new.self first second
+    let reply = c.step-in-Err.result in
+    let new : SteppedVolume = c.step-in-Err.new.self in
+    subst (λ e. IsCall state 1 [] (is_eio {T = Unit {0}} (Err e)) old new first second) (sym c.into.ensures)
+    (failed_put_call state g.row.R.Denot error uuid job.name.number name c.object.result.now old new first second
+    (λ is. failed_acts state job name c.object.result.now reply old new first second taken (name_is ∙ sym taken.named)
+    c.object.ensures (c.in-Err.ensures.failed (ap Err is)) (c.in-Err.ensures.asked (no_want error is))
+    (subst (λ e. Counts (has_failed {T = g.row.R.Denot} (Err e)) first.faults second.faults) is c.in-Err.ensures.count) of)
+    (step_act state (asks.JobFailed job) reply [] old new first of tt tt refl)
     refl name_is
     (λ is. c.in-Err.ensures.failed (ap Err is)) (λ is. c.in-Err.ensures.unchanged (ap Err is)) c.in-Err.ensures.count
     (failed_makes state job c.step-in-Err.result old c.step-in-Err.new.self of plain shows taken)

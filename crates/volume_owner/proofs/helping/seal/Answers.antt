@@ -1,4 +1,4 @@
-use Rattle.std.proofs.Common.{Bool, sym, subst}
+use Rattle.std.proofs.Common.{Bool, refl, sym, subst}
 use Rattle.std.specs.Prelude.{Result, IfOk, IsOkUnless}
 use Rattle.vol_core.specs.Volume.{SteppedVolume}
 use Rattle.volume_owner.specs.declared.error.OwnerError.{OwnerError}
@@ -19,6 +19,7 @@ returns g c =
     let of = c.step.ensures in
     let left = sealed_leaves state reply old new of plain shows c.requires.idle c.requires.none in
     record {
+      step = record { reply = reply; step = of; entered = refl };
       steps = seal_makes state reply old new of plain shows;
       less = subst (λ (r : Result Bool OwnerError). IfOk r (λ has_sealed. HasHelped has_sealed old.volume new.volume))
           (sym c.seal_of.ensures) left.1;

@@ -1,4 +1,4 @@
-use Rattle.std.proofs.Common.{sym, ◌∙◌, subst}
+use Rattle.std.proofs.Common.{refl, sym, ◌∙◌, subst}
 use Rattle.lsvd_fault.specs.Faults.{Counts}
 use Rattle.vol_core.specs.Volume.{SteppedVolume}
 use Rattle.volume_owner.proofs.ReadLemmas.{flush_makes, flush_idle, flush_work, flushed_is, not_flushed, flushed_reply}
@@ -16,6 +16,7 @@ returns-in-Some g c =
     let is = flushed_is state reply old new of plain shows c.in-Some.count
     (flushed_reply reply c.in-Some.count (sym c.count_of.ensures ∙ c.in-Some.is)) in
     record {
+      step = record { reply = reply; step = of; entered = refl };
       steps = flush_makes state reply old new of plain shows;
       count = is.0;
       durable = is.1;
@@ -35,6 +36,7 @@ returns-in-None g c =
     let of = c.step.ensures in
     let fault = not_flushed state reply old new of plain shows (sym c.count_of.ensures ∙ c.in-None.is) in
     record {
+      step = record { reply = reply; step = of; entered = refl };
       steps = flush_makes state reply old new of plain shows;
       count = tt;
       durable = tt;

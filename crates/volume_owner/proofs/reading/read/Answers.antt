@@ -1,13 +1,15 @@
-use Rattle.std.proofs.Common.{arith, ◌≡◌, ℕ, ◌/◌, Bool, true, false, [], length, sym, ◌∙◌, ap, subst, Err}
+use Rattle.std.proofs.Common.{arith, ◌≡◌, ℕ, ◌/◌, Bool, true, false, [], length, refl, sym, ◌∙◌, ap, subst, Err}
 use Rattle.lsvd_base.specs.Limits.{may_transfer}
 use Rattle.lsvd_fault.specs.Faults.{Counts}
 use Rattle.lsvd_objstore.specs.Store.{StoreState}
 use Rattle.read_plan.specs.Plan.{PlanState}
+use Rattle.vol_core.specs.declared.event.Event.TheVariants as asks
 use Rattle.vol_core.specs.Volume.{SteppedVolume}
 use Rattle.volume_owner.specs.Owner.{most_of_call}
 use Rattle.volume_owner.specs.Errors.{is_eio}
 use Rattle.volume_owner.specs.declared.error.OwnerError.{OwnerError}
 use Rattle.volume_owner.specs.declared.error.OwnerError.TheVariants as errors
+use Rattle.volume_owner.proofs.ActLemmas.{step_act}
 use Rattle.volume_owner.proofs.StepLemmas.{makes_fewer}
 use Rattle.volume_owner.proofs.CallLemmas.{call_ends_none, disk_call, read_call, handed_on}
 use Rattle.volume_owner.proofs.ReadLemmas.{planned_reply, no_plan, look_makes, look_faults, look_shown, not_looked_idle}
@@ -30,8 +32,9 @@ returns-in_err-plan-clause-call g c =
     let first : StoreState = g.S.Store.state c.args.store.now in
     let counts = subst (λ b. Counts b old.volume.log.commits.disk.faults mid.volume.log.commits.disk.faults) (sym none.1)
     of.step.faults in
-    call_ends_none most_of_call c.from_residual.result error old mid first first c.from_residual.ensures.1
-    (disk_call most_of_call [] (is_eio {T = ℕ} (Err error)) old mid first
+    call_ends_none state most_of_call c.from_residual.result error old mid first first c.from_residual.ensures.1
+    (disk_call state most_of_call [] (is_eio {T = ℕ} (Err error)) old mid first
+    (step_act state (asks.Look lba sectors) reply [] old mid first of tt tt refl)
     (makes_fewer 1 most_of_call [] old mid (omega arith) (look_makes state reply lba sectors old mid of)) counts)
 
 pub returns-in_err-plan-clause-idle : goal.returns-in_err-plan-clause-idle
@@ -88,14 +91,16 @@ returns-in_err-fetched-clause-call g c =
     let first : StoreState = g.S.Store.state c.args.store.now in
     let second : StoreState = g.S.Store.state c.fetch-fetched.new.store in
     let shown = look_shown state reply lba sectors old mid of plan plain shows planned in
-    let call = λ (failed : Bool) (counts : Counts failed first.faults second.faults). read_call most_of_call failed old mid last
-    first second (omega arith)
+    let call = λ (failed : Bool) (counts : Counts failed first.faults second.faults). read_call state most_of_call failed
+    old mid last first second (omega arith)
+    (step_act state (asks.Look lba sectors) reply [] old mid first of tt tt refl)
+    (step_act state (asks.Release plan) c.step-2.result [] mid last second given tt tt refl)
     (look_makes state reply lba sectors old mid of) (release_makes state reply lba sectors old mid of plan c.step-2.result
     last given)
     (look_faults state reply lba sectors old mid of plan planned)
     (release_faults state reply lba sectors old mid of plan c.step-2.result last given shown.0 shown.1)
     c.fetch-fetched.ensures.unchanged counts in
-    call_ends_none most_of_call c.from_residual-in_err-fetched.result errors.Eio old last first second
+    call_ends_none state most_of_call c.from_residual-in_err-fetched.result errors.Eio old last first second
     c.from_residual-in_err-fetched.ensures.1
     (call true c.in_err-fetched.ensures.count)
 
@@ -151,8 +156,10 @@ returns-clause-call g c =
     let first : StoreState = g.S.Store.state c.args.store.now in
     let second : StoreState = g.S.Store.state c.fetch-fetched.new.store in
     let shown = look_shown state reply lba sectors old mid of plan plain shows planned in
-    let call = λ (failed : Bool) (counts : Counts failed first.faults second.faults). read_call most_of_call failed old mid last
-    first second (omega arith)
+    let call = λ (failed : Bool) (counts : Counts failed first.faults second.faults). read_call state most_of_call failed
+    old mid last first second (omega arith)
+    (step_act state (asks.Look lba sectors) reply [] old mid first of tt tt refl)
+    (step_act state (asks.Release plan) c.step-2.result [] mid last second given tt tt refl)
     (look_makes state reply lba sectors old mid of) (release_makes state reply lba sectors old mid of plan c.step-2.result
     last given)
     (look_faults state reply lba sectors old mid of plan planned)
