@@ -1,6 +1,6 @@
 -- For `begin_epoch`: what a put of an epoch that failed leaves.
-use Rattle.std.proofs.Common.{◌≡◌, ℕ, false, refl, sym, ap, subst, inl, inr, List}
-use Rattle.std.specs.Prelude.{Option, Some, None, IfSome, Result, Ok, Err, IsErrOf}
+use Rattle.std.proofs.Common.{◌≡◌, ℕ, false, refl, sym, subst, inl, inr, List}
+use Rattle.std.specs.Prelude.{Option, Some, None, IfSome}
 use Rattle.lsvd_base.specs.declared.geometry.Geometry.{Geometry}
 use Rattle.lsvd_fault.specs.Faults.{Counts}
 use Rattle.lsvd_objstore.specs.Objects.{Objects}
@@ -14,8 +14,7 @@ use Rattle.super_recovery.specs.declared.error.SuperError.TheVariants as supers
 use Rattle.super_recovery.specs.Faults.{IsNoAnswer, is_store_fault}
 use Rattle.super_recovery.specs.Put.{PutsEpoch, MayBecome}
 use Rattle.vol_mount.specs.Epochs.{BeginsEpoch, MayBeginEpoch}
-use Rattle.vol_mount.specs.Refusals.{of_super, is_device_fault, is_store_fault_of}
-use Rattle.vol_mount.specs.Steps.{IsFault}
+use Rattle.vol_mount.specs.Refusals.{of_super, IsFault, is_device_fault, is_store_fault_of}
 use Rattle.vol_mount.proofs.StoreLemmas.{all_removed, may_leave_less}
 
 pub put_faults : (error : SuperError) → IsNoAnswer error → IsFault (of_super error)

@@ -19,7 +19,7 @@ use Rattle.commit_slot.proofs.Passing.{passes_on}
 use Rattle.cache_log.specs.declared.row.Row.{Row}
 use Rattle.cache_log.specs.Rows.{log_start, position_of}
 use Rattle.cache_log.specs.Log.{LogState, AreRowsOf, IsTrimmed}
-use Rattle.cache_log.specs.Opening.{AreRowsInRange, entry_count}
+use Rattle.cache_log.specs.Opening.{AreRecordsInRange, AreRowsInRange, entry_count}
 use Rattle.upload_window.specs.Window.{WindowState}
 use Rattle.obj_log.specs.State.{ObjLogState}
 use Rattle.stopped_volume.specs.Device.{CacheOwner}
@@ -47,9 +47,11 @@ use Rattle.vol_core.specs.Step.{passing}
 use Rattle.vol_mount.specs.Costs.{again_cost, CostsMount}
 use Rattle.vol_mount.specs.Mounted.{IsOfVolume, NumbersNextCommit}
 use Rattle.vol_mount.specs.Mounting.{IsLeft, MountsLeft, KeepsLeft}
+use Rattle.vol_mount.specs.Refusals.{HasExtent, IsOwnCommit}
+use Rattle.vol_mount.specs.Passing.{PassesLeft}
 use Rattle.vol_mount.specs.Steps.{IsRecovered, IsRecoveredFrom, IsOpenedOf, IsCompleted, LeavesFrom, mounted_of}
-use Rattle.vol_mount.proofs.Moments.{now_as}
-use Rattle.vol_mount.proofs.RecoveryLemmas.{IsListOf, list_of}
+use Rattle.vol_mount.proofs.Moments.{now_as, now_with}
+use Rattle.vol_mount.proofs.RecoveryLemmas.{IsListOf, list_of, good_up_to}
 use Rattle.vol_mount.proofs.CostLemmas.{costs_again}
 use Rattle.vol_mount.proofs.ShownLemmas.{shown}
 use Rattle.vol_mount.proofs.AddLemmas.{HasAdded, has_added, entry_in_range, a_row}
@@ -166,6 +168,43 @@ module _ (uuid : List ℕ) (geometry : Geometry) (epoch : ℕ) (list : ObjLogSta
 
   pub completing_keeps : (new : DiskState) → LeavesFrom end log new → KeepsLeft uuid geometry epoch told old new
   completing_keeps new leaves = λ plain found number left synced. keeps_left plain found number left new leaves
+
+-- ---- the tests
+
+-- store and device passed all, where the log was opened
+pub passes_left : (uuid : List ℕ) (geometry : Geometry) (epoch : ℕ) (list : ObjLogState) (checkpoint greatest : ℕ)
+    (told : Option Objects) (old : DiskState) (log : LogState)
+    → IsRecovered uuid geometry list checkpoint → IfSome told (λ o. IsRecoveredFrom uuid geometry o list checkpoint)
+    → HasExtent uuid geometry told greatest list.uploads.queue.end → list.uploads.window.last ≤ greatest
+    → (epoch < max_number) × (greatest < max_number)
+    → (opened : IsOpenedOf uuid geometry epoch list.uploads.queue.end old log)
+    → PassesLeft uuid geometry epoch told old list.uploads.window.last
+    (max list.uploads.queue.end opened.commits.body.head.seq)
+passes_left uuid geometry epoch list checkpoint greatest told old log is from extent less low opened =
+    let end : ℕ = list.uploads.queue.end in
+    let entries : ℕ = max end opened.commits.body.head.seq in
+    let most = low.1 in
+    let P : ℕ → CommitBody → Type 0 = λ n b. IsOwnCommit uuid epoch end b × (n < max_number) × (entries ≡ max end b.head.seq) in
+    record {
+      good = good_up_to uuid geometry told list checkpoint (omega (arith, less, most)) is from;
+      greatest = greatest;
+      end = end;
+      extent = extent;
+      low = (low.0, (low.1, (opened.up_to.count, tt)));
+      device =
+          now_with (λ now. Reads geometry.log now.bytes opened.commits.body opened.commits.number)
+          (λ now. AreRecordsInRange geometry opened.commits.body log.rows now.bytes)
+          (λ now. (n : ℕ) × (b : CommitBody) × Reads geometry.log now.bytes b n × P n b
+          × ((rows : List Row) × AreRecordsInRange geometry b rows now.bytes)) old.moments
+          (λ now reads are. (
+            opened.commits.number,
+            opened.commits.body,
+            reads,
+            ((opened.is_of, opened.up_to.tail), opened.up_to.number, refl),
+            (log.rows, are),
+          ))
+          opened.read opened.records;
+    }
 
 -- ---- its calls
 
@@ -293,6 +332,14 @@ module _ (uuid : List ℕ) (geometry : Geometry) (epoch : ℕ) (list : ObjLogSta
         objects = omega (arith, window, last);
         commits = omega (arith, number, young);
       }
+
+  -- its history has the entries of the objects, or those up to the head of the commit, if that are more
+  pub history_is : objects.batch.first + length objects.batch.entries ≡ max end_is opened.commits.body.head.seq
+  history_is =
+      let first = added.first ∙ is.list.first in
+      let entries = ap length (added.entries_are ∙ ap (λ l. l ++ done.entries) is.list.entries) in
+      let whole = count_is in
+      omega (arith, first, entries, whole)
 
   pub kept_of_volume : IsOfVolume uuid geometry epoch (mounted_of objects new checkpoint)
   kept_of_volume =

@@ -14,7 +14,7 @@ use Rattle.cache_log.specs.declared.row.Row.{Row}
 use Rattle.cache_log.specs.Rows.{log_start}
 use Rattle.cache_log.specs.Opening.{AreRecordsInRange, IsBadRecord}
 use Rattle.obj_log.specs.State.{ObjLogState}
-use Rattle.stopped_volume.specs.Device.{CacheOwner}
+use Rattle.stopped_volume.specs.Device.{CacheOwner, owner_of}
 use Rattle.plain_disk.specs.declared.log.PlainCommit.{PlainCommit}
 use Rattle.plain_disk.specs.State.{PlainState}
 use Rattle.mount_meaning.specs.Found.{HasObjects}
@@ -23,9 +23,10 @@ use Rattle.vol_mount.specs.declared.error.MountError.TheVariants.{NoVolume, BadS
 use Rattle.vol_mount.specs.declared.error.MountError.TheVariants.{NotData, NoSlot, WrongVolume, StaleCache, BadRecord, Worn}
 use Rattle.vol_mount.specs.declared.error.MountError.TheVariants.{StoreFault, DeviceFault, OutOfMemory}
 use Rattle.vol_mount.specs.Mounting.{IsLeft, KeepsLeft, RefusesNoneStored, RefusesNoneLeft}
-use Rattle.vol_mount.specs.Refusals.{IsWhyNotStored, IsWhyNotLeft, ReadsAs, IsBadLeftLog, HasExtent, refuses, is_store_fault_of}
-use Rattle.vol_mount.specs.Steps.{IsRecovered, IsRecoveredFrom, IsFault, IsWhyNotOpened}
-use Rattle.vol_mount.proofs.RecoveryLemmas.{list_of, why_faulted, faults_refuse_none}
+use Rattle.vol_mount.specs.Refusals.{ReadsAs, IsBadLeftLog, IsOwnCommit, IsWhyNotOpened, IsFault, refuses, is_store_fault_of}
+use Rattle.vol_mount.specs.Leaving.{MayLeaveDevice, LeavesDevice}
+use Rattle.vol_mount.specs.Steps.{IsRecovered, IsRecoveredFrom}
+use Rattle.vol_mount.proofs.RecoveryLemmas.{list_of, faults_refuse_none}
 use Rattle.vol_mount.proofs.FoundLemmas.{reads_one, at_newest, newest, settled_slots, has_commit, load_keeps}
 
 -- ---- the list was not recovered
@@ -35,25 +36,6 @@ pub keeps_same : (uuid : List ℕ) (geometry : Geometry) (epoch : ℕ) (told : O
     → KeepsLeft uuid geometry epoch told old old
 keeps_same uuid geometry epoch told old = λ plain found number left synced. record { since = []; moments = refl; each = tt }
 
--- why it is not mounted without the cache, either
-pub why_left_too : (error : MountError) (uuid : List ℕ) (geometry : Geometry) (epoch : ℕ) (told : Option Objects)
-    (old : DiskState)
-    → IsWhyNotStored uuid geometry told error → IsWhyNotLeft uuid geometry epoch told old error
-why_left_too NoVolume uuid geometry epoch told old why = absurd why
-why_left_too (BadSuper reason) uuid geometry epoch told old why = absurd why
-why_left_too (HasAncestors count) uuid geometry epoch told old why = absurd why
-why_left_too NoCheckpoint uuid geometry epoch told old why = why
-why_left_too (BadObject number reason) uuid geometry epoch told old why = why
-why_left_too (NotData number) uuid geometry epoch told old why = why
-why_left_too (NoSlot log) uuid geometry epoch told old why = absurd why
-why_left_too (WrongVolume found) uuid geometry epoch told old why = absurd why
-why_left_too (StaleCache cache store) uuid geometry epoch told old why = absurd why
-why_left_too (BadRecord seq reason) uuid geometry epoch told old why = absurd why
-why_left_too (Worn value) uuid geometry epoch told old why = absurd why
-why_left_too StoreFault uuid geometry epoch told old why = tt
-why_left_too DeviceFault uuid geometry epoch told old why = tt
-why_left_too OutOfMemory uuid geometry epoch told old why = tt
-
 pub refuses_none_too : (uuid : List ℕ) (geometry : Geometry) (epoch : ℕ) (told : Option Objects) (old : DiskState)
     (error : MountError)
     → RefusesNoneStored uuid geometry told error → RefusesNoneLeft uuid geometry epoch told old error
@@ -61,11 +43,23 @@ refuses_none_too uuid geometry epoch told old error none = λ plain found number
 
 -- ---- a call failed
 
-pub why_left_faulted : (error : MountError) (uuid : List ℕ) (geometry : Geometry) (epoch : ℕ) (told : Option Objects)
-    (old : DiskState) → IsFault error
-    → IsWhyNotLeft uuid geometry epoch told old error
-why_left_faulted error uuid geometry epoch told old fault =
-    why_left_too error uuid geometry epoch told old (why_faulted error uuid geometry told fault)
+-- the device may be left so after all tests were passed
+pub device_faulted : (Passes : Type 0) (geometry : Geometry) (error : MountError) (old new : DiskState) → IsFault error → Passes
+    → LeavesDevice Passes geometry error old new
+device_faulted Passes geometry NoVolume old new fault passes = absurd fault
+device_faulted Passes geometry (BadSuper reason) old new fault passes = absurd fault
+device_faulted Passes geometry (HasAncestors count) old new fault passes = absurd fault
+device_faulted Passes geometry NoCheckpoint old new fault passes = absurd fault
+device_faulted Passes geometry (BadObject number reason) old new fault passes = absurd fault
+device_faulted Passes geometry (NotData number) old new fault passes = absurd fault
+device_faulted Passes geometry (NoSlot log) old new fault passes = absurd fault
+device_faulted Passes geometry (WrongVolume found) old new fault passes = absurd fault
+device_faulted Passes geometry (StaleCache cache store) old new fault passes = absurd fault
+device_faulted Passes geometry (BadRecord seq reason) old new fault passes = absurd fault
+device_faulted Passes geometry (Worn value) old new fault passes = absurd fault
+device_faulted Passes geometry StoreFault old new fault passes = inr passes
+device_faulted Passes geometry DeviceFault old new fault passes = inr (inr passes)
+device_faulted Passes geometry OutOfMemory old new fault passes = inr (inr passes)
 
 pub faults_refuse_no_left : (error : MountError) (uuid : List ℕ) (geometry : Geometry) (epoch : ℕ) (told : Option Objects)
     (old : DiskState) → IsFault error
@@ -93,29 +87,29 @@ opens_without_store StoreFault uuid geometry epoch end greatest old why = absurd
 opens_without_store DeviceFault uuid geometry epoch end greatest old why = refl
 opens_without_store OutOfMemory uuid geometry epoch end greatest old why = refl
 
-pub why_left_opened : (error : MountError) (uuid : List ℕ) (geometry : Geometry) (epoch : ℕ) (told : Option Objects)
-    (list : ObjLogState)
-    (greatest : ℕ) (old : DiskState)
-    → HasExtent uuid geometry told greatest list.uploads.queue.end
-    → IsWhyNotOpened uuid geometry epoch list.uploads.queue.end greatest old error
-    → IsWhyNotLeft uuid geometry epoch told old error
-why_left_opened NoVolume uuid geometry epoch told list greatest old extent why = absurd why
-why_left_opened (BadSuper reason) uuid geometry epoch told list greatest old extent why = absurd why
-why_left_opened (HasAncestors count) uuid geometry epoch told list greatest old extent why = absurd why
-why_left_opened NoCheckpoint uuid geometry epoch told list greatest old extent why = absurd why
-why_left_opened (BadObject number reason) uuid geometry epoch told list greatest old extent why = absurd why
-why_left_opened (NotData number) uuid geometry epoch told list greatest old extent why = absurd why
-why_left_opened (NoSlot log) uuid geometry epoch told list greatest old extent why = why
-why_left_opened (WrongVolume found) uuid geometry epoch told list greatest old extent why = why
-why_left_opened (StaleCache cache store) uuid geometry epoch told list greatest old extent why = why
-why_left_opened (BadRecord seq reason) uuid geometry epoch told list greatest old extent (inl bad) = inl bad
-why_left_opened (BadRecord seq reason) uuid geometry epoch told list greatest old extent (inr past) =
-    inr (past.1, past.2, (greatest, subst (λ end. HasExtent uuid geometry told greatest end) (sym past.0) extent))
-why_left_opened (Worn value) uuid geometry epoch told list greatest old extent why =
-    (greatest, list.uploads.queue.end, why, extent)
-why_left_opened StoreFault uuid geometry epoch told list greatest old extent why = absurd why
-why_left_opened DeviceFault uuid geometry epoch told list greatest old extent why = tt
-why_left_opened OutOfMemory uuid geometry epoch told list greatest old extent why = tt
+-- and the device was left so before all tests were passed
+device_too : (Passes : Type 0) (geometry : Geometry) (error : MountError) (old new : DiskState)
+    → MayLeaveDevice ⊥ geometry error old new → MayLeaveDevice Passes geometry error old new
+device_too Passes geometry NoVolume old new leaves = absurd leaves
+device_too Passes geometry (BadSuper reason) old new leaves = absurd leaves
+device_too Passes geometry (HasAncestors count) old new leaves = absurd leaves
+device_too Passes geometry NoCheckpoint old new leaves = absurd leaves
+device_too Passes geometry (BadObject number reason) old new leaves = absurd leaves
+device_too Passes geometry (NotData number) old new leaves = absurd leaves
+device_too Passes geometry (NoSlot log) old new leaves = leaves
+device_too Passes geometry (WrongVolume found) old new leaves = leaves
+device_too Passes geometry (StaleCache cache store) old new leaves = leaves
+device_too Passes geometry (BadRecord seq reason) old new leaves = leaves
+device_too Passes geometry (Worn value) old new leaves = leaves
+device_too Passes geometry StoreFault old new leaves = absurd leaves
+device_too Passes geometry DeviceFault old new (inl loaded) = inl loaded
+device_too Passes geometry DeviceFault old new (inr passes) = absurd passes
+device_too Passes geometry OutOfMemory old new (inl keeps) = inl keeps
+device_too Passes geometry OutOfMemory old new (inr passes) = absurd passes
+
+pub device_opened : (Passes : Type 0) (geometry : Geometry) (error : MountError) (old new : DiskState)
+    → MayLeaveDevice ⊥ geometry error old new → LeavesDevice Passes geometry error old new
+device_opened Passes geometry error old new leaves = inr (device_too Passes geometry error old new leaves)
 
 has_objects : (uuid : List ℕ) (plain : PlainState) (number : ℕ) (told : Option Objects)
     → IsSomeAnd told (HasObjects uuid plain number)
@@ -155,32 +149,35 @@ module _ (uuid : List ℕ) (geometry : Geometry) (epoch : ℕ) (told : Option Ob
           at_newest (λ now. ReadsNone geometry.log now.bytes) old.moments at.now at.past at.moments_are none slots.reads.slot _ _
           slots.reads.is_open
 
-      has_records : (seq : ℕ) (reason : Reason) → IsBadLeftLog geometry old seq reason → ⊥
-      has_records seq reason bad =
+      has_records : (P : ℕ → CommitBody → Type 0) (seq : ℕ) (reason : Reason) → IsBadLeftLog geometry P old seq reason → ⊥
+      has_records P seq reason bad =
           let has = has_commit uuid geometry epoch plain found number told old size sectors is_disk left in
           let at = newest uuid geometry epoch plain found number told old size sectors is_disk left in
           let here =
-          at_newest (λ now. (n : ℕ) × (b : CommitBody) × Reads geometry.log now.bytes b n
+          at_newest (λ now. (n : ℕ) × (b : CommitBody) × Reads geometry.log now.bytes b n × P n b
           × IsBadRecord geometry b seq reason now.bytes
           × ((rows : List Row) → AreRecordsInRange geometry b rows now.bytes → ⊥)) old.moments at.now at.past
           at.moments_are bad in
           let one =
           reads_one geometry.log at.now.bytes has.number here.0 has.body here.1
           (settled_slots uuid geometry epoch plain found number told old size sectors is_disk left).reads here.2 in
-          here.4 has.rows
+          here.5 has.rows
           (subst (λ b. AreRecordsInRange geometry b has.rows at.now.bytes) one.1
           (subst (λ g. AreRecordsInRange g has.body has.rows at.now.bytes) left.stored.geometry_is has.records))
 
       module _ (limits : IsTrue (is_within_limits geometry)) (list : ObjLogState) (checkpoint : ℕ)
           (is : IsRecovered uuid geometry list checkpoint)
           (from : IfSome told (λ o. IsRecoveredFrom uuid geometry o list checkpoint)) where
-        begins_before : (seq : ℕ) → seq ≡ list.uploads.queue.end → ReadsAs geometry (λ n b. seq < b.tail.seq) old → ⊥
-        begins_before seq same reads =
-            let past = reads_as_left (λ n b. seq < b.tail.seq) reads in
+        abbrev Past : ℕ → CommitBody → Type 0
+        Past n b = (owner_of b ≡ record { uuid = uuid; epoch = epoch }) × (list.uploads.queue.end < b.tail.seq)
+
+        begins_before : ReadsAs geometry Past old → ⊥
+        begins_before reads =
+            let past = (reads_as_left Past reads).1 in
             let has = has_commit uuid geometry epoch plain found number told old size sectors is_disk left in
             let tail = has.tail in
             let end = (list_of uuid geometry plain number told list checkpoint limits is from left.stored).1.end_is in
-            absurd (omega (arith, past, tail, end, same))
+            absurd (omega (arith, past, tail, end))
 
         refuses_not : (error : MountError) (greatest : ℕ) → IsWhyNotOpened uuid geometry epoch list.uploads.queue.end
             greatest old error
@@ -200,8 +197,9 @@ module _ (uuid : List ℕ) (geometry : Geometry) (epoch : ℕ) (told : Option Ob
             let stale = reads_as_left (λ n b. (b.uuid ≡ uuid) × (b.epoch ≡ cache)) why.2 in
             let has = has_commit uuid geometry epoch plain found number told old size sectors is_disk left in
             absurd (why.1 (sym stale.1 ∙ ap (λ (owner : CacheOwner). owner.epoch) has.is_of))
-        refuses_not (BadRecord seq reason) greatest (inl bad) = absurd (has_records seq reason bad)
-        refuses_not (BadRecord seq reason) greatest (inr past) = absurd (begins_before seq past.0 past.2)
+        refuses_not (BadRecord seq reason) greatest (inl past) = absurd (begins_before past.2)
+        refuses_not (BadRecord seq reason) greatest (inr bad) =
+            absurd (has_records (λ n b. IsOwnCommit uuid epoch list.uploads.queue.end b) seq reason bad)
         refuses_not (Worn value) greatest why = refl
         refuses_not StoreFault greatest why = refl
         refuses_not DeviceFault greatest why = refl

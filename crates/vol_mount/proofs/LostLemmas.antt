@@ -1,5 +1,5 @@
 -- For `mount_without_cache`: what is shown of a list that was recovered and a log that was just formatted.
-use Rattle.std.proofs.Common.{◌≡◌, ℕ, ◌<◌, ◌≤◌, List, [], ◌∷◌, length, refl, sym, ◌∙◌, ap, subst, arith}
+use Rattle.std.proofs.Common.{◌≡◌, ℕ, ◌+◌, ◌<◌, ◌≤◌, List, [], ◌∷◌, length, refl, sym, ◌∙◌, ap, subst, arith}
 use Rattle.std.specs.Prelude.{Option, IfSome, IsTrue}
 use Rattle.std.proofs.lemmas.Bool.Decides.{nat_tests}
 use Rattle.std.proofs.lemmas.List.{append-nil}
@@ -118,15 +118,18 @@ module _ (uuid : List ℕ) (geometry : Geometry) (epoch : ℕ) (list : ObjLogSta
         plans = refl;
       }
 
+  -- its history has the entries of the objects
+  pub history_is : list.batch.first + length list.batch.entries ≡ end
+  history_is = (let first = is.list.first in let none = ap length is.list.entries in omega (arith, first, none))
+
   pub mounts_stored : (objects : Option Objects) → IfSome objects (λ o. IsRecoveredFrom uuid geometry o list checkpoint)
       → MountsStored uuid geometry objects (mounted_of list log checkpoint)
   mounts_stored objects from = λ plain number stored.
       let of = (list_of uuid geometry plain number objects list checkpoint limits is from stored).1 in
-      let first = is.list.first in
-      let none = ap length is.list.entries in
+      let whole = history_is in
       let history = of.at_rest.history in
       record {
         shows = lost_shows (mounted_without number plain) of.at_rest of.shows;
-        entries = omega (arith, first, none, history);
+        entries = omega (arith, whole, history);
         number_is = of.number_is;
       }

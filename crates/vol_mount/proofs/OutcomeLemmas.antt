@@ -4,9 +4,7 @@ use Rattle.std.specs.Prelude.{not}
 use Rattle.cache_log.specs.declared.error.ReadError.{ReadError}
 use Rattle.cache_log.specs.declared.error.ReadError.TheVariants as read_errors
 use Rattle.cache_log.specs.Reads.{reads_without_fault}
-use Rattle.vol_mount.specs.declared.error.MountError.{MountError}
-use Rattle.vol_mount.specs.Refusals.{of_read, is_device_fault, is_store_fault_of}
-use Rattle.vol_mount.specs.Steps.{IsFault}
+use Rattle.vol_mount.specs.Refusals.{of_read, IsFault, is_device_fault, is_store_fault_of}
 
 pub read_faults : (error : ReadError) → IsFault (of_read error)
 read_faults read_errors.DeviceFault = tt

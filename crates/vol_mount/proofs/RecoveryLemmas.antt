@@ -14,7 +14,7 @@ use Rattle.object_recovery.specs.Faults.{is_store_fault, IsNoAnswer}
 use Rattle.object_recovery.specs.Checkpoints.{expected_of, IsNewestWithEnd, IsNoCheckpoint}
 use Rattle.object_recovery.specs.Judging.{HaveLanded}
 use Rattle.object_recovery.specs.Recovery.{HasDataUpTo, IsListUpTo, IsNoLonger, HasRecovered, IsLastLanded, IsRecoveredOf}
-use Rattle.object_recovery.specs.Recovery.{IsRefusal, IsRefused}
+use Rattle.object_recovery.specs.Recovery.{IsRefusal, IsRefused, AreAllGood}
 use Rattle.object_recovery.proofs.RecoverLemmas.{base_is}
 use Rattle.mount_meaning.specs.Found.{HasObjects}
 use Rattle.mount_meaning.specs.Mounted.{end_of_object, mounted_without}
@@ -27,8 +27,10 @@ use Rattle.vol_mount.specs.declared.error.MountError.TheVariants.{NoVolume, BadS
 use Rattle.vol_mount.specs.declared.error.MountError.TheVariants.{NotData, NoSlot, WrongVolume, StaleCache, BadRecord, Worn}
 use Rattle.vol_mount.specs.declared.error.MountError.TheVariants.{StoreFault, DeviceFault, OutOfMemory}
 use Rattle.vol_mount.specs.Mounting.{IsStored, RefusesNoneStored}
-use Rattle.vol_mount.specs.Refusals.{of_recovery, IsWhyNotStored, IsWhyLost, refuses, is_device_fault, is_store_fault_of}
-use Rattle.vol_mount.specs.Steps.{IsRecovered, IsRecoveredFrom, IsFault}
+use Rattle.vol_mount.specs.Refusals.{of_recovery, IsWhyNotStored, IsWhyLost, HasGoodObjects, IsFault, refuses, is_device_fault}
+use Rattle.vol_mount.specs.Refusals.{is_store_fault_of}
+use Rattle.vol_mount.specs.Passing.{AreGoodUpTo}
+use Rattle.vol_mount.specs.Steps.{IsRecovered, IsRecoveredFrom}
 
 -- ---- the errors of a recovery
 
@@ -136,11 +138,18 @@ only_none_refuses uuid geometry (Some objects) checkpoint limits none newest = �
 pub recovered_from : (uuid : List ℕ) (geometry : Geometry) (objects : Option Objects) (log : ObjLogState) (checkpoint : ℕ)
     → IsToldNewest uuid geometry objects checkpoint → IfSome objects (λ o. HaveLanded o uuid checkpoint log.uploads.window.last)
     → IfSome objects (λ o. IsNoLonger (expected_of uuid geometry) o log.uploads.window.last)
+    → IfSome objects (λ o. AreAllGood (expected_of uuid geometry) o checkpoint)
     → IfSome objects (λ o. log.uploads.window.last + 1 < 2 ^ 64 - 1 → IsRecoveredOf (expected_of uuid geometry) o log)
     → IfSome objects (λ o. IsRecoveredFrom uuid geometry o log checkpoint)
-recovered_from uuid geometry None log checkpoint newest landed no_longer recovered = tt
-recovered_from uuid geometry (Some objects) log checkpoint newest landed no_longer recovered =
-    record { checkpoint_end = newest.0; newest = newest.1; landed = landed; no_longer = no_longer; recovered = recovered }
+recovered_from uuid geometry None log checkpoint newest landed no_longer good recovered = tt
+recovered_from uuid geometry (Some objects) log checkpoint newest landed no_longer good recovered = record {
+  checkpoint_end = newest.0;
+  newest = newest.1;
+  landed = landed;
+  no_longer = no_longer;
+  good = good;
+  recovered = recovered;
+}
 
 -- the list ends before the first missing number, where its numbers are low
 pub last_landed : (uuid : List ℕ) (geometry : Geometry) (objects : Option Objects) (log : ObjLogState) (checkpoint : ℕ)
@@ -148,6 +157,27 @@ pub last_landed : (uuid : List ℕ) (geometry : Geometry) (objects : Option Obje
     → IfSome objects (λ o. IsLastLanded (expected_of uuid geometry) o log.uploads.window.last)
 last_landed uuid geometry None log checkpoint low is = tt
 last_landed uuid geometry (Some objects) log checkpoint low is = (is.recovered (omega (arith, low))).last
+
+-- its objects are good
+pub good_objects : (uuid : List ℕ) (geometry : Geometry) (objects : Option Objects) (log : ObjLogState) (checkpoint : ℕ)
+    → IsRecovered uuid geometry log checkpoint → IfSome objects (λ o. IsRecoveredFrom uuid geometry o log checkpoint)
+    → HasGoodObjects uuid geometry objects
+good_objects uuid geometry None log checkpoint is from = tt
+good_objects uuid geometry (Some objects) log checkpoint is from = (checkpoint, is.numbered, from.good)
+
+pub good_up_to : (uuid : List ℕ) (geometry : Geometry) (objects : Option Objects) (log : ObjLogState) (checkpoint : ℕ)
+    → log.uploads.window.last < max_number → IsRecovered uuid geometry log checkpoint
+    → IfSome objects (λ o. IsRecoveredFrom uuid geometry o log checkpoint)
+    → IfSome objects (AreGoodUpTo uuid geometry log.uploads.window.last)
+good_up_to uuid geometry None log checkpoint low is from = tt
+good_up_to uuid geometry (Some objects) log checkpoint low is from = record {
+  base = checkpoint;
+  numbered = is.numbered;
+  from = is.from;
+  good = from.good;
+  landed = from.landed;
+  last = (from.recovered (omega (arith, low))).last;
+}
 
 -- what a list is of a plain volume that the store has
 pub record IsListOf (uuid : List ℕ) (geometry : Geometry) (plain : PlainState) (number : ℕ) (objects : Objects)

@@ -2,5 +2,8 @@ pub mod Mounted
 pub mod Mounting
 pub mod Epochs
 pub mod Refusals
+pub mod Passing
+pub mod Leaving
 pub mod Costs
+pub mod Mounts
 pub mod Steps

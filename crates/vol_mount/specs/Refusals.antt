@@ -20,14 +20,15 @@ use Rattle.cache_log.specs.declared.error.ReadError.{ReadError}
 use Rattle.cache_log.specs.declared.error.ReadError.TheVariants as read_errors
 use Rattle.object_stream.specs.Stream.{Stream, end_at}
 use Rattle.stopped_volume.specs.Objects.{landed_in}
+use Rattle.stopped_volume.specs.Device.{owner_of}
 use Rattle.super_recovery.specs.declared.error.SuperError.{SuperError}
 use Rattle.super_recovery.specs.declared.error.SuperError.TheVariants as supers
 use Rattle.object_recovery.specs.declared.error.RecoverError.{RecoverError}
 use Rattle.object_recovery.specs.declared.error.RecoverError.TheVariants as recovery
 use Rattle.object_recovery.specs.Checkpoints.{expected_of, IsNoCheckpoint}
-use Rattle.object_recovery.specs.Recovery.{HasDataUpTo, IsPastOf, IsRefused}
+use Rattle.object_recovery.specs.Recovery.{HasDataUpTo, IsPastOf, IsRefused, AreAllGood}
 use Rattle.vol_mount.specs.declared.error.MountError.{MountError}
-use Rattle.vol_mount.specs.declared.error.MountError.TheVariants.{NoVolume, BadSuper, HasAncestors, NoCheckpoint, BadObject}
+use Rattle.vol_mount.specs.declared.error.MountError.TheVariants.{NoVolume, BadSuper, NoCheckpoint, BadObject}
 use Rattle.vol_mount.specs.declared.error.MountError.TheVariants.{NotData, NoSlot, WrongVolume, StaleCache, BadRecord, Worn}
 use Rattle.vol_mount.specs.declared.error.MountError.TheVariants.{StoreFault, DeviceFault, OutOfMemory}
 
@@ -59,6 +60,14 @@ of_super (supers.BadSuper reason) = BadSuper reason
 of_super supers.StoreFault = StoreFault
 of_super supers.OutOfMemory = OutOfMemory
 
+-- ---- the objects
+
+-- The objects of a store are good: the store has a whole checkpoint of the volume, and each object past the newest one is of the
+-- grammar and, up to the first missing number, goes on where the one before it ends.
+abbrev pub HasGoodObjects : (uuid : List ℕ) → Geometry → Option Objects → Type 0
+HasGoodObjects uuid geometry objects =
+    IfSome objects (λ objects. (base : ℕ) × (0 < base) × AreAllGood (expected_of uuid geometry) objects base)
+
 -- ---- the device
 
 -- a device reads as a commit with P
@@ -66,12 +75,23 @@ abbrev pub ReadsAs : Geometry → (ℕ → CommitBody → Type 0) → DiskState 
 ReadsAs geometry P disk = HoldsNow (λ now. (number : ℕ) × (body : CommitBody) × Reads geometry.log now.bytes body number
     × P number body) disk.moments
 
--- the device reads as a commit whose log has no list of records up to the head, and the first bad record is this one
-abbrev pub IsBadLeftLog : Geometry → DiskState → (seq : ℕ) → Reason → Type 0
-IsBadLeftLog geometry disk seq reason =
-    HoldsNow (λ now. (number : ℕ) × (body : CommitBody) × Reads geometry.log now.bytes body number
+-- and its log has the records of that commit up to the head
+abbrev pub ReadsWhole : Geometry → (ℕ → CommitBody → Type 0) → DiskState → Type 0
+ReadsWhole geometry P disk =
+    HoldsNow (λ now. (number : ℕ) × (body : CommitBody) × Reads geometry.log now.bytes body number × P number body
+    × ((rows : List Row) × AreRecordsInRange geometry body rows now.bytes))
+    disk.moments
+
+-- or it has no list of them up to the head, and the first bad record is this one
+abbrev pub IsBadLeftLog : Geometry → (ℕ → CommitBody → Type 0) → DiskState → (seq : ℕ) → Reason → Type 0
+IsBadLeftLog geometry P disk seq reason =
+    HoldsNow (λ now. (number : ℕ) × (body : CommitBody) × Reads geometry.log now.bytes body number × P number body
     × IsBadRecord geometry body seq reason now.bytes × ((rows : List Row) → AreRecordsInRange geometry body rows now.bytes → ⊥))
     disk.moments
+
+-- a commit is of a volume in an epoch, and its tail is not past an end
+abbrev pub IsOwnCommit : (uuid : List ℕ) → (epoch end : ℕ) → CommitBody → Type 0
+IsOwnCommit uuid epoch end body = (owner_of body ≡ record { uuid = uuid; epoch = epoch }) × (body.tail.seq ≤ end)
 
 -- ---- numbers that are too great
 
@@ -91,29 +111,12 @@ pub record IsExtent (uuid : List ℕ) (geometry : Geometry) (objects : Objects) 
 abbrev pub HasExtent : (uuid : List ℕ) → Geometry → Option Objects → (greatest end : ℕ) → Type 0
 HasExtent uuid geometry objects greatest end = IfSome objects (λ objects. IsExtent uuid geometry objects greatest end)
 
--- the first of these numbers is too great: the epoch, the greatest number of an object, and the count of entries in the objects
+-- The objects are good, but the first of these numbers is too great: the epoch, the greatest number of an object, and the count
+-- of entries in the objects.
 abbrev pub IsWornStored : (uuid : List ℕ) → Geometry → (epoch : ℕ) → Option Objects → (value : ℕ) → Type 0
 IsWornStored uuid geometry epoch objects value =
     (greatest : ℕ) × (end : ℕ) × IsFirstGreat (epoch ∷ greatest ∷ end ∷ []) value
-    × HasExtent uuid geometry objects greatest end
-
--- the first of these: the number of the commit that the device reads as, the epoch, the greatest number of an object, and the
--- count of all entries
-abbrev pub IsWornLeft : (uuid : List ℕ) → Geometry → (epoch : ℕ) → Option Objects → DiskState → (value : ℕ) → Type 0
-IsWornLeft uuid geometry epoch objects disk value =
-    (greatest : ℕ) × (end : ℕ)
-    × ReadsAs geometry (λ number body. IsFirstGreat (number ∷ epoch ∷ greatest ∷ max end body.head.seq ∷ []) value) disk
-    × HasExtent uuid geometry objects greatest end
-
--- ---- the log of a device
-
--- The log of the commit that the device reads as is bad so; or its tail is past the end of the objects, which is then the seq
--- that is told.
-abbrev pub IsBadLeft : (uuid : List ℕ) → Geometry → Option Objects → DiskState → (seq : ℕ) → Reason → Type 0
-IsBadLeft uuid geometry objects disk seq reason =
-    IsBadLeftLog geometry disk seq reason
-    ⊎ ((reason ≡ reasons.Seq) × ReadsAs geometry (λ number body. seq < body.tail.seq) disk
-    × ((greatest : ℕ) × HasExtent uuid geometry objects greatest seq))
+    × HasExtent uuid geometry objects greatest end × HasGoodObjects uuid geometry objects
 
 -- ---- the whole
 
@@ -130,27 +133,45 @@ IsWhyNotStored uuid geometry objects DeviceFault = Unit {0}
 IsWhyNotStored uuid geometry objects OutOfMemory = Unit {0}
 IsWhyNotStored uuid geometry objects error = ⊥
 
--- the log of a device is refused, whose sectors are told
-abbrev pub IsUnfitting : Geometry → MountError → Type 0
-IsUnfitting geometry (NoSlot log) = log ≡ geometry.log
-IsUnfitting geometry error = ⊥
+-- the objects are good, but the log of a device does not fit the volume, whose sectors are told
+abbrev pub IsUnfitting : (uuid : List ℕ) → Geometry → Option Objects → MountError → Type 0
+IsUnfitting uuid geometry objects (NoSlot log) = HasGoodObjects uuid geometry objects × (log ≡ geometry.log)
+IsUnfitting uuid geometry objects error = ⊥
 
 -- why a mount without the cache gives none
 abbrev pub IsWhyLost : (uuid : List ℕ) → Geometry → (epoch : ℕ) → Option Objects → MountError → Type 0
 IsWhyLost uuid geometry epoch objects (Worn value) = IsWornStored uuid geometry epoch objects value
 IsWhyLost uuid geometry epoch objects error = IsWhyNotStored uuid geometry objects error
 
--- why a mount with the cache gives none
-abbrev pub IsWhyNotLeft : (uuid : List ℕ) → Geometry → (epoch : ℕ) → Option Objects → DiskState → MountError → Type 0
-IsWhyNotLeft uuid geometry epoch objects disk (NoSlot log) = (log ≡ geometry.log)
-    × HoldsNow (λ now. ReadsNone geometry.log now.bytes) disk.moments
-IsWhyNotLeft uuid geometry epoch objects disk (WrongVolume found) =
+-- Why a device is refused, where the objects have this end, and no greater number than this. The tests before have passed, which
+-- are in this order: a slot is open; the commit that the device reads as is of this volume, and in this epoch; its tail is not
+-- past the end; the log has its records; and none of the numbers is too great: that of the commit, the epoch, the greatest number
+-- of an object, and the count of all entries.
+abbrev pub IsWhyNotOpened : (uuid : List ℕ) → Geometry → (epoch end greatest : ℕ) → DiskState → MountError → Type 0
+IsWhyNotOpened uuid geometry epoch end greatest disk (NoSlot log) =
+    (log ≡ geometry.log) × HoldsNow (λ now. ReadsNone geometry.log now.bytes) disk.moments
+IsWhyNotOpened uuid geometry epoch end greatest disk (WrongVolume found) =
     ReadsAs geometry (λ number body. (body.uuid ≡ found) × (found ≡ uuid → ⊥)) disk
-IsWhyNotLeft uuid geometry epoch objects disk (StaleCache cache store) =
+IsWhyNotOpened uuid geometry epoch end greatest disk (StaleCache cache store) =
     (store ≡ epoch) × (cache ≡ epoch → ⊥) × ReadsAs geometry (λ number body. (body.uuid ≡ uuid) × (body.epoch ≡ cache)) disk
-IsWhyNotLeft uuid geometry epoch objects disk (BadRecord seq reason) = IsBadLeft uuid geometry objects disk seq reason
-IsWhyNotLeft uuid geometry epoch objects disk (Worn value) = IsWornLeft uuid geometry epoch objects disk value
-IsWhyNotLeft uuid geometry epoch objects disk error = IsWhyNotStored uuid geometry objects error
+IsWhyNotOpened uuid geometry epoch end greatest disk (BadRecord seq reason) =
+    ((seq ≡ end) × (reason ≡ reasons.Seq)
+    × ReadsAs geometry (λ number body. (owner_of body ≡ record { uuid = uuid; epoch = epoch }) × (end < body.tail.seq)) disk)
+    ⊎ IsBadLeftLog geometry (λ number body. IsOwnCommit uuid epoch end body) disk seq reason
+IsWhyNotOpened uuid geometry epoch end greatest disk (Worn value) =
+    ReadsWhole geometry (λ number body. IsFirstGreat (number ∷ epoch ∷ greatest ∷ max end body.head.seq ∷ []) value
+    × IsOwnCommit uuid epoch end body) disk
+IsWhyNotOpened uuid geometry epoch end greatest disk DeviceFault = Unit {0}
+IsWhyNotOpened uuid geometry epoch end greatest disk OutOfMemory = Unit {0}
+IsWhyNotOpened uuid geometry epoch end greatest disk error = ⊥
+
+-- why a mount with the cache gives none: the objects are refused, or they are good and the device is refused
+abbrev pub IsWhyNotLeft : (uuid : List ℕ) → Geometry → (epoch : ℕ) → Option Objects → DiskState → MountError → Type 0
+IsWhyNotLeft uuid geometry epoch objects disk error =
+    IsWhyNotStored uuid geometry objects error
+    ⊎ (HasGoodObjects uuid geometry objects
+    × ((greatest : ℕ) × (end : ℕ) × HasExtent uuid geometry objects greatest end
+    × IsWhyNotOpened uuid geometry epoch end greatest disk error))
 
 -- the error refuses what device or store have
 abbrev pub refuses : MountError → Bool
@@ -159,6 +180,13 @@ refuses StoreFault = false
 refuses DeviceFault = false
 refuses OutOfMemory = false
 refuses error = true
+
+-- a call failed, or memory ran out
+abbrev pub IsFault : MountError → Type 0
+IsFault StoreFault = Unit {0}
+IsFault DeviceFault = Unit {0}
+IsFault OutOfMemory = Unit {0}
+IsFault error = ⊥
 
 -- a call of the device failed, or one of the store
 abbrev pub is_device_fault : MountError → Bool

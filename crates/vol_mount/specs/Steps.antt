@@ -1,37 +1,40 @@
 -- For this crate's own clauses: the steps of a mount.
-use Rattle.std.specs.Prelude.{◌≡◌, ℕ, ◌+◌, ◌-◌, ◌^◌, ◌<◌, ◌≤◌, ◌⊎◌, max, None, Bool, true, false, not, IfSome, Result, Ok, Err}
-use Rattle.std.specs.Prelude.{List, [], ◌∷◌, length}
+use Rattle.std.specs.Prelude.{◌≡◌, ℕ, ◌+◌, ◌-◌, ◌^◌, ◌<◌, ◌≤◌, max, Option, None, Bool, true, false, not, IfSome, Result, Ok, Err}
+use Rattle.std.specs.Prelude.{List, [], length}
 use Rattle.lsvd_base.specs.declared.entry.Entry.{Entry}
 use Rattle.lsvd_base.specs.declared.geometry.Geometry.{Geometry}
 use Rattle.lsvd_device.specs.Device.{DiskState, HoldsNow}
 use Rattle.lsvd_device.specs.Memory.{IsSynced}
 use Rattle.lsvd_objstore.specs.Objects.{Objects}
+use Rattle.lsvd_objstore.specs.Store.{Becomes}
 use Rattle.log_record.specs.declared.reason.Reason.TheVariants as reasons
 use Rattle.commit_body.specs.declared.body.CommitBody.{CommitBody}
 use Rattle.commit_body.specs.Body.{MayStand}
-use Rattle.commit_slot.specs.Slots.{Reads, ReadsNone}
+use Rattle.commit_slot.specs.Slots.{Reads}
 use Rattle.commit_slot.specs.Commits.{CommitsState, IsLastOr, IsMade}
 use Rattle.commit_slot.specs.Loading.{MakesAtMost, LeavesSettled}
 use Rattle.cache_log.specs.declared.row.Row.{Row}
 use Rattle.cache_log.specs.Rows.{AreNumbered}
 use Rattle.cache_log.specs.Log.{LogState, AreRowsOf, IsTrimmed}
-use Rattle.cache_log.specs.Opening.{IsOpenedLog, entry_count}
+use Rattle.cache_log.specs.Opening.{AreRecordsInRange, IsOpenedLog, entry_count}
 use Rattle.cache_log.specs.Committed.{body_of, HasSameList, IsReleased, LeavesEntriesSince}
 use Rattle.stopped_volume.specs.Device.{owner_of}
 use Rattle.obj_log.specs.State.{ObjLogState}
 use Rattle.object_recovery.specs.Checkpoints.{expected_of, IsNewestWithEnd}
 use Rattle.object_recovery.specs.Places.{HasPlacesInside}
 use Rattle.object_recovery.specs.Judging.{HaveLanded}
-use Rattle.object_recovery.specs.Recovery.{IsListUpTo, IsNoLonger, IsRecoveredOf}
+use Rattle.object_recovery.specs.Recovery.{IsListUpTo, IsNoLonger, IsRecoveredOf, AreAllGood}
 use Rattle.mount_meaning.specs.Mounted.{data_in, AddsEntries}
 use Rattle.vol_core.specs.Volume.{volume_of}
 use Rattle.vol_core.specs.Shows.{max_number}
 use Rattle.vol_mount.specs.declared.error.MountError.{MountError}
-use Rattle.vol_mount.specs.declared.error.MountError.TheVariants.{NoSlot, WrongVolume, StaleCache, BadRecord, Worn, StoreFault}
-use Rattle.vol_mount.specs.declared.error.MountError.TheVariants.{DeviceFault, OutOfMemory}
+use Rattle.vol_mount.specs.declared.error.MountError.TheVariants.{WrongVolume, StaleCache, BadRecord}
 use Rattle.vol_mount.specs.Mounted.{MountedState}
-use Rattle.vol_mount.specs.Costs.{open_cost}
-use Rattle.vol_mount.specs.Refusals.{ReadsAs, IsBadLeftLog, IsFirstGreat, is_device_fault, is_store_fault_of}
+use Rattle.vol_mount.specs.Mounting.{RefusesNoneStored}
+use Rattle.vol_mount.specs.Passing.{PassesStored}
+use Rattle.vol_mount.specs.Leaving.{MayLeaveDevice}
+use Rattle.vol_mount.specs.Costs.{open_cost, CostsMount}
+use Rattle.vol_mount.specs.Refusals.{IsWhyLost, IsWhyNotOpened, IsFault, is_device_fault, is_store_fault_of}
 
 -- ---- errors
 
@@ -44,13 +47,6 @@ ends_by_store (Err error) = is_store_fault_of error
 abbrev pub passes_device : {T : Type 0} → Result T MountError → Bool
 passes_device (Ok value) = true
 passes_device (Err error) = not (is_device_fault error)
-
--- a call failed, or memory ran out
-abbrev pub IsFault : MountError → Type 0
-IsFault StoreFault = Unit {0}
-IsFault DeviceFault = Unit {0}
-IsFault OutOfMemory = Unit {0}
-IsFault error = ⊥
 
 -- ---- the list
 
@@ -75,7 +71,25 @@ pub record IsRecoveredFrom (uuid : List ℕ) (geometry : Geometry) (objects : Ob
   pub newest : IsNewestWithEnd (expected_of uuid geometry) objects checkpoint checkpoint_end
   pub landed : HaveLanded objects uuid checkpoint log.uploads.window.last
   pub no_longer : IsNoLonger (expected_of uuid geometry) objects log.uploads.window.last
+  pub good : AreAllGood (expected_of uuid geometry) objects checkpoint
   pub recovered : log.uploads.window.last + 1 < 2 ^ 64 - 1 → IsRecoveredOf (expected_of uuid geometry) objects log
+
+-- The list for a mount without the cache was recovered; where bytes are told, the store passes the tests of that.
+pub record RecoversAlone (Tells : Type 0) (uuid : List ℕ) (geometry : Geometry) (epoch : ℕ) (objects : Option Objects)
+    (log : ObjLogState) (checkpoint : ℕ) : Type 0 where
+  pub list : IsRecovered uuid geometry log checkpoint
+  pub low : AreLow epoch log
+  pub told : Tells → IfSome objects (λ objects. IsRecoveredFrom uuid geometry objects log checkpoint)
+  pub passes : Tells → PassesStored uuid geometry epoch objects log.uploads.window.last log.uploads.queue.end
+
+-- or it was not, which leaves the store so
+pub record RefusesAlone (Tells : Type 0) (uuid : List ℕ) (geometry : Geometry) (epoch : ℕ) (Leaves : Objects → Objects → Type 0)
+    (old new : Option Objects) (error : MountError) : Type 0 where
+  pub why : Tells → IsWhyLost uuid geometry epoch old error
+  pub no_refusal : Tells → RefusesNoneStored uuid geometry old error
+  pub store : (IsFault error → ⊥) → new ≡ old
+  pub some : Becomes Leaves old new
+  pub no_fault : is_device_fault error ≡ false
 
 -- ---- the log
 
@@ -92,34 +106,27 @@ pub record IsOpenedUpTo (geometry : Geometry) (end : ℕ) (commits : CommitsStat
 pub record IsOpenedOf (uuid : List ℕ) (geometry : Geometry) (epoch end : ℕ) (old : DiskState) (log : LogState) : Type 0 where
   pub commits : CommitsState
   pub read : HoldsNow (λ now. Reads geometry.log now.bytes commits.body commits.number) old.moments
+  pub records : HoldsNow (λ now. AreRecordsInRange geometry commits.body log.rows now.bytes) old.moments
   pub is_of : owner_of commits.body ≡ record { uuid = uuid; epoch = epoch }
   pub up_to : IsOpenedUpTo geometry end commits log
   pub settled : LeavesSettled old log.commits.disk
   pub calls : MakesAtMost (open_cost (entry_count commits.body)) true old log.commits.disk
 
--- why a log was not opened, where the objects have this end, and no greater number than this
-abbrev pub IsWhyNotOpened : (uuid : List ℕ) → Geometry → (epoch end greatest : ℕ) → DiskState → MountError → Type 0
-IsWhyNotOpened uuid geometry epoch end greatest old (NoSlot log) =
-    (log ≡ geometry.log) × HoldsNow (λ now. ReadsNone geometry.log now.bytes) old.moments
-IsWhyNotOpened uuid geometry epoch end greatest old (WrongVolume found) =
-    ReadsAs geometry (λ number body. (body.uuid ≡ found) × (found ≡ uuid → ⊥)) old
-IsWhyNotOpened uuid geometry epoch end greatest old (StaleCache cache store) =
-    (store ≡ epoch) × (cache ≡ epoch → ⊥) × ReadsAs geometry (λ number body. (body.uuid ≡ uuid) × (body.epoch ≡ cache)) old
-IsWhyNotOpened uuid geometry epoch end greatest old (BadRecord seq reason) =
-    IsBadLeftLog geometry old seq reason ⊎ ((seq ≡ end) × (reason ≡ reasons.Seq)
-    × ReadsAs geometry (λ number body. seq < body.tail.seq) old)
-IsWhyNotOpened uuid geometry epoch end greatest old (Worn value) =
-    ReadsAs geometry (λ number body. IsFirstGreat (number ∷ epoch ∷ greatest ∷ max end body.head.seq ∷ []) value) old
-IsWhyNotOpened uuid geometry epoch end greatest old DeviceFault = Unit {0}
-IsWhyNotOpened uuid geometry epoch end greatest old OutOfMemory = Unit {0}
-IsWhyNotOpened uuid geometry epoch end greatest old error = ⊥
+-- a log was not opened, where the objects have this end, and no greater number than this
+pub record IsNotOpened (uuid : List ℕ) (geometry : Geometry) (epoch end greatest : ℕ) (error : MountError) (old new : DiskState) :
+    Type 0 where
+  pub why : IsWhyNotOpened uuid geometry epoch end greatest old error
+  pub settled : LeavesSettled old new
+  pub device : MayLeaveDevice ⊥ geometry error old new
+  pub costs : CostsMount geometry.log (not (is_device_fault error)) old new
 
 -- why the last commit is not that of a volume in this epoch whose objects have this end
 abbrev pub IsWhyRefusedCommit : (uuid : List ℕ) → (epoch end : ℕ) → CommitBody → MountError → Type 0
 IsWhyRefusedCommit uuid epoch end body (WrongVolume found) = (body.uuid ≡ found) × (found ≡ uuid → ⊥)
 IsWhyRefusedCommit uuid epoch end body (StaleCache cache store) =
     (body.uuid ≡ uuid) × (body.epoch ≡ cache) × (store ≡ epoch) × (cache ≡ epoch → ⊥)
-IsWhyRefusedCommit uuid epoch end body (BadRecord seq reason) = (seq ≡ end) × (reason ≡ reasons.Seq) × (end < body.tail.seq)
+IsWhyRefusedCommit uuid epoch end body (BadRecord seq reason) =
+    (seq ≡ end) × (reason ≡ reasons.Seq) × (owner_of body ≡ record { uuid = uuid; epoch = epoch }) × (end < body.tail.seq)
 IsWhyRefusedCommit uuid epoch end body error = ⊥
 
 -- ---- completing

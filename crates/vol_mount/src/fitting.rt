@@ -23,7 +23,8 @@ pub fn refuse_log<S: Store>(
 ) -> MountError
     requires { IsTrue (is_within_limits (record geometry { log = max_log })) }
     ensures why { TellsBytes S.Receipt.state
-        → IsUnfitting geometry result ⊎ IsWhyNotStored uuid geometry (S.state store.old).objects result }
+        → IsUnfitting uuid geometry (S.state store.old).objects result
+        ⊎ IsWhyNotStored uuid geometry (S.state store.old).objects result }
     ensures no_fault { is_device_fault result ≡ false }
     ensures unchanged { OnlyCounts (S.state store.old) (S.state store.new) }
     ensures faults { Counts (is_store_fault_of result) (S.state store.old).faults (S.state store.new).faults }

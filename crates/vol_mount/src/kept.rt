@@ -1,22 +1,19 @@
-ghost use Rattle.std.specs.Prelude.{◌≡◌, ◌≤◌, true, not, IsTrue, IfOk, IfErr, OnOk, OnErr, length};
+ghost use Rattle.std.specs.Prelude.{◌≡◌, ◌≤◌, IsTrue, IfOk, IfErr, OnOk, length};
 ghost use Rattle.lsvd_base.specs.Limits.{is_within_limits};
 ghost use Rattle.lsvd_fault.specs.Faults.{Counts};
-ghost use Rattle.lsvd_device.specs.Device.{IsDisk, HoldsNow};
-ghost use Rattle.lsvd_device.specs.Memory.{IsSynced};
+ghost use Rattle.lsvd_device.specs.Device.{IsDisk};
 ghost use Rattle.lsvd_objstore.specs.Store.{Becomes};
 ghost use Rattle.commit_slot.specs.Slots.{log_of};
 ghost use Rattle.commit_slot.specs.Commits.{CommitsState};
 ghost use Rattle.commit_slot.specs.Loading.{MakesAtMost};
 ghost use Rattle.object_recovery.specs.Faults.{TellsBytes};
-ghost use Rattle.object_recovery.specs.Checkpoints.{expected_of};
-ghost use Rattle.object_recovery.specs.Recovery.{IsPastOf, RemovesAllPast, MayRemovePast};
+ghost use Rattle.object_recovery.specs.Recovery.{IsPastOf, RemovesAllPast};
 ghost use Rattle.object_recovery.specs.Removal.{Removes};
 ghost use Rattle.object_recovery.specs.State.{HasAllNames};
-ghost use Rattle.vol_mount.specs.Mounted.{IsOfVolume, disk_of, NumbersNextCommit};
-ghost use Rattle.vol_mount.specs.Mounting.{MountsLeft, KeepsLeft, RefusesNoneLeft};
-ghost use Rattle.vol_mount.specs.Refusals.{IsWhyNotLeft, refuses, is_device_fault, ends_by_store_fault};
-ghost use Rattle.vol_mount.specs.Costs.{again_cost, CostsMount};
-ghost use Rattle.vol_mount.specs.Steps.{IsRecovered, IsOpenedUpTo, IsCompleted, LeavesFrom, IsFault};
+ghost use Rattle.vol_mount.specs.Mounts.{MountsWithCache};
+ghost use Rattle.vol_mount.specs.Refusals.{IsFault};
+ghost use Rattle.vol_mount.specs.Costs.{again_cost};
+ghost use Rattle.vol_mount.specs.Steps.{IsRecovered, IsOpenedUpTo, IsCompleted, LeavesFrom};
 ghost use Rattle.vol_mount.specs.Steps.{passes_device, ends_by_store};
 
 use crate::adding::add_all;
@@ -42,12 +39,15 @@ use uuid::Uuid;
 /// 4,096 bytes (conditions). Objects and device are tested before anything is changed, but that loading mends
 /// the slots of the device.
 ///
-/// Of each plain volume that device and store have it makes what such a mount is to make. Where nothing was
-/// pending on the device, whatever a stop leaves of it meanwhile keeps all entries of that, and so does what
-/// an error leaves. An error comes with the device, which is a disk still. They are tested in this order:
+/// A volume is mounted only where device and store pass all tests. Of each plain volume that they have it
+/// makes what such a mount is to make. Where nothing was pending on the device, whatever a stop leaves of it
+/// meanwhile keeps all entries of that, and so does what an error leaves. An error comes with the device,
+/// which is a disk still. What is tested comes in this order, and each error says that the tests before it
+/// were passed:
 ///
-/// - `NoCheckpoint`, `BadObject`, `NotData`: the objects are refused.
-/// - `NoSlot`: no slot of the device is open; it was but synced then.
+/// - `NoCheckpoint`, `BadObject`, `NotData`: the objects are refused. The device is as it was.
+/// - `NoSlot`: no slot of the device is open; it was but synced then. After the others that refuse the device
+///   it keeps the commit that it reads as.
 /// - `WrongVolume`: the commit is of a volume with another uuid.
 /// - `StaleCache`: the commit is of another epoch.
 /// - `BadRecord`: the log begins past the end of the objects, or has no list of records up to the head.
@@ -67,34 +67,8 @@ pub fn mount_with_cache<D: Disk, S: Store>(
     requires is_disk { IsDisk (D.state disk) }
     requires size { 4096 ≤ (D.state disk).size }
     requires log { geometry.log ≡ log_of (D.state disk).size }
-    ensures volume { IfOk result (IsOfVolume uuid geometry epoch) }
-    ensures mounts { TellsBytes S.Receipt.state → IfOk result
-        (MountsLeft uuid geometry epoch (S.state store.old).objects (D.state disk)) }
-    ensures removed { IfOk result (λ mounted.
-        Becomes (RemovesAllPast uuid mounted.number) (S.state store.old).objects
-        (S.state store.new).objects) }
-    ensures stops { TellsBytes S.Receipt.state → IfOk result (λ mounted.
-        KeepsLeft uuid geometry epoch (S.state store.old).objects (D.state disk) (disk_of mounted)) }
-    ensures costs { IfOk result (λ mounted.
-        CostsMount geometry.log true (D.state disk) (disk_of mounted)) }
-    ensures synced { IfOk result (λ mounted. HoldsNow IsSynced (disk_of mounted).moments) }
-    ensures number { IfOk result (NumbersNextCommit geometry.log (D.state disk)) }
-    ensures why { TellsBytes S.Receipt.state → IfErr result (λ error.
-        IsWhyNotLeft uuid geometry epoch (S.state store.old).objects (D.state disk) error.1) }
-    ensures no_refusal { TellsBytes S.Receipt.state → IfErr result (λ error.
-        RefusesNoneLeft uuid geometry epoch (S.state store.old).objects (D.state disk) error.1) }
-    ensures refused { IfErr result (λ error.
-        refuses error.1 ≡ true → (S.state store.new).objects ≡ (S.state store.old).objects) }
-    ensures some { OnErr result (Becomes
-        (MayRemovePast (TellsBytes S.Receipt.state) (expected_of uuid geometry))
-        (S.state store.old).objects (S.state store.new).objects) }
-    ensures err_stops { TellsBytes S.Receipt.state → IfErr result (λ error.
-        KeepsLeft uuid geometry epoch (S.state store.old).objects (D.state disk) (D.state error.0)) }
-    ensures err_costs { IfErr result (λ error.
-        CostsMount geometry.log (not (is_device_fault error.1)) (D.state disk) (D.state error.0)) }
-    ensures faults { Counts (ends_by_store_fault result) (S.state store.old).faults
-        (S.state store.new).faults }
-    ensures is_disk { IfErr result (λ error. IsDisk (D.state error.0)) }
+    ensures { MountsWithCache D.state (TellsBytes S.Receipt.state) uuid geometry epoch (D.state disk)
+        (S.state store.old) (S.state store.new) result }
 {
     let recovered = match recover_list(alloc, store, uuid, geometry) {
         Ok(recovered) => recovered,

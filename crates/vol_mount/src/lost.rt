@@ -1,21 +1,15 @@
-ghost use Rattle.std.specs.Prelude.{◌≡◌, ◌+◌, ◌<◌, ◌≤◌, true, false, IsTrue, IfOk, IfErr, IfSome, OnOk};
-ghost use Rattle.std.specs.Prelude.{OnErr};
+ghost use Rattle.std.specs.Prelude.{◌≡◌, ◌+◌, IsTrue, IfOk, IfErr};
 ghost use Rattle.lsvd_base.specs.Limits.{is_within_limits};
 ghost use Rattle.lsvd_fault.specs.Faults.{Counts};
-ghost use Rattle.lsvd_device.specs.Device.{IsDisk, HoldsNow};
-ghost use Rattle.lsvd_device.specs.Memory.{IsSynced};
+ghost use Rattle.lsvd_device.specs.Device.{IsDisk};
 ghost use Rattle.lsvd_objstore.specs.Store.{Becomes};
 ghost use Rattle.commit_slot.specs.Slots.{log_of};
 ghost use Rattle.object_recovery.specs.Faults.{TellsBytes};
 ghost use Rattle.object_recovery.specs.Checkpoints.{expected_of};
 ghost use Rattle.object_recovery.specs.Recovery.{RemovesAllPast, MayRemovePast};
-ghost use Rattle.vol_core.specs.Shows.{max_number};
 ghost use Rattle.vol_mount.specs.Epochs.{BeginsEpoch, MayBeginEpoch};
-ghost use Rattle.vol_mount.specs.Mounted.{IsOfVolume, disk_of};
-ghost use Rattle.vol_mount.specs.Mounting.{MountsStored, RefusesNoneStored};
-ghost use Rattle.vol_mount.specs.Refusals.{IsWhyLost, refuses, is_device_fault, ends_by_store_fault};
-ghost use Rattle.vol_mount.specs.Costs.{CostsNewLog, FailsToFormat};
-ghost use Rattle.vol_mount.specs.Steps.{AreLow, IsRecovered, IsRecoveredFrom, ends_by_store};
+ghost use Rattle.vol_mount.specs.Mounts.{MountsWithoutCache};
+ghost use Rattle.vol_mount.specs.Steps.{RecoversAlone, RefusesAlone, ends_by_store};
 
 use crate::error::MountError;
 use crate::mounted::{Mounted, assemble};
@@ -36,8 +30,9 @@ use uuid::Uuid;
 ///
 /// The store has the volume with these sizes, and this is its newest epoch. The geometry is within the
 /// limits, its log has just the sectors of the device past byte 4,096, and the device is a disk (conditions).
-/// Of each plain volume that the store has it makes what such a mount is to make. An error comes with the
-/// device, which is a disk still. They are tested in this order:
+/// A volume is mounted only where the store passes all tests. Of each plain volume that it has it makes what
+/// such a mount is to make. An error comes with the device, which is a disk still. What is tested comes in
+/// this order, and each error says that the tests before it were passed:
 ///
 /// - `NoCheckpoint`, `BadObject`, `NotData`: the objects are refused.
 /// - `Worn`: the epoch, the greatest number of an object, or the count of entries is 2^60 or more.
@@ -56,30 +51,8 @@ pub fn mount_without_cache<D: Disk, S: Store>(
     requires limits { IsTrue (is_within_limits geometry) }
     requires is_disk { IsDisk (D.state disk) }
     requires log { geometry.log ≡ log_of (D.state disk).size }
-    ensures volume { IfOk result (IsOfVolume uuid geometry (epoch + 1)) }
-    ensures mounts { TellsBytes S.Receipt.state
-        → IfOk result (MountsStored uuid geometry (S.state store.old).objects) }
-    ensures begun { IfOk result (λ mounted.
-        Becomes (BeginsEpoch uuid mounted.number (epoch + 1)) (S.state store.old).objects
-        (S.state store.new).objects) }
-    ensures synced { IfOk result (λ mounted. HoldsNow IsSynced (disk_of mounted).moments) }
-    ensures number { IfOk result (λ mounted. mounted.volume.volume.log.commits.number ≡ 0) }
-    ensures costs { IfOk result (λ mounted. CostsNewLog uuid (epoch + 1) true (D.state disk)
-        (disk_of mounted)) }
-    ensures why { TellsBytes S.Receipt.state → IfErr result (λ error.
-        IsWhyLost uuid geometry epoch (S.state store.old).objects error.1) }
-    ensures no_refusal { TellsBytes S.Receipt.state → IfErr result (λ error.
-        RefusesNoneStored uuid geometry (S.state store.old).objects error.1) }
-    ensures refused { IfErr result (λ error.
-        refuses error.1 ≡ true → (S.state store.new).objects ≡ (S.state store.old).objects) }
-    ensures some { OnErr result (Becomes
-        (MayBeginEpoch (TellsBytes S.Receipt.state) (expected_of uuid geometry) (epoch + 1))
-        (S.state store.old).objects (S.state store.new).objects) }
-    ensures err_costs { IfErr result (λ error.
-        FailsToFormat uuid (epoch + 1) (is_device_fault error.1) (D.state disk) (D.state error.0)) }
-    ensures faults { Counts (ends_by_store_fault result) (S.state store.old).faults
-        (S.state store.new).faults }
-    ensures is_disk { IfErr result (λ error. IsDisk (D.state error.0)) }
+    ensures { MountsWithoutCache D.state (TellsBytes S.Receipt.state) uuid geometry epoch (D.state disk)
+        (S.state store.old) (S.state store.new) result }
 {
     let (objects, checkpoint) = match begin_epoch(alloc, store, uuid, geometry, epoch) {
         Ok(recovered) => recovered,
@@ -104,24 +77,14 @@ fn begin_epoch<S: Store>(
     epoch: u64,
 ) -> Result<(ObjLog<S::Receipt>, u64), MountError>
     requires { IsTrue (is_within_limits geometry) }
-    ensures list { IfOk result (λ recovered. IsRecovered uuid geometry recovered.0 recovered.1) }
-    ensures low { IfOk result (λ recovered. AreLow epoch recovered.0) }
-    ensures told { TellsBytes S.Receipt.state
-        → IfOk result (λ recovered. IfSome (S.state store.old).objects (λ objects.
-        IsRecoveredFrom uuid geometry objects recovered.0 recovered.1)) }
+    ensures ok { IfOk result (λ recovered. RecoversAlone (TellsBytes S.Receipt.state) uuid geometry epoch
+        (S.state store.old).objects recovered.0 recovered.1) }
     ensures begun { IfOk result (λ recovered.
         Becomes (BeginsEpoch uuid recovered.0.uploads.window.last (epoch + 1))
         (S.state store.old).objects (S.state store.new).objects) }
-    ensures why { TellsBytes S.Receipt.state
-        → IfErr result (IsWhyLost uuid geometry epoch (S.state store.old).objects) }
-    ensures no_refusal { TellsBytes S.Receipt.state
-        → IfErr result (RefusesNoneStored uuid geometry (S.state store.old).objects) }
-    ensures refused { IfErr result (λ error.
-        refuses error ≡ true → (S.state store.new).objects ≡ (S.state store.old).objects) }
-    ensures some { OnErr result (Becomes
+    ensures err { IfErr result (RefusesAlone (TellsBytes S.Receipt.state) uuid geometry epoch
         (MayBeginEpoch (TellsBytes S.Receipt.state) (expected_of uuid geometry) (epoch + 1))
         (S.state store.old).objects (S.state store.new).objects) }
-    ensures no_fault { IfErr result (λ error. is_device_fault error ≡ false) }
     ensures faults { Counts (ends_by_store result) (S.state store.old).faults (S.state store.new).faults }
 {
     let recovered = recover_alone(alloc, store, uuid, geometry, epoch)?;
@@ -143,23 +106,13 @@ fn recover_alone<S: Store>(
     epoch: u64,
 ) -> Result<(ObjLog<S::Receipt>, u64), MountError>
     requires { IsTrue (is_within_limits geometry) }
-    ensures list { IfOk result (λ recovered. IsRecovered uuid geometry recovered.0 recovered.1) }
-    ensures low { IfOk result (λ recovered. AreLow epoch recovered.0) }
-    ensures told { TellsBytes S.Receipt.state
-        → IfOk result (λ recovered. IfSome (S.state store.old).objects (λ objects.
-        IsRecoveredFrom uuid geometry objects recovered.0 recovered.1)) }
+    ensures ok { IfOk result (λ recovered. RecoversAlone (TellsBytes S.Receipt.state) uuid geometry epoch
+        (S.state store.old).objects recovered.0 recovered.1) }
     ensures removed { IfOk result (λ recovered. Becomes (RemovesAllPast uuid recovered.0.uploads.window.last)
         (S.state store.old).objects (S.state store.new).objects) }
-    ensures why { TellsBytes S.Receipt.state
-        → IfErr result (IsWhyLost uuid geometry epoch (S.state store.old).objects) }
-    ensures no_refusal { TellsBytes S.Receipt.state
-        → IfErr result (RefusesNoneStored uuid geometry (S.state store.old).objects) }
-    ensures refused { IfErr result (λ error.
-        refuses error ≡ true → (S.state store.new).objects ≡ (S.state store.old).objects) }
-    ensures some { OnErr result (Becomes
+    ensures err { IfErr result (RefusesAlone (TellsBytes S.Receipt.state) uuid geometry epoch
         (MayRemovePast (TellsBytes S.Receipt.state) (expected_of uuid geometry))
         (S.state store.old).objects (S.state store.new).objects) }
-    ensures no_fault { IfErr result (λ error. is_device_fault error ≡ false) }
     ensures faults { Counts (ends_by_store result) (S.state store.old).faults (S.state store.new).faults }
 {
     let recovered = recover_list(alloc, store, uuid, geometry)?;

@@ -1,14 +1,11 @@
-ghost use Rattle.std.specs.Prelude.{◌≡◌, ◌<◌, ◌≤◌, not, IsTrue, IfOk, IfErr, OnOk, IfSome, IfNone};
+ghost use Rattle.std.specs.Prelude.{◌≡◌, ◌<◌, ◌≤◌, IsTrue, IfOk, IfErr, OnOk, IfSome, IfNone};
 ghost use Rattle.lsvd_base.specs.Limits.{is_within_limits};
 ghost use Rattle.lsvd_device.specs.Device.{IsDisk};
 ghost use Rattle.commit_body.specs.Body.{MayStand};
 ghost use Rattle.commit_slot.specs.Slots.{log_of};
-ghost use Rattle.commit_slot.specs.Loading.{LeavesSettled};
 ghost use Rattle.stopped_volume.specs.Device.{owner_of};
 ghost use Rattle.vol_core.specs.Shows.{max_number};
-ghost use Rattle.vol_mount.specs.Costs.{CostsMount};
-ghost use Rattle.vol_mount.specs.Refusals.{is_device_fault};
-ghost use Rattle.vol_mount.specs.Steps.{IsOpenedOf, IsWhyNotOpened, IsWhyRefusedCommit};
+ghost use Rattle.vol_mount.specs.Steps.{IsOpenedOf, IsNotOpened, IsWhyRefusedCommit};
 
 use crate::error::MountError;
 use crate::worn::worn_number;
@@ -51,12 +48,9 @@ pub(crate) fn open_log<D: Disk>(
     ensures ok { IfOk result (IsOpenedOf known.now.uuid known.now.geometry known.now.epoch known.now.end
         (D.state disk)) }
     ensures low { OnOk result ((known.now.epoch < max_number) × (known.now.greatest < max_number)) }
-    ensures why { IfErr result (λ error.
-        IsWhyNotOpened known.now.uuid known.now.geometry known.now.epoch known.now.end known.now.greatest
-        (D.state disk) error.1) }
-    ensures settled { IfErr result (λ error. LeavesSettled (D.state disk) (D.state error.0)) }
-    ensures costs { IfErr result (λ error.
-        CostsMount known.now.geometry.log (not (is_device_fault error.1)) (D.state disk) (D.state error.0)) }
+    ensures err { IfErr result (λ error.
+        IsNotOpened known.now.uuid known.now.geometry known.now.epoch known.now.end known.now.greatest error.1
+        (D.state disk) (D.state error.0)) }
     ensures is_disk { IfErr result (λ error. IsDisk (D.state error.0)) }
 {
     let commits = match Commits::load(disk) {

@@ -9,9 +9,9 @@ use Rattle.cache_log.specs.Rows.{record_size}
 use Rattle.cache_log.specs.Reads.{reads_without_fault}
 use Rattle.cache_log.specs.Log.{AreRowsOf, IsTrimmed, IsReadOnly}
 use Rattle.obj_log.specs.State.{ObjLogState}
-use Rattle.vol_mount.specs.Refusals.{is_device_fault, is_store_fault_of}
+use Rattle.vol_mount.specs.Refusals.{IsFault, is_device_fault, is_store_fault_of}
 use Rattle.vol_mount.specs.Costs.{again_cost}
-use Rattle.vol_mount.specs.Steps.{IsFault, LeavesFrom}
+use Rattle.vol_mount.specs.Steps.{LeavesFrom}
 use Rattle.vol_mount.proofs.StoreLemmas.{none_removed}
 use Rattle.vol_mount.proofs.RecoveryLemmas.{no_device_fault, removal_faults, counts_on}
 use Rattle.vol_mount.proofs.OutcomeLemmas.{read_faults, read_passes, read_stores_none}

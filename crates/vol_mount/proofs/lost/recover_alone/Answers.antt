@@ -1,48 +1,79 @@
-use Rattle.std.proofs.Common.{◌≡◌, ◌<◌, ◌∷◌, [], true, false, sym, ◌∙◌, ap, subst, arith}
+use Rattle.std.proofs.Common.{◌≡◌, ◌<◌, ◌∷◌, [], refl, sym, ◌∙◌, ap, subst, arith}
 use Rattle.std.proofs.Math.Path.{subst₂}
-use Rattle.std.specs.Prelude.{IfSome}
 use Rattle.lsvd_objstore.specs.Store.{Becomes}
 use Rattle.obj_log.specs.State.{ObjLogState}
 use Rattle.vol_core.specs.Shows.{max_number}
+use Rattle.object_recovery.specs.Checkpoints.{expected_of}
 use Rattle.object_recovery.specs.Faults.{TellsBytes}
 use Rattle.object_recovery.specs.Removal.{Removes}
-use Rattle.object_recovery.specs.Recovery.{IsPastOf}
-use Rattle.vol_mount.specs.Mounting.{RefusesNoneStored}
-use Rattle.vol_mount.specs.Refusals.{of_recovery, IsFirstGreat, IsWhyLost, refuses, is_device_fault}
-use Rattle.vol_mount.specs.Steps.{AreLow, IsFault, IsRecoveredFrom}
+use Rattle.object_recovery.specs.Recovery.{IsPastOf, MayRemovePast}
+use Rattle.object_recovery.proofs.FindLemmas.{passed_on}
+use Rattle.vol_mount.specs.Refusals.{of_recovery, IsFirstGreat, IsFault, HasExtent}
+use Rattle.vol_mount.specs.Steps.{AreLow, RecoversAlone, RefusesAlone}
 use Rattle.vol_mount.proofs.StoreLemmas.{same_objects, becomes_from, may_leave_same, may_leave_less}
 use Rattle.vol_mount.proofs.ExtentLemmas.{extent_of}
 use Rattle.vol_mount.proofs.RecoveryLemmas.{why_lost_too, removal_faults, faults_refuse_none, why_faulted, no_device_fault}
-use Rattle.vol_mount.proofs.RecoveryLemmas.{last_landed, counts_on}
+use Rattle.vol_mount.proofs.RecoveryLemmas.{last_landed, good_objects, good_up_to, counts_on}
 use Rattle.vol_mount.proofs.lost.recover_alone.Given as given
-use Rattle.vol_mount.proofs.lost.recover_alone.Goals.{After-end, In_default, After-into}
+use Rattle.vol_mount.proofs.lost.recover_alone.Goals.{After-end, In_default}
 use Rattle.vol_mount.proofs.lost.recover_alone.Goals as goal
+
+-- ---- the list was not recovered
+
+pub returns-in_err-recovered-clause-err : goal.returns-in_err-recovered-clause-err
+returns-in_err-recovered-clause-err g c =
+    let old = g.S.Store.state c.args.store.now in
+    let new = g.S.Store.state c.recover_list.new.store in
+    let error = c.in_err-recovered.field-0.0 in
+    let Tells : Type 0 = TellsBytes g.S.Receipt.Receipt.state in
+    let same = same_objects old new c.in_err-recovered.ensures.unchanged in
+    passed_on (RefusesAlone Tells c.args.uuid c.args.geometry c.args.epoch
+    (MayRemovePast Tells (expected_of c.args.uuid c.args.geometry)) old.objects new.objects) c.from_residual.result error
+    c.from_residual.ensures.1
+    (record {
+      why = λ tells.
+          why_lost_too error c.args.uuid c.args.geometry c.args.epoch old.objects (c.in_err-recovered.ensures.why tells);
+      no_refusal = c.in_err-recovered.ensures.no_refusal;
+      store = λ none. same;
+      some = may_leave_same Tells c.args.uuid c.args.geometry old.objects new.objects same;
+      no_fault = c.in_err-recovered.ensures.no_fault;
+    })
 
 -- ---- the volume is worn out, or not
 
 end_is : (g : given.Over) (c : After-end g) → c.end.result ≡ c.in_ok-recovered.recovered.log.uploads.queue.end
 end_is g c = c.end.ensures ∙ ap (λ (l : ObjLogState). l.uploads.queue.end) c.log.ensures
 
-pub returns-in-Some-clause-why : goal.returns-in-Some-clause-why
-returns-in-Some-clause-why g c = λ tells.
-    let told = (g.S.Store.state c.args.store.now).objects in
-    let recovered = c.in_ok-recovered.recovered in
-    let greatest = c.greatest_number.result in
-    let at = (goal.at.returns-in-Some-clause-why g c).After-end in (
-      greatest,
-      recovered.log.uploads.queue.end,
-      subst (λ end. IsFirstGreat (c.args.epoch ∷ greatest ∷ end ∷ []) c.in-Some.value) (end_is g at) c.in-Some.ensures.some,
-      extent_of c.args.uuid c.args.geometry told recovered greatest c.in_ok-recovered.ensures.list
-          (c.in_ok-recovered.ensures.told tells)
-          c.in_ok-recovered.ensures.names c.greatest_number.ensures,
-    )
+extent : (g : given.Over) (c : After-end g) → TellsBytes g.S.Receipt.Receipt.state
+    → HasExtent c.args.uuid c.args.geometry (g.S.Store.state c.args.store.now).objects c.greatest_number.result
+    c.in_ok-recovered.recovered.log.uploads.queue.end
+extent g c tells =
+    extent_of c.args.uuid c.args.geometry (g.S.Store.state c.args.store.now).objects c.in_ok-recovered.recovered
+    c.greatest_number.result c.in_ok-recovered.ensures.list (c.in_ok-recovered.ensures.told tells)
+    c.in_ok-recovered.ensures.names c.greatest_number.ensures
 
-pub returns-in-Some-clause-some : goal.returns-in-Some-clause-some
-returns-in-Some-clause-some g c =
+pub returns-in-Some-clause-err : goal.returns-in-Some-clause-err
+returns-in-Some-clause-err g c =
     let old = g.S.Store.state c.args.store.now in
     let new = g.S.Store.state c.recover_list.new.store in
-    may_leave_same (TellsBytes g.S.Receipt.Receipt.state) c.args.uuid c.args.geometry old.objects new.objects
-    (same_objects old new c.in_ok-recovered.ensures.unchanged)
+    let recovered = c.in_ok-recovered.recovered in
+    let greatest = c.greatest_number.result in
+    let at = (goal.at.returns-in-Some-clause-err g c).After-end in
+    let same = same_objects old new c.in_ok-recovered.ensures.unchanged in
+    record {
+      why = λ tells. (
+        greatest,
+        recovered.log.uploads.queue.end,
+        subst (λ end. IsFirstGreat (c.args.epoch ∷ greatest ∷ end ∷ []) c.in-Some.value) (end_is g at) c.in-Some.ensures.some,
+        extent g at tells,
+        good_objects c.args.uuid c.args.geometry old.objects recovered.log recovered.checkpoint c.in_ok-recovered.ensures.list
+            (c.in_ok-recovered.ensures.told tells),
+      );
+      no_refusal = λ tells plain number stored. refl;
+      store = λ none. same;
+      some = may_leave_same (TellsBytes g.S.Receipt.Receipt.state) c.args.uuid c.args.geometry old.objects new.objects same;
+      no_fault = refl;
+    }
 
 -- its numbers are low
 list_low : (g : given.Over) (c : In_default g) → AreLow c.args.epoch c.in_ok-recovered.recovered.log
@@ -58,61 +89,37 @@ list_low g c =
       end = subst (λ n. n < max_number) (c.end.ensures ∙ ap (λ (l : ObjLogState). l.uploads.queue.end) c.log.ensures) end;
     }
 
-pub returns-clause-low : goal.returns-clause-low
-returns-clause-low g c = subst (AreLow c.args.epoch) (sym c.into_log.ensures)
-    (list_low g (goal.at.returns-clause-low g c).In_default)
-
 -- ---- the removal failed
 
-faulted : (g : given.Over) (c : After-into g) → IsFault (of_recovery c.in-Err.error)
-faulted g c = removal_faults c.in-Err.error c.in-Err.ensures.answer
-
-pub returns-in-Err-clause-why : goal.returns-in-Err-clause-why
-returns-in-Err-clause-why g c = λ tells.
-    let told = (g.S.Store.state c.args.store.now).objects in
-    let error = of_recovery c.in-Err.error in
-    let before = (goal.at.returns-in-Err-clause-why g c).After-into in
-    subst (IsWhyLost c.args.uuid c.args.geometry c.args.epoch told) (sym c.into.ensures)
-    (why_lost_too error c.args.uuid c.args.geometry c.args.epoch told
-    (why_faulted error c.args.uuid c.args.geometry told (faulted g before)))
-
-pub returns-in-Err-clause-no_refusal : goal.returns-in-Err-clause-no_refusal
-returns-in-Err-clause-no_refusal g c = λ tells.
-    let told = (g.S.Store.state c.args.store.now).objects in
-    let error = of_recovery c.in-Err.error in
-    let before = (goal.at.returns-in-Err-clause-no_refusal g c).After-into in
-    subst (RefusesNoneStored c.args.uuid c.args.geometry told) (sym c.into.ensures)
-    (λ plain number stored. faults_refuse_none error (faulted g before))
-
-pub returns-in-Err-clause-refused : goal.returns-in-Err-clause-refused
-returns-in-Err-clause-refused g c =
-    let error = of_recovery c.in-Err.error in
-    let before = (goal.at.returns-in-Err-clause-refused g c).After-into in
-    subst (λ e. refuses e ≡ true → (g.S.Store.state c.remove_past.new.store).objects
-    ≡ (g.S.Store.state c.args.store.now).objects)
-    (sym c.into.ensures)
-    (λ is. let none : refuses error ≡ false = faults_refuse_none error (faulted g before) in cc)
-
-pub returns-in-Err-clause-some : goal.returns-in-Err-clause-some
-returns-in-Err-clause-some g c =
+pub returns-in-Err-clause-err : goal.returns-in-Err-clause-err
+returns-in-Err-clause-err g c =
     let old = g.S.Store.state c.args.store.now in
     let middle = g.S.Store.state c.recover_list.new.store in
     let new = g.S.Store.state c.remove_past.new.store in
+    let error = of_recovery c.in-Err.error in
     let list = c.in_ok-recovered.recovered.log in
     let last = list.uploads.window.last in
+    let Tells : Type 0 = TellsBytes g.S.Receipt.Receipt.state in
+    let fault : IsFault error = removal_faults c.in-Err.error c.in-Err.ensures.answer in
     let some =
     subst (λ uuid. Becomes (Removes (IsPastOf uuid last)) middle.objects new.objects) c.in_ok-recovered.ensures.list.list.uuid_is
     c.in-Err.ensures.some in
-    may_leave_less (TellsBytes g.S.Receipt.Receipt.state) c.args.uuid c.args.geometry last old.objects new.objects
-    (λ tells. last_landed c.args.uuid c.args.geometry old.objects list c.in_ok-recovered.recovered.checkpoint
-    (list_low g (goal.at.returns-in-Err-clause-some g c).In_default).last (c.in_ok-recovered.ensures.told tells))
-    (becomes_from (Removes (IsPastOf c.args.uuid last)) old.objects middle.objects new.objects
-    (same_objects old middle c.in_ok-recovered.ensures.unchanged) some)
-
-pub returns-in-Err-clause-no_fault : goal.returns-in-Err-clause-no_fault
-returns-in-Err-clause-no_fault g c =
-    subst (λ e. is_device_fault e ≡ false) (sym c.into.ensures)
-    (no_device_fault c.in-Err.error)
+    subst (RefusesAlone Tells c.args.uuid c.args.geometry c.args.epoch
+    (MayRemovePast Tells (expected_of c.args.uuid c.args.geometry)) old.objects new.objects) (sym c.into.ensures)
+    (record {
+      why = λ tells.
+          why_lost_too error c.args.uuid c.args.geometry c.args.epoch old.objects
+          (why_faulted error c.args.uuid c.args.geometry old.objects fault);
+      no_refusal = λ tells plain number stored. faults_refuse_none error fault;
+      store = λ none. absurd (none fault);
+      some =
+          may_leave_less Tells c.args.uuid c.args.geometry last old.objects new.objects
+          (λ tells. last_landed c.args.uuid c.args.geometry old.objects list c.in_ok-recovered.recovered.checkpoint
+          (list_low g (goal.at.returns-in-Err-clause-err g c).In_default).last (c.in_ok-recovered.ensures.told tells))
+          (becomes_from (Removes (IsPastOf c.args.uuid last)) old.objects middle.objects new.objects
+          (same_objects old middle c.in_ok-recovered.ensures.unchanged) some);
+      no_fault = no_device_fault c.in-Err.error;
+    })
 
 pub returns-in-Err-clause-faults : goal.returns-in-Err-clause-faults
 returns-in-Err-clause-faults g c =
@@ -123,8 +130,27 @@ returns-in-Err-clause-faults g c =
 
 -- ---- they were removed
 
-pub returns-clause-told : goal.returns-clause-told
-returns-clause-told g c = λ tells.
-    subst₂ (λ list checkpoint. IfSome (g.S.Store.state c.args.store.now).objects
-    (λ objects. IsRecoveredFrom c.args.uuid c.args.geometry objects list checkpoint))
-    (sym c.into_log.ensures) (sym c.checkpoint-checkpoint.ensures) (c.in_ok-recovered.ensures.told tells)
+pub returns-clause-ok : goal.returns-clause-ok
+returns-clause-ok g c =
+    let told = (g.S.Store.state c.args.store.now).objects in
+    let recovered = c.in_ok-recovered.recovered in
+    let list : ObjLogState = recovered.log in
+    let at = goal.at.returns-clause-ok g c in
+    let low = list_low g at.In_default in
+    let numbers = c.in_default.ensures.none in
+    let greatest : c.greatest_number.result < max_number = numbers 1 0 (omega arith) in
+    subst₂ (λ l n. RecoversAlone (TellsBytes g.S.Receipt.Receipt.state) c.args.uuid c.args.geometry c.args.epoch told l n)
+    (sym c.into_log.ensures) (sym c.checkpoint-checkpoint.ensures)
+    (record {
+      list = c.in_ok-recovered.ensures.list;
+      low = low;
+      told = c.in_ok-recovered.ensures.told;
+      passes = λ tells. record {
+        good =
+            good_up_to c.args.uuid c.args.geometry told list recovered.checkpoint low.last c.in_ok-recovered.ensures.list
+            (c.in_ok-recovered.ensures.told tells);
+        greatest = c.greatest_number.result;
+        extent = extent g at.After-end tells;
+        low = (low.epoch_low, (greatest, (low.end, tt)));
+      };
+    })

@@ -6,64 +6,35 @@ use Rattle.commit_slot.specs.Loading.{FailsToLoad}
 use Rattle.cache_log.specs.Opening.{IsBadLog, entry_count}
 use Rattle.cache_log.specs.Reads.{AreReadOnly, opens_without_fault}
 use Rattle.vol_core.specs.Shows.{max_number}
-use Rattle.vol_mount.specs.declared.error.MountError.TheVariants.{Worn}
 use Rattle.vol_mount.specs.Refusals.{IsFirstGreat}
-use Rattle.vol_mount.proofs.OpenLemmas.{IsNotOpened, not_loaded, not_taken, not_opened, worn_left, opened_of}
-use Rattle.vol_mount.proofs.opening.open_log.Given as given
-use Rattle.vol_mount.proofs.opening.open_log.Goals.{After-into, After-into_disk, After-into-in-Err-open}
-use Rattle.vol_mount.proofs.opening.open_log.Goals.{After-into_disk-in-Some-worn_number}
+use Rattle.vol_mount.proofs.OpenLemmas.{not_loaded, not_taken, not_opened, worn_left, opened_of}
 use Rattle.vol_mount.proofs.opening.open_log.Goals as goal
 
 -- ---- the commits were not loaded
 
-load_failed : (g : given.Over) (c : After-into g)
-    → IsNotOpened c.args.known.now.uuid c.args.known.now.geometry c.args.known.now.epoch c.args.known.now.end
-    c.args.known.now.greatest c.into.result (g.D.Disk.state c.args.disk) (g.D.Disk.state c.in-Err.disk)
-load_failed g c =
+pub returns-in-Err-clause-err : goal.returns-in-Err-clause-err
+returns-in-Err-clause-err g c =
     let old : DiskState = g.D.Disk.state c.args.disk in
     let new : DiskState = g.D.Disk.state c.in-Err.disk in
     let fails : FailsToLoad c.in-Err.error old new = c.in-Err.ensures.err in
     not_loaded c.args.known.now.uuid c.args.known.now.geometry c.args.known.now.epoch c.args.known.now.end
     c.args.known.now.greatest old c.requires.log c.in-Err.error c.into.result new c.into.ensures fails
-    c.in-Err.ensures.err_settled
-
-pub returns-in-Err-clause-why : goal.returns-in-Err-clause-why
-returns-in-Err-clause-why g c = (load_failed g c).why
-
-pub returns-in-Err-clause-settled : goal.returns-in-Err-clause-settled
-returns-in-Err-clause-settled g c = (load_failed g c).settled
-
-pub returns-in-Err-clause-costs : goal.returns-in-Err-clause-costs
-returns-in-Err-clause-costs g c = (load_failed g c).costs
+    c.in-Err.ensures.err_crash_safe c.in-Err.ensures.err_settled
 
 -- ---- the last commit is refused
 
-refused : (g : given.Over) (c : After-into_disk g)
-    → IsNotOpened c.args.known.now.uuid c.args.known.now.geometry c.args.known.now.epoch c.args.known.now.end
-    c.args.known.now.greatest c.in-Some.error (g.D.Disk.state c.args.disk) (g.D.Disk.state c.into_disk.result)
-refused g c =
+pub returns-in-Some-clause-err : goal.returns-in-Some-clause-err
+returns-in-Some-clause-err g c =
     not_taken c.args.known.now.uuid c.args.known.now.geometry c.args.known.now.epoch c.args.known.now.end
     c.args.known.now.greatest
     (g.D.Disk.state c.args.disk) c.requires.log c.in-Ok.commits c.in-Ok.ensures.ok
-    c.in-Ok.ensures.costs c.in-Ok.ensures.settled c.in-Some.error (g.D.Disk.state c.into_disk.result) c.into_disk.ensures.same
-    c.in-Some.ensures.some
-
-pub returns-in-Some-clause-why : goal.returns-in-Some-clause-why
-returns-in-Some-clause-why g c = (refused g c).why
-
-pub returns-in-Some-clause-settled : goal.returns-in-Some-clause-settled
-returns-in-Some-clause-settled g c = (refused g c).settled
-
-pub returns-in-Some-clause-costs : goal.returns-in-Some-clause-costs
-returns-in-Some-clause-costs g c = (refused g c).costs
+    c.in-Ok.ensures.costs c.in-Ok.ensures.settled c.in-Ok.ensures.crash_safe c.in-Some.error (g.D.Disk.state c.into_disk.result)
+    c.into_disk.ensures.same c.in-Some.ensures.some
 
 -- ---- the log was not opened
 
-open_failed : (g : given.Over) (c : After-into-in-Err-open g)
-    → IsNotOpened c.args.known.now.uuid c.args.known.now.geometry c.args.known.now.epoch c.args.known.now.end
-    c.args.known.now.greatest c.into-in-Err-open.result (g.D.Disk.state c.args.disk)
-    (g.D.Disk.state c.into_disk-in-Err-open.result)
-open_failed g c =
+pub returns-in-Err-open-clause-err : goal.returns-in-Err-open-clause-err
+returns-in-Err-open-clause-err g c =
     let commits : CommitsState = c.in-Ok.commits in
     let bad : IsBadLog c.args.known.now.geometry commits.body commits.disk.moments c.in-Err-open.error =
     c.in-Err-open.ensures.bad in
@@ -73,51 +44,32 @@ open_failed g c =
     not_opened c.args.known.now.uuid c.args.known.now.geometry c.args.known.now.epoch c.args.known.now.end
     c.args.known.now.greatest
     (g.D.Disk.state c.args.disk) c.requires.log commits c.in-Ok.ensures.ok c.in-Ok.ensures.costs
-    c.in-Ok.ensures.settled c.in-Ok.ensures.crash_safe c.in-Err-open.error c.into-in-Err-open.result c.in-Err-open.commits
+    c.in-Ok.ensures.settled c.in-Ok.ensures.crash_safe c.in_default.ensures.none c.in-Err-open.error c.into-in-Err-open.result
+    c.in-Err-open.commits
     (g.D.Disk.state c.into_disk-in-Err-open.result) c.into-in-Err-open.ensures c.into_disk-in-Err-open.ensures.same bad reads
-
-pub returns-in-Err-open-clause-why : goal.returns-in-Err-open-clause-why
-returns-in-Err-open-clause-why g c = (open_failed g c).why
-
-pub returns-in-Err-open-clause-settled : goal.returns-in-Err-open-clause-settled
-returns-in-Err-open-clause-settled g c = (open_failed g c).settled
-
-pub returns-in-Err-open-clause-costs : goal.returns-in-Err-open-clause-costs
-returns-in-Err-open-clause-costs g c = (open_failed g c).costs
 
 -- ---- it was opened, and is worn out or not
 
-worn : (g : given.Over) (c : After-into_disk-in-Some-worn_number g)
-    → IsNotOpened c.args.known.now.uuid c.args.known.now.geometry c.args.known.now.epoch c.args.known.now.end
-    c.args.known.now.greatest
-    (Worn c.in-Some-worn_number.value) (g.D.Disk.state c.args.disk) (g.D.Disk.state c.into_disk-in-Some-worn_number.result)
-worn g c =
+pub returns-in-Some-worn_number-clause-err : goal.returns-in-Some-worn_number-clause-err
+returns-in-Some-worn_number-clause-err g c =
     worn_left c.args.known.now.uuid c.args.known.now.geometry c.args.known.now.epoch c.args.known.now.end
     c.args.known.now.greatest
     (g.D.Disk.state c.args.disk) c.requires.log c.in-Ok.commits c.in-Ok.ensures.ok
-    c.in-Ok.ensures.costs c.in-Ok.ensures.settled c.in-Ok-open.log c.in-Ok-open.ensures.ok c.in-Some-worn_number.value
+    c.in-Ok.ensures.costs c.in-Ok.ensures.settled c.in-Ok.ensures.crash_safe c.in_default.ensures.none c.in-Ok-open.log
+    c.in-Ok-open.ensures.ok c.in-Some-worn_number.value
     c.max-count.result
     (g.D.Disk.state c.into_disk-in-Some-worn_number.result) c.into_disk-in-Some-worn_number.ensures.same (search rules)
     (subst (λ n. IsFirstGreat (n ∷ c.args.known.now.epoch ∷ c.args.known.now.greatest ∷ c.max-count.result ∷ [])
     c.in-Some-worn_number.value)
     c.number.ensures c.in-Some-worn_number.ensures.some)
 
-pub returns-in-Some-worn_number-clause-why : goal.returns-in-Some-worn_number-clause-why
-returns-in-Some-worn_number-clause-why g c = (worn g c).why
-
-pub returns-in-Some-worn_number-clause-settled : goal.returns-in-Some-worn_number-clause-settled
-returns-in-Some-worn_number-clause-settled g c = (worn g c).settled
-
-pub returns-in-Some-worn_number-clause-costs : goal.returns-in-Some-worn_number-clause-costs
-returns-in-Some-worn_number-clause-costs g c = (worn g c).costs
-
 pub returns-in-None-clause-ok : goal.returns-in-None-clause-ok
 returns-in-None-clause-ok g c =
-    let taken = c.in_default.ensures.none in
     opened_of c.args.known.now.uuid c.args.known.now.geometry c.args.known.now.epoch c.args.known.now.end
     c.args.known.now.greatest
     (g.D.Disk.state c.args.disk) c.requires.log c.in-Ok.commits c.in-Ok.ensures.ok
-    c.in-Ok.ensures.costs c.in-Ok.ensures.settled c.in-Ok-open.log c.in-Ok-open.ensures.ok c.max-count.result taken.0 taken.1
+    c.in-Ok.ensures.costs c.in-Ok.ensures.settled c.in-Ok.ensures.crash_safe c.in_default.ensures.none c.in-Ok-open.log
+    c.in-Ok-open.ensures.ok c.max-count.result
     c.refusal_of.ensures.may_stand (search rules)
     (subst (λ n. All (λ k. k < max_number) (n ∷ c.args.known.now.epoch ∷ c.args.known.now.greatest ∷ c.max-count.result ∷ []))
     c.number.ensures

@@ -37,4 +37,4 @@ returns-clause-told g c = λ tells.
     recovered_from c.args.uuid c.args.geometry (g.S.Store.state c.args.store.now).objects
     c.in_ok-recovered.recovered.log c.in_ok-recovered.recovered.checkpoint (c.in_ok-recovered.ensures.checkpoint tells)
     (c.in_ok-recovered.ensures.landed tells) (c.in_ok-recovered.ensures.no_longer tells)
-    (c.in_ok-recovered.ensures.recovered tells)
+    (c.in_ok-recovered.ensures.good tells) (c.in_ok-recovered.ensures.recovered tells)

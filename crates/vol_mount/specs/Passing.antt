@@ -1,0 +1,51 @@
+-- Contract: what store and device have that pass all tests of a mount.
+use Rattle.std.specs.Prelude.{◌≡◌, ℕ, ◌<◌, ◌≤◌, max, Option, IfSome, List, [], ◌∷◌}
+use Rattle.std.specs.List.{AllByRecursion}
+use Rattle.lsvd_base.specs.declared.geometry.Geometry.{Geometry}
+use Rattle.lsvd_device.specs.Device.{DiskState}
+use Rattle.lsvd_objstore.specs.Objects.{Objects}
+use Rattle.object_recovery.specs.Checkpoints.{expected_of}
+use Rattle.object_recovery.specs.Judging.{HaveLanded}
+use Rattle.object_recovery.specs.Recovery.{IsLastLanded, AreAllGood}
+use Rattle.vol_core.specs.Shows.{max_number}
+use Rattle.vol_mount.specs.Refusals.{HasExtent, ReadsWhole, IsOwnCommit}
+
+-- ---- the store
+
+-- The objects of a volume in a store are good from the newest checkpoint on, and the one of this number is that before the first
+-- missing one.
+pub record AreGoodUpTo (uuid : List ℕ) (geometry : Geometry) (number : ℕ) (objects : Objects) : Type 0 where
+  pub base : ℕ
+  pub numbered : 0 < base
+  pub from : base ≤ number
+  pub good : AreAllGood (expected_of uuid geometry) objects base
+  pub landed : HaveLanded objects uuid base number
+  pub last : IsLastLanded (expected_of uuid geometry) objects number
+
+-- none of these is so great that a volume is worn out
+abbrev pub AreNotWorn : List ℕ → Type 0
+AreNotWorn numbers = AllByRecursion (λ number. number < max_number) numbers
+
+-- A store passes for a mount without the cache: its objects are good up to a number, so many entries are in them, and no number
+-- is too great.
+pub record PassesStored (uuid : List ℕ) (geometry : Geometry) (epoch : ℕ) (objects : Option Objects) (number entries : ℕ) :
+    Type 0 where
+  pub good : IfSome objects (AreGoodUpTo uuid geometry number)
+  pub greatest : ℕ
+  pub extent : HasExtent uuid geometry objects greatest entries
+  pub low : AreNotWorn (epoch ∷ greatest ∷ entries ∷ [])
+
+-- ---- with the device
+
+-- Store and device pass for a mount with the cache: the objects are good up to a number. The device reads as a commit of the
+-- volume in this epoch, whose tail is not past their end and which has its records up to the head. So many entries are up to the
+-- later of the two, and no number is too great.
+pub record PassesLeft (uuid : List ℕ) (geometry : Geometry) (epoch : ℕ) (objects : Option Objects) (disk : DiskState)
+    (number entries : ℕ) : Type 0 where
+  pub good : IfSome objects (AreGoodUpTo uuid geometry number)
+  pub greatest : ℕ
+  pub end : ℕ
+  pub extent : HasExtent uuid geometry objects greatest end
+  pub low : AreNotWorn (epoch ∷ greatest ∷ entries ∷ [])
+  pub device : ReadsWhole geometry (λ commit body. IsOwnCommit uuid epoch end body × (commit < max_number)
+      × (entries ≡ max end body.head.seq)) disk
