@@ -52,7 +52,7 @@ use Rattle.vol_mount.specs.Mounting.{RefusesNoneStored, RefusesNoneLeft, KeepsLe
 use Rattle.vol_mount.specs.Refusals.{IsWhyLost, IsWhyNotLeft, refuses, is_device_fault, is_store_fault_of}
 use Rattle.vol_recover.specs.Creating.{PutsVolume, IsNewTo, HasNewVolume, MayFormat, is_put_fault}
 use Rattle.vol_recover.specs.Describing.{OfVolume, IsWhyFor}
-use Rattle.vol_recover.specs.Mounting.{FailsToFormatIn}
+use Rattle.vol_recover.proofs.ForCallers.{FailsToFormatIn}
 use Rattle.replay_rig.specs.Crash.{FailsNone, IsBlankDisk, IsLeftBy, LandsAs, Lands, IsNewVolume, MayMountStored, MayMountLeft}
 use Rattle.replay_rig.specs.Crash.{RemovesNumbers, IsMountedVolume, IsPutAs}
 use Rattle.replay_rig.specs.Puts.{PutView, IsPutOut}
@@ -207,7 +207,7 @@ pub only_memory_left : (geometry : Geometry) (objects : Objects) (disk left : Di
     → FailsNone (mount_cost 0) disk
     → MayMountLeft geometry objects disk
     → OfVolume script_uuid (log_of disk.size) (Some objects)
-    (λ g epoch. IsWhyFor (λ h e. IsWhyNotLeft script_uuid h e (Some objects) disk) g epoch error)
+    (λ g epoch. IsWhyFor script_uuid (Some objects) (λ h e. IsWhyNotLeft script_uuid h e (Some objects) disk) g epoch error)
     → OfVolume script_uuid (log_of disk.size) (Some objects) (λ g epoch. RefusesNoneLeft script_uuid g epoch (Some objects)
     disk error)
     → CostsMount (log_of disk.size) (not (is_device_fault error)) disk left → Counts (is_store_fault_of error) 0 0
@@ -355,7 +355,7 @@ pub only_memory_anew : (geometry : Geometry) (objects : Objects) (disk left : Di
     → FailsNone format_cost disk
     → geometry.log ≡ log_of disk.size → MayMountStored geometry objects
     → OfVolume script_uuid (log_of disk.size) (Some objects)
-    (λ g epoch. IsWhyFor (λ h e. IsWhyLost script_uuid h e (Some objects)) g epoch error)
+    (λ g epoch. IsWhyFor script_uuid (Some objects) (λ h e. IsWhyLost script_uuid h e (Some objects)) g epoch error)
     → OfVolume script_uuid (log_of disk.size) (Some objects) (λ g epoch. RefusesNoneStored script_uuid g (Some objects) error)
     → FailsToFormatIn script_uuid (is_device_fault error) disk left → Counts (is_store_fault_of error) 0 0 → error ≡ OutOfMemory
 only_memory_anew geometry objects disk left NoVolume fails log_is may why none format counts =

@@ -19,7 +19,9 @@ use Rattle.commit_body.specs.declared.body.CommitBody.{CommitBody}
 use Rattle.commit_body.proofs.BodyLemmas.{determines_body}
 use Rattle.commit_slot.specs.Slots.{log_of, Reads, IsOpenSlot}
 use Rattle.log_room.specs.Room.{Room}
+use Rattle.cache_log.specs.declared.row.Row.{Row}
 use Rattle.cache_log.specs.Log.{LogState}
+use Rattle.cache_log.specs.Opening.{AreRecordsInRange}
 use Rattle.cache_log.specs.Committed.{IsOnDisk}
 use Rattle.stopped_volume.specs.Objects.{landed_in, IsCheckpointOf}
 use Rattle.stopped_volume.specs.Super.{HasVolume}
@@ -45,7 +47,8 @@ use Rattle.vol_core.specs.Step.{passing}
 use Rattle.vol_mount.specs.Mounted.{MountedState, disk_of, IsMountOf, NumbersNextCommit}
 use Rattle.vol_recover.specs.Describing.{OfVolume}
 use Rattle.vol_mount.specs.Mounting.{IsStored, IsLeft, MountsStored, MountsLeft}
-use Rattle.vol_mount.specs.Refusals.{IsFirstGreat, IsExtent, IsWornLeft}
+use Rattle.vol_mount.specs.declared.error.MountError.TheVariants.{Worn}
+use Rattle.vol_mount.specs.Refusals.{IsFirstGreat, IsExtent, IsOwnCommit, IsWhyNotLeft}
 use Rattle.transcript.specs.Letters.{landed_by}
 use Rattle.replay_rig.specs.declared.answer.Answer.{Answer}
 use Rattle.replay_rig.specs.declared.answer.Answer.TheVariants.{Mounted}
@@ -224,15 +227,18 @@ module _ (rig : RigState) (plain : PlainState) (fates : List Fate) (letters : Li
       let same = ap (λ (c : PlainCommit). c.head.seq) has_commit.0.commit in
       (omega (arith, least, commits, few), omega (arith, same, head, entries, few))
 
-  none_worn : rig.lines < 2 ^ 40 → (value : ℕ) → IsWornLeft script_uuid plain.geometry h.epoch (Some new) left value → ⊥
-  none_worn few value worn =
+  none_worn : rig.lines < 2 ^ 40 → (value : ℕ)
+      → IsWhyNotLeft script_uuid plain.geometry h.epoch (Some new) left (Worn value) → ⊥
+  none_worn few value (inl stored) = absurd stored
+  none_worn few value (inr (good, (greatest, end, extent, reads))) =
       let has = has_commit.0 in
-      let (greatest, end, reads, extent) = worn in
       let P : ℕ → CommitBody → Type 0 = λ n body. IsFirstGreat (n ∷ h.epoch ∷ greatest ∷ max end body.head.seq ∷ []) value in
-      let here = subst (HoldsNow (λ now. (n : ℕ) × (body : CommitBody) × Reads plain.geometry.log now.bytes body n × P n body))
+      let here = subst (HoldsNow (λ now. (n : ℕ) × (body : CommitBody) × Reads plain.geometry.log now.bytes body n
+      × (P n body × IsOwnCommit script_uuid h.epoch end body)
+      × ((rows : List Row) × AreRecordsInRange plain.geometry body rows now.bytes)))
       is.stopped.moments reads in
       let same = reads_one plain.geometry.log bytes_left here.0 has.number here.1 has.body here.2 has.slots.reads in
-      let great : P has.number has.body = subst (P has.number) same.1 (subst (λ n. P n here.1) same.0 here.3) in
+      let great : P has.number has.body = subst (P has.number) same.1 (subst (λ n. P n here.1) same.0 here.3.0) in
       let low = low_commit few in
       let are = low_left rig plain letters new greatest end h lands few extent in
       let a = low.1 in

@@ -20,7 +20,8 @@ use Rattle.vol_core.specs.Volume.{SteppedVolume}
 use Rattle.vol_core.specs.Creating.{IsCreated}
 use Rattle.vol_mount.specs.Mounted.{MountedState, disk_of, IsOfVolume}
 use Rattle.vol_mount.specs.Mounting.{IsStored, IsLeft}
-use Rattle.vol_mount.specs.Refusals.{IsWornStored, IsWornLeft}
+use Rattle.vol_mount.specs.declared.error.MountError.TheVariants.{Worn}
+use Rattle.vol_mount.specs.Refusals.{IsWornStored, IsWhyNotLeft}
 use Rattle.lsvd_objstore.specs.Memory.{Kept}
 use Rattle.replay_rig.specs.Puts.{PutView, IsPutOut}
 use Rattle.replay_rig.specs.Rig.{script_uuid}
@@ -99,7 +100,7 @@ pub record MayMountLeft (geometry : Geometry) (objects : Objects) (disk : DiskSt
   pub described : HasVolume script_uuid geometry epoch objects
   pub left : IsLeft script_uuid geometry epoch plain found number (Some objects) disk
   pub synced : HoldsNow IsSynced disk.moments
-  pub low : (value : ℕ) → IsWornLeft script_uuid geometry epoch (Some objects) disk value → ⊥
+  pub low : (value : ℕ) → IsWhyNotLeft script_uuid geometry epoch (Some objects) disk (Worn value) → ⊥
 
 -- the numbered objects past a number were removed, and the others stay
 pub record RemovesNumbers (number : ℕ) (old new : Objects) : Type 0 where

@@ -1,4 +1,4 @@
 pub mod Results
-pub mod MountLemmas
+pub mod ForCallers
 pub mod CreateLemmas
 pub mod NewLemmas

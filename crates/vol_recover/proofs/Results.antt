@@ -1,20 +1,10 @@
 -- What follows from an outcome, and from a store in which nothing changed, or the count of faults alone.
 use Rattle.std.proofs.Common.{◌≡◌, ◌∙◌, sym, ap, subst}
-use Rattle.std.specs.Prelude.{Option, Some, None, Ok, Err, Result, IfOk, IfErr, OnErr}
+use Rattle.std.specs.Prelude.{Option, Some, None, Ok, Err, Result, IfOk, OnErr}
 use Rattle.lsvd_objstore.specs.Objects.{Objects}
 use Rattle.lsvd_objstore.specs.Store.{StoreState, OnlyCounts, Becomes}
 
 -- ---- outcomes
-
-pub ok_so : {T E : Type 0} (P Q : T → Type 0) (outcome : Result T E) → ((value : T) → P value → Q value) → IfOk outcome P
-    → IfOk outcome Q
-ok_so P Q (Ok value) so is = so value is
-ok_so P Q (Err error) so is = tt
-
-pub err_so : {T E : Type 0} (P Q : E → Type 0) (outcome : Result T E) → ((error : E) → P error → Q error) → IfErr outcome P
-    → IfErr outcome Q
-err_so P Q (Ok value) so is = tt
-err_so P Q (Err error) so is = so error is
 
 pub ok_if : {T E : Type 0} (P : T → Type 0) (outcome : Result T E) (value : T) → IfOk outcome (λ v. v ≡ value) → P value
     → IfOk outcome P
@@ -24,10 +14,6 @@ ok_if P (Err e) value is so = tt
 pub on_error : {T E : Type 0} (P : Type 0) (outcome : Result T E) → P → OnErr outcome P
 on_error P (Ok value) so = tt
 on_error P (Err error) so = so
-
-pub if_error : {T E : Type 0} (P : Type 0) (outcome : Result T E) → OnErr outcome P → IfErr outcome (λ error. P)
-if_error P (Ok value) so = tt
-if_error P (Err error) so = so
 
 -- ---- stores
 

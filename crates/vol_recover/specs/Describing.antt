@@ -17,6 +17,10 @@ abbrev pub OfVolume : (uuid : List ℕ) → (log : ℕ) → Option Objects → (
 OfVolume uuid log objects P =
     (geometry : Geometry) (epoch : ℕ) → geometry.log ≡ log → IsSomeAnd objects (HasVolume uuid geometry epoch) → P geometry epoch
 
+-- it has these sizes and this epoch, if it has one
+abbrev pub IsTheVolume : (uuid : List ℕ) → (log : ℕ) → Option Objects → Geometry → (epoch : ℕ) → Type 0
+IsTheVolume uuid log objects geometry epoch = OfVolume uuid log objects (λ g e. (geometry ≡ g) × (epoch ≡ e))
+
 -- the store says that there is a volume without ancestors, which has these sizes on such a device, and that this is its newest
 -- epoch
 pub record SaysVolume (uuid : List ℕ) (geometry : Geometry) (epoch : ℕ) (objects : Objects) : Type 0 where
@@ -37,12 +41,13 @@ IsWhyNotDescribed uuid objects OutOfMemory = Unit {0}
 IsWhyNotDescribed uuid objects error = ⊥
 
 -- why a volume of these sizes in this epoch is refused: the log of the device does not fit it, or for such a reason
-abbrev pub IsWhyFor : (Geometry → ℕ → MountError → Type 0) → Geometry → ℕ → MountError → Type 0
-IsWhyFor Why geometry epoch error = ((is_within_limits geometry ≡ false) × IsUnfitting geometry error) ⊎ Why geometry epoch error
+abbrev pub IsWhyFor : (uuid : List ℕ) → Option Objects → (Geometry → ℕ → MountError → Type 0) → Geometry → ℕ → MountError → Type 0
+IsWhyFor uuid objects Why geometry epoch error =
+    ((is_within_limits geometry ≡ false) × IsUnfitting uuid geometry objects error) ⊎ Why geometry epoch error
 
 -- Why a volume is not mounted: it is refused as a whole, or for such a reason by what the store says of it.
 abbrev pub IsWhyOf : (uuid : List ℕ) → (log : ℕ) → Option Objects → (Geometry → ℕ → MountError → Type 0) → MountError → Type 0
 IsWhyOf uuid log objects Why error =
     IsWhyNotDescribed uuid objects error
     ⊎ ((geometry : Geometry) × (epoch : ℕ) × (geometry.log ≡ log) × IfSome objects (SaysVolume uuid geometry epoch)
-    × IsWhyFor Why geometry epoch error)
+    × IsWhyFor uuid objects Why geometry epoch error)

@@ -1,30 +1,81 @@
--- Contract: what is seen of a volume that was mounted, wherever it was found.
-use Rattle.std.specs.Prelude.{◌≡◌, ℕ, ◌⊎◌, Bool, IsTrue, List}
+-- Contract: what a mount of a volume is, by what the store says of it, and how it ends.
+use Rattle.std.specs.Prelude.{◌≡◌, ℕ, ◌⊎◌, false, Option, IfSome, IsTrue, Result, Ok, Err, List}
 use Rattle.lsvd_base.specs.declared.geometry.Geometry.{Geometry}
 use Rattle.lsvd_base.specs.Limits.{is_within_limits}
-use Rattle.lsvd_device.specs.Device.{DiskState}
+use Rattle.lsvd_fault.specs.Faults.{Counts}
+use Rattle.lsvd_device.specs.Device.{DiskState, IsDisk}
 use Rattle.lsvd_objstore.specs.Objects.{Objects}
-use Rattle.object_recovery.specs.Removal.{Removes}
-use Rattle.object_recovery.specs.Recovery.{IsPastOf}
-use Rattle.super_recovery.specs.Put.{PutsEpoch}
-use Rattle.vol_mount.specs.Costs.{FailsToFormat}
-use Rattle.vol_mount.specs.Mounted.{MountedState, IsOfVolume}
+use Rattle.lsvd_objstore.specs.Store.{StoreState}
+use Rattle.commit_slot.specs.Slots.{log_of}
+use Rattle.vol_mount.specs.declared.error.MountError.{MountError}
+use Rattle.vol_mount.specs.Mounted.{MountedState}
+use Rattle.vol_mount.specs.Mounts.{MountsWithCache, MountsWithoutCache}
+use Rattle.vol_mount.specs.Refusals.{IsUnfitting, IsWhyNotStored, refuses, is_device_fault, is_store_fault_of}
+use Rattle.vol_recover.specs.Describing.{OfVolume, IsTheVolume, SaysVolume, IsWhyNotDescribed}
 
--- it is the volume that was asked for, of some sizes within the limits and the log of the device, in some epoch
-abbrev pub IsOfSomeVolume : (uuid : List ℕ) → (log : ℕ) → MountedState → Type 0
-IsOfSomeVolume uuid log mounted =
-    (geometry : Geometry) × (epoch : ℕ) × (geometry.log ≡ log) × IsTrue (is_within_limits geometry)
-    × IsOfVolume uuid geometry epoch mounted
+-- ---- what the store says
 
--- objects of a volume past some number were removed, or none, and nothing else changed
-abbrev pub RemovesSome : (uuid : List ℕ) → (old new : Objects) → Type 0
-RemovesSome uuid old new = (number : ℕ) × Removes (IsPastOf uuid number) old new
+-- The store says that this is the volume, on a device whose log has so many sectors; and whatever volume it has is this one.
+pub record IsDescribed (Tells : Type 0) (uuid : List ℕ) (log : ℕ) (objects : Option Objects) (geometry : Geometry) (epoch : ℕ) :
+    Type 0 where
+  pub log_is : geometry.log ≡ log
+  pub says : Tells → IfSome objects (SaysVolume uuid geometry epoch)
+  pub same : Tells → IsTheVolume uuid log objects geometry epoch
 
--- and then an epoch was put, or not
-abbrev pub RemovesAndBegins : (uuid : List ℕ) → (old new : Objects) → Type 0
-RemovesAndBegins uuid old new =
-    (middle : Objects) × RemovesSome uuid old middle × ((new ≡ middle) ⊎ ((epoch : ℕ) × PutsEpoch uuid epoch middle new))
+-- or the volume as a whole is refused, and no volume that the store has
+pub record IsNotDescribed (Tells : Type 0) (uuid : List ℕ) (log : ℕ) (objects : Option Objects) (error : MountError) :
+    Type 0 where
+  pub why : Tells → IsWhyNotDescribed uuid objects error
+  pub no_refusal : Tells → OfVolume uuid log objects (λ geometry epoch. refuses error ≡ false)
 
--- no call was made of the device; or one of its format in some epoch failed
-abbrev pub FailsToFormatIn : (uuid : List ℕ) → (is_fault : Bool) → (old new : DiskState) → Type 0
-FailsToFormatIn uuid is_fault old new = (epoch : ℕ) × FailsToFormat uuid epoch is_fault old new
+-- the log of the device does not fit a volume with these sizes, or its objects are refused, which are judged before
+abbrev pub IsNotFitted : (Tells : Type 0) → (uuid : List ℕ) → Geometry → Option Objects → MountError → Type 0
+IsNotFitted Tells uuid geometry objects error =
+    Tells → IsUnfitting uuid geometry objects error ⊎ IsWhyNotStored uuid geometry objects error
+
+-- ---- how a mount ends
+
+-- Device and objects are as they were. A call of the store that failed was counted, and none of the device did.
+pub record LeavesAll (disk left : DiskState) (old new : StoreState) (error : MountError) : Type 0 where
+  pub device : left ≡ disk
+  pub is_disk : IsDisk left
+  pub objects : new.objects ≡ old.objects
+  pub no_fault : is_device_fault error ≡ false
+  pub faults : Counts (is_store_fault_of error) old.faults new.faults
+
+-- a mount ended by such an error, before anything was changed
+abbrev pub EndsBefore : {D : Type 0} → (D → DiskState) → (Why : MountError → Type 0) → DiskState → (old new : StoreState)
+    → Result MountedState (D × MountError) → Type 0
+EndsBefore state Why disk old new (Ok mounted) = ⊥
+EndsBefore state Why disk old new (Err error) = Why error.1 × LeavesAll disk (state error.0) old new error.1
+
+-- the log of the device does not fit the volume, and the mount ended before; or it fits, and the volume was mounted so
+abbrev pub MountsIfFits : {D : Type 0} → (D → DiskState) → (Tells : Type 0) → (uuid : List ℕ) → DiskState
+    → (old new : StoreState) → Result MountedState (D × MountError) → (Mounts : Geometry → (epoch : ℕ) → Type 0) → Geometry
+    → (epoch : ℕ) → Type 0
+MountsIfFits state Tells uuid disk old new result Mounts geometry epoch =
+    ((is_within_limits geometry ≡ false)
+    × EndsBefore state (IsNotFitted Tells uuid geometry old.objects) disk old new result)
+    ⊎ (IsTrue (is_within_limits geometry) × Mounts geometry epoch)
+
+-- no volume is described, and the mount ended before; or this one is, and it was mounted so if it fits
+abbrev pub IsMounting : {D : Type 0} → (D → DiskState) → (Tells : Type 0) → (uuid : List ℕ) → DiskState → (old new : StoreState)
+    → Result MountedState (D × MountError) → (Mounts : Geometry → (epoch : ℕ) → Type 0) → Type 0
+IsMounting state Tells uuid disk old new result Mounts =
+    EndsBefore state (IsNotDescribed Tells uuid (log_of disk.size) old.objects) disk old new result
+    ⊎ ((geometry : Geometry) × (epoch : ℕ) × IsDescribed Tells uuid (log_of disk.size) old.objects geometry epoch
+    × MountsIfFits state Tells uuid disk old new result Mounts geometry epoch)
+
+-- ---- the whole
+
+-- The volume that the store says there is was mounted with its cache, or it was not, for a reason that comes before or in that.
+pub record MountsKept {D : Type 0} (state : D → DiskState) (Tells : Type 0) (uuid : List ℕ) (disk : DiskState)
+    (old new : StoreState) (result : Result MountedState (D × MountError)) : Type 0 where
+  pub is : IsMounting state Tells uuid disk old new result
+      (λ geometry epoch. MountsWithCache state Tells uuid geometry epoch disk old new result)
+
+-- The same without its cache.
+pub record MountsLost {D : Type 0} (state : D → DiskState) (Tells : Type 0) (uuid : List ℕ) (disk : DiskState)
+    (old new : StoreState) (result : Result MountedState (D × MountError)) : Type 0 where
+  pub is : IsMounting state Tells uuid disk old new result
+      (λ geometry epoch. MountsWithoutCache state Tells uuid geometry epoch disk old new result)

@@ -1,13 +1,15 @@
 -- Where no disk, store and listener count a fault, none of them ends a command by one.
-use Rattle.std.proofs.Common.{arith, ◌≡◌, ℕ, ◌+◌, ◌<◌, ◌-◌, ◌^◌, ◌⊎◌, Bool, true, false, not, List, [], length, append-nil, refl}
-use Rattle.std.proofs.Common.{sym, ◌∙◌, ap, subst, inl, inr}
+use Rattle.std.proofs.Common.{arith, ◌≡◌, ℕ, ◌+◌, ◌<◌, ◌≤◌, ◌-◌, ◌^◌, ◌⊎◌, Bool, true, false, not, List, [], length, refl}
+use Rattle.std.proofs.Common.{append-nil, sym, ◌∙◌, ap, subst, inl, inr}
 use Rattle.std.specs.Prelude.{IsErrOf, OnOk, Result, Ok, Err}
+use Rattle.std.specs.List.{list_any}
 use Rattle.lsvd_base.specs.declared.entry.Entry.{Entry}
 use Rattle.lsvd_device.specs.Device.{DiskState}
 use Rattle.lsvd_fault.specs.Faults.{Counts, CountsOne}
 use Rattle.plain_disk.specs.State.{history_length}
 use Rattle.vol_core.specs.Volume.{VolumeState}
 use Rattle.vol_mount.specs.Costs.{CostsMount}
+use Rattle.vol_mount.specs.Mounted.{MountedState}
 use Rattle.vol_mount.specs.Refusals.{is_device_fault, is_store_fault_of}
 use Rattle.vol_mount.specs.declared.error.MountError.{MountError}
 use Rattle.vol_mount.specs.declared.error.MountError.TheVariants as mounts
@@ -15,6 +17,9 @@ use Rattle.volume_owner.specs.declared.error.OwnerError.{OwnerError}
 use Rattle.volume_owner.specs.declared.error.OwnerError.TheVariants as owners
 use Rattle.volume_owner.specs.Calls.{Adds, IsLengthOf, CountsEitherFault}
 use Rattle.volume_owner.specs.Errors.{is_eio}
+use Rattle.volume_owner.specs.Owner.{IsIdle}
+use Rattle.nbd_session.specs.History.{most_steps}
+use Rattle.vol_recover.proofs.ForCallers.{FailsToFormatIn, IsOfSomeVolume}
 use Rattle.volume_server.specs.declared.serving.LaneEnd.{LaneEnd}
 use Rattle.volume_server.specs.declared.serving.LaneEnd.TheVariants as lanes
 use Rattle.volume_server.specs.Serving.{ListenerState, ClosesAs}
@@ -127,6 +132,27 @@ cost_counts log error old new costs is = counted (is_device_fault error) costs i
     counted : (b : Bool) → CostsMount log (not b) old new → b ≡ true → CountsOne old.faults new.faults
     counted true costs is = costs.calls.calls.faults
     counted false costs is = let bad : ⊥ = cc in absurd bad
+
+-- and so do those of one without it
+pub format_counts : (uuid : List ℕ) (error : MountError) (old new : DiskState)
+    → FailsToFormatIn uuid (is_device_fault error) old new → is_device_fault error ≡ true → CountsOne old.faults new.faults
+format_counts uuid error old new fails is = counted (is_device_fault error) fails is
+  where
+    counted : (b : Bool) → FailsToFormatIn uuid b old new → b ≡ true → CountsOne old.faults new.faults
+    counted true fails is = fails.1.calls.calls.faults
+    counted false fails is = let bad : ⊥ = cc in absurd bad
+
+-- a volume that was mounted is idle, and has made no step
+pub mounted_is_idle : (uuid : List ℕ) (log : ℕ) (mounted : MountedState) → IsOfSomeVolume uuid log mounted
+    → IsIdle mounted.volume.volume
+mounted_is_idle uuid log mounted (geometry, epoch, log_is, limits, is) = record {
+  puts = ap (list_any (λ object. object.is_started)) is.acknowledged;
+  plans = is.plans;
+}
+
+pub mounted_has_room : (uuid : List ℕ) (log : ℕ) (mounted : MountedState) → IsOfSomeVolume uuid log mounted
+    → mounted.volume.steps ≤ most_steps
+mounted_has_room uuid log mounted (geometry, epoch, log_is, limits, is) = (let steps = is.steps in omega (arith, steps))
 
 -- ---- a drain
 

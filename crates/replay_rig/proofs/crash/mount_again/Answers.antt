@@ -8,6 +8,7 @@ use Rattle.vol_mount.specs.Mounted.{IsOfVolume, disk_of}
 use Rattle.vol_mount.specs.Mounting.{MountsLeft, KeepsLeft, RefusesNoneLeft}
 use Rattle.vol_mount.specs.Refusals.{IsWhyNotLeft}
 use Rattle.vol_recover.specs.Describing.{OfVolume, IsWhyFor}
+use Rattle.vol_recover.proofs.ForCallers.{made_kept, not_kept}
 use Rattle.replay_rig.specs.Rig.{script_uuid}
 use Rattle.replay_rig.proofs.CrashLemmas.{only_memory_left, mounted_again}
 use Rattle.replay_rig.proofs.crash.mount_again.Goals as goal
@@ -19,15 +20,15 @@ prove-unreachable-requires c =
     let disk = c.args.disk in
     let old = Some c.args.store.now in
     let error = c.in-Err.failed.1 in
-    let e = c.in-Err.ensures in
+    let e = not_kept _ _ _ _ _ _ c.in-Err.failed.0 error c.in-Err.ensures in
     let may = c.requires.may in
-    let why = subst (λ (u : List ℕ). OfVolume u (log_of disk.size) old (λ g n. IsWhyFor (λ h m. IsWhyNotLeft u h m old disk) g n
-    error)) uuid
+    let why = subst (λ (u : List ℕ). OfVolume u (log_of disk.size) old (λ g n.
+    IsWhyFor u old (λ h m. IsWhyNotLeft u h m old disk) g n error)) uuid
     (e.why_volume (λ receipt. refl)) in
     let none = subst (λ (u : List ℕ). OfVolume u (log_of disk.size) old (λ g n. RefusesNoneLeft u g n old disk error)) uuid
     (e.no_refusal (λ receipt. refl)) in
     let lacks : error ≡ OutOfMemory =
-    only_memory_left may.0 c.args.store.now disk c.in-Err.failed.0 error c.requires.fails_none may.1 why none e.err_costs
+    only_memory_left may.0 c.args.store.now disk c.in-Err.failed.0 error c.requires.fails_none may.1 why none e.costs
     e.faults in
     elim c.match-matches.branch [
       | in-OutOfMemory w ↦ (let same = sym w.matches-is ∙ c.if-prove.true in cc)
@@ -41,7 +42,7 @@ returns-in-Ok-clause-ok c =
     let mounted = c.in-Ok.mounted in
     let old = c.args.store.now in
     let new = c.mount_kept.new.store in
-    let e = c.in-Ok.ensures in
+    let e = made_kept _ _ _ _ _ _ mounted c.in-Ok.ensures in
     let may = c.requires.may in
     mounted_again may.0 disk mounted old new c.requires.fails_none may.1
     (subst (λ (u : List ℕ). OfVolume u (log_of disk.size) (Some old) (λ g n. IsOfVolume u g n mounted)) uuid
@@ -57,4 +58,7 @@ returns-in-Ok-clause-mounts c =
     let disk = c.args.disk in
     let old = Some c.args.store.now in
     subst (λ (u : List ℕ). OfVolume u (log_of disk.size) old (λ g n. MountsLeft u g n old disk c.in-Ok.mounted)) uuid
-    (c.in-Ok.ensures.mounts (λ receipt. refl))
+    ((made_kept _ _ _ _ _ _ c.in-Ok.mounted c.in-Ok.ensures).mounts (λ receipt. refl))
+
+pub returns-in-Ok-clause-number : goal.returns-in-Ok-clause-number
+returns-in-Ok-clause-number c = (made_kept _ _ _ _ _ _ c.in-Ok.mounted c.in-Ok.ensures).number

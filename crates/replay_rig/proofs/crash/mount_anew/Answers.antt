@@ -9,7 +9,7 @@ use Rattle.vol_mount.specs.Mounted.{IsOfVolume, disk_of}
 use Rattle.vol_mount.specs.Mounting.{MountsStored, RefusesNoneStored}
 use Rattle.vol_mount.specs.Refusals.{IsWhyLost, is_device_fault}
 use Rattle.vol_recover.specs.Describing.{OfVolume, IsWhyFor}
-use Rattle.vol_recover.specs.Mounting.{FailsToFormatIn}
+use Rattle.vol_recover.proofs.ForCallers.{FailsToFormatIn, made_lost, not_lost}
 use Rattle.replay_rig.specs.Rig.{script_uuid}
 use Rattle.replay_rig.proofs.CrashLemmas.{only_memory_anew, mounted_anew}
 use Rattle.replay_rig.proofs.crash.mount_anew.Goals as goal
@@ -21,14 +21,14 @@ prove-unreachable-requires c =
     let disk = c.args.disk in
     let old = Some c.args.store.now in
     let error = c.in-Err.failed.1 in
-    let e = c.in-Err.ensures in
+    let e = not_lost _ _ _ _ _ _ c.in-Err.failed.0 error c.in-Err.ensures in
     let may = c.requires.may in
-    let why = subst (λ (u : List ℕ). OfVolume u (log_of disk.size) old (λ g n. IsWhyFor (λ h m. IsWhyLost u h m old) g n error))
-    uuid
+    let why = subst (λ (u : List ℕ). OfVolume u (log_of disk.size) old (λ g n.
+    IsWhyFor u old (λ h m. IsWhyLost u h m old) g n error)) uuid
     (e.why_volume (λ receipt. refl)) in
     let none = subst (λ (u : List ℕ). OfVolume u (log_of disk.size) old (λ g n. RefusesNoneStored u g old error)) uuid
     (e.no_refusal (λ receipt. refl)) in
-    let format = subst (λ (u : List ℕ). FailsToFormatIn u (is_device_fault error) disk c.in-Err.failed.0) uuid e.err_costs in
+    let format = subst (λ (u : List ℕ). FailsToFormatIn u (is_device_fault error) disk c.in-Err.failed.0) uuid e.costs in
     let lacks : error ≡ OutOfMemory =
     only_memory_anew may.0 c.args.store.now disk c.in-Err.failed.0 error c.requires.fails_none may.1 may.2 why none format
     e.faults in
@@ -44,7 +44,7 @@ returns-in-Ok-clause-ok c =
     let mounted = c.in-Ok.mounted in
     let old = c.args.store.now in
     let new = c.mount_lost.new.store in
-    let e = c.in-Ok.ensures in
+    let e = made_lost _ _ _ _ _ _ mounted c.in-Ok.ensures in
     mounted_anew disk mounted old new c.requires.fails_none c.requires.blank
     (subst (λ (u : List ℕ). OfVolume u (log_of disk.size) (Some old) (λ g n. IsOfVolume u g (n + 1) mounted)) uuid
     (e.volume (λ receipt. refl)))
@@ -58,4 +58,7 @@ returns-in-Ok-clause-mounts c =
     let uuid : c.from_bytes.result ≡ script_uuid = c.from_bytes.ensures in
     let old = Some c.args.store.now in
     subst (λ (u : List ℕ). OfVolume u (log_of c.args.disk.size) old (λ g n. MountsStored u g old c.in-Ok.mounted)) uuid
-    (c.in-Ok.ensures.mounts (λ receipt. refl))
+    ((made_lost _ _ _ _ _ _ c.in-Ok.mounted c.in-Ok.ensures).mounts (λ receipt. refl))
+
+pub returns-in-Ok-clause-number : goal.returns-in-Ok-clause-number
+returns-in-Ok-clause-number c = (made_lost _ _ _ _ _ _ c.in-Ok.mounted c.in-Ok.ensures).number

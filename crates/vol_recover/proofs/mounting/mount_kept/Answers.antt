@@ -1,131 +1,116 @@
-use Rattle.std.proofs.Common.{◌≡◌, ◌∙◌, sym, subst}
+use Rattle.std.proofs.Common.{inl, inr, refl, sym, ◌∙◌, subst}
+use Rattle.std.specs.Prelude.{◌≡◌, ◌⊎◌, false}
+use Rattle.lsvd_base.specs.declared.geometry.Geometry.{Geometry}
+use Rattle.lsvd_fault.specs.Faults.{Counts}
+use Rattle.lsvd_objstore.specs.Store.{StoreState}
 use Rattle.commit_slot.specs.Slots.{log_of}
-use Rattle.object_recovery.specs.Checkpoints.{expected_of}
-use Rattle.lsvd_objstore.specs.Store.{Becomes}
 use Rattle.object_recovery.specs.Faults.{TellsBytes}
-use Rattle.object_recovery.specs.Recovery.{MayRemovePast}
-use Rattle.vol_mount.specs.Mounted.{IsOfVolume, disk_of}
-use Rattle.vol_mount.specs.Mounting.{MountsLeft, KeepsLeft, RefusesNoneLeft}
-use Rattle.vol_recover.specs.Mounting.{IsOfSomeVolume}
-use Rattle.vol_recover.proofs.MountLemmas.{IsTheVolume, ok_of_volume, err_of_volume, of_some_volume, none_removed}
-use Rattle.vol_recover.proofs.MountLemmas.{err_removes_some, costs_nothing}
-use Rattle.vol_recover.proofs.Results.{counted_objects, counted_then, ok_so, if_error}
+use Rattle.object_recovery.proofs.FindLemmas.{same_store}
+use Rattle.vol_mount.specs.Mounts.{MountsWithCache}
+use Rattle.vol_mount.specs.Refusals.{IsUnfitting, IsWhyNotStored, refuses, is_store_fault_of}
+use Rattle.vol_recover.specs.Describing.{OfVolume, IsTheVolume}
+use Rattle.vol_recover.specs.Mounting.{IsDescribed}
+use Rattle.vol_recover.proofs.Results.{counted_objects, counted_then}
 use Rattle.vol_recover.proofs.mounting.mount_kept.Given as given
 use Rattle.vol_recover.proofs.mounting.mount_kept.Goals as goal
-use Rattle.vol_recover.proofs.mounting.mount_kept.Goals.{After-mount_with_cache}
+use Rattle.vol_recover.proofs.mounting.mount_kept.Goals.{In-Ok}
 
--- ---- nothing was mounted
+-- ---- no volume is described
 
-pub returns-in-Err-clause-err_costs : goal.returns-in-Err-clause-err_costs
-returns-in-Err-clause-err_costs g c =
-    let disk = g.D.Disk.state c.args.disk in
-    costs_nothing (log_of disk.size) c.in-Err.error disk c.in-Err.ensures.no_fault
-
-pub returns-then-not-is_within_limits-clause-err_costs : goal.returns-then-not-is_within_limits-clause-err_costs
-returns-then-not-is_within_limits-clause-err_costs g c =
-    let disk = g.D.Disk.state c.args.disk in
-    costs_nothing (log_of disk.size) c.refuse_log-error.result disk c.refuse_log-error.ensures.no_fault
-
-pub returns-in-Err-clause-left : goal.returns-in-Err-clause-left
-returns-in-Err-clause-left g c tells geometry epoch log_is has =
-    none_removed (TellsBytes g.S.Receipt.Receipt.state) (expected_of c.args.uuid geometry) (g.S.Store.state c.args.store.now)
-    (g.S.Store.state c.describe.new.store) c.in-Err.ensures.unchanged
-
-pub returns-then-not-is_within_limits-clause-left : goal.returns-then-not-is_within_limits-clause-left
-returns-then-not-is_within_limits-clause-left g c tells geometry epoch log_is has =
+pub returns-in-Err : goal.returns-in-Err
+returns-in-Err g c =
     let old = g.S.Store.state c.args.store.now in
-    let described = g.S.Store.state c.describe.new.store in
-    let new = g.S.Store.state c.refuse_log-error.new.store in
-    none_removed (TellsBytes g.S.Receipt.Receipt.state) (expected_of c.args.uuid geometry) old new
-    (counted_then old described new c.in-Ok.ensures.unchanged c.refuse_log-error.ensures.unchanged)
+    let new = g.S.Store.state c.describe.new.store in
+    let error = c.in-Err.error in
+    let none = c.in-Err.ensures in
+    record {
+      is =
+          inl (
+            record {
+              why = none.why;
+              no_refusal = λ tells.
+                  subst (λ log. OfVolume c.args.uuid log old.objects (λ geometry epoch. refuses error ≡ false))
+                  c.log_sectors.ensures (none.no_refusal tells);
+            },
+            record {
+              device = refl;
+              is_disk = c.requires.is_disk;
+              objects = counted_objects old new none.unchanged;
+              no_fault = none.no_fault;
+              faults = none.faults;
+            },
+          );
+    }
 
--- ---- the volume that was described was mounted, or not
+-- ---- this one is
 
-the_volume : (g : given.Over) (c : After-mount_with_cache g) → TellsBytes g.S.Receipt.Receipt.state
-    → IsTheVolume c.args.uuid (log_of (g.D.Disk.state c.args.disk).size) (g.S.Store.state c.args.store.now).objects
-    c.in-Ok.described.geometry
-    c.in-Ok.described.epoch
-the_volume g c tells =
+described : (g : given.Over) (c : In-Ok g)
+    → IsDescribed (TellsBytes g.S.Receipt.Receipt.state) c.args.uuid (log_of (g.D.Disk.state c.args.disk).size)
+    (g.S.Store.state c.args.store.now).objects c.in-Ok.described.geometry c.in-Ok.described.epoch
+described g c =
     let objects = (g.S.Store.state c.args.store.now).objects in
-    subst (λ log. IsTheVolume c.args.uuid log objects c.in-Ok.described.geometry c.in-Ok.described.epoch) c.log_sectors.ensures
-    (c.in-Ok.ensures.same tells)
+    let geometry : Geometry = c.in-Ok.described.geometry in
+    record {
+      log_is = c.in-Ok.ensures.log ∙ c.log_sectors.ensures;
+      says = c.in-Ok.ensures.told;
+      same = λ tells.
+          subst (λ log. IsTheVolume c.args.uuid log objects geometry c.in-Ok.described.epoch) c.log_sectors.ensures
+          (c.in-Ok.ensures.same tells);
+    }
 
-unchanged : (g : given.Over) (c : After-mount_with_cache g)
-    → (g.S.Store.state c.describe.new.store).objects ≡ (g.S.Store.state c.args.store.now).objects
-unchanged g c = counted_objects (g.S.Store.state c.args.store.now) (g.S.Store.state c.describe.new.store)
-    c.in-Ok.ensures.unchanged
+pub returns-then-not-is_within_limits : goal.returns-then-not-is_within_limits
+returns-then-not-is_within_limits g c =
+    let old = g.S.Store.state c.args.store.now in
+    let middle = g.S.Store.state c.describe.new.store in
+    let new = g.S.Store.state c.refuse_log-error.new.store in
+    let geometry : Geometry = c.in-Ok.described.geometry in
+    let error = c.refuse_log-error.result in
+    let is = c.refuse_log-error.ensures in
+    let same = same_store old middle c.in-Ok.ensures.unchanged c.in-Ok.ensures.faults in
+    let unchanged = counted_then old middle new c.in-Ok.ensures.unchanged is.unchanged in
+    record {
+      is =
+          inr (
+            geometry,
+            c.in-Ok.described.epoch,
+            described g (goal.at.returns-then-not-is_within_limits g c).In-Ok,
+            inl (
+              sym c.if-not-is_within_limits.ensures,
+              (
+                λ tells.
+                    subst (λ (s : StoreState). IsUnfitting c.args.uuid geometry s.objects error
+                    ⊎ IsWhyNotStored c.args.uuid geometry s.objects error) same (is.why tells),
+                record {
+                  device = refl;
+                  is_disk = c.requires.is_disk;
+                  objects = counted_objects old new unchanged;
+                  no_fault = is.no_fault;
+                  faults =
+                      subst (λ (s : StoreState). Counts (is_store_fault_of error) s.faults new.faults) same is.faults;
+                },
+              ),
+            ),
+          );
+    }
 
-pub returns-clause-some_volume : goal.returns-clause-some_volume
-returns-clause-some_volume g c =
-    let log = log_of (g.D.Disk.state c.args.disk).size in
-    let geometry = c.in-Ok.described.geometry in
+pub returns : goal.returns
+returns g c =
+    let old = g.S.Store.state c.args.store.now in
+    let middle = g.S.Store.state c.describe.new.store in
+    let new = g.S.Store.state c.mount_with_cache.new.store in
+    let geometry : Geometry = c.in-Ok.described.geometry in
     let epoch = c.in-Ok.described.epoch in
-    ok_so (IsOfVolume c.args.uuid geometry epoch) (IsOfSomeVolume c.args.uuid log) c.mount_with_cache.result
-    (of_some_volume c.args.uuid log geometry epoch (c.in-Ok.ensures.log ∙ c.log_sectors.ensures)
-    (sym c.if-not-is_within_limits.ensures))
-    c.mount_with_cache.ensures.volume
-
-pub returns-clause-volume : goal.returns-clause-volume
-returns-clause-volume g c tells =
-    let old = (g.S.Store.state c.args.store.now).objects in
-    let after = (g.S.Store.state c.describe.new.store).objects in
-    let described = c.in-Ok.described in
-    ok_of_volume c.args.uuid (log_of (g.D.Disk.state c.args.disk).size) old after described.geometry described.epoch
-    (λ objects geometry epoch mounted. IsOfVolume c.args.uuid geometry epoch mounted) c.mount_with_cache.result
-    (the_volume g c tells) (unchanged g c)
-    c.mount_with_cache.ensures.volume
-
-pub returns-clause-mounts : goal.returns-clause-mounts
-returns-clause-mounts g c tells =
-    let old = (g.S.Store.state c.args.store.now).objects in
-    let after = (g.S.Store.state c.describe.new.store).objects in
-    let disk = g.D.Disk.state c.args.disk in
-    let described = c.in-Ok.described in
-    ok_of_volume c.args.uuid (log_of disk.size) old after described.geometry described.epoch
-    (λ objects geometry epoch mounted. MountsLeft c.args.uuid geometry epoch objects disk mounted) c.mount_with_cache.result
-    (the_volume g c tells) (unchanged g c)
-    (c.mount_with_cache.ensures.mounts tells)
-
-pub returns-clause-stops : goal.returns-clause-stops
-returns-clause-stops g c tells =
-    let old = (g.S.Store.state c.args.store.now).objects in
-    let after = (g.S.Store.state c.describe.new.store).objects in
-    let disk = g.D.Disk.state c.args.disk in
-    let described = c.in-Ok.described in
-    ok_of_volume c.args.uuid (log_of disk.size) old after described.geometry described.epoch
-    (λ objects geometry epoch mounted. KeepsLeft c.args.uuid geometry epoch objects disk (disk_of mounted))
-    c.mount_with_cache.result
-    (the_volume g c tells) (unchanged g c) (c.mount_with_cache.ensures.stops tells)
-
-pub returns-clause-no_refusal : goal.returns-clause-no_refusal
-returns-clause-no_refusal g c tells =
-    let old = (g.S.Store.state c.args.store.now).objects in
-    let after = (g.S.Store.state c.describe.new.store).objects in
-    let disk = g.D.Disk.state c.args.disk in
-    let described = c.in-Ok.described in
-    err_of_volume c.args.uuid (log_of disk.size) old after described.geometry described.epoch
-    (λ objects geometry epoch error. RefusesNoneLeft c.args.uuid geometry epoch objects disk error.1) c.mount_with_cache.result
-    (the_volume g c tells) (unchanged g c)
-    (c.mount_with_cache.ensures.no_refusal tells)
-
-pub returns-clause-some : goal.returns-clause-some
-returns-clause-some g c =
-    err_removes_some (TellsBytes g.S.Receipt.Receipt.state) (expected_of c.args.uuid c.in-Ok.described.geometry)
-    c.mount_with_cache.result
-    (g.S.Store.state c.args.store.now).objects (g.S.Store.state c.describe.new.store).objects
-    (g.S.Store.state c.mount_with_cache.new.store).objects
-    (unchanged g c) c.mount_with_cache.ensures.some
-
-pub returns-clause-left : goal.returns-clause-left
-returns-clause-left g c tells =
-    let old = (g.S.Store.state c.args.store.now).objects in
-    let after = (g.S.Store.state c.describe.new.store).objects in
-    let new = (g.S.Store.state c.mount_with_cache.new.store).objects in
-    let Tells = TellsBytes g.S.Receipt.Receipt.state in
-    let described = c.in-Ok.described in
-    err_of_volume c.args.uuid (log_of (g.D.Disk.state c.args.disk).size) old after described.geometry described.epoch
-    (λ objects geometry epoch error. Becomes (MayRemovePast Tells (expected_of c.args.uuid geometry)) objects new)
-    c.mount_with_cache.result
-    (the_volume g c tells) (unchanged g c)
-    (if_error (Becomes (MayRemovePast Tells (expected_of c.args.uuid described.geometry)) after new) c.mount_with_cache.result
-    c.mount_with_cache.ensures.some)
+    let same = same_store old middle c.in-Ok.ensures.unchanged c.in-Ok.ensures.faults in
+    record {
+      is =
+          inr (
+            geometry,
+            epoch,
+            described g (goal.at.returns g c).In-Ok,
+            inr (
+              sym c.if-not-is_within_limits.ensures,
+              subst (λ s. MountsWithCache g.D.Disk.state (TellsBytes g.S.Receipt.Receipt.state) c.args.uuid geometry epoch
+                  (g.D.Disk.state c.args.disk) s new c.mount_with_cache.result) same c.mount_with_cache.ensures,
+            ),
+          );
+    }
