@@ -1,4 +1,4 @@
-ghost use Rattle.std.specs.Prelude.{◌≡◌, IfOk};
+ghost use Rattle.std.specs.Prelude.{◌≡◌, Some, [], IfOk};
 ghost use Rattle.lsvd_fault.specs.Faults.{CountsOne};
 ghost use Rattle.lsvd_device.specs.Device.{IsDisk};
 ghost use Rattle.lsvd_objstore.specs.Memory.{told_state};
@@ -92,6 +92,8 @@ impl Listener for QuietListener {
     ghost closed = { λ l. l.closed };
 
     ghost faults = { quiet_faults };
+
+    ghost coming = { λ _. Some [] };
 
     fn accept(&mut self) -> Result<Option<MemLink>, Failed> {
         self.closed = true;

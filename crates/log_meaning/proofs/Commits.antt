@@ -94,7 +94,7 @@ new_alike old new body unfinished same released is left =
 
 -- ---- the next commit
 
-place_is : (rows : List Row) (log from head : ℕ) → place_of_first head (records_of_rows log from rows) ≡ start_of head rows
+pub place_is : (rows : List Row) (log from head : ℕ) → place_of_first head (records_of_rows log from rows) ≡ start_of head rows
 place_is [] log from head = refl
 place_is (row ∷ rows) log from head = refl
 
@@ -112,7 +112,7 @@ records_of_list log plain is =
     ∙ ap (drop (log.first - tail.seq)) (is.records ∙ records_behind log.held log.rows log.room.log tail.position)
     ∙ drop_at held rest (log.first - tail.seq) (omega (arith, count, counted))
 
-next_commit : (log : LogState) (plain : PlainLog) → ShowsLog log plain → commit_from log.first plain ≡ commit_of (body_of log)
+pub next_commit : (log : LogState) (plain : PlainLog) → ShowsLog log plain → commit_from log.first plain ≡ commit_of (body_of log)
 next_commit log plain is =
     let tail : Mark = log.commits.body.tail in
     let head : plain.head ≡ log.room.head = ap (λ r. r.head) is.room in

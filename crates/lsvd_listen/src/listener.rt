@@ -1,7 +1,7 @@
-ghost use Rattle.std.specs.Prelude.{◌≡◌, ℕ, Bool, is_err};
+ghost use Rattle.std.specs.Prelude.{◌≡◌, ℕ, Bool, List, Option, is_err};
 ghost use Rattle.std.specs.Bool.{OnTrue};
 ghost use Rattle.lsvd_fault.specs.Faults.{Counts};
-ghost use Rattle.lsvd_listen.specs.Listening.{given_after, closed_after, GivesNoLink};
+ghost use Rattle.lsvd_listen.specs.Listening.{given_after, closed_after, GivesNoLink, GivesFirst, GivesFresh};
 
 use crate::connection::Connection;
 use lsvd_fault::Failed;
@@ -20,11 +20,17 @@ pub trait Listener {
     /// How often a call has failed. At the greatest number of its type the count stands.
     ghost faults: { Self → ℕ };
 
-    /// Waits for the next client, and answers the link to it. None means that the listener is closed: no
-    /// client comes any more, and each later call answers None or fails. `Failed` comes where the outside
-    /// gave no link: the call was counted once, no link was given, and it may be made again.
+    /// The links that are still to come, in their order, where the listener tells them.
+    ghost coming: { Self → Option (List Self.Link) };
+
+    /// Waits for the next client, and answers the link to it, as it came: nothing was written to it. None
+    /// means that the listener is closed: no client comes any more, and each later call answers None or
+    /// fails. `Failed` comes where the outside gave no link: the call was counted once, no link was given,
+    /// and it may be made again.
     fn accept(&mut self) -> Result<Option<Self::Link>, Failed>
         ensures links { given self.new ≡ given_after result (given self.old) }
+        ensures first { GivesFirst result (coming self.old) (coming self.new) }
+        ensures fresh { GivesFresh Self.Link.contents result }
         ensures end { closed self.new ≡ closed_after result (closed self.old) }
         ensures over { OnTrue (closed self.old) (GivesNoLink result) }
         ensures count { Counts (is_err result) (faults self.old) (faults self.new) };

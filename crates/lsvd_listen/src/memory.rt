@@ -1,8 +1,5 @@
-ghost use Rattle.std.specs.Prelude.{◌≡◌, is_err, false};
-ghost use Rattle.std.specs.Bool.{OnTrue};
-ghost use Rattle.lsvd_fault.specs.Faults.{Counts};
-ghost use Rattle.lsvd_listen.specs.Listening.{given_after, closed_after, GivesNoLink};
-ghost use Rattle.lsvd_listen.specs.Memory.{MemListenerState, GivesFirst};
+ghost use Rattle.std.specs.Prelude.{◌≡◌, Some, [], All, false};
+ghost use Rattle.lsvd_listen.specs.Memory.{MemListenerState};
 
 use crate::listener::Listener;
 use lsvd_fault::{Failed, MemLink};
@@ -22,7 +19,7 @@ pub struct MemListener {
 }
 
 impl Model for MemListener {
-    ghost use Rattle.std.specs.Prelude.{◌≡◌, [], IsTrue};
+    ghost use Rattle.std.specs.Prelude.{◌≡◌, [], All, IsTrue};
     ghost use Rattle.lsvd_listen.specs.Memory.{MemListenerState};
 
     ghost Value = { MemListenerState };
@@ -34,12 +31,15 @@ impl Model for MemListener {
       faults = l.faults;
     } };
 
-    ghost invariant = { λ l. IsTrue l.closed → l.links.items ≡ [] };
+    ghost invariant = { λ l. (IsTrue l.closed → l.links.items ≡ [])
+        × All (λ link. link.taken ≡ []) l.links.items };
 }
 
 impl MemListener {
     /// A listener that gives these links, the first of them first. It has given none, and has no fault yet.
+    /// Nothing was written to any of them (a condition).
     pub fn new(links: Vec<MemLink>) -> MemListener
+        requires { All (λ link. link.taken ≡ []) links.items }
         ensures left { result.left ≡ links.items }
         ensures given { result.given ≡ 0 }
         ensures closed { result.closed ≡ false }
@@ -82,14 +82,9 @@ impl Listener for MemListener {
 
     ghost faults = { λ l. l.faults };
 
-    fn accept(&mut self) -> Result<Option<MemLink>, Failed>
-        ensures links { self.new.given ≡ given_after result self.old.given }
-        ensures end { self.new.closed ≡ closed_after result self.old.closed }
-        ensures over { OnTrue self.old.closed (GivesNoLink result) }
-        ensures count { Counts (is_err result) self.old.faults self.new.faults }
-        // Beyond what each listener tells.
-        ensures first { GivesFirst result self.old.left self.new.left }
-    {
+    ghost coming = { λ l. Some l.left };
+
+    fn accept(&mut self) -> Result<Option<MemLink>, Failed> {
         if self.fails_now() {
             self.faults = self.faults.saturating_add(1);
             return Err(Failed);

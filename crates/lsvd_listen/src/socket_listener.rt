@@ -1,4 +1,4 @@
-ghost use Rattle.std.specs.Prelude.{◌≡◌, ◌<◌, ◌↔◌, false, IfOk, IsSome};
+ghost use Rattle.std.specs.Prelude.{◌≡◌, ◌<◌, ◌↔◌, false, None, IfOk, IsSome};
 ghost use Rattle.lsvd_listen.specs.Socket.{SocketListenerState};
 
 use crate::calls;
@@ -51,7 +51,7 @@ impl From<io::Error> for ListenError {
 }
 
 /// A listener over a Unix socket: a file of the operating system, by whose path clients connect, and its
-/// owner's alone. It is never closed, and never answers None.
+/// owner's alone. It is never closed, never answers None, and does not tell which links are to come.
 ///
 /// A wait that a signal interrupts goes on, and a client that is gone before it was taken is passed over. Any
 /// other error is a fault, and so is want of memory for the buffers of a link, whose client is then let go.
@@ -115,6 +115,8 @@ impl Listener for SocketListener {
     ghost closed = { λ _. false };
 
     ghost faults = { λ l. l.faults };
+
+    ghost coming = { λ _. None };
 
     fn accept(&mut self) -> Result<Option<SocketLink>, Failed> {
         let outcome = next_link(self.alloc, &self.listener);

@@ -25,8 +25,7 @@ use Rattle.plain_disk.specs.Valid.{IsPlainLog}
 use Rattle.plain_disk.proofs.CommitLemmas.{past_count, past_used, left_used}
 use Rattle.log_meaning.specs.Shows.{records_of_rows}
 use Rattle.log_meaning.proofs.Following.{records_count, records_used}
-use Rattle.stop_meaning.specs.Stops.{entries_past}
-use Rattle.mount_meaning.specs.Found.{HasCommit}
+use Rattle.stop_meaning.specs.Stops.{entries_past, HasCommit}
 use Rattle.mount_meaning.specs.Mounted.{end_of_object, mounted_without, log_found, committed_at}
 use Rattle.mount_meaning.specs.Laws.{MountedIsPlainVolume, MountedIsGoingOn}
 
@@ -87,14 +86,14 @@ mounted_is_plain_volume geometry checkpoint end plain body rows entries rest may
 -- ---- a commit does not see the pad before the first record
 
 -- the first record, where the tail is past its pad
-abbrev unpadded : (is_past : Bool) → PlainRecord → PlainRecord
+abbrev pub unpadded : (is_past : Bool) → PlainRecord → PlainRecord
 unpadded is_past stored = if is_past then record stored { pad = 0 } else stored
 
 unpadded_at : (is_past : Bool) (stored : PlainRecord) → (unpadded is_past stored).at ≡ stored.at
 unpadded_at true stored = refl
 unpadded_at false stored = refl
 
-unpadded_again : (is_past : Bool) (stored : PlainRecord) → unpadded is_past (record stored { pad = 0 })
+pub unpadded_again : (is_past : Bool) (stored : PlainRecord) → unpadded is_past (record stored { pad = 0 })
     ≡ record stored { pad = 0 }
 unpadded_again true stored = refl
 unpadded_again false stored = refl
@@ -106,7 +105,7 @@ unpadded_twice true stored =
     unpadded_again (stored.at == stored.at) stored ∙ sym (ap (λ b. unpadded b stored) (eq-eqb stored.at stored.at refl))
 unpadded_twice false stored = refl
 
-same_place : (head tail k : ℕ) (records : List PlainRecord)
+pub same_place : (head tail k : ℕ) (records : List PlainRecord)
     → place_of_first head (drop k (past_pad tail records)) ≡ place_of_first head (drop k records)
 same_place head tail zero [] = refl
 same_place head tail zero (stored ∷ records) = unpadded_at (stored.at == tail) stored
@@ -159,14 +158,21 @@ found_held owner plain found count left has size =
       unfinished = None;
     }
 
+-- and so the log that is mounted is the log that is found with a commit
+pub mounted_log_is : (owner : CacheOwner) (plain : PlainState) (found : PlainCommit) (count : ℕ) (left : List ℕ)
+    (has : HasCommit owner plain found count left)
+    → plain.cache.log.size ≡ plain.geometry.log
+    → committed_at count (log_found plain.geometry.log has.body has.rows) ≡ mounted_log found count plain.cache.log
+mounted_log_is owner plain found count left has size =
+    ap (committed_at count) (found_held owner plain found count left has size)
+    ∙ same_committed count (held_from found plain.cache.log)
+
 pub mounted_is_going_on : MountedIsGoingOn
 mounted_is_going_on uuid owner plain found number objects left valid has_objects has =
     let end : ℕ = end_of_object number plain in
     let few : ℕ = end - plain.end in
     let many : ℕ = max end has.body.head.seq - plain.end in
-    let log : committed_at end (log_found plain.geometry.log has.body has.rows) ≡ mounted_log found end plain.cache.log =
-    ap (committed_at end) (found_held owner plain found end left has valid.size)
-    ∙ same_committed end (held_from found plain.cache.log) in
+    let log = mounted_log_is owner plain found end left has valid.size in
     let entries : take few plain.entries ++ entries_past plain end has.body.head.seq ≡ take (max end found.head.seq - plain.end)
     plain.entries =
     ap (λ l. l ++ drop few (take many plain.entries)) (sym (take-take few many plain.entries (omega arith)))

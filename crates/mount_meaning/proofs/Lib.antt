@@ -5,8 +5,8 @@ pub mod FoundLemmas
 pub mod ReopenedLemmas
 pub mod OpenedLemmas
 pub mod GoingLemmas
+pub mod AgainLemmas
+pub mod StoredLemmas
 pub mod StopLemmas
-pub mod RunLemmas
-pub mod HeldLemmas
 pub mod GateLemmas
 pub mod LeftLemmas

@@ -1,12 +1,12 @@
 -- Contract: what a mount finds and does makes of a plain volume what a mount of it is to make.
-use Rattle.std.specs.Prelude.{◌≡◌, ℕ, ◌+◌, ◌<◌, ◌≤◌, Bool, true, None, IsTrue, IfSome, List, length, map, max}
+use Rattle.std.specs.Prelude.{◌≡◌, ℕ, ◌+◌, ◌<◌, ◌≤◌, Bool, true, None, IsTrue, IfSome, List, ◌∷◌, length, map, max}
 use Rattle.std.specs.List.{All}
 use Rattle.lsvd_base.specs.declared.entry.Entry.{Entry}
 use Rattle.lsvd_base.specs.declared.geometry.Geometry.{Geometry}
 use Rattle.lsvd_base.specs.Limits.{is_within_limits}
 use Rattle.lsvd_base.specs.Range.{is_in_range}
-use Rattle.lsvd_device.specs.Device.{DiskState, HoldsNow}
-use Rattle.lsvd_device.specs.Medium.{MayLeave}
+use Rattle.lsvd_device.specs.Device.{DiskState, IsDisk, HoldsNow, HoldsSince}
+use Rattle.lsvd_device.specs.Medium.{Medium, MayLeave}
 use Rattle.lsvd_device.specs.Stop.{left_in_order}
 use Rattle.lsvd_device.specs.declared.fate.Fate.{Fate}
 use Rattle.lsvd_objstore.specs.Objects.{Objects}
@@ -30,14 +30,15 @@ use Rattle.object_stream.specs.Landed.{Numbers}
 use Rattle.log_meaning.specs.Shows.{ShowsLog}
 use Rattle.log_meaning.specs.Logged.{HasLoggedEntries}
 use Rattle.objects_meaning.specs.Shows.{ShowsObjects}
-use Rattle.stop_meaning.specs.Stops.{HasCommitted, entries_past, KeepsOnDevice, StopKeepsSince}
+use Rattle.stop_meaning.specs.Stops.{HasCommitted, entries_past, HasCommit}
 use Rattle.stop_meaning.specs.Laws.{ShowsStops}
 use Rattle.pending_meaning.specs.Pending.{ShowsPending}
 use Rattle.object_recovery.specs.Recovery.{IsListUpTo, HasRecovered}
 use Rattle.object_recovery.specs.Places.{HasPlacesInside}
-use Rattle.mount_meaning.specs.Found.{IsFoundCommit, HasCommit, HasObjects}
+use Rattle.mount_meaning.specs.Found.{HasObjects}
 use Rattle.mount_meaning.specs.Mounted.{end_of_object, mounted_with, mounted_without, log_found, committed_at, going_on, data_in}
 use Rattle.mount_meaning.specs.Mounted.{AddsEntries}
+use Rattle.mount_meaning.specs.Stops.{StopKeepsMount}
 use Rattle.mount_meaning.specs.Rest.{IsAtRest}
 
 -- ---- what a mount is to make
@@ -149,39 +150,52 @@ MountedIsGoingOn =
     (committed_at (end_of_object number plain) (log_found plain.geometry.log has.body has.rows)) (mounted_without number plain)
     ≡ mounted_with found number plain
 
--- ---- stops
+-- ---- mounting again
 
--- bytes that a mount finds keep all that it is to make of them
-abbrev pub FoundKeeps : Type 0
-FoundKeeps =
+-- A mount with the cache of what one made, with its last commit and the same objects, makes the same.
+abbrev pub MountsKeptAgain : Type 0
+MountsKeptAgain =
+    (owner : CacheOwner) (plain : PlainState) (found : PlainCommit) (number : ℕ) (left : List ℕ)
+    → HasCommit owner plain found (end_of_object number plain) left
+    → mounted_with (mounted_with found number plain).cache.log.last number (mounted_with found number plain)
+    ≡ mounted_with found number plain
+
+-- so it is of what one without the cache made, and one without it makes the same of both
+abbrev pub MountsLostAgain : Type 0
+MountsLostAgain =
+    (plain : PlainState) (number : ℕ)
+    → mounted_with (mounted_without number plain).cache.log.last number (mounted_without number plain)
+    ≡ mounted_without number plain
+
+abbrev pub LosesAgain : Type 0
+LosesAgain =
+    (plain : PlainState) (found : PlainCommit) (number : ℕ)
+    → (mounted_without number (mounted_with found number plain) ≡ mounted_without number plain)
+    × (mounted_without number (mounted_without number plain) ≡ mounted_without number plain)
+
+-- The volume that is mounted is a plain one, which the same store has. So what a stop leaves of it may be mounted again.
+abbrev pub MountedIsStored : Type 0
+MountedIsStored =
     (uuid : List ℕ) (owner : CacheOwner) (plain : PlainState) (found : PlainCommit) (number : ℕ) (objects : Objects)
     (left : List ℕ)
     → IsPlainVolume plain → HasObjects uuid plain number objects → HasCommit owner plain found (end_of_object number plain) left
-    → byte_of plain.geometry.log ≤ length left
-    → KeepsOnDevice owner (mounted_with found number plain) (history_length (mounted_with found number plain)) left
+    → IsPlainVolume (mounted_with found number plain) × HasObjects uuid (mounted_with found number plain) number objects
 
--- and so does whatever a stop leaves at each moment while the log is committed again
-abbrev pub CommittingKeepsMounted : Type 0
-CommittingKeepsMounted =
-    (owner : CacheOwner) (geometry : Geometry) (checkpoint end : ℕ) (plain : PlainState) (entries : List Entry)
-    (of_log : PlainLog)
+-- ---- stops
+
+-- While the log that was opened of a plain volume, on a device that reads as this commit of it, is committed again, whatever a
+-- stop leaves reads as that commit, or as that of the volume that is mounted.
+abbrev pub CommittingKeepsMount : Type 0
+CommittingKeepsMount =
+    (owner : CacheOwner) (plain : PlainState) (found : PlainCommit) (number : ℕ) (bytes : List ℕ) (now : Medium)
+    (past : List Medium)
     (commits : CommitsState) (opened trimmed : LogState) (new : DiskState)
-    → IsAtRest geometry checkpoint end plain → owner_of commits.body ≡ owner → commits.unfinished ≡ None
-    → commits.body.tail.seq ≤ end
-    → IsOpenedLog geometry commits opened → IsTrimmed end opened trimmed → IfSome trimmed.entries (λ list. list ≡ entries)
-    → end + length entries ≡ max end commits.body.head.seq
+    → IsPlainVolume plain → (has : HasCommit owner plain found (end_of_object number plain) bytes)
+    → byte_of plain.geometry.log ≤ length bytes → now.bytes ≡ bytes → commits.disk.moments ≡ now ∷ past
+    → commits.body ≡ has.body → commits.unfinished ≡ None → IsOpenedLog plain.geometry commits opened → opened.rows ≡ has.rows
+    → IsTrimmed (end_of_object number plain) opened trimmed → IsDisk new
     → LeavesEntriesSince trimmed (IsLastOr trimmed.commits (body_of trimmed)) new
-    → StopKeepsSince owner trimmed (going_on entries of_log plain) (λ head. head ≡ history_length (going_on entries of_log plain))
-    new
-
--- whatever a stop leaves reads as the last commit or as the unfinished one
-abbrev pub LeftHasCommit : Type 0
-LeftHasCommit =
-    (owner : CacheOwner) (data_at : ℕ → ℕ) (log : LogState) (plain : PlainState) (count : ℕ)
-    → ShowsStops owner data_at log plain → frontier_end plain ≤ count → count ≤ history_length plain
-    → HoldsNow (λ now. (left : List ℕ) → MayLeave now left
-    → (found : PlainCommit) × IsFoundCommit found plain.cache.log × HasCommit owner plain found count left)
-    log.commits.disk.moments
+    → HoldsSince (StopKeepsMount owner plain found number) trimmed.commits.disk.moments new.moments
 
 -- whatever fates the pending writes meet, what they leave reads as the commit that the plain cache keeps then
 abbrev pub FatesKeepCommit : Type 0

@@ -2,9 +2,9 @@ ghost use Rattle.mount_meaning.specs.Laws.{MountsByNumber, MountedIsAtRest, Reco
 ghost use Rattle.mount_meaning.specs.Laws.{ListShowsSome, EntriesGoOn};
 ghost use Rattle.mount_meaning.specs.Laws.{OpenedShowsLog, CommittedShowsLog, ReopenedShowsLog};
 ghost use Rattle.mount_meaning.specs.Laws.{OpenedHasCommitted, AddedAreLogged};
-ghost use Rattle.mount_meaning.specs.Laws.{MountedIsPlainVolume, MountedIsGoingOn, FoundKeeps};
-ghost use Rattle.mount_meaning.specs.Laws.{CommittingKeepsMounted};
-ghost use Rattle.mount_meaning.specs.Laws.{LeftHasCommit, FatesKeepCommit};
+ghost use Rattle.mount_meaning.specs.Laws.{MountedIsPlainVolume, MountedIsGoingOn};
+ghost use Rattle.mount_meaning.specs.Laws.{MountsKeptAgain, MountsLostAgain, LosesAgain};
+ghost use Rattle.mount_meaning.specs.Laws.{MountedIsStored, CommittingKeepsMount, FatesKeepCommit};
 
 /// A law: a list that was recovered shows a plain volume at rest: that which a mount without the cache makes
 /// of a plain volume whose objects the store has, and in each case some. With entries more it shows that with
@@ -34,16 +34,24 @@ pub fn a_mount_goes_on_with_the_entries_found()
     ensures going_on { MountedIsGoingOn }
 {}
 
-/// A law: what a mount finds on the device keeps all entries of the volume that it makes, and so does
-/// whatever a stop leaves meanwhile.
-pub fn stops_keep_what_is_mounted()
-    ensures found { FoundKeeps }
-    ensures committing { CommittingKeepsMounted }
+/// A law: a mount of what a mount made, of the same objects and with its own commit, makes the same, also
+/// where one of them is without the cache. The store has what a mount with the cache made as it had what
+/// that found.
+pub fn mounting_again_changes_nothing()
+    ensures kept { MountsKeptAgain }
+    ensures lost { MountsLostAgain }
+    ensures loses { LosesAgain }
+    ensures stored { MountedIsStored }
 {}
 
-/// A law: what a stop leaves of the cache reads as the last commit of the plain volume or as the unfinished
-/// one: by the fates of the pending writes, as that which the plain cache keeps.
+/// A law: whatever a stop leaves of the device while a mount commits the log again reads as the commit that
+/// was found of the plain volume, or as that of the volume that is mounted.
+pub fn stops_keep_what_is_mounted()
+    ensures { CommittingKeepsMount }
+{}
+
+/// A law: what a stop leaves of the cache, by the fates of the pending writes, reads as the commit that the
+/// plain cache keeps then.
 pub fn stops_leave_commits()
-    ensures left { LeftHasCommit }
-    ensures fates { FatesKeepCommit }
+    ensures { FatesKeepCommit }
 {}

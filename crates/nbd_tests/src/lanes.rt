@@ -1,4 +1,6 @@
 // Clients of a listener in memory, of which one writes a sector, and the next one reads it.
+ghost use Rattle.std.specs.Prelude.{◌≡◌, [], All, OnOk};
+
 use crate::dump::tell_bytes;
 use crate::greeting::{Asking, ENTERED_BYTES};
 use crate::volume::{TestOwner, link_with, owner_of};
@@ -28,14 +30,17 @@ static READING: [Asking; 1] = [Asking {
 
 fn listener_of(alloc: Global) -> Result<MemListener, AllocError> {
     let mut links = Vec::new(alloc);
-    add_links(alloc, &mut links)?;
+    add_link(alloc, &mut links, &WRITING)?;
+    add_link(alloc, &mut links, &READING)?;
     Ok(MemListener::new(links))
 }
 
-fn add_links(alloc: Global, links: &mut Vec<MemLink>) -> Result<(), AllocError> {
-    for askings in [&WRITING, &READING] {
-        links.push(link_with(alloc, askings)?)?;
-    }
+// Adds a link on which a client makes these requests.
+fn add_link(alloc: Global, links: &mut Vec<MemLink>, askings: &[Asking]) -> Result<(), AllocError>
+    requires { All (λ link. link.taken ≡ []) links.old.items }
+    ensures { OnOk result (All (λ link. link.taken ≡ []) links.new.items) }
+{
+    links.push(link_with(alloc, askings)?)?;
     Ok(())
 }
 

@@ -1,3 +1,5 @@
+ghost use Rattle.std.specs.Prelude.{◌≡◌, [], IfOk};
+
 use crate::greeting::{Asking, input_of};
 use lsvd_base::Geometry;
 use lsvd_device::{Disk, FuseDisk, MemDisk};
@@ -58,13 +60,17 @@ pub fn serve(
 }
 
 /// A link on which a client sends these bytes.
-pub fn link_of(alloc: Global, input: &[u8]) -> Result<MemLink, AllocError> {
+pub fn link_of(alloc: Global, input: &[u8]) -> Result<MemLink, AllocError>
+    ensures { IfOk result (λ link. link.taken ≡ []) }
+{
     let source = MemSource::new(input.to_vec(alloc)?);
     Ok(MemLink::new(source, MemSink::new(alloc)))
 }
 
 /// A link on which a client makes these requests.
-pub fn link_with(alloc: Global, askings: &[Asking]) -> Result<MemLink, AllocError> {
+pub fn link_with(alloc: Global, askings: &[Asking]) -> Result<MemLink, AllocError>
+    ensures { IfOk result (λ link. link.taken ≡ []) }
+{
     let input = input_of(alloc, askings)?;
     let link = link_of(alloc, input.as_slice());
     drop(input);

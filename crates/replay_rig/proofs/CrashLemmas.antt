@@ -53,10 +53,10 @@ use Rattle.vol_mount.specs.Refusals.{IsWhyLost, IsWhyNotLeft, refuses, is_device
 use Rattle.vol_recover.specs.Creating.{PutsVolume, IsNewTo, HasNewVolume, MayFormat, is_put_fault}
 use Rattle.vol_recover.specs.Describing.{OfVolume, IsWhyFor}
 use Rattle.vol_recover.proofs.ForCallers.{FailsToFormatIn}
-use Rattle.replay_rig.specs.Crash.{FailsNone, IsBlankDisk, IsLeftBy, LandsAs, Lands, IsNewVolume, MayMountStored, MayMountLeft}
+use Rattle.replay_rig.specs.Crash.{FailsNone, IsBlankDisk, IsLeftBy, IsNewVolume, MayMountStored, MayMountLeft}
 use Rattle.replay_rig.specs.Crash.{RemovesNumbers, IsMountedVolume, IsPutAs}
 use Rattle.replay_rig.specs.Puts.{PutView, IsPutOut}
-use Rattle.replay_rig.specs.Rig.{script_uuid}
+use Rattle.replay_rig.specs.Rig.{script_uuid, LandsAs, Lands}
 
 -- ---- calls within the room of a disk without a fuse
 

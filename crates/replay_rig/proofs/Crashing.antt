@@ -21,10 +21,9 @@ use Rattle.plain_disk.specs.State.{PlainState, stream_in}
 use Rattle.plain_disk.specs.Stops.{landed_after, recovered_number}
 use Rattle.store_meaning.specs.Puts.{IsObjectOf, state_of_put, AreBytesOfPut, ArePuts, MayBeLeft}
 use Rattle.transcript.specs.Letters.{under_way, has_landed, landed_by}
-use Rattle.replay_rig.specs.Crash.{LandsAs, Lands}
 use Rattle.replay_rig.specs.Puts.{PutView}
 use Rattle.replay_rig.specs.Rig.{RigState, script_uuid, expected_of_plain, AreUnderWay, IsFirstUnderWay, HasBytesOfObject}
-use Rattle.replay_rig.specs.Rig.{ShowsPlain}
+use Rattle.replay_rig.specs.Rig.{ShowsPlain, LandsAs, Lands}
 use Rattle.replay_rig.proofs.Describing.{lands_keep_volume}
 use Rattle.replay_rig.proofs.Stepped.{all_puts}
 use Rattle.replay_rig.proofs.WindowLemmas.{under_way_numbers}

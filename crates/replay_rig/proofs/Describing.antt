@@ -6,9 +6,8 @@ use Rattle.object_stream.specs.Replay.{name_of}
 use Rattle.stopped_volume.specs.Super.{HasVolume}
 use Rattle.super_recovery.specs.Laws.{KeepsVolume}
 use Rattle.super_recovery.proofs.LawLemmas.{says_the_same, others_keep_volume}
-use Rattle.replay_rig.specs.Crash.{LandsAs, Lands}
 use Rattle.replay_rig.specs.Puts.{PutView}
-use Rattle.replay_rig.specs.Rig.{script_uuid}
+use Rattle.replay_rig.specs.Rig.{script_uuid, LandsAs, Lands}
 
 -- an object was put
 pub put_keeps_volume : (n : ℕ) (bytes : List ℕ) (old new : Objects) (geometry : Geometry) (epoch : ℕ)

@@ -30,18 +30,16 @@ use Rattle.plain_disk.specs.declared.log.PlainCommit.{PlainCommit}
 use Rattle.plain_disk.specs.Log.{PlainLog, mounted_log, empty_from}
 use Rattle.plain_disk.specs.Cache.{is_kept, cache_with, kept_commit}
 use Rattle.plain_disk.specs.State.{PlainState, stream_in, history_length, frontier_end}
-use Rattle.plain_disk.specs.Stops.{recovered_number, cut_to_count, mounted_kept, mounted_lost}
-use Rattle.plain_disk.specs.Valid.{IsPlainVolume, MayLand}
+use Rattle.plain_disk.specs.Stops.{cut_to_count, mounted_kept, mounted_lost}
 use Rattle.plain_disk.proofs.EndLemmas.{ends_within}
 use Rattle.plain_disk.proofs.StopLemmas.{kept_is_later, recovers_frontier, recovers_sealed}
 use Rattle.log_meaning.specs.Shows.{commit_of}
 use Rattle.pending_meaning.proofs.Shown.{synced_shows_pending}
-use Rattle.mount_meaning.specs.Found.{HasCommit, HasObjects}
+use Rattle.stop_meaning.specs.Stops.{HasCommit}
 use Rattle.mount_meaning.specs.Mounted.{end_of_object, mounted_with, mounted_without}
 use Rattle.mount_meaning.proofs.LeftLemmas.{fates_keep_commit}
 use Rattle.store_meaning.specs.Puts.{IsObjectOf}
 use Rattle.store_meaning.proofs.KeepLemmas.{mounts_keep_object}
-use Rattle.store_meaning.proofs.LeftLemmas.{left_has_objects}
 use Rattle.vol_core.specs.Shows.{Shows}
 use Rattle.vol_core.specs.Step.{passing}
 use Rattle.vol_mount.specs.Mounted.{MountedState, disk_of, IsMountOf, NumbersNextCommit}
@@ -53,36 +51,17 @@ use Rattle.transcript.specs.Letters.{landed_by}
 use Rattle.replay_rig.specs.declared.answer.Answer.{Answer}
 use Rattle.replay_rig.specs.declared.answer.Answer.TheVariants.{Mounted}
 use Rattle.replay_rig.specs.Steps.{IsMountTold}
-use Rattle.replay_rig.specs.Crash.{IsLeftBy, Lands, MayMountStored, MayMountLeft, RemovesNumbers, IsMountedVolume}
+use Rattle.replay_rig.specs.Crash.{IsLeftBy, MayMountStored, MayMountLeft, RemovesNumbers, IsMountedVolume}
 use Rattle.replay_rig.specs.Puts.{PutView}
-use Rattle.replay_rig.specs.Rig.{RigState, rig_of, script_uuid, expected_of_plain, ShowsPlain}
+use Rattle.replay_rig.specs.Rig.{RigState, rig_of, script_uuid, expected_of_plain, ShowsPlain, Lands}
 use Rattle.replay_rig.proofs.CrashLemmas.{left_is_synced}
-use Rattle.replay_rig.proofs.Crashing.{left_object, none_past, none_first, checkpoint_stays, are_puts, may_be_left, puts_now}
+use Rattle.replay_rig.proofs.Crashing.{left_object, none_past, none_first, checkpoint_stays}
 use Rattle.replay_rig.proofs.Crashing.{recovered_same}
 use Rattle.replay_rig.proofs.Opening.{fuse_told}
 use Rattle.replay_rig.proofs.Describing.{lands_keep_volume}
-use Rattle.replay_rig.proofs.Standing.{owner_at, rig_stops, ends_past}
+use Rattle.replay_rig.proofs.Standing.{owner_at, rig_stops, ends_past, number_left, has_left, left_within}
 
 -- ---- what may be mounted
-
--- the number that a mount recovers
-abbrev pub number_left : Objects → PlainState → ℕ
-number_left new plain = recovered_number (landed_in new script_uuid) plain
-
-pub has_left : (rig : RigState) (plain : PlainState) (letters : List ℕ) (new : Objects) → ShowsPlain rig plain
-    → Lands rig.puts letters rig.objects new
-    → HasObjects script_uuid plain (number_left new plain) new × MayLand plain (landed_in new script_uuid)
-has_left rig plain letters new h lands =
-    left_has_objects script_uuid h.epoch plain (puts_now plain rig.puts new) new h.shows.valid
-    (are_puts rig plain letters new h lands)
-    (may_be_left rig plain letters new h lands)
-
--- it is at most that of the last object
-pub left_within : (plain : PlainState) (new : Objects) → IsPlainVolume plain → number_left new plain ≤ plain.window.last
-left_within plain new valid =
-    let sealed = recovers_sealed plain (landed_in new script_uuid) valid in
-    let last = valid.last in
-    omega (arith, sealed, last)
 
 pub stored_left : (rig : RigState) (plain : PlainState) (letters : List ℕ) (new : Objects) → ShowsPlain rig plain
     → Lands rig.puts letters rig.objects new → rig.lines < 2 ^ 40

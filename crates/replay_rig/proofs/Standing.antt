@@ -1,26 +1,27 @@
 -- Whatever a stop leaves of the device and of the store of a rig has its plain volume.
-use Rattle.std.proofs.Common.{◌≡◌, ℕ, ◌≤◌, List, [], ◌∷◌, sym, subst, inl, inr, arith}
-use Rattle.std.specs.Prelude.{Option, Some, IfSome}
+use Rattle.std.proofs.Common.{◌≡◌, ℕ, ◌≤◌, List, [], ◌∷◌, subst, arith}
 use Rattle.lsvd_base.specs.declared.geometry.Geometry.{Geometry}
 use Rattle.lsvd_device.specs.Device.{HoldsNow}
 use Rattle.lsvd_device.specs.Medium.{Medium, MayLeave}
+use Rattle.lsvd_objstore.specs.Objects.{Objects}
 use Rattle.cache_log.specs.Committed.{IsOnDisk}
 use Rattle.stopped_volume.specs.Objects.{landed_in}
 use Rattle.stopped_volume.specs.Device.{CacheOwner}
 use Rattle.plain_disk.specs.declared.log.PlainCommit.{PlainCommit}
-use Rattle.plain_disk.specs.Log.{PlainLog}
 use Rattle.plain_disk.specs.State.{PlainState, stream_in, history_length, frontier_of, frontier_end}
-use Rattle.plain_disk.specs.Valid.{IsPlainLog, IsPlainVolume, IsLaterCommit}
+use Rattle.plain_disk.specs.Stops.{recovered_number}
+use Rattle.plain_disk.specs.Valid.{IsPlainVolume, MayLand}
 use Rattle.plain_disk.proofs.EndLemmas.{ends_grow, ends_within}
 use Rattle.plain_disk.proofs.StopLemmas.{recovers_frontier, recovers_sealed}
-use Rattle.stop_meaning.specs.Stops.{HasCommitted}
+use Rattle.stop_meaning.specs.Stops.{HasCommitted, IsFoundCommit, HasCommit, StopKeeps}
 use Rattle.stop_meaning.specs.Laws.{ShowsStops}
-use Rattle.mount_meaning.specs.Found.{IsFoundCommit, HasCommit}
+use Rattle.stop_meaning.proofs.StopLemmas.{now_keeps}
+use Rattle.mount_meaning.specs.Found.{HasObjects}
 use Rattle.mount_meaning.specs.Mounted.{end_of_object}
-use Rattle.mount_meaning.proofs.LeftLemmas.{left_has_commit}
 use Rattle.store_meaning.proofs.LeftLemmas.{left_has_objects}
 use Rattle.vol_core.specs.Volume.{VolumeState}
-use Rattle.replay_rig.specs.Rig.{RigState, script_uuid, ShowsPlain, IsKeptByRig}
+use Rattle.replay_rig.specs.Rig.{RigState, script_uuid, ShowsPlain, Lands, IsKeptByRig}
+use Rattle.replay_rig.proofs.Crashing.{puts_now, are_puts, may_be_left}
 
 -- ---- stops of the device
 
@@ -53,19 +54,26 @@ ends_past plain number valid from to =
       ends_within plain number valid (omega (arith, to, last)),
     )
 
--- a commit that is found is not before the last one, nor past the entries
-later_found : (size end count : ℕ) (last found : PlainCommit) (unfinished : Option PlainCommit) → Some found ≡ unfinished
-    → IfSome unfinished (IsLaterCommit size end count last) → IsLaterCommit size end count last found
-later_found size end count last found unfinished is later =
-    subst (λ u. IfSome u (IsLaterCommit size end count last)) (sym is) later
+-- ---- stops of the store
 
-found_within : (end count : ℕ) (log : PlainLog) (found : PlainCommit) → IsPlainLog end count log → IsFoundCommit found log
-    → (log.last.head.seq ≤ found.head.seq) × (found.head.seq ≤ count)
-found_within end count log found valid (inl is) =
-    subst (λ (c : PlainCommit). (log.last.head.seq ≤ c.head.seq) × (c.head.seq ≤ count)) (sym is) (omega arith, valid.last.head)
-found_within end count log found valid (inr is) =
-    let later = later_found log.size end count log.last found log.unfinished is valid.unfinished in
-    (later.head, later.within.head)
+-- the number that a mount recovers
+abbrev pub number_left : Objects → PlainState → ℕ
+number_left new plain = recovered_number (landed_in new script_uuid) plain
+
+pub has_left : (rig : RigState) (plain : PlainState) (letters : List ℕ) (new : Objects) → ShowsPlain rig plain
+    → Lands rig.puts letters rig.objects new
+    → HasObjects script_uuid plain (number_left new plain) new × MayLand plain (landed_in new script_uuid)
+has_left rig plain letters new h lands =
+    left_has_objects script_uuid h.epoch plain (puts_now plain rig.puts new) new h.shows.valid
+    (are_puts rig plain letters new h lands)
+    (may_be_left rig plain letters new h lands)
+
+-- it is at most that of the last object
+pub left_within : (plain : PlainState) (new : Objects) → IsPlainVolume plain → number_left new plain ≤ plain.window.last
+left_within plain new valid =
+    let sealed = recovers_sealed plain (landed_in new script_uuid) valid in
+    let last = valid.last in
+    omega (arith, sealed, last)
 
 -- ---- the whole
 
@@ -78,28 +86,22 @@ pub kept_by_rig : (rig : RigState) (plain : PlainState) → (h : ShowsPlain rig 
     → IsKeptByRig h.epoch rig plain
 kept_by_rig rig plain h on_disk =
     let valid = h.shows.valid in
+    let owner : CacheOwner = owner_at h.epoch in
     record {
-      device = λ number from to.
-          let ends = ends_past plain number valid from to in
-          let count : ℕ = end_of_object number plain in
-          now_as
+      device =
+          now_as (StopKeeps owner plain (λ found. IsFoundCommit found plain.cache.log))
           (λ now. (left : List ℕ) → MayLeave now left
-          → (found : PlainCommit) × IsFoundCommit found plain.cache.log × HasCommit (owner_at h.epoch) plain found count left)
-          (λ now. (left : List ℕ) → MayLeave now left
-          → (found : PlainCommit) × (plain.cache.log.last.head.seq ≤ found.head.seq) × (found.head.seq ≤ history_length plain)
-          × HasCommit (owner_at h.epoch) plain found count left)
+          → (found : PlainCommit) × IsFoundCommit found plain.cache.log
+          × ((number : ℕ) → frontier_of plain ≤ number → number ≤ plain.window.last
+          → HasCommit owner plain found (end_of_object number plain) left))
           rig.volume.volume.log.commits.disk.moments
-          (λ now leaves left may.
-          let is = leaves left may in
-          let within = found_within (frontier_end plain) (history_length plain) plain.cache.log is.0 valid.log is.1 in
-          (is.0, within.0, within.1, is.2))
-          (left_has_commit (owner_at h.epoch) h.shows.data_at rig.volume.volume.log plain count (rig_stops rig plain h on_disk)
-          ends.0 ends.1);
-      store = λ puts objects are left.
-          let has = left_has_objects script_uuid h.epoch plain puts objects valid are left in
-          let sealed = recovers_sealed plain (landed_in objects script_uuid) valid in
-          let last = valid.last in
-          (has.0, recovers_frontier plain (landed_in objects script_uuid) valid has.1, omega (arith, sealed, last));
+          (λ now keeps left may.
+          let is = keeps left may in
+          (is.0, is.1, λ number from to. is.2 (end_of_object number plain) (ends_past plain number valid from to).0))
+          (now_keeps owner h.shows.data_at rig.volume.volume.log plain (rig_stops rig plain h on_disk));
+      store = λ letters objects lands.
+          let has = has_left rig plain letters objects h lands in
+          (has.0, recovers_frontier plain (landed_in objects script_uuid) valid has.1, left_within plain objects valid);
     }
 
 -- and so of the same rig

@@ -1,5 +1,5 @@
 -- For this crate's own clauses: disks before a format and after a stop, and what is mounted on them.
-use Rattle.std.specs.Prelude.{◌≡◌, ℕ, ◌^◌, ◌<◌, ◌≤◌, Bool, true, false, Some, None, List, [], ◌∷◌, ◌==◌, replicate}
+use Rattle.std.specs.Prelude.{◌≡◌, ℕ, ◌^◌, ◌<◌, ◌≤◌, Some, None, List, [], ◌∷◌, replicate}
 use Rattle.lsvd_base.specs.declared.geometry.Geometry.{Geometry}
 use Rattle.lsvd_device.specs.Calls.{Cost, fuse_of}
 use Rattle.lsvd_device.specs.Device.{DiskState, IsDisk, HoldsNow}
@@ -46,18 +46,6 @@ pub record IsLeftBy (fates : List Fate) (before left : DiskState) : Type 0 where
   pub may_leave : HoldsNow (λ now. MayLeave now (left_in_order fates before.moments)) before.moments
 
 -- ---- stores
-
--- an object has landed: it was put; or it has not
-abbrev pub LandsAs : (has_landed : Bool) → PutView → (old new : Objects) → Type 0
-LandsAs true put old new = IsPut (name_of script_uuid put.number) put.bytes old new
-LandsAs false put old new = new ≡ old
-
--- those of the objects under way that have the letter of one that has landed were put
-abbrev pub Lands : List PutView → (letters : List ℕ) → (old new : Objects) → Type 0
-Lands [] letters old new = new ≡ old
-Lands (put ∷ puts) [] old new = new ≡ old
-Lands (put ∷ puts) (letter ∷ letters) old new = (middle : Objects) × LandsAs (letter == 121) put old middle
-    × Lands puts letters middle new
 
 -- the object of a put that is out was put into the store, which gave this receipt for it
 pub record IsPutAs (number : ℕ) (puts : List PutView) (old new : Objects) (receipt : Kept) : Type 0 where

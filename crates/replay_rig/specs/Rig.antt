@@ -1,14 +1,13 @@
 -- Contract: what a script ran on, and the plain volume that it shows.
-use Rattle.std.specs.Prelude.{◌≡◌, ℕ, ◌+◌, ◌*◌, ◌<◌, ◌≤◌, Bool, true, false, is_some, Option, Some, None, List, [], ◌∷◌}
+use Rattle.std.specs.Prelude.{◌≡◌, ◌==◌, ℕ, ◌+◌, ◌*◌, ◌<◌, ◌≤◌, Bool, true, false, is_some, Some, None, List, [], ◌∷◌}
 use Rattle.std.specs.List.{AllByRecursion}
 use Rattle.lsvd_base.specs.Image.{blank}
 use Rattle.lsvd_device.specs.Device.{HoldsNow}
 use Rattle.lsvd_device.specs.Medium.{MayLeave}
-use Rattle.lsvd_objstore.specs.Objects.{Objects, found}
+use Rattle.lsvd_objstore.specs.Objects.{Objects, found, IsPut}
 use Rattle.object_format.specs.declared.expected.Expected.{Expected}
 use Rattle.object_stream.specs.Replay.{name_of}
 use Rattle.stopped_volume.specs.Objects.{landed_in, IsCheckpointOf}
-use Rattle.stopped_volume.specs.Store.{PutState}
 use Rattle.stopped_volume.specs.Super.{HasVolume}
 use Rattle.upload_window.specs.declared.object.OpenObject.{OpenObject}
 use Rattle.upload_window.specs.Window.{IsAcknowledged}
@@ -17,9 +16,10 @@ use Rattle.plain_disk.specs.State.{PlainState, history_length, frontier_of}
 use Rattle.plain_disk.specs.Stops.{recovered_number}
 use Rattle.object_recovery.specs.Checkpoints.{expected_of}
 use Rattle.pending_meaning.specs.Pending.{ShowsPending}
-use Rattle.mount_meaning.specs.Found.{HasCommit, HasObjects}
+use Rattle.stop_meaning.specs.Stops.{IsFoundCommit, HasCommit}
+use Rattle.mount_meaning.specs.Found.{HasObjects}
 use Rattle.mount_meaning.specs.Mounted.{end_of_object}
-use Rattle.store_meaning.specs.Puts.{IsObjectOf, ArePuts, MayBeLeft}
+use Rattle.store_meaning.specs.Puts.{IsObjectOf}
 use Rattle.vol_core.specs.Volume.{SteppedVolume}
 use Rattle.vol_core.specs.Step.{HasBytesOf}
 use Rattle.vol_core.specs.Shows.{Shows}
@@ -113,17 +113,28 @@ pub record ShowsPlain (rig : RigState) (plain : PlainState) : Type 0 where
 
 -- ---- stops
 
--- Whatever a stop leaves of the device reads as a commit of the plain volume in this epoch, wherever the objects end that a mount
--- finds, from the frontier on; and whatever it leaves of the store has the plain volume's objects up to the one before the first
--- missing number, from the frontier on.
+-- an object has landed: it was put; or it has not
+abbrev pub LandsAs : (has_landed : Bool) → PutView → (old new : Objects) → Type 0
+LandsAs true put old new = IsPut (name_of script_uuid put.number) put.bytes old new
+LandsAs false put old new = new ≡ old
+
+-- those of the objects under way that have the letter of one that has landed were put
+abbrev pub Lands : List PutView → (letters : List ℕ) → (old new : Objects) → Type 0
+Lands [] letters old new = new ≡ old
+Lands (put ∷ puts) [] old new = new ≡ old
+Lands (put ∷ puts) (letter ∷ letters) old new = (middle : Objects) × LandsAs (letter == 121) put old middle
+    × Lands puts letters middle new
+
+-- Whatever a stop leaves of the device reads as the last commit of the plain volume or as the unfinished one, in this epoch,
+-- wherever the objects end that a mount finds, from the frontier on. And whichever objects under way have landed in its store,
+-- that has the plain volume's objects up to the one before the first missing number, from the frontier on.
 pub record IsKeptByRig (epoch : ℕ) (rig : RigState) (plain : PlainState) : Type 0 where
-  pub device : (number : ℕ) → frontier_of plain ≤ number → number ≤ plain.window.last
-      → HoldsNow (λ now. (left : List ℕ) → MayLeave now left
-      → (found : PlainCommit) × (plain.cache.log.last.head.seq ≤ found.head.seq) × (found.head.seq ≤ history_length plain)
-      × HasCommit (record { uuid = script_uuid; epoch = epoch }) plain found (end_of_object number plain) left)
+  pub device : HoldsNow (λ now. (left : List ℕ) → MayLeave now left
+      → (found : PlainCommit) × IsFoundCommit found plain.cache.log
+      × ((number : ℕ) → frontier_of plain ≤ number → number ≤ plain.window.last
+      → HasCommit (record { uuid = script_uuid; epoch = epoch }) plain found (end_of_object number plain) left))
       rig.volume.volume.log.commits.disk.moments
-  pub store : (puts : ℕ → Option (PutState × List ℕ)) (objects : Objects) → ArePuts (expected_of_plain plain) plain puts
-      → MayBeLeft script_uuid epoch plain puts objects
+  pub store : (letters : List ℕ) (objects : Objects) → Lands rig.puts letters rig.objects objects
       → HasObjects script_uuid plain (recovered_number (landed_in objects script_uuid) plain) objects
       × (frontier_of plain ≤ recovered_number (landed_in objects script_uuid) plain)
       × (recovered_number (landed_in objects script_uuid) plain ≤ plain.window.last)

@@ -9,9 +9,9 @@ ghost use Rattle.vol_mount.specs.Costs.{mount_cost};
 ghost use Rattle.vol_mount.specs.Mounted.{NumbersNextCommit};
 ghost use Rattle.vol_mount.specs.Mounting.{MountsStored, MountsLeft};
 ghost use Rattle.vol_recover.specs.Describing.{OfVolume};
-ghost use Rattle.replay_rig.specs.Crash.{FailsNone, IsBlankDisk, IsLeftBy, LandsAs, Lands};
+ghost use Rattle.replay_rig.specs.Crash.{FailsNone, IsBlankDisk, IsLeftBy};
 ghost use Rattle.replay_rig.specs.Crash.{IsNewVolume, MayMountStored, MayMountLeft, IsMountedVolume};
-ghost use Rattle.replay_rig.specs.Rig.{script_uuid};
+ghost use Rattle.replay_rig.specs.Rig.{script_uuid, LandsAs, Lands};
 
 use crate::puts::Put;
 use lsvd_base::{Geometry, ObjectBytes};

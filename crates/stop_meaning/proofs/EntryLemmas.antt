@@ -24,7 +24,7 @@ take_none zero = refl
 take_none (suc n) = refl
 
 -- of the first K of a list, what is past the first N
-past_first : (n k : ℕ) (list : List Entry) → drop n (take k list) ≡ take (k - n) (drop n list)
+pub past_first : (n k : ℕ) (list : List Entry) → drop n (take k list) ≡ take (k - n) (drop n list)
 past_first n k list =
     elim (cases_lt k n) [
       | inl less ↦

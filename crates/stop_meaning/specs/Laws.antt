@@ -1,18 +1,21 @@
--- Contract: what a stop leaves of the cache stands for, and what each call of the log keeps.
-use Rattle.std.specs.Prelude.{◌≡◌, ℕ, ◌⊎◌, true, List}
+-- Contract: what a stop leaves of the cache reads as, and what each call of the log keeps.
+use Rattle.std.specs.Prelude.{◌≡◌, ℕ, ◌≤◌, ◌⊎◌, true, List, length}
 use Rattle.lsvd_base.specs.declared.entry.Entry.{Entry}
 use Rattle.lsvd_base.specs.declared.geometry.Geometry.{Geometry}
 use Rattle.lsvd_base.specs.Range.{is_in_range}
-use Rattle.lsvd_device.specs.Device.{DiskState}
+use Rattle.lsvd_device.specs.Device.{DiskState, IsDisk}
 use Rattle.commit_slot.specs.Commits.{IsAsBefore, IsLast, IsLastOr, IsMade, IsMadeInPart}
+use Rattle.cache_log.specs.Rows.{byte_of}
 use Rattle.cache_log.specs.Log.{LogState, IsTrimmed, IsAppended, HasSameEntries}
 use Rattle.cache_log.specs.Committed.{body_of, LeavesEntriesSince, IsOnDisk, IsReleased, IsFormattedLog}
-use Rattle.plain_disk.specs.State.{PlainState}
+use Rattle.plain_disk.specs.declared.log.PlainCommit.{PlainCommit}
+use Rattle.plain_disk.specs.State.{PlainState, frontier_end}
 use Rattle.plain_disk.specs.Valid.{IsPlainVolume}
 use Rattle.log_meaning.specs.Shows.{ShowsLog}
 use Rattle.log_meaning.specs.Logged.{HasLoggedEntries}
-use Rattle.stopped_volume.specs.Device.{CacheOwner}
-use Rattle.stop_meaning.specs.Stops.{HasCommitted, IsCommittedHead, IsCommittingHead, StopKeepsNow, StopKeepsSince}
+use Rattle.stopped_volume.specs.Device.{CacheOwner, DeviceStandsFor}
+use Rattle.stop_meaning.specs.Stops.{HasCommitted, IsFoundCommit, IsFoundOrNext, entries_past, HasCommit, StopKeepsNow}
+use Rattle.stop_meaning.specs.Stops.{StopKeepsSince}
 
 -- ---- stops
 
@@ -24,26 +27,34 @@ pub record ShowsStops (owner : CacheOwner) (data_at : ℕ → ℕ) (log : LogSta
   pub committed : HasCommitted owner plain.geometry log
   pub on_disk : IsOnDisk log
 
--- a stop now keeps the entries up to the head of the last commit or of the unfinished one
+-- a stop now leaves the last commit or the unfinished one
 abbrev pub NowKeeps : Type 0
 NowKeeps =
     (owner : CacheOwner) (data_at : ℕ → ℕ) (log : LogState) (plain : PlainState) → ShowsStops owner data_at log plain
-    → StopKeepsNow owner log plain (IsCommittedHead log)
+    → StopKeepsNow owner log plain (λ found. IsFoundCommit found plain.cache.log)
 
--- and so does one at each moment since, while a stop leaves these commits
+-- and so does one at each moment since, while the device leaves these
 abbrev pub SinceKeeps : Type 0
 SinceKeeps =
     (owner : CacheOwner) (data_at : ℕ → ℕ) (log : LogState) (plain : PlainState) (new : DiskState)
     → ShowsStops owner data_at log plain
-    → LeavesEntriesSince log (IsLast log.commits) new → StopKeepsSince owner log plain (IsCommittedHead log) new
+    → IsDisk new → LeavesEntriesSince log (IsLast log.commits) new
+    → StopKeepsSince owner log plain (λ found. IsFoundCommit found plain.cache.log) new
 
--- While all entries are committed, a stop keeps those up to one of these heads, or all entries.
+-- While all entries are committed, of a list that begins at the frontier's end, a stop leaves one of these or that commit.
 abbrev pub CommittingKeeps : Type 0
 CommittingKeeps =
     (owner : CacheOwner) (data_at : ℕ → ℕ) (log : LogState) (plain : PlainState) (new : DiskState)
-    → ShowsStops owner data_at log plain
-    → LeavesEntriesSince log (IsLastOr log.commits (body_of log)) new
-    → StopKeepsSince owner log plain (IsCommittingHead log plain) new
+    → ShowsStops owner data_at log plain → log.first ≡ frontier_end plain
+    → IsDisk new → LeavesEntriesSince log (IsLastOr log.commits (body_of log)) new
+    → StopKeepsSince owner log plain (IsFoundOrNext plain) new
+
+-- A device that reads as a commit, and has the whole log, stands for the plain volume's entries up to the commit's head.
+abbrev pub CommitStandsFor : Type 0
+CommitStandsFor =
+    (owner : CacheOwner) (plain : PlainState) (found : PlainCommit) (count : ℕ) (left : List ℕ)
+    → HasCommit owner plain found count left → byte_of plain.geometry.log ≤ length left
+    → DeviceStandsFor owner plain.geometry left count (entries_past plain count found.head.seq)
 
 -- ---- calls of the log
 

@@ -1,14 +1,21 @@
--- Contract: what a stop leaves of the cache keeps the entries of a plain volume up to the head of a commit.
-use Rattle.std.specs.Prelude.{◌≡◌, ℕ, ◌-◌, ◌≤◌, ◌⊎◌, OnSome, IfSome, List, max, take, drop}
+-- Contract: what a stop leaves of the cache reads as a commit of a plain volume's log, with the volume's entries.
+use Rattle.std.specs.Prelude.{◌≡◌, ℕ, ◌-◌, ◌≤◌, ◌⊎◌, Some, OnSome, IfSome, List, max, take, drop, map}
 use Rattle.lsvd_base.specs.declared.entry.Entry.{Entry}
 use Rattle.lsvd_base.specs.declared.geometry.Geometry.{Geometry}
 use Rattle.lsvd_device.specs.Medium.{Medium, MayLeave}
 use Rattle.lsvd_device.specs.Device.{HoldsSince, DiskState, HoldsNow}
-use Rattle.commit_slot.specs.Commits.{finished_body}
+use Rattle.commit_body.specs.declared.body.CommitBody.{CommitBody}
+use Rattle.commit_slot.specs.Commits.{ReadsSettled}
+use Rattle.cache_log.specs.declared.row.Row.{Row}
+use Rattle.cache_log.specs.Rows.{entry_of}
 use Rattle.cache_log.specs.Log.{LogState}
+use Rattle.cache_log.specs.Opening.{AreRecordsInRange}
+use Rattle.plain_disk.specs.declared.log.PlainCommit.{PlainCommit}
+use Rattle.plain_disk.specs.Log.{PlainLog, commit_from, past_pad, held_from}
 use Rattle.plain_disk.specs.Sectors.{AllInRange}
-use Rattle.plain_disk.specs.State.{PlainState, history_length, frontier_end}
-use Rattle.stopped_volume.specs.Device.{CacheOwner, owner_of, DeviceStandsFor}
+use Rattle.plain_disk.specs.State.{PlainState, frontier_end}
+use Rattle.log_meaning.specs.Shows.{commit_of, records_of_rows}
+use Rattle.stopped_volume.specs.Device.{CacheOwner, owner_of}
 
 -- ---- the commits of a log
 
@@ -19,38 +26,53 @@ pub record HasCommitted (owner : CacheOwner) (geometry : Geometry) (log : LogSta
   pub unfinished : IfSome log.commits.unfinished (λ body. owner_of body ≡ owner)
   pub in_range : IfSome log.all (AllInRange geometry)
 
--- the head seq of the last commit, or of the one of which the second half was left
-abbrev pub IsCommittedHead : LogState → (head : ℕ) → Type 0
-IsCommittedHead log head =
-    (head ≡ log.commits.body.head.seq) ⊎ (head ≡ (finished_body log.commits.body log.commits.unfinished).head.seq)
+-- the last commit of a plain volume's log, or the unfinished one
+abbrev pub IsFoundCommit : (found : PlainCommit) → PlainLog → Type 0
+IsFoundCommit found log = (found ≡ log.last) ⊎ (Some found ≡ log.unfinished)
 
--- one of these, or that of a commit of all entries
-abbrev pub IsCommittingHead : LogState → PlainState → (head : ℕ) → Type 0
-IsCommittingHead log plain head = IsCommittedHead log head ⊎ (head ≡ history_length plain)
+-- the commit of all entries that a plain volume makes next, with its tail at the frontier's end
+abbrev pub next_commit : PlainState → PlainCommit
+next_commit plain = commit_from (frontier_end plain) plain.cache.log
 
--- ---- what a stop keeps
+-- one of these three
+abbrev pub IsFoundOrNext : PlainState → (found : PlainCommit) → Type 0
+IsFoundOrNext plain found = IsFoundCommit found plain.cache.log ⊎ (found ≡ next_commit plain)
+
+-- ---- what bytes read as
 
 -- the entries of a volume past the first N of its history up to a head, which are none where the head is among the first N
 abbrev pub entries_past : PlainState → (count head : ℕ) → List Entry
 entries_past plain count head = drop (count - plain.end) (take (max count head - plain.end) plain.entries)
 
--- The bytes of a device have the entries of a volume's history up to a head past the end of its objects, wherever a mount finds
--- that the objects end, from the frontier's end on.
-abbrev pub KeepsOnDevice : CacheOwner → PlainState → (head : ℕ) → (left : List ℕ) → Type 0
-KeepsOnDevice owner plain head left =
-    (end : ℕ) → frontier_end plain ≤ end → end ≤ history_length plain
-    → DeviceStandsFor owner plain.geometry left end (entries_past plain end head)
+-- The bytes of a device read as a commit of a plain volume's log, which names this owner. From its tail up to its head they have
+-- the plain log's records, each where that has it, and those past the first N entries of the history, among which the tail is,
+-- are of the plain volume's entries.
+pub record HasCommit (owner : CacheOwner) (plain : PlainState) (found : PlainCommit) (count : ℕ) (left : List ℕ) : Type 0 where
+  pub number : ℕ
+  pub body : CommitBody
+  pub is_of : owner_of body ≡ owner
+  pub commit : commit_of body ≡ found
+  pub slots : ReadsSettled plain.geometry.log left body number
+  pub rows : List Row
+  pub records : AreRecordsInRange plain.geometry body rows left
+  pub placed : records_of_rows plain.geometry.log body.tail.position rows ≡ past_pad body.tail.position
+      (held_from found plain.cache.log).records
+  pub tail : body.tail.seq ≤ count
+  pub entries : drop (count - body.tail.seq) (map (entry_of left) rows) ≡ entries_past plain count body.head.seq
 
--- whatever a stop leaves of a medium has them up to some such head
-abbrev pub StopKeeps : CacheOwner → PlainState → (IsHead : ℕ → Type 0) → Medium → Type 0
-StopKeeps owner plain IsHead medium =
-    (left : List ℕ) → MayLeave medium left → (head : ℕ) × IsHead head × KeepsOnDevice owner plain head left
+-- ---- what a stop keeps
+
+-- Whatever a stop leaves of a medium reads as a commit with P of a plain volume's log, wherever a mount finds that the objects
+-- end, from the frontier's end on.
+abbrev pub StopKeeps : CacheOwner → PlainState → (PlainCommit → Type 0) → Medium → Type 0
+StopKeeps owner plain P medium =
+    (left : List ℕ) → MayLeave medium left
+    → (found : PlainCommit) × P found × ((count : ℕ) → frontier_end plain ≤ count → HasCommit owner plain found count left)
 
 -- so it is now of the disk of a log
-abbrev pub StopKeepsNow : CacheOwner → LogState → PlainState → (IsHead : ℕ → Type 0) → Type 0
-StopKeepsNow owner log plain IsHead = HoldsNow (StopKeeps owner plain IsHead) log.commits.disk.moments
+abbrev pub StopKeepsNow : CacheOwner → LogState → PlainState → (PlainCommit → Type 0) → Type 0
+StopKeepsNow owner log plain P = HoldsNow (StopKeeps owner plain P) log.commits.disk.moments
 
 -- and at each moment since the log was as it is here, where its entries are told
-abbrev pub StopKeepsSince : CacheOwner → LogState → PlainState → (IsHead : ℕ → Type 0) → DiskState → Type 0
-StopKeepsSince owner log plain IsHead new =
-    OnSome log.all (HoldsSince (StopKeeps owner plain IsHead) log.commits.disk.moments new.moments)
+abbrev pub StopKeepsSince : CacheOwner → LogState → PlainState → (PlainCommit → Type 0) → DiskState → Type 0
+StopKeepsSince owner log plain P new = OnSome log.all (HoldsSince (StopKeeps owner plain P) log.commits.disk.moments new.moments)

@@ -1,9 +1,9 @@
-//! What a stop leaves of the cache means: the entries of the plain volume that it stands for.
+//! What a stop leaves of the cache means: the commit of the plain volume that it reads as.
 //!
-//! Its contract: these definitions, and the laws that whatever a stop leaves of the cache stands for the
-//! entries of the plain volume up to the head of a commit, and that each call of the log on the cache keeps
-//! what this rests on. It stands on `log_meaning` for the log, on `stopped_volume` for what the bytes of a
-//! cache stand for, and on `plain_disk`.
+//! Its contract: these definitions, and the laws that whatever a stop leaves of the cache reads as a commit
+//! of the plain volume, and so stands for its entries up to the commit's head, and that each call of the log
+//! on the cache keeps what this rests on. It stands on `log_meaning` for the log, on `stopped_volume` for
+//! what the bytes of a cache stand for, and on `plain_disk`.
 #![tactic(auto)]
 
 mod laws;

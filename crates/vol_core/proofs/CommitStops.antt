@@ -1,38 +1,38 @@
 -- What a stop keeps while the log commits all entries, and while an entry is appended to it.
-use Rattle.std.proofs.Common.{◌≡◌, ℕ, ◌-◌, ◌⊎◌, Bool, true, false, List, ◌++◌, take, drop, refl, sym, ◌∙◌, ap, subst, inl, inr}
-use Rattle.std.proofs.Common.{arith, append_assoc}
+use Rattle.std.proofs.Common.{◌≡◌, ℕ, ◌+◌, ◌-◌, ◌⊎◌, Bool, true, false, if◌then◌else◌, List, [], ◌∷◌, ◌++◌, length, refl, sym}
+use Rattle.std.proofs.Common.{◌∙◌, ap, subst, inl, inr, arith}
 use Rattle.std.specs.Prelude.{Option, Some, None, IfSome, OnSome, option_map, Result, Ok, Err}
 use Rattle.std.proofs.Math.Path.{subst₂}
-use Rattle.std.proofs.lemmas.List.{take-append-drop}
+use Rattle.std.proofs.lemmas.Bool.{cases_lt, lt-ltb, le-ltb, lt-leb, and_left}
+use Rattle.std.proofs.lemmas.List.{length-map}
 use Rattle.lsvd_base.specs.declared.entry.Entry.{Entry}
 use Rattle.lsvd_base.specs.declared.geometry.Geometry.{Geometry}
 use Rattle.lsvd_base.specs.Range.{is_in_range}
 use Rattle.lsvd_device.specs.Medium.{Medium}
-use Rattle.lsvd_device.specs.Device.{HoldsSince, DiskState}
-use Rattle.log_room.specs.Room.{Room}
+use Rattle.lsvd_device.specs.Device.{HoldsSince, DiskState, IsDisk}
 use Rattle.commit_body.specs.declared.body.CommitBody.{CommitBody}
-use Rattle.commit_slot.specs.Commits.{CommitsState, IsLast, IsLastOr, finished_body}
+use Rattle.commit_slot.specs.Commits.{CommitsState, ReadsSettled, IsCommit, IsLast, IsLastOr, IsMade, finished_number}
+use Rattle.commit_slot.specs.Commits.{finished_body}
 use Rattle.commit_slot.proofs.Passing.{passes_as, passes_on}
 use Rattle.cache_log.specs.declared.error.AppendError.{AppendError}
 use Rattle.cache_log.specs.declared.error.AppendError.TheVariants as errors
 use Rattle.cache_log.specs.declared.row.Row.{Row}
-use Rattle.cache_log.specs.Rows.{entries_since}
-use Rattle.cache_log.specs.Log.{LogState, all_rows, next_seq, IsTrimmed}
-use Rattle.cache_log.specs.Committed.{body_of, LeavesEntries, LeavesEntriesSince}
-use Rattle.plain_disk.specs.State.{PlainState, history_length, frontier_end}
-use Rattle.plain_disk.specs.Entries.{after_flush}
+use Rattle.cache_log.specs.Rows.{seq_of, entry_of, AreNumbered, since, entries_since, entries_between}
+use Rattle.cache_log.specs.Log.{LogState, all_rows, entries_in, IsTrimmed}
+use Rattle.cache_log.specs.Committed.{body_of, HasRecords, LeavesEntries, LeavesEntriesSince, IsOnDisk, HasSameList, IsReleased}
+use Rattle.plain_disk.specs.declared.log.PlainCommit.{PlainCommit}
+use Rattle.plain_disk.specs.State.{PlainState, frontier_end}
 use Rattle.plain_disk.proofs.EndLemmas.{frontier_ends}
-use Rattle.plain_disk.proofs.EventLemmas.{flush_keeps}
-use Rattle.stopped_volume.specs.Device.{CacheOwner, owner_of}
-use Rattle.stop_meaning.specs.Stops.{HasCommitted, IsCommittedHead, IsCommittingHead, StopKeeps, StopKeepsSince}
+use Rattle.log_meaning.proofs.Shown.{trimmed_shows_same}
+use Rattle.stopped_volume.specs.Device.{CacheOwner}
+use Rattle.stop_meaning.specs.Stops.{HasCommitted, IsFoundCommit, IsFoundOrNext, StopKeeps, StopKeepsSince}
 use Rattle.stop_meaning.specs.Laws.{ShowsStops}
-use Rattle.stop_meaning.proofs.StopLemmas.{MayBeFound, last_found, keeps_since, since_keeps}
+use Rattle.stop_meaning.proofs.StopLemmas.{since_keeps, committing_keeps}
 use Rattle.stop_meaning.proofs.CommittedLemmas.{same_has_committed, trimmed_has_committed, appended_has_committed}
 use Rattle.stop_meaning.proofs.CommittedLemmas.{commit_has_committed}
-use Rattle.vol_core.specs.Step.{passing}
 use Rattle.vol_core.specs.Calls.{CommitsFrom, Appends, EntersLog}
-use Rattle.vol_core.proofs.CommitLemmas.{CommitsAs, commit_with, shown_next, trimmed_next}
-use Rattle.vol_core.proofs.StepLemmas.{passing_keeps}
+use Rattle.vol_core.proofs.CommitLemmas.{shown_next}
+use Rattle.vol_core.proofs.LoggedLemmas.{logged_trimmed}
 
 -- ---- the commits stay the volume's own
 
@@ -73,152 +73,176 @@ module _ (owner : CacheOwner) (geometry : Geometry) where
       owns_after (inr (middle, commit, appends)) =
           append_owns entry result middle new may (commit_owns end true old middle own commit) appends
 
--- ---- what is told of one moment and of later ones
+-- ---- what is told
 
--- what follows from two facts, the second on what is told after the first
-joined : {A B : Type 0} (f : A → B) (P Q R : Type 0) (told : Option A) (then : Option B) → then ≡ option_map f told → (P → Q → R)
-    → OnSome told P
-    → OnSome then Q → OnSome told R
-joined f P Q R None then is follows first second = tt
-joined f P Q R (Some x) then is follows first second = follows first (subst (λ o. OnSome o Q) is second)
-
--- what follows from one
+-- what follows from one fact, where a value is told
 as_told : {A : Type 0} (P Q : Type 0) (told : Option A) → (P → Q) → OnSome told P → OnSome told Q
 as_told P Q None follows is = tt
 as_told P Q (Some x) follows is = follows is
 
-trimmed_rows : (seq : ℕ) (old middle : LogState) → IsTrimmed seq old middle → all_rows middle ≡ all_rows old
-trimmed_rows seq old middle is =
-    let k : ℕ = seq - old.first in
-    (λ i. is.held i ++ is.rows i)
-    ∙ append_assoc old.held (take k old.rows) (drop k old.rows)
-    ∙ ap (λ l. old.held ++ l) (take-append-drop k old.rows)
+-- what is kept of some commits is kept of others that they are
+pub kept_as : (owner : CacheOwner) (log : LogState) (plain : PlainState) (P Q : PlainCommit → Type 0) (new : DiskState)
+    → ((found : PlainCommit) → P found → Q found) → StopKeepsSince owner log plain P new → StopKeepsSince owner log plain Q new
+kept_as owner log plain P Q new follows keeps =
+    let old : List Medium = log.commits.disk.moments in
+    as_told (HoldsSince (StopKeeps owner plain P) old new.moments) (HoldsSince (StopKeeps owner plain Q) old new.moments) log.all
+    (passes_as (StopKeeps owner plain P) (StopKeeps owner plain Q) old new.moments
+    (λ medium each left may. (let is = each left may in (is.0, follows is.0 is.1, is.2)))) keeps
 
--- what a stop leaves of the log's records, where these are all its entries and rows, and these the commits
-abbrev Leaving : (body : CommitBody) (new : List Medium) (log : ℕ) (rows : List Row) (all : Option (List Entry))
-    (commits : CommitsState) → Type 0
-Leaving body new log rows all commits =
-    IfSome all (λ list. HoldsSince (LeavesEntries log rows list (IsLastOr commits body)) commits.disk.moments new)
+-- ---- after a commit
+
+entries_count : (rows : List Row) (moments : List Medium) → IfSome (entries_in rows moments) (λ list. length list ≡ length rows)
+entries_count rows [] = tt
+entries_count rows (now ∷ past) = length-map rows (entry_of now.bytes)
+
+-- what is left of a log when the records before a commit's tail are released has that commit's entries still
+rows_left : (body : CommitBody) (rows : List Row) (list : List Entry) → AreNumbered body.tail.seq rows
+    → entries_between body rows (entries_since body.tail.seq rows list) ≡ entries_between body rows list
+rows_left body [] list are = refl
+rows_left body (row ∷ rows) [] are = refl
+rows_left body (row ∷ rows) (entry ∷ list) are =
+    let own = are.0 in
+    let tail : ℕ = body.tail.seq in
+    ap (λ b. entries_between body (row ∷ rows) (if b then entries_since tail rows list else entry ∷ list))
+    (le-ltb (seq_of row) tail (omega (arith, own)))
+
+entries_left : (body : CommitBody) (held rows : List Row) (list : List Entry) → AreNumbered body.tail.seq rows
+    → length list ≡ length (held ++ rows)
+    → entries_between body (since body.tail.seq held ++ rows) (entries_since body.tail.seq (held ++ rows) list)
+    ≡ entries_between body (held ++ rows) list
+entries_left body [] rows list are count = rows_left body rows list are
+entries_left body (row ∷ held) rows [] are count = absurd (omega (arith, count))
+entries_left body (row ∷ held) rows (entry ∷ list) are count =
+    let tail : ℕ = body.tail.seq in
+    let kept : Bool → List Row = λ b. (if b then since tail held else row ∷ held) ++ rows in
+    let left : Bool → List Entry = λ b. if b then entries_since tail (held ++ rows) list else entry ∷ list in
+    let rest : List Entry = entries_between body (held ++ rows) list in
+    elim (cases_lt (seq_of row) tail) [
+      | inl less ↦
+          ap (λ b. entries_between body (kept b) (left b)) (lt-ltb (seq_of row) tail less)
+          ∙ entries_left body held rows list are (omega (arith, count))
+          ∙ sym (ap (λ b. if b then entry ∷ rest else rest) (and_left _ _ (lt-leb tail (seq_of row) less)))
+      | inr on ↦ ap (λ b. entries_between body (kept b) (left b)) (le-ltb (seq_of row) tail on)
+    ]
+
+module _ (before after : LogState) (on_disk : IsOnDisk before) (same : HasSameList before after)
+    (released : IsReleased before after)
+    (made : IsMade (body_of before) before.commits after.commits) where
+  abbrev Either : ℕ → CommitBody → Type 0
+  Either = IsLastOr before.commits (body_of before)
+
+  made_is : (number : ℕ) (body : CommitBody) → IsLast after.commits number body
+      → IsCommit (finished_number before.commits.number before.commits.unfinished + 1) (body_of before) number body
+  made_is number body (inl is) =
+      record { same_number = is.same_number ∙ made.same_number; same_body = is.same_body ∙ made.same_body }
+  made_is number body (inr is) = record {
+    same_number = is.same_number ∙ ap (finished_number after.commits.number) made.same_unfinished ∙ made.same_number;
+    same_body = is.same_body ∙ ap (finished_body after.commits.body) made.same_unfinished ∙ made.same_body;
+  }
+
+  log_is : after.room.log ≡ before.room.log
+  log_is = ap (λ room. room.log) released.room
+
+  -- a commit after it has the entries of the log before it
+  leaves_before : (list : List Entry) (medium : Medium) → length list ≡ length (all_rows before)
+      → LeavesEntries after.room.log (all_rows after) (entries_since after.commits.body.tail.seq (all_rows before) list)
+      (IsLast after.commits) medium
+      → LeavesEntries before.room.log (all_rows before) list Either medium
+  leaves_before list medium count leaves = λ left may.
+      let is = leaves left may in
+      let commit = made_is is.0 is.1 is.2 in
+      let tail : after.commits.body.tail.seq ≡ is.1.tail.seq =
+      ap (λ (b : CommitBody). b.tail.seq) (made.same_body ∙ sym commit.same_body) in
+      let first : before.first ≡ is.1.tail.seq = ap (λ (b : CommitBody). b.tail.seq) (sym commit.same_body) in
+      let rows : all_rows after ≡ since is.1.tail.seq before.held ++ before.rows =
+      (λ i. released.held i ++ same.rows i) ∙ ap (λ seq. since seq before.held ++ before.rows) tail in
+      let entries : entries_between is.1 (all_rows after)
+      (entries_since after.commits.body.tail.seq (all_rows before) list)
+      ≡ entries_between is.1 (all_rows before) list =
+      (λ i. entries_between is.1 (rows i) (entries_since (tail i) (all_rows before) list))
+      ∙ entries_left is.1 before.held before.rows list (subst (λ seq. AreNumbered seq before.rows) first on_disk.numbered)
+      count in (
+        is.0,
+        is.1,
+        inr commit,
+        subst (λ n. ReadsSettled n left is.1 is.0) log_is is.3,
+        subst₂ (λ n l. HasRecords n is.1 l left) log_is entries is.4,
+      )
+
+  -- so each moment after it leaves what one in its midst may leave
+  leaves_in : (told later : Option (List Entry)) (new : DiskState) → IfSome told (λ list. length list ≡ length (all_rows before))
+      → later ≡ option_map (entries_since after.commits.body.tail.seq (all_rows before)) told
+      → IfSome told (λ list. HoldsSince (LeavesEntries before.room.log (all_rows before) list Either) before.commits.disk.moments
+      after.commits.disk.moments)
+      → IfSome later (λ list. HoldsSince (LeavesEntries after.room.log (all_rows after) list (IsLast after.commits))
+      after.commits.disk.moments new.moments)
+      → IfSome told (λ list. HoldsSince (LeavesEntries before.room.log (all_rows before) list Either) before.commits.disk.moments
+      new.moments)
+  leaves_in None later new count is first second = tt
+  leaves_in (Some list) later new count is first second =
+      let middle : List Medium = after.commits.disk.moments in
+      let L : Medium → Type 0 = LeavesEntries before.room.log (all_rows before) list Either in
+      let M : List Entry → Medium → Type 0 = λ l. LeavesEntries after.room.log (all_rows after) l (IsLast after.commits) in
+      let kept : List Entry = entries_since after.commits.body.tail.seq (all_rows before) list in
+      passes_on L before.commits.disk.moments middle new.moments first
+      (passes_as (M kept) L middle new.moments (λ medium. leaves_before list medium count)
+      (subst (λ t. IfSome t (λ l. HoldsSince (M l) middle new.moments)) is second))
+
+  leaves_after : (new : DiskState) → LeavesEntriesSince before Either after.commits.disk
+      → LeavesEntriesSince after (IsLast after.commits) new → LeavesEntriesSince before Either new
+  leaves_after new first second =
+      leaves_in before.all after.all new
+      (subst (λ t. IfSome t (λ list. length list ≡ length (all_rows before))) (sym on_disk.all)
+      (entries_count (all_rows before) before.commits.disk.moments))
+      released.all first second
+
+-- ---- what is kept
 
 module _ (owner : CacheOwner) (data_at : ℕ → ℕ) (old : LogState) (plain : PlainState)
-    (shows : ShowsStops owner data_at old plain) where
-  count : next_seq old ≡ history_length plain
-  count = shown_next old plain shows.log_is shows.valid
+    (shows : ShowsStops owner data_at old plain) (seq : ℕ) (end : seq ≡ frontier_end plain) where
+  -- once the list begins at the frontier's end, while all entries are committed
+  trimmed_keeps : (middle : LogState) (new : DiskState) → IsTrimmed seq old middle → IsOnDisk middle → IsDisk new
+      → LeavesEntriesSince middle (IsLastOr middle.commits (body_of middle)) new
+      → StopKeepsSince owner old plain (IsFoundOrNext plain) new
+  trimmed_keeps middle new trimmed on_disk is_disk leaves =
+      let count = shown_next old plain shows.log_is shows.valid in
+      let ends = frontier_ends plain shows.valid in
+      let begins = shows.logged.first in
+      let from = trimmed.first in
+      let stops : ShowsStops owner data_at middle plain = record {
+        valid = shows.valid;
+        log_is = trimmed_shows_same old middle plain.cache.log seq shows.log_is (omega (arith, end, ends, count)) trimmed;
+        logged = logged_trimmed data_at seq old middle plain (omega (arith, end)) trimmed shows.logged;
+        committed = trimmed_has_committed owner plain.geometry old middle seq shows.committed trimmed;
+        on_disk = on_disk;
+      } in
+      subst₂ (λ all (commits : CommitsState). OnSome all
+      (HoldsSince (StopKeeps owner plain (IsFoundOrNext plain)) commits.disk.moments new.moments)) trimmed.all trimmed.commits
+      (committing_keeps owner data_at middle plain new stops (omega (arith, from, begins, end)) is_disk leaves)
 
-  -- ---- a commit of all entries, whose tail is at the frontier's end
+  -- while a commit is made, or fails
+  pub commit_keeps_stops : (is_made : Bool) (new : LogState) → CommitsFrom seq is_made old new
+      → StopKeepsSince owner old plain (IsFoundOrNext plain) new.commits.disk
+  commit_keeps_stops is_made new commit =
+      trimmed_keeps commit.middle new.commits.disk commit.trimmed commit.was_on_disk commit.on_disk.commits.is_disk commit.stands
 
-  module _ (seq : ℕ) (is_made : Bool) (new : LogState) (end : seq ≡ frontier_end plain)
-      (commit : CommitsFrom seq is_made old new) where
-    whole_found : MayBeFound owner old plain (body_of commit.middle)
-    whole_found =
-        let first = commit.trimmed.first in
-        let counted = shows.log_is.counted in
-        let most = shows.logged.first in
-        record {
-          is_of = ap (λ c. owner_of c.body) commit.trimmed.commits ∙ shows.committed.last;
-          from = omega (arith, first, counted);
-          to = omega (arith, first, most, end);
-        }
-
-    whole_head : next_seq commit.middle ≡ history_length plain
-    whole_head =
-        let ends = frontier_ends plain shows.valid in
-        trimmed_next seq old commit.middle (omega (arith, end, ends, count)) commit.trimmed ∙ count
-
-    found : (number : ℕ) (body : CommitBody) → IsLastOr old.commits (body_of commit.middle) number body
-        → MayBeFound owner old plain body × IsCommittingHead old plain body.head.seq
-    found number body (inl last) = (let is = last_found owner data_at old plain shows number body last in (is.0, inl is.1))
-    found number body (inr is) =
-        (subst (MayBeFound owner old plain) (sym is.same_body) whole_found, inr (ap (λ b. b.head.seq) is.same_body ∙ whole_head))
-
-    leaves : LeavesEntriesSince old (IsLastOr old.commits (body_of commit.middle)) new.commits.disk
-    leaves =
-        let middle : LogState = commit.middle in
-        let body : CommitBody = body_of middle in
-        let moments : List Medium = new.commits.disk.moments in
-        let trimmed = commit.trimmed in
-        subst (Leaving body moments old.room.log (all_rows old) old.all) trimmed.commits
-        (subst₂ (λ (room : Room) all. Leaving body moments room.log (all_rows old) all middle.commits) trimmed.room trimmed.all
-        (subst (λ rows. Leaving body moments middle.room.log rows middle.all middle.commits) (trimmed_rows seq old middle trimmed)
-        commit.stands))
-
-    pub commit_keeps_stops : StopKeepsSince owner old plain (IsCommittingHead old plain) new.commits.disk
-    commit_keeps_stops =
-        keeps_since owner data_at old plain shows (IsLastOr old.commits (body_of commit.middle)) (IsCommittingHead old plain)
-        found new.commits.disk
-        leaves
-
-  -- ---- an entry
-
-  -- while the commits are as before
-  same_keep_stops : (new : DiskState) → LeavesEntriesSince old (IsLast old.commits) new
-      → StopKeepsSince owner old plain (IsCommittingHead old plain) new
-  same_keep_stops new leaves =
-      let P : Medium → Type 0 = StopKeeps owner plain (IsCommittedHead old) in
-      let Q : Medium → Type 0 = StopKeeps owner plain (IsCommittingHead old plain) in
-      let moments : List Medium = old.commits.disk.moments in
-      as_told (HoldsSince P moments new.moments) (HoldsSince Q moments new.moments) old.all
-      (passes_as P Q moments new.moments
-      (λ medium keeps left may. (let is = keeps left may in (is.0, inl is.1, is.2))))
-      (since_keeps owner data_at old plain new shows leaves)
-
-  -- after a commit that was made, which has all entries
-  module _ (seq : ℕ) (middle : LogState) (end : seq ≡ frontier_end plain) (commit : CommitsFrom seq true old middle) where
-    abbrev flushed : PlainState
-    flushed = after_flush (passing None plain)
-
-    commits_as : CommitsAs true None data_at old middle plain
-    commits_as =
-        commit_with None true data_at old middle plain shows.log_is shows.valid shows.logged
-        (subst (λ n. CommitsFrom n true old middle) end commit) refl
-
-    flushed_stops : ShowsStops owner data_at middle flushed
-    flushed_stops =
-        let logged = commits_as.logged in
-        record {
-          valid = flush_keeps (passing None plain) (passing_keeps None plain shows.valid);
-          log_is = commits_as.log;
-          logged = record { first = logged.first; rows = logged.rows; entries = logged.entries; placed = logged.placed };
-          committed = commit_owns owner plain.geometry seq true old middle shows.committed commit;
-          on_disk = commit.on_disk;
-        }
-
-    made_head : middle.commits.body.head.seq ≡ history_length plain
-    made_head = ap (λ b. b.head.seq) (commit.made refl).commits.made.same_body ∙ whole_head seq true middle end commit
-
-    head_then : (head : ℕ) → IsCommittedHead middle head → IsCommittingHead old plain head
-    head_then head (inl is) = inr (is ∙ made_head)
-    head_then head (inr is) =
-        let none = (commit.made refl).commits.made.same_unfinished in
-        inr (is ∙ ap (λ u. (finished_body middle.commits.body u).head.seq) none ∙ made_head)
-
-    then_keep_stops : (new : DiskState) → LeavesEntriesSince middle (IsLast middle.commits) new
-        → StopKeepsSince owner old plain (IsCommittingHead old plain) new
-    then_keep_stops new leaves =
-        let P : Medium → Type 0 = StopKeeps owner flushed (IsCommittedHead middle) in
-        let Q : Medium → Type 0 = StopKeeps owner plain (IsCommittingHead old plain) in
-        let first : List Medium = old.commits.disk.moments in
-        let second : List Medium = middle.commits.disk.moments in
-        let kept : List Entry → List Entry = entries_since middle.commits.body.tail.seq (all_rows commit.middle) in
-        joined kept (HoldsSince Q first second) (HoldsSince P second new.moments) (HoldsSince Q first new.moments)
-        old.all middle.all
-        (commit.released.all ∙ ap (option_map kept) commit.trimmed.all)
-        (λ before after.
-        passes_on Q first second new.moments before
-        (passes_as P Q second new.moments
-        (λ medium keeps left may. (let is = keeps left may in (is.0, head_then is.0 is.1, is.2))) after))
-        (commit_keeps_stops seq true middle end commit) (since_keeps owner data_at middle flushed new flushed_stops leaves)
-
-  after_keep_stops : (entry : Entry) (seq : ℕ) (result : Result ℕ AppendError) (new : LogState) → seq ≡ frontier_end plain
+  -- and while an entry is appended after it
+  after_keep_stops : (entry : Entry) (result : Result ℕ AppendError) (new : LogState) → IsDisk new.commits.disk
       → (CommitsFrom seq false old new × (result ≡ Err errors.DeviceFault))
       ⊎ ((middle : LogState) × CommitsFrom seq true old middle × Appends entry result middle new)
-      → StopKeepsSince owner old plain (IsCommittingHead old plain) new.commits.disk
-  after_keep_stops entry seq result new end (inl failed) = commit_keeps_stops seq false new end failed.0
-  after_keep_stops entry seq result new end (inr (middle, commit, appends)) =
-      then_keep_stops seq middle end commit new.commits.disk appends.keeps.stands
+      → StopKeepsSince owner old plain (IsFoundOrNext plain) new.commits.disk
+  after_keep_stops entry result new is_disk (inl failed) = commit_keeps_stops false new failed.0
+  after_keep_stops entry result new is_disk (inr (middle, commit, appends)) =
+      trimmed_keeps commit.middle new.commits.disk commit.trimmed commit.was_on_disk is_disk
+      (leaves_after commit.middle middle commit.was_on_disk commit.list commit.released (commit.made refl).commits.made
+      new.commits.disk commit.stands appends.keeps.stands)
 
   -- at once, or after a commit
-  pub enter_keeps_stops : (entry : Entry) (seq : ℕ) (result : Result ℕ AppendError) (new : LogState) → seq ≡ frontier_end plain
-      → EntersLog entry seq result old new → StopKeepsSince owner old plain (IsCommittingHead old plain) new.commits.disk
-  enter_keeps_stops entry seq result new end (inl at_once) = same_keep_stops new.commits.disk at_once.appends.keeps.stands
-  enter_keeps_stops entry seq result new end (inr after) = after_keep_stops entry seq result new end after.then
+  pub enter_keeps_stops : (entry : Entry) (result : Result ℕ AppendError) (new : LogState) → IsDisk new.commits.disk
+      → EntersLog entry seq result old new
+      → StopKeepsSince owner old plain (IsFoundOrNext plain) new.commits.disk
+  enter_keeps_stops entry result new is_disk (inl at_once) =
+      kept_as owner old plain (λ found. IsFoundCommit found plain.cache.log) (IsFoundOrNext plain) new.commits.disk
+      (λ found is. inl is)
+      (since_keeps owner data_at old plain new.commits.disk shows is_disk at_once.appends.keeps.stands)
+  enter_keeps_stops entry result new is_disk (inr after) = after_keep_stops entry result new is_disk after.then

@@ -90,7 +90,7 @@ module _ {R : Type 0} (state : R → ReceiptState) (old : VolumeState) (objects 
         plan = plan;
         sizes = record { geometry = list.same.geometry; uuid = list.same.uuid };
         numbers = numbers;
-        stops = objects_keep old objects list.same;
+        stops = objects_keep event old objects list.same;
         faults = subst (λ failed. Counts failed count count) (sym list.quiet) refl;
         bytes = bytes;
       }
@@ -142,7 +142,7 @@ step_of_pins state event reply old pins step back plan quiet =
       plan = plan;
       sizes = record { geometry = refl; uuid = refl };
       numbers = numbers_stay old new refl refl;
-      stops = still_keeps old new (record { uuid = refl; geometry = refl }) (still old.log);
+      stops = still_keeps event old new (record { uuid = refl; geometry = refl }) (still old.log);
       faults = subst (λ failed. Counts failed count count) (sym quiet) refl;
       bytes = same_bytes old new refl refl;
     }

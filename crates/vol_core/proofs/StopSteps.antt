@@ -1,9 +1,11 @@
 -- What a stop keeps at each moment of a step.
-use Rattle.std.proofs.Common.{◌≡◌, ℕ, Bool, List, [], refl, sym, ◌∙◌, subst}
+use Rattle.std.proofs.Common.{◌≡◌, ℕ, Bool, true, List, [], refl, sym, ◌∙◌, subst, inl, inr}
 use Rattle.std.specs.Prelude.{Option, Some, None, OnSome, Result, Ok, Err}
 use Rattle.std.proofs.Math.Path.{subst₂}
 use Rattle.lsvd_base.specs.declared.entry.Entry.{Entry}
+use Rattle.lsvd_base.specs.declared.entry.Entry.TheVariants as entries
 use Rattle.lsvd_base.specs.declared.geometry.Geometry.{Geometry}
+use Rattle.lsvd_device.specs.Device.{IsDisk}
 use Rattle.commit_slot.specs.Commits.{IsAsBefore}
 use Rattle.cache_log.specs.declared.error.AppendError.{AppendError}
 use Rattle.cache_log.specs.declared.error.AppendError.TheVariants.{NoRoom, DeviceFault}
@@ -19,19 +21,22 @@ use Rattle.vol_core.specs.declared.reply.Refusal.{Refusal}
 use Rattle.vol_core.specs.declared.reply.Refusal.TheVariants as refusals
 use Rattle.plain_disk.specs.State.{PlainState}
 use Rattle.stopped_volume.specs.Device.{CacheOwner}
-use Rattle.stop_meaning.specs.Stops.{HasCommitted, IsCommittingHead, StopKeepsSince}
+use Rattle.plain_disk.specs.declared.log.PlainCommit.{PlainCommit}
+use Rattle.stop_meaning.specs.Stops.{HasCommitted, IsFoundOrNext, StopKeepsSince}
 use Rattle.stop_meaning.specs.Laws.{ShowsStops}
 use Rattle.stop_meaning.proofs.StopLemmas.{now_keeps}
 use Rattle.stop_meaning.proofs.CommittedLemmas.{same_has_committed}
 use Rattle.vol_core.specs.declared.reply.Reply.{Reply}
 use Rattle.vol_core.specs.declared.reply.Reply.TheVariants as told
+use Rattle.vol_core.specs.declared.event.Event.{Event}
 use Rattle.vol_core.specs.Volume.{VolumeState}
-use Rattle.vol_core.specs.Stops.{owner_in, HasOwnCommits, KeepsNow, StepKeeps}
+use Rattle.vol_core.specs.Stops.{may_commit, MayBeLeftBy, owner_in, HasOwnCommits, KeepsNow, StepKeeps}
 use Rattle.vol_core.specs.Shows.{Shows}
-use Rattle.vol_core.specs.Calls.{CommitsFrom, ComesToLog, IsRefusedEntry, Enters}
+use Rattle.vol_core.specs.Step.{HandsBack, HasItsBytes}
+use Rattle.vol_core.specs.Calls.{CommitsFrom, ComesToLog, IsRefusedEntry, Enters, event_of}
 use Rattle.vol_core.proofs.StepLemmas.{with_objects}
 use Rattle.vol_core.proofs.FlushLemmas.{with_log}
-use Rattle.vol_core.proofs.CommitStops.{commit_owns, commit_keeps_stops, enter_owns, enter_keeps_stops}
+use Rattle.vol_core.proofs.CommitStops.{commit_owns, enter_owns, kept_as, commit_keeps_stops, enter_keeps_stops}
 use Rattle.vol_core.proofs.EnterSteps.{with_both, taken_for, reserved_shows}
 use Rattle.vol_core.proofs.LoggedLemmas.{logged_alike}
 
@@ -84,16 +89,19 @@ own_after epoch old new same own =
     (sym same.geometry) own
 
 -- no moment comes after it
-none_since : (owner : CacheOwner) (old new : LogState) (plain : PlainState) → new.commits.disk.moments ≡ old.commits.disk.moments
-    → StopKeepsSince owner old plain (IsCommittingHead old plain) new.commits.disk
-none_since owner old new plain moments = on_some _ old.all (record { since = []; moments = moments; each = tt })
+none_since : (owner : CacheOwner) (old new : LogState) (plain : PlainState) (P : PlainCommit → Type 0)
+    → new.commits.disk.moments ≡ old.commits.disk.moments
+    → StopKeepsSince owner old plain P new.commits.disk
+none_since owner old new plain P moments = on_some _ old.all (record { since = []; moments = moments; each = tt })
 
-pub still_keeps : (old new : VolumeState) → IsOfSameVolume old.objects new.objects → IsStill old.log new.log → StepKeeps old new
-still_keeps old new same is epoch own = record {
+pub still_keeps : {R : Type 0} (event : Event R) (old new : VolumeState) → IsOfSameVolume old.objects new.objects
+    → IsStill old.log new.log
+    → StepKeeps event old new
+still_keeps event old new same is epoch own = record {
   own =
       own_after epoch old new same
       (same_has_committed (owner_in epoch old) old.objects.batch.geometry old.log new.log own is.same is.commits);
-  since = λ plain shows. none_since (owner_in epoch old) old.log new.log plain is.moments;
+  since = λ plain shows. none_since (owner_in epoch old) old.log new.log plain (MayBeLeftBy event plain) is.moments;
 }
 
 -- the log of a look was read, or nothing was done
@@ -103,29 +111,40 @@ pub read_is_still : (lba sectors : ℕ) (maps : MapsState) (are_made : Bool) (ol
 read_is_still lba sectors maps are_made old new is =
     record { same = is.reads.same; commits = is.reads.commits; moments = is.reads.moments }
 
-pub look_keeps : (old : VolumeState) (log : LogState) (pins : List ℕ) → IsStill old.log log
-    → StepKeeps old (record old { log = log; pins = pins })
-look_keeps old log pins is = still_keeps old (record old { log = log; pins = pins }) (record { uuid = refl; geometry = refl }) is
+pub look_keeps : {R : Type 0} (event : Event R) (old : VolumeState) (log : LogState) (pins : List ℕ) → IsStill old.log log
+    → StepKeeps event old (record old { log = log; pins = pins })
+look_keeps event old log pins is =
+    still_keeps event old (record old { log = log; pins = pins }) (record { uuid = refl; geometry = refl }) is
 
 -- ---- only the objects change
 
-pub objects_keep : (old : VolumeState) (objects : ObjLogState) → IsOfSameVolume old.objects objects
-    → StepKeeps old (with_objects objects old)
-objects_keep old objects same = still_keeps old (with_objects objects old) same (still old.log)
+pub objects_keep : {R : Type 0} (event : Event R) (old : VolumeState) (objects : ObjLogState)
+    → IsOfSameVolume old.objects objects
+    → StepKeeps event old (with_objects objects old)
+objects_keep event old objects same = still_keeps event old (with_objects objects old) same (still old.log)
 
 -- ---- a flush
 
-pub flushing_keeps : (old : VolumeState) (log : LogState) (is_made : Bool) (end : ℕ)
+-- an event that may make a commit may leave it
+may_leave : {R : Type 0} (event : Event R) (plain : PlainState) → may_commit event ≡ true → (found : PlainCommit)
+    → IsFoundOrNext plain found
+    → MayBeLeftBy event plain found
+may_leave event plain may found (inl is) = inl is
+may_leave event plain may found (inr is) = inr (may, is)
+
+pub flushing_keeps : {R : Type 0} (event : Event R) → may_commit event ≡ true
+    → (old : VolumeState) (log : LogState) (is_made : Bool) (end : ℕ)
     → IsUploads old.objects.uploads.queue old.objects.uploads.window
     → IsOnDisk old.log → end ≡ old.objects.uploads.queue.end → CommitsFrom end is_made old.log log
-    → StepKeeps old (with_log log old)
-flushing_keeps old log is_made end uploads on_disk end_is commits epoch own = record {
+    → StepKeeps event old (with_log log old)
+flushing_keeps event may old log is_made end uploads on_disk end_is commits epoch own = record {
   own = commit_owns (owner_in epoch old) old.objects.batch.geometry end is_made old.log log own commits;
   since = λ plain shows.
       let counts = shown_have_counts shows.data_at old.objects plain uploads shows.valid shows.objects in
-      commit_keeps_stops (owner_in epoch old) shows.data_at old.log plain (shows_stops epoch old plain on_disk own shows) end
-      is_made log
-      (end_is ∙ counts.end) commits;
+      kept_as (owner_in epoch old) old.log plain (IsFoundOrNext plain) (MayBeLeftBy event plain) log.commits.disk
+      (may_leave event plain may)
+      (commit_keeps_stops (owner_in epoch old) shows.data_at old.log plain (shows_stops epoch old plain on_disk own shows) end
+      (end_is ∙ counts.end) is_made log commits);
 }
 
 -- ---- an entry
@@ -170,19 +189,29 @@ reserved_is_still log reserved = record {
 room_is_of_same : (old new : ObjLogState) → IsSame old new → IsOfSameVolume old new
 room_is_of_same old new same = record { uuid = same.uploads.uuid; geometry = same.geometry }
 
-unchanged_keeps : (old : VolumeState) (objects : ObjLogState) (log : LogState) → objects ≡ old.objects → log ≡ old.log
-    → StepKeeps old (with_both objects log old)
-unchanged_keeps old objects log same_objects same_log =
-    still_keeps old (with_both objects log old)
+unchanged_keeps : {R : Type 0} (event : Event R) (old : VolumeState) (objects : ObjLogState) (log : LogState)
+    → objects ≡ old.objects → log ≡ old.log
+    → StepKeeps event old (with_both objects log old)
+unchanged_keeps event old objects log same_objects same_log =
+    still_keeps event old (with_both objects log old)
     (subst (IsOfSameVolume old.objects) (sym same_objects) (record { uuid = refl; geometry = refl }))
     (subst (IsStill old.log) (sym same_log) (still old.log))
 
-module _ (entry : Entry) (old : VolumeState) (uploads : IsUploads old.objects.uploads.queue old.objects.uploads.window)
+entry_may_commit : (R : Type 0) (entry : Entry) → may_commit (event_of {R = R} entry) ≡ true
+entry_may_commit R (entries.Write lba body) = refl
+entry_may_commit R (entries.Zero lba sectors) = refl
+
+module _ {R : Type 0} (entry : Entry) (old : VolumeState)
+    (uploads : IsUploads old.objects.uploads.queue old.objects.uploads.window)
     (on_disk : IsOnDisk old.log) where
+  abbrev event : Event R
+  event = event_of entry
+
   -- it came to the log
-  came_keeps : (result : Result ℕ AppendError) (ready objects : ObjLogState) (log : LogState) → IsOfSameVolume old.objects objects
-      → ComesToLog entry result old.objects ready old.log log → StepKeeps old (with_both objects log old)
-  came_keeps result ready objects log same comes epoch own =
+  came_keeps : (result : Result ℕ AppendError) (ready objects : ObjLogState) (log : LogState) → IsDisk log.commits.disk
+      → IsOfSameVolume old.objects objects
+      → ComesToLog entry result old.objects ready old.log log → StepKeeps event old (with_both objects log old)
+  came_keeps result ready objects log is_disk same comes epoch own =
       let owner : CacheOwner = owner_in epoch old in
       let geometry : Geometry = old.objects.batch.geometry in
       let end : ℕ = old.objects.uploads.queue.end in
@@ -194,30 +223,43 @@ module _ (entry : Entry) (old : VolumeState) (uploads : IsUploads old.objects.up
             (reserved_owns owner geometry old.log comes.reserved own) comes.log);
         since = λ plain shows.
             let counts = shown_have_counts shows.data_at old.objects plain uploads shows.valid shows.objects in
-            enter_keeps_stops owner shows.data_at before plain
-            (reserved_stops owner shows.data_at old.log plain comes.reserved (shows_stops epoch old plain on_disk own shows))
-            entry end result log
-            counts.end comes.log;
+            kept_as owner old.log plain (IsFoundOrNext plain) (MayBeLeftBy event plain) log.commits.disk
+            (may_leave event plain (entry_may_commit R entry))
+            (enter_keeps_stops owner shows.data_at before plain
+            (reserved_stops owner shows.data_at old.log plain comes.reserved (shows_stops epoch old plain on_disk own shows)) end
+            counts.end entry result log is_disk comes.log);
       }
 
-  refused_keeps : (why : Refusal) (objects : ObjLogState) (log : LogState)
+  refused_keeps : (why : Refusal) (objects : ObjLogState) (log : LogState) → IsDisk log.commits.disk
       → IsRefusedEntry entry why old.objects objects old.log log
-      → StepKeeps old (with_both objects log old)
-  refused_keeps refusals.Range objects log is = unchanged_keeps old objects log is.1 is.2
-  refused_keeps (refusals.Full full) objects log is = unchanged_keeps old objects log is.2 is.3
-  refused_keeps (refusals.NoRoom needed free) objects log is =
-      came_keeps (Err (NoRoom needed free)) objects objects log (room_is_of_same old.objects objects is.same) is
-  refused_keeps refusals.Fault objects log is =
-      came_keeps (Err DeviceFault) objects objects log (room_is_of_same old.objects objects is.same) is
-  refused_keeps refusals.OutOfMemory objects log is =
-      still_keeps old (with_both objects log old) (room_is_of_same old.objects objects is.0)
+      → StepKeeps event old (with_both objects log old)
+  refused_keeps refusals.Range objects log is_disk is = unchanged_keeps event old objects log is.1 is.2
+  refused_keeps (refusals.Full full) objects log is_disk is = unchanged_keeps event old objects log is.2 is.3
+  refused_keeps (refusals.NoRoom needed free) objects log is_disk is =
+      came_keeps (Err (NoRoom needed free)) objects objects log is_disk (room_is_of_same old.objects objects is.same) is
+  refused_keeps refusals.Fault objects log is_disk is =
+      came_keeps (Err DeviceFault) objects objects log is_disk (room_is_of_same old.objects objects is.same) is
+  refused_keeps refusals.OutOfMemory objects log is_disk is =
+      still_keeps event old (with_both objects log old) (room_is_of_same old.objects objects is.0)
       (subst (IsStill old.log) (sym is.1) (reserved_is_still old.log log.reserved))
 
-  pub entering_keeps_stops : {R : Type 0} (reply : Reply R) (objects : ObjLogState) (log : LogState)
-      → Enters entry reply old.objects objects old.log log → StepKeeps old (with_both objects log old)
-  entering_keeps_stops (told.Entered count) objects log enters =
+  pub entering_keeps_stops : (reply : Reply R) (objects : ObjLogState) (log : LogState) → IsOnDisk log
+      → Enters entry reply old.objects objects old.log log → StepKeeps event old (with_both objects log old)
+  entering_keeps_stops (told.Entered count) objects log after enters =
       let same = enters.comes.same in
-      came_keeps (Ok enters.at) enters.ready objects log
+      came_keeps (Ok enters.at) enters.ready objects log after.commits.is_disk
       (record { uuid = enters.added.uuid ∙ same.uploads.uuid; geometry = enters.added.geometry ∙ same.geometry }) enters.comes
-  entering_keeps_stops (told.NotEntered back why) objects log enters = refused_keeps why objects log enters.1
-  entering_keeps_stops reply objects log enters = absurd enters
+  entering_keeps_stops (told.NotEntered back why) objects log after enters =
+      refused_keeps why objects log after.commits.is_disk enters.1
+  entering_keeps_stops reply objects log after enters = absurd enters
+
+-- ---- what an entry hands back
+
+pub entering_hands_back : {R : Type 0} (entry : Entry) (reply : Reply R) (objects after : ObjLogState) (old new : LogState)
+    → Enters entry reply objects after old new → HandsBack (event_of entry) reply × HasItsBytes (event_of entry) reply
+entering_hands_back (entries.Write lba body) (told.Entered count) objects after old new enters = (tt, tt)
+entering_hands_back (entries.Write lba body) (told.NotEntered back why) objects after old new enters = (enters.0, tt)
+entering_hands_back (entries.Write lba body) reply objects after old new enters = absurd enters
+entering_hands_back (entries.Zero lba sectors) (told.Entered count) objects after old new enters = (tt, tt)
+entering_hands_back (entries.Zero lba sectors) (told.NotEntered back why) objects after old new enters = (enters.0, tt)
+entering_hands_back (entries.Zero lba sectors) reply objects after old new enters = absurd enters

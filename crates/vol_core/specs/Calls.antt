@@ -50,6 +50,7 @@ pub record HasRoomForStep (stepped : SteppedVolume) : Type 0 where
 pub record CommitsFrom (seq : ℕ) (is_made : Bool) (old new : LogState) : Type 0 where
   pub middle : LogState
   pub trimmed : IsTrimmed seq old middle
+  pub was_on_disk : IsOnDisk middle
   pub list : HasSameList middle new
   pub released : IsReleased middle new
   pub made : is_made ≡ true → IsCommittedLog middle new

@@ -155,7 +155,8 @@ KeepsBytes old new =
 
 -- What a step is of an event: its reply, and the volume after it. It is one of the plain volume, hands back what it did not use,
 -- and gives a plan all its bytes. It changes no size, and lets the numbers grow by one entry, one object and two commits at most.
--- A stop at each of its moments keeps the entries, a failed call is counted once and told, and bytes on their way stay.
+-- A stop at each of its moments leaves a commit of the plain volume before it, a failed call is counted once and told, and bytes
+-- on their way stay.
 pub record StepOf {R : Type 0} (state : R → ReceiptState) (event : Event R) (reply : Reply R) (old new : VolumeState) :
     Type 0 where
   pub step : StepsAsPlain state event reply old new
@@ -163,7 +164,7 @@ pub record StepOf {R : Type 0} (state : R → ReceiptState) (event : Event R) (r
   pub plan : HasItsBytes event reply
   pub sizes : HasSameSizes old new
   pub numbers : NumbersGrow old new
-  pub stops : StepKeeps old new
+  pub stops : StepKeeps event old new
   pub faults : CountsFault reply old new
   pub bytes : KeepsBytes old new
 

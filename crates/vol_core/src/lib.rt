@@ -1,8 +1,8 @@
 //! A volume: its entries and objects, and the log on its cache, as one machine of steps.
 //!
 //! Its contract: each step is one step of the plain volume that the volume shows, and the volume then shows
-//! what that becomes. Whatever a stop leaves of the device at each moment of a step keeps the entries that
-//! were committed. It stands on `obj_log` for entries and objects, on `cache_log` for the log, on `read_plan`
+//! what that becomes. Whatever a stop leaves of the device at each moment of a step reads as a commit of the
+//! plain volume. It stands on `obj_log` for entries and objects, on `cache_log` for the log, on `read_plan`
 //! for reads, and on `objects_meaning`, `log_meaning`, `reads_meaning`, `stop_meaning`, `pending_meaning` and
 //! `plain_disk` for what these mean.
 #![tactic(auto)]

@@ -117,8 +117,7 @@ impl<D: Disk, R: Receipt> Volume<D, R> {
     }
 
     /// What is so of every volume whose commits are its own, as a fact for the proofs of callers: whatever a
-    /// stop leaves of the device now keeps the entries up to the head of the last commit, or of the
-    /// unfinished one. Nothing is done.
+    /// stop leaves of the device now reads as the last commit, or as the unfinished one. Nothing is done.
     pub fn stands(&self)
         ensures { (epoch : ℕ) → HasOwnCommits epoch self.now.volume → KeepsNow epoch self.now.volume }
     {
@@ -227,7 +226,9 @@ impl<D: Disk, R: Receipt> Volume<D, R> {
     {
         self.objects.ordered();
         self.log.on_disk();
-        enter(&mut self.objects, &mut self.log, entry)
+        let reply = enter(&mut self.objects, &mut self.log, entry);
+        self.log.on_disk();
+        reply
     }
 
     // Commits all entries so far, with the log's tail at the frontier's end.

@@ -1,10 +1,10 @@
 -- What a device on which a plain volume was left is to a log that was opened on it.
-use Rattle.std.proofs.Common.{◌≡◌, ℕ, ◌+◌, ◌-◌, ◌≤◌, ◌%◌, List, [], ◌∷◌, length, drop, map, refl, sym, ◌∙◌, ap, subst, inl, inr}
-use Rattle.std.proofs.Common.{arith, length-drop}
-use Rattle.std.specs.Prelude.{Option, Some, IsTrue, max}
+use Rattle.std.proofs.Common.{◌≡◌, ℕ, ◌-◌, ◌≤◌, ◌%◌, List, [], ◌∷◌, length, drop, map, refl, sym, ◌∙◌, ap, subst, inl, inr}
+use Rattle.std.proofs.Common.{arith}
+use Rattle.std.specs.Prelude.{Option, Some, IsTrue}
 use Rattle.std.specs.Option.{option_map}
 use Rattle.std.specs.List.{AllByRecursion}
-use Rattle.std.proofs.lemmas.List.{ext_get_or, length-map}
+use Rattle.std.proofs.lemmas.List.{ext_get_or}
 use Rattle.std.proofs.lemmas.List.Elements.{All-nil}
 use Rattle.lsvd_base.specs.declared.entry.Entry.{Entry}
 use Rattle.lsvd_base.specs.declared.geometry.Geometry.{Geometry}
@@ -25,11 +25,10 @@ use Rattle.cache_log.specs.Laws.{MayBeRead}
 use Rattle.cache_log.proofs.ForCallers.{have_one_list}
 use Rattle.stopped_volume.specs.Device.{CacheOwner}
 use Rattle.plain_disk.specs.declared.log.PlainCommit.{PlainCommit}
-use Rattle.plain_disk.specs.State.{PlainState, history_length}
-use Rattle.stop_meaning.specs.Stops.{entries_past, KeepsOnDevice, StopKeeps}
-use Rattle.mount_meaning.specs.Found.{HasCommit, HasObjects}
-use Rattle.mount_meaning.specs.Mounted.{end_of_object, mounted_with}
-use Rattle.mount_meaning.proofs.StopLemmas.{found_keeps}
+use Rattle.plain_disk.specs.State.{PlainState}
+use Rattle.stop_meaning.specs.Stops.{entries_past, HasCommit}
+use Rattle.mount_meaning.specs.Mounted.{end_of_object}
+use Rattle.mount_meaning.specs.Stops.{StopKeepsMount}
 use Rattle.vol_mount.specs.Mounting.{IsLeft}
 use Rattle.vol_mount.specs.Steps.{IsOpenedOf}
 
@@ -90,10 +89,6 @@ since_synced P now past moments holds (inr synced) = record { since = after_sync
 
 -- ---- a plain volume that was left
 
--- the volume that a mount is to make has all its entries
-abbrev pub IsWhole : PlainState → (head : ℕ) → Type 0
-IsWhole plain head = head ≡ history_length plain
-
 module _ (uuid : List ℕ) (geometry : Geometry) (epoch : ℕ) (plain : PlainState) (found : PlainCommit) (number : ℕ)
     (told : Option Objects) (old : DiskState)
     (size : log_start ≤ old.size) (sectors : geometry.log ≡ log_of old.size) (is_disk : IsDisk old)
@@ -115,7 +110,7 @@ module _ (uuid : List ℕ) (geometry : Geometry) (epoch : ℕ) (plain : PlainSta
       left.stored.geometry_is
       has_commit.slots
 
-  long : byte_of plain.geometry.log ≤ length newest.now.bytes
+  pub long : byte_of plain.geometry.log ≤ length newest.now.bytes
   long =
       let media = subst (AllByRecursion (HasSize old.size)) newest.moments_are is_disk.media in
       let bytes = media.0.bytes in
@@ -130,19 +125,13 @@ module _ (uuid : List ℕ) (geometry : Geometry) (epoch : ℕ) (plain : PlainSta
       subst (HoldsNow (P (log_of old.size))) (sym newest.moments_are) (subst (λ n. P n newest.now) sectors settled_slots) in
       subst (λ m. AreButSynced m new.moments) newest.moments_are (settled has_commit.number has_commit.body slots)
 
-  -- and each stop meanwhile keeps it
-  pub load_keeps : (objects : Objects) (new : DiskState) → HasObjects uuid plain number objects → LeavesSettled old new
-      → HoldsSince (StopKeeps owner (mounted_with found number plain) (IsWhole (mounted_with found number plain))) old.moments
-      new.moments
-  load_keeps objects new has settled =
-      let K : Medium → Type 0 = StopKeeps owner (mounted_with found number plain) (IsWhole (mounted_with found number plain)) in
-      let keeps = found_keeps uuid owner plain found number objects newest.now.bytes left.stored.valid has has_commit long in
-      let now : K (after_sync newest.now) = λ bytes may. (
-        history_length (mounted_with found number plain),
-        refl,
-        subst (KeepsOnDevice owner (mounted_with found number plain) (history_length (mounted_with found number plain)))
-            (sym (synced_leaves newest.now bytes may)) keeps,
-      ) in
+  -- and each stop meanwhile leaves it
+  pub load_keeps : (new : DiskState) → LeavesSettled old new
+      → HoldsSince (StopKeepsMount owner plain found number) old.moments new.moments
+  load_keeps new settled =
+      let K : Medium → Type 0 = StopKeepsMount owner plain found number in
+      let now : K (after_sync newest.now) = λ bytes may.
+      inl (subst (HasCommit owner plain found count) (sym (synced_leaves newest.now bytes may)) has_commit) in
       subst (λ m. HoldsSince K m new.moments) (sym newest.moments_are)
       (since_synced K newest.now newest.past new.moments now (but_synced_to new settled))
 
@@ -165,10 +154,10 @@ module _ (uuid : List ℕ) (geometry : Geometry) (epoch : ℕ) (plain : PlainSta
     pub body_is : has_commit.body ≡ commits.body
     body_is = one.1
 
-    after : ReadsAsBefore newest.now log.commits.disk.moments
+    pub after : ReadsAsBefore newest.now log.commits.disk.moments
     after = but_synced newest.now newest.past log.commits.disk.moments (but_synced_to log.commits.disk opened.settled)
 
-    moments_are : commits.disk.moments ≡ after.newest ∷ after.older
+    pub moments_are : commits.disk.moments ≡ after.newest ∷ after.older
     moments_are = sym opened.up_to.opened.only.moments ∙ after.moments_are
 
     records_are : AreRecordsInRange geometry commits.body log.rows newest.now.bytes
@@ -196,10 +185,6 @@ module _ (uuid : List ℕ) (geometry : Geometry) (epoch : ℕ) (plain : PlainSta
         has_commit.records) in
         have_one_list geometry commits.body has_commit.rows log.rows newest.now.bytes may there records_are
 
-    -- all that it tells are its entries from an end on
-    pub all_told : log.all ≡ Some (map (entry_of newest.now.bytes) log.rows)
-    all_told = opened.up_to.opened.all ∙ entries_are
-
     abbrev pub entries_left : List Entry
     entries_left = drop (end - log.first) (map (entry_of newest.now.bytes) log.rows)
 
@@ -214,12 +199,3 @@ module _ (uuid : List ℕ) (geometry : Geometry) (epoch : ℕ) (plain : PlainSta
         ∙ ap (λ n. drop (count - n) (map (entry_of newest.now.bytes) log.rows)) first
         ∙ ap (λ rows. drop (count - has_commit.body.tail.seq) (map (entry_of newest.now.bytes) rows)) (sym rows_are)
         ∙ has_commit.entries
-
-    pub left_count : end + length entries_left ≡ max end commits.body.head.seq
-    left_count =
-        let a = length-drop (end - log.first) (map (entry_of newest.now.bytes) log.rows) in
-        let b = length-map log.rows (entry_of newest.now.bytes) in
-        let c = opened.up_to.opened.first in
-        let d = opened.up_to.opened.rows.seqs in
-        let e = opened.up_to.tail in
-        omega (arith, a, b, c, d, e)

@@ -1,7 +1,7 @@
 -- For `mount_with_cache`: what is shown of a list that was completed and a log that was committed again.
 use Rattle.std.proofs.Common.{◌≡◌, ℕ, ◌+◌, ◌-◌, ◌<◌, ◌≤◌, Bool, true, List, [], ◌∷◌, ◌++◌, length, refl, sym, ◌∙◌, ap, subst, inl}
 use Rattle.std.proofs.Common.{arith, length-drop, length-append}
-use Rattle.std.specs.Prelude.{Option, Some, None, IfSome, OnSome, IsTrue, max, slice_index_or}
+use Rattle.std.specs.Prelude.{Option, Some, None, IfSome, IsTrue, max, slice_index_or}
 use Rattle.std.specs.List.{All}
 use Rattle.std.proofs.lemmas.List.Elements.{All-nil, All-cons}
 use Rattle.lsvd_base.specs.declared.entry.Entry.{Entry}
@@ -19,7 +19,7 @@ use Rattle.commit_slot.proofs.Passing.{passes_on}
 use Rattle.cache_log.specs.declared.row.Row.{Row}
 use Rattle.cache_log.specs.Rows.{log_start, position_of}
 use Rattle.cache_log.specs.Log.{LogState, AreRowsOf, IsTrimmed}
-use Rattle.cache_log.specs.Opening.{AreRecordsInRange, AreRowsInRange, entry_count}
+use Rattle.cache_log.specs.Opening.{AreRecordsInRange, AreRowsInRange, IsOpenedLog, entry_count}
 use Rattle.upload_window.specs.Window.{WindowState}
 use Rattle.obj_log.specs.State.{ObjLogState}
 use Rattle.stopped_volume.specs.Device.{CacheOwner}
@@ -31,16 +31,17 @@ use Rattle.log_meaning.specs.Shows.{ShowsLog}
 use Rattle.log_meaning.specs.Fuses.{fuse_in}
 use Rattle.log_meaning.specs.Logged.{HasLoggedEntries}
 use Rattle.objects_meaning.specs.Shows.{ShowsObjects}
-use Rattle.stop_meaning.specs.Stops.{HasCommitted, StopKeeps, entries_past}
+use Rattle.stop_meaning.specs.Stops.{HasCommitted, entries_past}
 use Rattle.stop_meaning.proofs.CommittedLemmas.{trimmed_has_committed, commit_has_committed}
 use Rattle.mount_meaning.specs.Mounted.{end_of_object, mounted_with, mounted_without, log_found, committed_at, going_on, data_in}
+use Rattle.mount_meaning.specs.Stops.{StopKeepsMount}
 use Rattle.mount_meaning.specs.Rest.{IsAtRest}
 use Rattle.mount_meaning.proofs.ListLemmas.{list_shows_some}
 use Rattle.mount_meaning.proofs.EntryLemmas.{entries_go_on}
 use Rattle.mount_meaning.proofs.ReopenedLemmas.{reopened_shows_log}
 use Rattle.mount_meaning.proofs.OpenedLemmas.{opened_has_committed, added_are_logged}
 use Rattle.mount_meaning.proofs.GoingLemmas.{mounted_is_plain_volume, mounted_is_going_on}
-use Rattle.mount_meaning.proofs.StopLemmas.{committing_keeps_mounted}
+use Rattle.mount_meaning.proofs.StopLemmas.{committing_keeps_mount}
 use Rattle.vol_core.specs.Volume.{volume_of}
 use Rattle.vol_core.specs.Shows.{Shows, IsSmall, max_number}
 use Rattle.vol_core.specs.Step.{passing}
@@ -56,8 +57,8 @@ use Rattle.vol_mount.proofs.CostLemmas.{costs_again}
 use Rattle.vol_mount.proofs.ShownLemmas.{shown}
 use Rattle.vol_mount.proofs.AddLemmas.{HasAdded, has_added, entry_in_range, a_row}
 use Rattle.vol_mount.proofs.CompleteLemmas.{first_is, rows_in_range}
-use Rattle.vol_mount.proofs.FoundLemmas.{IsWhole, reads_one, has_commit, load_keeps, body_is, rows_are, all_told, entries_left}
-use Rattle.vol_mount.proofs.FoundLemmas.{told_is, left_are, left_count}
+use Rattle.vol_mount.proofs.FoundLemmas.{reads_one, newest, has_commit, long, load_keeps, body_is, after, moments_are, rows_are}
+use Rattle.vol_mount.proofs.FoundLemmas.{entries_left, told_is, left_are}
 
 -- ---- entries of rows
 
@@ -80,12 +81,6 @@ entries_in_range geometry (row ∷ rows) (entry ∷ entries) are may =
 -- what is told is one
 told_one : (told : Option (List Entry)) (all list : List Entry) → told ≡ Some all → IfSome told (λ l. l ≡ list) → list ≡ all
 told_one told all list is same = sym (subst (λ t. IfSome t (λ l. l ≡ list)) is same)
-
-if_told : (told : Option (List Entry)) (all : List Entry) → told ≡ Some all → IfSome told (λ l. l ≡ all)
-if_told told all is = subst (λ t. IfSome t (λ l. l ≡ all)) (sym is) refl
-
-on_told : (told : Option (List Entry)) (all : List Entry) (P : Type 0) → told ≡ Some all → OnSome told P → P
-on_told told all P is holds = subst (λ t. OnSome t P) is holds
 
 -- ---- a plain volume that was left
 
@@ -136,38 +131,36 @@ module _ (uuid : List ℕ) (geometry : Geometry) (epoch : ℕ) (list : ObjLogSta
           (sym (rows_are uuid geometry epoch plain found number told old size sectors is_disk left end log limits opened))
           ∙ mounted_is_going_on uuid owner plain found number of.0 _ left.stored.valid of.1.has has
 
-      -- whatever a stop leaves meanwhile keeps them
-      keeps_left : (new : DiskState) → LeavesFrom end log new
-          → HoldsSince (StopKeeps owner (mounted_with found number plain) (IsWhole (mounted_with found number plain))) old.moments
-          new.moments
-      keeps_left new leaves =
+      -- whatever a stop leaves meanwhile reads as the one or as the other
+      keeps_left : (new : DiskState) → IsDisk new → LeavesFrom end log new
+          → HoldsSince (StopKeepsMount owner plain found number) old.moments new.moments
+      keeps_left new new_is_disk leaves =
+          let K : Medium → Type 0 = StopKeepsMount owner plain found number in
           let trimmed : LogState = leaves.0 in
           let trims : IsTrimmed end log trimmed = leaves.1 in
-          let K : PlainState → Medium → Type 0 = λ p. StopKeeps owner p (IsWhole p) in
-          let told_entries : trimmed.entries ≡ Some entries =
-          trims.entries ∙ told_is uuid geometry epoch plain found number told old size sectors is_disk left end log
-          limits opened in
+          let now = newest uuid geometry epoch plain found number told old size sectors is_disk left in
+          let loaded = after uuid geometry epoch plain found number told old size sectors is_disk left end log limits opened in
           let keeps =
-          committing_keeps_mounted owner geometry checkpoint end rest entries of_log opened.commits log trimmed new of.1.at_rest
-          opened.is_of
-          opened.up_to.finished opened.up_to.tail opened.up_to.opened trims (if_told trimmed.entries entries told_entries)
-          (left_count uuid geometry epoch plain found number told old size sectors is_disk left end log limits opened) leaves.2 in
-          let told_all = trims.all ∙ all_told uuid geometry epoch plain found number told old size sectors is_disk left end log
-          limits opened in
-          let since = on_told trimmed.all _ (HoldsSince (K (going_on entries of_log rest)) trimmed.commits.disk.moments
-          new.moments)
-          told_all keeps in
+          committing_keeps_mount owner plain found number now.now.bytes loaded.newest loaded.older opened.commits log trimmed new
+          left.stored.valid
+          (has_commit uuid geometry epoch plain found number told old size sectors is_disk left)
+          (long uuid geometry epoch plain found number told old size sectors is_disk left)
+          loaded.bytes_are
+          (moments_are uuid geometry epoch plain found number told old size sectors is_disk left end log limits opened)
+          (sym (body_is uuid geometry epoch plain found number told old size sectors is_disk left end log limits opened))
+          opened.up_to.finished
+          (subst (λ g. IsOpenedLog g opened.commits log) (sym left.stored.geometry_is) opened.up_to.opened)
+          (sym (rows_are uuid geometry epoch plain found number told old size sectors is_disk left end log limits opened))
+          (subst (λ n. IsTrimmed n log trimmed) of.1.end_is trims) new_is_disk leaves.2 in
           let moments : trimmed.commits.disk.moments ≡ log.commits.disk.moments =
           ap (λ (c : CommitsState). c.disk.moments) trims.commits in
-          let second : HoldsSince (K (mounted_with found number plain)) log.commits.disk.moments new.moments =
-          subst (λ m. HoldsSince (K (mounted_with found number plain)) m new.moments) moments
-          (subst (λ p. HoldsSince (K p) trimmed.commits.disk.moments new.moments) goes_on since) in
-          passes_on (K (mounted_with found number plain)) old.moments log.commits.disk.moments new.moments
-          (load_keeps uuid geometry epoch plain found number told old size sectors is_disk left of.0 log.commits.disk of.1.has
-          opened.settled) second
+          passes_on K old.moments log.commits.disk.moments new.moments
+          (load_keeps uuid geometry epoch plain found number told old size sectors is_disk left log.commits.disk opened.settled)
+          (subst (λ m. HoldsSince K m new.moments) moments keeps)
 
-  pub completing_keeps : (new : DiskState) → LeavesFrom end log new → KeepsLeft uuid geometry epoch told old new
-  completing_keeps new leaves = λ plain found number left synced. keeps_left plain found number left new leaves
+  pub completing_keeps : (new : DiskState) → IsDisk new → LeavesFrom end log new → KeepsLeft uuid geometry epoch told old new
+  completing_keeps new new_is_disk leaves = λ plain found number left synced. keeps_left plain found number left new new_is_disk
+      leaves
 
 -- ---- the tests
 

@@ -1,6 +1,6 @@
 -- Why a mount with the cache gives none, and what is left then.
 use Rattle.std.proofs.Common.{◌≡◌, ℕ, ◌<◌, ◌≤◌, false, List, [], refl, sym, ◌∙◌, ap, subst, inl, inr, arith}
-use Rattle.std.specs.Prelude.{Option, Some, None, IfSome, IsSomeAnd, IsTrue}
+use Rattle.std.specs.Prelude.{Option, IfSome, IsTrue}
 use Rattle.std.proofs.Math.Path.{subst₂}
 use Rattle.lsvd_base.specs.declared.geometry.Geometry.{Geometry}
 use Rattle.lsvd_base.specs.Limits.{is_within_limits}
@@ -17,7 +17,6 @@ use Rattle.obj_log.specs.State.{ObjLogState}
 use Rattle.stopped_volume.specs.Device.{CacheOwner, owner_of}
 use Rattle.plain_disk.specs.declared.log.PlainCommit.{PlainCommit}
 use Rattle.plain_disk.specs.State.{PlainState}
-use Rattle.mount_meaning.specs.Found.{HasObjects}
 use Rattle.vol_mount.specs.declared.error.MountError.{MountError}
 use Rattle.vol_mount.specs.declared.error.MountError.TheVariants.{NoVolume, BadSuper, HasAncestors, NoCheckpoint, BadObject}
 use Rattle.vol_mount.specs.declared.error.MountError.TheVariants.{NotData, NoSlot, WrongVolume, StaleCache, BadRecord, Worn}
@@ -111,19 +110,12 @@ pub device_opened : (Passes : Type 0) (geometry : Geometry) (error : MountError)
     → MayLeaveDevice ⊥ geometry error old new → LeavesDevice Passes geometry error old new
 device_opened Passes geometry error old new leaves = inr (device_too Passes geometry error old new leaves)
 
-has_objects : (uuid : List ℕ) (plain : PlainState) (number : ℕ) (told : Option Objects)
-    → IsSomeAnd told (HasObjects uuid plain number)
-    → (o : Objects) × HasObjects uuid plain number o
-has_objects uuid plain number None has = absurd has
-has_objects uuid plain number (Some objects) has = (objects, has)
-
 module _ (uuid : List ℕ) (geometry : Geometry) (epoch : ℕ) (told : Option Objects) (old : DiskState) (size : log_start ≤ old.size)
     (sectors : geometry.log ≡ log_of old.size) (is_disk : IsDisk old) where
-  -- whatever a stop left meanwhile keeps the entries of each plain volume that was left
+  -- whatever a stop left meanwhile reads as the commit of each plain volume that was left
   pub opening_keeps : (new : DiskState) → LeavesSettled old new → KeepsLeft uuid geometry epoch told old new
   opening_keeps new settled = λ plain found number left synced.
-      let has = has_objects uuid plain number told left.stored.objects_are in
-      load_keeps uuid geometry epoch plain found number told old size sectors is_disk left has.0 new has.1 settled
+      load_keeps uuid geometry epoch plain found number told old size sectors is_disk left new settled
 
   module _ (plain : PlainState) (found : PlainCommit) (number : ℕ) (left : IsLeft uuid geometry epoch plain found number told old)
     where

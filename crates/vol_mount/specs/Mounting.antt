@@ -6,11 +6,12 @@ use Rattle.lsvd_device.specs.Memory.{IsSynced}
 use Rattle.lsvd_device.specs.Stop.{HasNow}
 use Rattle.lsvd_objstore.specs.Objects.{Objects}
 use Rattle.plain_disk.specs.declared.log.PlainCommit.{PlainCommit}
-use Rattle.plain_disk.specs.State.{PlainState, history_length}
+use Rattle.plain_disk.specs.State.{PlainState}
 use Rattle.plain_disk.specs.Valid.{IsPlainVolume}
-use Rattle.stop_meaning.specs.Stops.{StopKeeps}
-use Rattle.mount_meaning.specs.Found.{HasCommit, HasObjects}
+use Rattle.stop_meaning.specs.Stops.{HasCommit}
+use Rattle.mount_meaning.specs.Found.{HasObjects}
 use Rattle.mount_meaning.specs.Mounted.{end_of_object, mounted_with, mounted_without}
+use Rattle.mount_meaning.specs.Stops.{StopKeepsMount}
 use Rattle.vol_mount.specs.declared.error.MountError.{MountError}
 use Rattle.vol_mount.specs.Mounted.{MountedState, IsMountOf}
 use Rattle.vol_mount.specs.Refusals.{refuses}
@@ -51,15 +52,14 @@ MountsLeft uuid geometry epoch objects disk mounted =
 
 -- ---- stops
 
--- Where nothing was pending on the device, whatever a stop leaves of it at each moment of the mount keeps all entries of what is
--- made.
+-- Where nothing was pending on the device, whatever a stop leaves of it at each moment of the mount reads as the commit that was
+-- found of the plain volume, or as that of the volume which the mount makes of it. A mount of the one or of the other makes the
+-- same.
 abbrev pub KeepsLeft : (uuid : List ℕ) → Geometry → (epoch : ℕ) → Option Objects → (old new : DiskState) → Type 0
 KeepsLeft uuid geometry epoch objects old new =
     (plain : PlainState) (found : PlainCommit) (number : ℕ) → IsLeft uuid geometry epoch plain found number objects old
     → HoldsNow IsSynced old.moments
-    → HoldsSince (StopKeeps (record { uuid = uuid; epoch = epoch }) (mounted_with found number plain)
-    (λ head. head ≡ history_length (mounted_with found number plain)))
-    old.moments new.moments
+    → HoldsSince (StopKeepsMount (record { uuid = uuid; epoch = epoch }) plain found number) old.moments new.moments
 
 -- ---- completeness
 

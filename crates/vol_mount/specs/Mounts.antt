@@ -26,7 +26,7 @@ PassesAll Tells uuid geometry epoch objects disk =
 
 -- A mount with the cache made the volume that was asked for, whose store and device pass all tests: of each plain volume that
 -- they have, what such a mount is to make. The objects past the first missing number are removed, and the device has one commit
--- more, on which nothing is pending. A stop meanwhile keeps the entries.
+-- more, on which nothing is pending. A stop meanwhile leaves the commit that was found, or that of the volume which is made.
 pub record MakesWithCache (Tells : Type 0) (uuid : List ℕ) (geometry : Geometry) (epoch : ℕ) (old new : Option Objects)
     (disk : DiskState) (mounted : MountedState) : Type 0 where
   pub volume : IsOfVolume uuid geometry epoch mounted
@@ -40,7 +40,7 @@ pub record MakesWithCache (Tells : Type 0) (uuid : List ℕ) (geometry : Geometr
 
 -- It gave none: the error has its cause and refuses no plain volume that store and device have. One that is no fault leaves the
 -- objects as they were, and each leaves them without some past the first missing number at most. The device keeps its commit,
--- and a stop meanwhile the entries.
+-- and a stop meanwhile that, or the commit of the volume which the mount was to make.
 pub record LeavesWithCache (Tells : Type 0) (uuid : List ℕ) (geometry : Geometry) (epoch : ℕ) (old new : Option Objects)
     (disk left : DiskState) (error : MountError) : Type 0 where
   pub why : Tells → IsWhyNotLeft uuid geometry epoch old disk error

@@ -3,7 +3,7 @@ use Rattle.std.specs.Prelude.{◌≡◌, ℕ, ◌+◌, ◌-◌, ◌^◌, ◌<◌
 use Rattle.std.specs.Prelude.{List, [], length}
 use Rattle.lsvd_base.specs.declared.entry.Entry.{Entry}
 use Rattle.lsvd_base.specs.declared.geometry.Geometry.{Geometry}
-use Rattle.lsvd_device.specs.Device.{DiskState, HoldsNow}
+use Rattle.lsvd_device.specs.Device.{DiskState, IsDisk, HoldsNow}
 use Rattle.lsvd_device.specs.Memory.{IsSynced}
 use Rattle.lsvd_objstore.specs.Objects.{Objects}
 use Rattle.lsvd_objstore.specs.Store.{Becomes}
@@ -149,6 +149,7 @@ pub record IsCompleted (list : ObjLogState) (old new : LogState) (objects : ObjL
   pub made : IsMade (body_of trimmed) trimmed.commits new.commits
   pub numbered : AreNumbered new.first new.rows
   pub synced : HoldsNow IsSynced new.commits.disk.moments
+  pub is_disk : IsDisk new.commits.disk
 
 -- ---- the volume
 

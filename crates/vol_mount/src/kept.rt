@@ -41,9 +41,9 @@ use uuid::Uuid;
 ///
 /// A volume is mounted only where device and store pass all tests. Of each plain volume that they have it
 /// makes what such a mount is to make. Where nothing was pending on the device, whatever a stop leaves of it
-/// meanwhile keeps all entries of that, and so does what an error leaves. An error comes with the device,
-/// which is a disk still. What is tested comes in this order, and each error says that the tests before it
-/// were passed:
+/// meanwhile reads as the commit that was found, or as that of the volume which is made, and so does what an
+/// error leaves. An error comes with the device, which is a disk still. What is tested comes in this order,
+/// and each error says that the tests before it were passed:
 ///
 /// - `NoCheckpoint`, `BadObject`, `NotData`: the objects are refused. The device is as it was.
 /// - `NoSlot`: no slot of the device is open; it was but synced then. After the others that refuse the device

@@ -2,3 +2,4 @@ pub mod Results
 pub mod ForCallers
 pub mod CreateLemmas
 pub mod NewLemmas
+pub mod AdmitLemmas

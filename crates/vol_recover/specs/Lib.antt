@@ -1,3 +1,4 @@
 pub mod Describing
 pub mod Mounting
 pub mod Creating
+pub mod Admitting

@@ -5,15 +5,18 @@
 //! epoch and its super object, which is put last, so that a creation that is stopped leaves no volume or the
 //! whole one. A mount makes of the volume that the store has, and of the plain volume that device and store
 //! have, what such a mount is to make. Whenever it is stopped, the same is left, and the volume may be
-//! mounted again. What is refused is left as it was. It stands on `super_recovery` for the super object and
+//! mounted again. What is refused is left as it was. Whether the volume takes a log of so many sectors can be
+//! asked before its cache is made anew. It stands on `super_recovery` for the super object and
 //! epochs, on `vol_mount` for mounts of a volume whose sizes are known, on `vol_core` for the volume, and on
 //! `store_meaning` for the objects that a new store has.
 #![tactic(auto)]
 
+mod admitting;
 mod creating;
 mod describing;
 mod mounting;
 
+pub use admitting::admit_log;
 pub use creating::{CreateError, create};
 pub use mounting::{mount_kept, mount_lost};
 pub use vol_mount::{MountError, Mounted};

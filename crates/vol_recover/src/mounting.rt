@@ -20,9 +20,10 @@ use vol_mount::{MountError, Mounted, mount_with_cache, mount_without_cache, refu
 ///
 /// The device is a disk (a condition). The volume that the store has is mounted only where its objects and
 /// the device pass all tests. Of each plain volume that they have it makes what such a mount is to make.
-/// Where nothing was pending on the device, whatever a stop leaves of it meanwhile keeps all entries of that,
-/// and so does what an error leaves. An error comes with the device, which is a disk still. What is tested
-/// comes in this order, and each error says that the tests before it were passed:
+/// Where nothing was pending on the device, whatever a stop leaves of it meanwhile reads as the commit that
+/// was found, or as that of the volume which is made, and so does what an error leaves. An error comes with
+/// the device, which is a disk still. What is tested comes in this order, and each error says that the tests
+/// before it were passed:
 ///
 /// - `NoVolume`, `BadSuper`, `HasAncestors`: the volume as a whole is refused. The device is as it was.
 /// - `NoCheckpoint`, `BadObject`, `NotData`: its objects are refused. The device is as it was.

@@ -6,8 +6,9 @@ use Rattle.std.specs.List.{list_any}
 use Rattle.lsvd_base.specs.declared.entry.Entry.{Entry}
 use Rattle.lsvd_device.specs.Device.{DiskState}
 use Rattle.lsvd_fault.specs.Faults.{Counts, CountsOne}
+use Rattle.lsvd_objstore.specs.Store.{StoreState, ReceiptState}
 use Rattle.plain_disk.specs.State.{history_length}
-use Rattle.vol_core.specs.Volume.{VolumeState}
+use Rattle.vol_core.specs.Volume.{VolumeState, SteppedVolume}
 use Rattle.vol_mount.specs.Costs.{CostsMount}
 use Rattle.vol_mount.specs.Mounted.{MountedState}
 use Rattle.vol_mount.specs.Refusals.{is_device_fault, is_store_fault_of}
@@ -15,9 +16,9 @@ use Rattle.vol_mount.specs.declared.error.MountError.{MountError}
 use Rattle.vol_mount.specs.declared.error.MountError.TheVariants as mounts
 use Rattle.volume_owner.specs.declared.error.OwnerError.{OwnerError}
 use Rattle.volume_owner.specs.declared.error.OwnerError.TheVariants as owners
-use Rattle.volume_owner.specs.Calls.{Adds, IsLengthOf, CountsEitherFault}
+use Rattle.volume_owner.specs.Calls.{Adds, IsCall, IsDrained, IsLengthOf, CountsEitherFault}
 use Rattle.volume_owner.specs.Errors.{is_eio}
-use Rattle.volume_owner.specs.Owner.{IsIdle}
+use Rattle.volume_owner.specs.Owner.{IsIdle, most_of_call}
 use Rattle.nbd_session.specs.History.{most_steps}
 use Rattle.vol_recover.proofs.ForCallers.{FailsToFormatIn, IsOfSomeVolume}
 use Rattle.volume_server.specs.declared.serving.LaneEnd.{LaneEnd}
@@ -30,6 +31,7 @@ use Rattle.volume_commands.specs.Creating.{of_world}
 use Rattle.volume_commands.specs.declared.world.WorldError.{WorldError}
 use Rattle.volume_commands.specs.declared.world.WorldError.TheVariants as worlds
 use Rattle.volume_commands.specs.declared.report.Report.TheVariants as reports
+use Rattle.volume_commands.specs.Mounting.{Drains}
 use Rattle.volume_commands.specs.Serving.{of_mount, of_owner, judged}
 use Rattle.volume_commands.specs.World.{CountsOneOf}
 use Rattle.volume_commands.specs.World.{IsConstant, world_failed}
@@ -51,7 +53,7 @@ error_in : {T : Type 0} → CommandError → Result T CommandError → CommandEr
 error_in other (Ok value) = other
 error_in other (Err error) = error
 
-same_error : {T : Type 0} (a b : CommandError) → IsErrOf {T = T} (Err a) b → a ≡ b
+pub same_error : {T : Type 0} (a b : CommandError) → IsErrOf {T = T} (Err a) b → a ≡ b
 unfolding error_in
 same_error {T} a b is = ap (error_in {T = T} b) is
 
@@ -124,6 +126,16 @@ mount_counts_none disk_faults store_faults first last old new (mounts.Worn value
 mount_counts_none disk_faults store_faults first last old new mounts.OutOfMemory disk store is disks stores =
     let bad : ⊥ = cc in bad
 
+-- a log is asked for of the store alone
+pub admit_counts_none : {S : Type 0} (store_faults : S → ℕ) (old new : S) (error : MountError) → is_device_fault error ≡ false
+    → Counts (is_store_fault_of error) (store_faults old) (store_faults new) → of_mount error ≡ errors.Fault
+    → IsConstant store_faults → ⊥
+admit_counts_none store_faults old new error no_device counted is stores =
+    mount_counts_none store_faults store_faults old new old new error no_count counted is stores stores
+  where
+    no_count : is_device_fault error ≡ true → CountsOne (store_faults old) (store_faults new)
+    no_count device = (let bad : ⊥ = cc in absurd bad)
+
 -- the calls of a mount with the cache tell a fault of the device
 pub cost_counts : (log : ℕ) (error : MountError) (old new : DiskState) → CostsMount log (not (is_device_fault error)) old new
     → is_device_fault error ≡ true → CountsOne old.faults new.faults
@@ -182,18 +194,35 @@ drain_counts_none disk_faults store_faults first last old new owners.OutOfMemory
     let bad : ⊥ = cc in bad
 
 -- a history that nothing is added to has the length that it has then
-pub length_stays : (count : ℕ) (old new : VolumeState) → Adds [] old new → IsLengthOf count new → IsLengthOf count old
+length_stays : (count : ℕ) (old new : VolumeState) → Adds [] old new → IsLengthOf count new → IsLengthOf count old
 length_stays count old new adds counted plain shows =
     let then = adds plain shows in
     counted then.0 then.1 ∙ ap history_length then.2.opens
     ∙ ap (λ (entries : List Entry). plain.end + length entries) (append-nil plain.entries)
 
+-- the volume of an owner who has drained it
+pub drains_all : {R : Type 0} (state : R → ReceiptState) (entries : ℕ) (volume owner closing : SteppedVolume)
+    (old new : StoreState) (failed : Bool) → owner ≡ volume → failed ≡ false
+    → IsCall state most_of_call [] failed owner closing old new → IsLengthOf entries closing.volume → IsDrained closing.volume
+    → Drains state entries (record { volume = volume; store = old })
+drains_all state entries volume owner closing old new failed same none call count drained = record {
+  count = length_stays entries volume.volume closing.volume calls.steps.adds count;
+  closing = record { volume = closing; store = new };
+  calls = calls;
+  drained = drained;
+}
+  where
+    calls : IsCall state most_of_call [] false volume closing old new
+    calls =
+        subst (λ (v : SteppedVolume). IsCall state most_of_call [] false v closing old new) same
+        (subst (λ b. IsCall state most_of_call [] b owner closing old new) none call)
+
 -- ---- clients
 
--- a server that is done has done what is so, and one that is not refuses no volume
-pub on_judged : {P : Type 0} (end : LaneEnd) → P → OnOk (judged end) P
-on_judged lanes.Counted is = is
-on_judged lanes.Closed is = is
+-- a server that is done has done what is so where its listener has not failed, and one that is not done refuses no volume
+pub on_judged : {P : Type 0} (end : LaneEnd) → ((end ≡ lanes.Failed → ⊥) → P) → OnOk (judged end) P
+on_judged lanes.Counted is = is (λ failed. let bad : ⊥ = cc in bad)
+on_judged lanes.Closed is = is (λ failed. let bad : ⊥ = cc in bad)
 on_judged lanes.Failed is = tt
 
 pub judged_refuses_none : (end : LaneEnd) (why : Refusal) → IsErrOf (judged end) (errors.Refused why) → ⊥

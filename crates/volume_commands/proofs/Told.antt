@@ -10,15 +10,15 @@ use Rattle.lsvd_objstore.specs.Objects.{Objects}
 use Rattle.lsvd_objstore.specs.Store.{StoreState, ReceiptState}
 use Rattle.command_line.specs.declared.serve.ServeRequest.{ServeRequest}
 use Rattle.vol_mount.specs.Mounted.{MountedState}
-use Rattle.volume_owner.specs.Calls.{IsLengthOf}
-use Rattle.volume_owner.specs.Acts.{Moment}
-use Rattle.volume_server.specs.Serving.{AreClients}
+use Rattle.nbd_session.specs.Session.{LinkBytes}
+use Rattle.volume_server.specs.Serving.{ListenerState}
+use Rattle.volume_server.specs.declared.serving.Lane.{Lane}
 use Rattle.volume_server.specs.declared.serving.LaneEnd.{LaneEnd}
 use Rattle.volume_server.specs.declared.serving.LaneEnd.TheVariants as lanes
 use Rattle.volume_commands.specs.declared.error.CommandError.{CommandError}
 use Rattle.volume_commands.specs.declared.error.CommandError.TheVariants as errors
 use Rattle.volume_commands.specs.declared.refusal.Refusal.{Refusal}
-use Rattle.volume_commands.specs.Mounting.{MountsFor, Serves}
+use Rattle.volume_commands.specs.Mounting.{MountsFor, ServesClients, Serves}
 use Rattle.volume_commands.specs.Serving.{mounted_line, writes_line, serving_text, AppendsFront, IsServingFront, TellsServed}
 use Rattle.volume_commands.specs.Serving.{judged}
 
@@ -112,23 +112,24 @@ both_told kept number entries lanes.Failed old mid new first second = (
     whole = take-length (serving_text kept number entries)
 
 -- what stands behind both lines
-pub serves_with : {D S R : Type 0} (disk_state : D → DiskState) (objects_of : S → Option Objects) (receipt_state : R
-    → ReceiptState)
-    (request : ServeRequest) (shown mounted : MountedState) (store : StoreState) (entries : ℕ) (old mid new : Option (List ℕ))
-    → shown ≡ mounted → MountsFor disk_state objects_of receipt_state request mounted
-    → ((clients : ℕ) × (last : Moment) × AreClients receipt_state clients (record { volume = shown.volume; store = store }) last
-    × IsLengthOf entries last.volume.volume)
+pub serves_with : {D S R L K : Type 0} (disk_state : D → DiskState) (objects_of : S → Option Objects)
+    (receipt_state : R → ReceiptState) (listener_state : L → ListenerState) (coming : L → Option (List K))
+    (bytes_of : K → LinkBytes) (request : ServeRequest) (shown mounted : MountedState) (store : StoreState) (lane : Lane)
+    (entries : ℕ) (old mid new : Option (List ℕ))
+    → shown ≡ mounted → MountsFor disk_state objects_of receipt_state request mounted → (lane.end ≡ lanes.Failed → ⊥)
+    → ServesClients receipt_state listener_state coming bytes_of request.sessions lane entries
+    (record { volume = shown.volume; store = store })
     → Appends old mid (mounted_line shown.entries shown.number) → Appends mid new (writes_line entries)
-    → Serves disk_state objects_of receipt_state request old new
-serves_with disk_state objects_of receipt_state request shown mounted store entries old mid new same mounts served first second =
+    → Serves disk_state objects_of receipt_state listener_state coming bytes_of request old new
+serves_with disk_state objects_of receipt_state listener_state coming bytes_of request shown mounted store lane entries old mid
+    new same mounts succeeds serves first second =
     record {
       mounted = shown;
       mounts = subst (λ m. MountsFor disk_state objects_of receipt_state request m) (sym same) mounts;
       store = store;
-      clients = served.0;
-      last = served.1;
-      served = served.2;
+      lane = lane;
+      succeeds = succeeds;
       entries = entries;
-      count = served.3;
+      serves = serves;
       told = Appends-trans old mid new (mounted_line shown.entries shown.number) (writes_line entries) first second;
     }

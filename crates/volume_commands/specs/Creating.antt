@@ -1,5 +1,5 @@
 -- Contract: what a run of `create` says, and of which volume.
-use Rattle.std.specs.Prelude.{◌≡◌, ◌⊎◌, ◌≤◌, ℕ, List, ◌++◌, Option, Some, None, IfSome, codes, length, slice_index, take}
+use Rattle.std.specs.Prelude.{◌≡◌, ◌⊎◌, ◌≤◌, ℕ, List, ◌++◌, Option, Some, None, IfSome, IsSome, codes, length, slice_index, take}
 use Rattle.std.specs.Io.KnownBytes.{Appends}
 use Rattle.uuid.specs.Parts.{variant_of}
 use Rattle.uuid.specs.Uuid.{version_num}
@@ -18,6 +18,7 @@ use Rattle.vol_recover.specs.declared.creating.CreateError.{CreateError}
 use Rattle.vol_recover.specs.declared.creating.CreateError.TheVariants as create_errors
 use Rattle.volume_commands.specs.declared.error.CommandError.{CommandError}
 use Rattle.volume_commands.specs.declared.error.CommandError.TheVariants as errors
+use Rattle.volume_commands.specs.declared.refusal.Refusal.{Refusal}
 use Rattle.volume_commands.specs.declared.refusal.Refusal.TheVariants as refusals
 use Rattle.volume_commands.specs.declared.report.Report.{Report}
 use Rattle.volume_commands.specs.declared.report.Report.TheVariants.{Done, Fault, Usage, BadLine, Refused, Memory}
@@ -60,6 +61,17 @@ pub record IsVolumeFor (request : CreateRequest) (uuid : List ℕ) (volume : Ste
   pub stored : IfSome objects (λ now.
       (before : Objects) × PutsVolume uuid (sizes_of request) before now × (found before (super_name uuid) ≡ None))
 
+-- None is created, since some store has a super object of the volume that is asked for. Its objects are as they were.
+pub record RefusesToCreate {S : Type 0} (objects_of : S → Option Objects) (request : CreateRequest) (why : Refusal) :
+    Type 0 where
+  pub is : why ≡ refusals.Exists
+  pub uuid : List ℕ
+  pub named : IsUuidFor request uuid
+  pub before : S
+  pub after : S
+  pub exists : IfSome (objects_of before) (λ objects. IsSome (found objects (super_name uuid)))
+  pub same : objects_of after ≡ objects_of before
+
 -- ---- the output
 
 -- the line that tells a volume that was created
@@ -77,3 +89,12 @@ TellsCreation request (Refused why) old new = (why ≡ refusals.Exists) × (new 
 TellsCreation request Memory old new = new ≡ old
 TellsCreation request Usage old new = ⊥
 TellsCreation request (BadLine number reason) old new = ⊥
+
+-- A volume was created as the request asks, with some store, and the line tells its uuid.
+pub record Creates {S : Type 0} (objects_of : S → Option Objects) (request : CreateRequest) (old new : Option (List ℕ)) :
+    Type 0 where
+  pub uuid : List ℕ
+  pub volume : SteppedVolume
+  pub store : S
+  pub made : IsVolumeFor request uuid volume (objects_of store)
+  pub told : Appends old new (created_line uuid)

@@ -5,7 +5,8 @@ ghost use Rattle.lsvd_base.specs.Limits.{is_within_limits};
 ghost use Rattle.lsvd_fault.specs.Faults.{Counts, CountsOne};
 ghost use Rattle.commit_slot.specs.Slots.{log_of};
 ghost use Rattle.command_line.specs.Create.{sizes_of};
-ghost use Rattle.volume_commands.specs.Creating.{IsUuidFor, IsVolumeFor, TellsCreation, created_line};
+ghost use Rattle.volume_commands.specs.Creating.{IsUuidFor, IsVolumeFor, RefusesToCreate, TellsCreation};
+ghost use Rattle.volume_commands.specs.Creating.{Creates, created_line};
 ghost use Rattle.volume_commands.specs.World.{CountsNone, CountsOneOf, IsConstant};
 
 use crate::error::CommandError;
@@ -39,6 +40,11 @@ pub fn answer_create<W: World>(
 ) -> Report
     requires { IsTrue (is_within_limits (sizes_of request.now)) }
     ensures told { TellsCreation request.now result (W.Out.contents out.old) (W.Out.contents out.new) }
+    ensures creates { result ≡ Report.Done
+        → Creates (λ store. (W.Store.state store).objects) request.now (W.Out.contents out.old)
+        (W.Out.contents out.new) }
+    ensures why { (why : Refusal) → result ≡ Report.Refused why
+        → RefusesToCreate (λ store. (W.Store.state store).objects) request.now why }
     ensures fault { result ≡ Report.Fault → IsConstant (λ disk. (W.Disk.state disk).faults)
         → IsConstant (λ store. (W.Store.state store).faults)
         → CountsOneOf (W.faults world.old) (W.faults world.new) (W.Out.faults out.old)
@@ -76,7 +82,8 @@ fn create_volume<W: World>(
     world: &mut W,
 ) -> Result<Created<W::Disk, W::Store>, CommandError>
     requires { IsTrue (is_within_limits (sizes_of request.now)) }
-    ensures refused { (why : Refusal) → IsErrOf result (CommandError.Refused why) → why ≡ Refusal.Exists }
+    ensures why { (why : Refusal) → IsErrOf result (CommandError.Refused why)
+        → RefusesToCreate (λ store. (W.Store.state store).objects) request.now why }
     ensures made { IfOk result (λ created. IsVolumeFor request.now created.uuid created.volume
         (W.Store.state created.store).objects) }
     ensures fault { IsErrOf result CommandError.Fault

@@ -1,4 +1,4 @@
-ghost use Rattle.std.specs.Prelude.{◌≡◌, false};
+ghost use Rattle.std.specs.Prelude.{◌≡◌, false, None};
 ghost use Rattle.lsvd_fault.specs.Faults.{CountsOne};
 
 use crate::world::{World, WorldError};
@@ -287,6 +287,8 @@ impl Listener for RealListener<'_> {
     ghost closed = { λ _. false };
 
     ghost faults = { λ l. l.socket.faults };
+
+    ghost coming = { λ _. None };
 
     fn accept(&mut self) -> Result<Option<SocketLink>, Failed> {
         let outcome = self.socket.accept();

@@ -1,16 +1,13 @@
-ghost use Rattle.std.specs.Prelude.{◌≡◌, ◌≢◌, ◌≤◌, ℕ, true, false, IfOk, OnOk, OnErr, Err, IsErrOf, is_err};
-ghost use Rattle.std.specs.Prelude.{length, take};
+ghost use Rattle.std.specs.Prelude.{◌≡◌, ◌≢◌, ◌≤◌, ◌^◌, true, false, Some, IfSome, IfOk, OnOk, OnErr, Err};
+ghost use Rattle.std.specs.Prelude.{IsErrOf, is_err, length, take};
 ghost use Rattle.std.specs.Io.KnownBytes.{Appends};
 ghost use Rattle.lsvd_device.specs.Device.{IsDisk};
 ghost use Rattle.lsvd_fault.specs.Faults.{Counts, CountsOne};
-ghost use Rattle.volume_owner.specs.Acts.{Moment};
 ghost use Rattle.nbd_session.specs.History.{most_steps};
-ghost use Rattle.volume_owner.specs.Calls.{IsLengthOf};
-ghost use Rattle.volume_server.specs.Serving.{AreClients};
 ghost use Rattle.volume_owner.specs.Owner.{IsIdle};
 ghost use Rattle.object_recovery.specs.Faults.{TellsBytes};
-ghost use Rattle.volume_commands.specs.Mounting.{IsMountedFrom, IsRefusalFor, IsWhyAbsent};
-ghost use Rattle.volume_commands.specs.Mounting.{MountsFor, RefusesFor, Serves};
+ghost use Rattle.volume_commands.specs.Mounting.{IsMountedFrom, IsRefusalFor, IsWhyBefore};
+ghost use Rattle.volume_commands.specs.Mounting.{MountsFor, RefusesFor, Drains, ServesClients, Serves};
 ghost use Rattle.volume_commands.specs.Serving.{HasLogLength, TellsServing, TellsServed, judged};
 ghost use Rattle.volume_commands.specs.Serving.{mounted_line, writes_line, AppendsFront};
 ghost use Rattle.volume_commands.specs.World.{CountsNone, CountsOneOf, IsConstant};
@@ -28,12 +25,11 @@ use lsvd_fault::{Failed, Sink, write_all};
 use lsvd_listen::Listener;
 use lsvd_objstore::Store;
 use std::alloc::Global;
-use super_recovery::has_super;
 use uuid::Uuid;
 use vol_core::Volume;
-use vol_recover::{Mounted, mount_kept, mount_lost};
+use vol_recover::{Mounted, admit_log, mount_kept, mount_lost};
 use volume_owner::Owner;
-use volume_server::{LaneEnd, clients_add_to_one_history, serve_volume};
+use volume_server::{Lane, LaneEnd, clients_add_to_one_history, serve_volume};
 
 /// Serves the volume that is asked for: mounts it, writes a line to `out` as soon as clients can connect, and
 /// serves them; with the last session it puts into the store what is not yet there, and writes a line again.
@@ -54,8 +50,14 @@ pub fn answer_serve<W: World>(
     ensures told { TellsServing result (W.Out.contents out.old) (W.Out.contents out.new) }
     ensures serves { result ≡ Report.Done
         → Serves (λ disk. W.Disk.state disk) (λ store. (W.Store.state store).objects) W.Store.Receipt.state
-        request.now
-        (W.Out.contents out.old) (W.Out.contents out.new) }
+        (λ clients. record {
+          given = W.Clients.given clients;
+          closed = W.Clients.closed clients;
+          faults = W.Clients.faults clients;
+        })
+        (λ clients. W.Clients.coming clients)
+        (λ link. record { left = W.Clients.Link.remaining link; sent = W.Clients.Link.contents link })
+        request.now (W.Out.contents out.old) (W.Out.contents out.new) }
     ensures why { (why : Refusal) → result ≡ Report.Refused why
         → RefusesFor (λ disk. W.Disk.state disk) (λ store. (W.Store.state store).objects)
         W.Store.Receipt.state request.now why }
@@ -84,8 +86,15 @@ fn serve<W: World>(
     requires { HasLogLength request.now }
     ensures told { TellsServed result (W.Out.contents out.old) (W.Out.contents out.new) }
     ensures serves { OnOk result (Serves (λ disk. W.Disk.state disk) (λ store. (W.Store.state store).objects)
-        W.Store.Receipt.state request.now
-        (W.Out.contents out.old) (W.Out.contents out.new)) }
+        W.Store.Receipt.state
+        (λ clients. record {
+          given = W.Clients.given clients;
+          closed = W.Clients.closed clients;
+          faults = W.Clients.faults clients;
+        })
+        (λ clients. W.Clients.coming clients)
+        (λ link. record { left = W.Clients.Link.remaining link; sent = W.Clients.Link.contents link })
+        request.now (W.Out.contents out.old) (W.Out.contents out.new)) }
     ensures why { (why : Refusal) → IsErrOf result (CommandError.Refused why)
         → RefusesFor (λ disk. W.Disk.state disk) (λ store. (W.Store.state store).objects)
         W.Store.Receipt.state request.now why }
@@ -110,7 +119,7 @@ fn serve<W: World>(
         request.sessions,
     )?;
     tell_writes(out, served.entries)?;
-    judge(served.end)
+    judge(served.lane.end)
 }
 
 // A server is done where it has served all its clients, or no more come; it is not where its listener failed.
@@ -131,8 +140,7 @@ struct Opened<D: Disk + Drop, S: Store + Drop, L: Listener + Drop> {
     clients: L,
 }
 
-// Mounts the volume that is asked for, and begins to listen. Whether there is one is asked before its cache
-// is made anew, since what a cache held is lost then.
+// Mounts the volume that is asked for, and begins to listen.
 fn open<W: World>(
     alloc: Global,
     request: &ServeRequest<'_>,
@@ -153,10 +161,7 @@ fn open<W: World>(
     ensures no_fault { result ≢ Err CommandError.Fault → W.faults world.new ≡ W.faults world.old }
 {
     let mut store = world.store(request.store, false)?;
-    let length = length_of(request);
-    if length.is_some() {
-        expect_volume(alloc, &mut store, request.volume)?;
-    }
+    let length = length_anew(alloc, &mut store, request)?;
     let disk = world.disk(request.cache, length)?;
     let mounted = mount(alloc, disk, &mut store, request)?;
     let clients = match world.listen(request.socket) {
@@ -173,27 +178,37 @@ fn open<W: World>(
     })
 }
 
-// The bytes of a cache that is made anew; None is for one that there is.
-fn length_of(request: &ServeRequest<'_>) -> Option<u64>
+// How many sectors the log of a cache has that is made anew; None is for one that there is.
+fn log_anew(request: &ServeRequest<'_>) -> Option<u64>
     requires { HasLogLength request.now }
+    ensures { IfSome result (λ log. (request.now.is_lost ≡ true) × (request.now.log ≡ Some log)
+        × (log ≤ 2 ^ 31)) }
 {
     match request.log {
-        Some(log) if request.is_lost => Some(device_bytes(log)),
+        Some(log) if request.is_lost => Some(log),
         _ => None,
     }
 }
 
-// Refuses a volume of which the store has no super object.
-fn expect_volume<S: Store>(alloc: Global, store: &mut S, uuid: Uuid) -> Result<(), CommandError>
-    ensures why { (why : Refusal) → IsErrOf result (CommandError.Refused why)
-        → IsWhyAbsent uuid (S.state store.old).objects why }
-    ensures same { (S.state store.new).objects ≡ (S.state store.old).objects }
+// The bytes of a cache that is made anew; None is for one that there is. Whether the volume takes a log of
+// that length is asked before, since what a cache held is lost then.
+fn length_anew<S: Store>(
+    alloc: Global,
+    store: &mut S,
+    request: &ServeRequest<'_>,
+) -> Result<Option<u64>, CommandError>
+    requires { HasLogLength request.now }
+    ensures why { TellsBytes S.Receipt.state → (why : Refusal) → IsErrOf result (CommandError.Refused why)
+        → IsWhyBefore request.now (S.state store.old).objects why }
     ensures fault { IsErrOf result CommandError.Fault → IsConstant (λ store. (S.state store).faults) → ⊥ }
 {
-    if has_super(alloc, store, uuid)? {
-        return Ok(());
+    let Some(log) = log_anew(request) else {
+        return Ok(None);
+    };
+    match admit_log(alloc, store, request.volume, log) {
+        Ok(()) => Ok(Some(device_bytes(log))),
+        Err(error) => Err(error.into()),
     }
-    Err(CommandError::Refused(Refusal::NoVolume))
 }
 
 // Mounts the volume that is asked for, with the cache that it had or without it.
@@ -276,7 +291,7 @@ fn mount_anew<D: Disk + Drop, S: Store>(
 #[derive(Drop)]
 struct Served {
     entries: u64,
-    end: LaneEnd,
+    lane: Lane,
 }
 
 // Serves the volume until the last session has ended, and drains it then.
@@ -289,20 +304,26 @@ fn serve_clients<D: Disk + Drop, S: Store, L: Listener>(
 ) -> Result<Served, CommandError>
     requires idle { IsIdle volume.volume }
     requires steps { volume.steps ≤ most_steps }
-    ensures count { IfOk result (λ served. (clients : ℕ) × (last : Moment)
-        × AreClients S.Receipt.state clients (record { volume = volume; store = S.state store.old }) last
-        × IsLengthOf served.entries last.volume.volume) }
+    ensures serves { IfOk result (λ served. ServesClients S.Receipt.state
+        (λ clients. record {
+          given = L.given clients;
+          closed = L.closed clients;
+          faults = L.faults clients;
+        })
+        (λ clients. L.coming clients)
+        (λ link. record { left = L.Link.remaining link; sent = L.Link.contents link })
+        sessions served.lane served.entries (record { volume = volume; store = S.state store.old })) }
     ensures refused { (why : Refusal) → IsErrOf result (CommandError.Refused why) → ⊥ }
     ensures fault { IsErrOf result CommandError.Fault
         → IsConstant (λ disk. (D.state disk).faults) → IsConstant (λ store. (S.state store).faults) → ⊥ }
-    ensures failed { IfOk result (λ served. served.end ≡ LaneEnd.Failed → IsConstant L.faults → ⊥) }
+    ensures failed { IfOk result (λ served. served.lane.end ≡ LaneEnd.Failed → IsConstant L.faults → ⊥) }
 {
-    clients_add_to_one_history::<S::Receipt>();
+    clients_add_to_one_history::<S::Receipt, L::Link>();
     let closing = serve_volume(alloc, volume, clients, store, sessions);
     let entries = drain(alloc, closing.volume, store)?;
     Ok(Served {
         entries,
-        end: closing.lane.end,
+        lane: closing.lane,
     })
 }
 
@@ -314,7 +335,8 @@ fn drain<D: Disk + Drop, S: Store>(
 ) -> Result<u64, CommandError>
     requires idle { IsIdle volume.volume }
     requires steps { volume.steps ≤ most_steps }
-    ensures count { IfOk result (λ entries. IsLengthOf entries volume.volume) }
+    ensures drains { IfOk result (λ entries. Drains S.Receipt.state entries
+        (record { volume = volume; store = S.state store.old })) }
     ensures refused { (why : Refusal) → IsErrOf result (CommandError.Refused why) → ⊥ }
     ensures fault { IsErrOf result CommandError.Fault
         → IsConstant (λ disk. (D.state disk).faults) → IsConstant (λ store. (S.state store).faults) → ⊥ }

@@ -1,8 +1,11 @@
 -- How clients that were served add up.
 use Rattle.std.proofs.Common.{◌≡◌, ℕ, zero, suc, ◌+◌, List, [], ◌++◌, sym, ◌∙◌, ap, subst, inl, inr, arith}
+use Rattle.std.specs.Prelude.{Option, Some, None}
 use Rattle.lsvd_base.specs.declared.entry.Entry.{Entry}
 use Rattle.lsvd_fault.specs.Faults.{counted_with}
-use Rattle.lsvd_objstore.specs.Store.{ReceiptState}
+use Rattle.lsvd_listen.specs.Listening.{AreNone}
+use Rattle.lsvd_objstore.specs.Store.{StoreState, ReceiptState}
+use Rattle.vol_core.specs.Volume.{SteppedVolume}
 use Rattle.nbd_session.specs.declared.session.SessionEnd.{SessionEnd}
 use Rattle.volume_owner.specs.Acts.{Moment}
 use Rattle.nbd_session.specs.History.{Grows, LeavesRoom, SessionGrows, entered_in}
@@ -12,11 +15,36 @@ use Rattle.volume_server.specs.Serving.{ListenerState, given_with, IsClient, Are
 
 -- ---- one after the other
 
-pub one_more : {R : Type 0} (state : R → ReceiptState) (count : ℕ) (end : SessionEnd) (last : LinkBytes) (old mid new : Moment)
-    → AreClients state count old mid → IsClient state end last mid new → AreClients state (count + 1) old new
-one_more state count end last old mid new before is =
+pub one_more : {R K : Type 0} (state : R → ReceiptState) (told : K → LinkBytes) (count : ℕ) (end : SessionEnd) (last : LinkBytes)
+    (coming between left : Option (List K)) (old mid new : Moment)
+    → AreClients state told count coming between old mid → IsClient state told end last between left mid new
+    → AreClients state told (count + 1) coming left old new
+one_more state told count end last coming between left old mid new before is =
     let one : suc count ≡ count + 1 = omega arith in
-    subst (λ n. AreClients state n old new) one (mid, before, end, last, is)
+    subst (λ n. AreClients state told n coming left old new) one (between, mid, before, end, last, is)
+
+-- the links that are to come stay where none came
+pub none_came : {K : Type 0} (coming left : Option (List K)) → AreNone coming left → left ≡ coming
+none_came None left none = none
+none_came (Some links) left none = none.1 ∙ ap (λ l. Some l) (sym none.0)
+
+pub then_none : {R K : Type 0} (state : R → ReceiptState) (told : K → LinkBytes) (count : ℕ)
+    (coming between left : Option (List K)) (old mid new : Moment) → AreClients state told count coming between old mid
+    → left ≡ between → new ≡ mid → AreClients state told count coming left old new
+then_none state told count coming between left old mid new before left_is new_is =
+    subst (λ l. AreClients state told count coming l old new) (sym left_is)
+    (subst (λ m. AreClients state told count coming between old m) (sym new_is) before)
+
+-- so it is of the volume that an owner was made of, and gives back
+pub of_volume : {R K : Type 0} (state : R → ReceiptState) (told : K → LinkBytes) (count : ℕ) (coming left : Option (List K))
+    (volume owner then closing : SteppedVolume) (old new : StoreState) → owner ≡ volume → closing ≡ then
+    → AreClients state told count coming left (record { volume = owner; store = old }) (record { volume = then; store = new })
+    → AreClients state told count coming left (record { volume = volume; store = old }) (record { volume = closing; store = new })
+of_volume state told count coming left volume owner then closing old new first last are =
+    subst (λ (v : SteppedVolume). AreClients state told count coming left (record { volume = v; store = old })
+    (record { volume = closing; store = new })) first
+    (subst (λ (v : SteppedVolume). AreClients state told count coming left (record { volume = owner; store = old })
+    (record { volume = v; store = new })) (sym last) are)
 
 -- a count of links that were given
 pub given_more : (given clients now next : ℕ) → now ≡ given_with given clients → next ≡ counted_with now 1
@@ -50,30 +78,31 @@ unchanged old new same = record {
   leaves = stays_leaves old new same;
 }
 
-client_adds : {R : Type 0} (state : R → ReceiptState) → SessionGrows state
-    → (end : SessionEnd) (last : LinkBytes) (old new : Moment)
-    → IsClient state end last old new → Adds old new
-client_adds state sessions end last old new is = by_session is.1
+client_adds : {R K : Type 0} (state : R → ReceiptState) (told : K → LinkBytes) → SessionGrows state
+    → (end : SessionEnd) (last : LinkBytes) (coming left : Option (List K)) (old new : Moment)
+    → IsClient state told end last coming left old new → Adds old new
+client_adds state told sessions end last coming left old new is = by_session is.session
   where
-    by_session : IsSession state (export_of old.volume) end is.0 last old new → Adds old new
+    by_session : IsSession state (export_of old.volume) end (told is.link) last old new → Adds old new
     by_session (inl ended) = unchanged old new ended.3
     by_session (inr entered) =
         let grown = sessions end entered.0 last old new entered.2 in
         record { added = entered_in entered.2.exchanges ++ grown.0; grows = grown.2; leaves = grown.3 }
 
-clients_add : {R : Type 0} (state : R → ReceiptState) → SessionGrows state → (count : ℕ) (old new : Moment)
-    → AreClients state count old new → Adds old new
-clients_add state sessions zero old new same = unchanged old new same
-clients_add state sessions (suc count) old new clients =
-    let before = clients_add state sessions count old clients.0 clients.1 in
-    let one = client_adds state sessions clients.2 clients.3 clients.0 new clients.4 in
+clients_add : {R K : Type 0} (state : R → ReceiptState) (told : K → LinkBytes) → SessionGrows state
+    → (count : ℕ) (coming left : Option (List K)) (old new : Moment)
+    → AreClients state told count coming left old new → Adds old new
+clients_add state told sessions zero coming left old new same = unchanged old new same.1
+clients_add state told sessions (suc count) coming left old new (between, mid, clients, end, last, is) =
+    let before = clients_add state told sessions count coming between old mid clients in
+    let one = client_adds state told sessions end last between left mid new is in
     record {
       added = before.added ++ one.added;
-      grows = grows_more before.added one.added old clients.0 new before.grows one.grows;
+      grows = grows_more before.added one.added old mid new before.grows one.grows;
       leaves = λ small. one.leaves (before.leaves small);
     }
 
-pub clients_grow : {R : Type 0} (state : R → ReceiptState) → SessionGrows state → ClientsGrow state
-clients_grow state sessions count old new clients =
-    let all = clients_add state sessions count old new clients in
+pub clients_grow : {R K : Type 0} (state : R → ReceiptState) (told : K → LinkBytes) → SessionGrows state → ClientsGrow state told
+clients_grow state told sessions count coming left old new clients =
+    let all = clients_add state told sessions count coming left old new clients in
     ((all.added, all.grows), all.leaves)

@@ -1,7 +1,8 @@
 -- Contract: what a server does for its clients.
-use Rattle.std.specs.Prelude.{ℕ, ◌≡◌, ◌<◌, zero, suc, Bool, true, List}
+use Rattle.std.specs.Prelude.{ℕ, ◌≡◌, ◌<◌, zero, suc, Bool, true, List, [], Option, IfSome}
 use Rattle.lsvd_base.specs.declared.entry.Entry.{Entry}
 use Rattle.lsvd_fault.specs.Faults.{CountsOne, counted_with}
+use Rattle.lsvd_listen.specs.Listening.{IsFirst, AreNone}
 use Rattle.lsvd_objstore.specs.Store.{ReceiptState}
 use Rattle.nbd_session.specs.declared.session.SessionEnd.{SessionEnd}
 use Rattle.volume_owner.specs.Acts.{Moment}
@@ -44,21 +45,29 @@ pub record GivesClients (lane : Lane) (old new : ListenerState) : Type 0 where
 
 -- ---- the volume
 
--- a client was served by a session of the volume, on a link that told something when it came
-abbrev pub IsClient : {R : Type 0} → (R → ReceiptState) → SessionEnd → (last : LinkBytes) → (old new : Moment) → Type 0
-IsClient state end last old new = (first : LinkBytes) × IsSession state (export_of old.volume) end first last old new
+-- A client was served by a session of the volume, on a link that told this at its end. It was the first of the links that were
+-- to come, where these are told, and the session began on it as it came: with all that the client sends, and nothing sent to it.
+pub record IsClient {R K : Type 0} (state : R → ReceiptState) (told : K → LinkBytes) (end : SessionEnd) (last : LinkBytes)
+    (coming left : Option (List K)) (old new : Moment) : Type 0 where
+  pub link : K
+  pub came : IsFirst link coming left
+  pub fresh : IfSome (told link).sent (λ sent. sent ≡ [])
+  pub session : IsSession state (export_of old.volume) end (told link) last old new
 
 -- the client that came was served, or none came, and nothing becomes of the volume
-abbrev pub ServesNext : {R K : Type 0} → (R → ReceiptState) → (K → LinkBytes) → Next K → (old new : Moment) → Type 0
-ServesNext state told (Served link end) old new = IsClient state end (told link) old new
-ServesNext state told NoLink old new = new ≡ old
-ServesNext state told Failed old new = new ≡ old
+abbrev pub ServesNext : {R K : Type 0} → (R → ReceiptState) → (K → LinkBytes) → Next K → (coming left : Option (List K))
+    → (old new : Moment) → Type 0
+ServesNext state told (Served link end) coming left old new = IsClient state told end (told link) coming left old new
+ServesNext state told NoLink coming left old new = AreNone coming left × (new ≡ old)
+ServesNext state told Failed coming left old new = (left ≡ coming) × (new ≡ old)
 
 -- so many clients were served, one after the other
-abbrev pub AreClients : {R : Type 0} → (R → ReceiptState) → (count : ℕ) → (old new : Moment) → Type 0
-AreClients state zero old new = new ≡ old
-AreClients state (suc count) old new =
-    (mid : Moment) × AreClients state count old mid × (end : SessionEnd) × (last : LinkBytes) × IsClient state end last mid new
+abbrev pub AreClients : {R K : Type 0} → (R → ReceiptState) → (K → LinkBytes) → (count : ℕ) → (coming left : Option (List K))
+    → (old new : Moment) → Type 0
+AreClients state told zero coming left old new = (left ≡ coming) × (new ≡ old)
+AreClients {R} {K} state told (suc count) coming left old new =
+    (between : Option (List K)) × (mid : Moment) × AreClients state told count coming between old mid
+    × (end : SessionEnd) × (last : LinkBytes) × IsClient state told end last between left mid new
 
 -- the server ends where its clients are as many as they were to be, and else, before that, by its listener
 abbrev pub EndsAt : (share served : ℕ) → LaneEnd → Type 0
@@ -72,7 +81,7 @@ EndsLane share lane = EndsAt share lane.served lane.end
 -- ---- the history
 
 -- clients add entries to the history of their volume, and nothing else becomes of it
-abbrev pub ClientsGrow : {R : Type 0} → (R → ReceiptState) → Type 0
-ClientsGrow state =
-    (count : ℕ) (old new : Moment) → AreClients state count old new → ((added : List Entry) × Grows added old new)
-    × LeavesRoom old new
+abbrev pub ClientsGrow : {R K : Type 0} → (R → ReceiptState) → (K → LinkBytes) → Type 0
+ClientsGrow {R} {K} state told =
+    (count : ℕ) (coming left : Option (List K)) (old new : Moment) → AreClients state told count coming left old new
+    → ((added : List Entry) × Grows added old new) × LeavesRoom old new

@@ -1,12 +1,14 @@
 ghost use Rattle.volume_server.specs.Serving.{ClientsGrow};
 
+use lsvd_fault::Link;
 use lsvd_objstore::Receipt;
 use nbd_session::a_session_adds_what_it_entered;
 
 /// A law: the history of a volume goes on from one client to the next, and nothing else becomes of the
 /// volume. One that had room for calls of its owner before has room after.
-pub fn clients_add_to_one_history<R: Receipt>()
-    ensures { ClientsGrow R.state }
+pub fn clients_add_to_one_history<R: Receipt, K: Link>()
+    ensures { ClientsGrow R.state
+        (λ link. record { left = K.remaining link; sent = K.contents link }) }
 {
     a_session_adds_what_it_entered::<R>();
 }

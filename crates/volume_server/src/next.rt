@@ -19,9 +19,9 @@ pub enum Next<K: Connection + Drop> {
     Failed,
 }
 
-/// Waits for the next client and serves it until its session ends, and hands its link back. What the link
-/// still held back of the last replies was sent, unless that failed: then the client misses them, as where
-/// its connection broke.
+/// Waits for the next client and serves it until its session ends, and hands its link back. The session
+/// begins on the link as the listener gave it. What the link still held back of the last replies was sent,
+/// unless that failed: then the client misses them, as where its connection broke.
 pub fn serve_next<D: Disk, R: Receipt, S: Store<Receipt = R>, L: Listener>(
     alloc: Global,
     owner: &mut Owner<D, R>,
@@ -40,6 +40,7 @@ pub fn serve_next<D: Disk, R: Receipt, S: Store<Receipt = R>, L: Listener>(
         }) }
     ensures serves { ServesNext R.state
         (λ link. record { left = L.Link.remaining link; sent = L.Link.contents link }) result
+        (L.coming listener.old) (L.coming listener.new)
         (record { volume = owner.old; store = S.state store.old })
         (record { volume = owner.new; store = S.state store.new }) }
 {

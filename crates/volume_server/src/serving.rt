@@ -59,7 +59,9 @@ pub fn serve_lane<D: Disk, R: Receipt, S: Store<Receipt = R>, L: Listener>(
           faults = L.faults listener.new;
         }) }
     ensures end { EndsLane share result }
-    ensures clients { AreClients R.state result.served
+    ensures clients { AreClients R.state
+        (λ link. record { left = L.Link.remaining link; sent = L.Link.contents link }) result.served
+        (L.coming listener.old) (L.coming listener.new)
         (record { volume = owner.old; store = S.state store.old })
         (record { volume = owner.new; store = S.state store.new }) }
 {
@@ -100,7 +102,9 @@ pub fn serve_volume<D: Disk, R: Receipt, S: Store<Receipt = R>, L: Listener>(
           faults = L.faults listener.new;
         }) }
     ensures end { EndsLane sessions result.lane }
-    ensures clients { AreClients R.state result.lane.served
+    ensures clients { AreClients R.state
+        (λ link. record { left = L.Link.remaining link; sent = L.Link.contents link }) result.lane.served
+        (L.coming listener.old) (L.coming listener.new)
         (record { volume = volume; store = S.state store.old })
         (record { volume = result.volume; store = S.state store.new }) }
     ensures idle { IsIdle result.volume.volume }

@@ -1,5 +1,5 @@
 use Rattle.std.proofs.Common.{length, take}
-use Rattle.replay_rig.specs.Crash.{Lands}
+use Rattle.replay_rig.specs.Rig.{Lands}
 use Rattle.replay_rig.proofs.crash.land.Given as goal
 
 abbrev pub invariant-loop-put : goal.invariant-loop-put

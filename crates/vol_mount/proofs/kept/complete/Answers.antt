@@ -278,4 +278,5 @@ returns-clause-ok g c =
           c.in_default-commit.ensures.ok.commits.made;
       numbered = c.on_disk.ensures.numbered;
       synced = c.in_default-commit.ensures.ok.commits.synced;
+      is_disk = c.on_disk.ensures.commits.is_disk;
     }

@@ -2,6 +2,7 @@ use Rattle.std.proofs.Common.{◌≡◌, ◌<◌, true, [], inl, inr, refl, sym,
 use Rattle.std.proofs.Math.Path.{subst₂}
 use Rattle.std.specs.Prelude.{not, max}
 use Rattle.lsvd_fault.specs.Faults.{Counts}
+use Rattle.lsvd_device.specs.Device.{IsDisk}
 use Rattle.lsvd_objstore.specs.Store.{Becomes}
 use Rattle.obj_log.specs.State.{ObjLogState}
 use Rattle.plain_disk.specs.State.{PlainState}
@@ -184,7 +185,8 @@ returns-in-Err-complete g c =
             subst (λ d. KeepsLeft uuid geometry epoch old.objects disk d) (sym c.into_disk.ensures.same)
             (completing_keeps uuid geometry epoch list checkpoint old.objects disk c.in-Ok-open_log.log c.requires.limits
             c.requires.size c.requires.log c.requires.is_disk c.in-Ok.ensures.list log (c.in-Ok.ensures.told tells)
-            c.complete.new.log.commits.disk c.in-Err-complete.ensures.stops);
+            c.complete.new.log.commits.disk (subst IsDisk c.into_disk.ensures.same c.into_disk.ensures.is_disk)
+            c.in-Err-complete.ensures.stops);
         costs =
             subst (λ d. CostsMount geometry.log made disk d) (sym c.into_disk.ensures.same)
             (completing_costs uuid geometry epoch list.uploads.queue.end disk c.complete.new.log.commits.disk
@@ -260,7 +262,7 @@ returns-in-Ok-complete g c =
       removed = subst (λ n. Becomes (RemovesAllPast uuid n) old.objects new.objects) (sym number) removed;
       stops = λ tells.
           completing_keeps uuid geometry epoch list checkpoint old.objects disk before limits c.requires.size c.requires.log
-          c.requires.is_disk is is_open (c.in-Ok.ensures.told tells) log.commits.disk c.in-Ok-complete.ensures.stops;
+          c.requires.is_disk is is_open (c.in-Ok.ensures.told tells) log.commits.disk done.is_disk c.in-Ok-complete.ensures.stops;
       costs =
           completing_costs uuid geometry epoch list.uploads.queue.end disk log.commits.disk before true is_open
           c.in-Ok-complete.ensures.calls;

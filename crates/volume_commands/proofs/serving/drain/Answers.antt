@@ -1,9 +1,8 @@
-use Rattle.std.proofs.Common.{◌∙◌, sym, ap, subst}
+use Rattle.std.proofs.Common.{◌∙◌, refl, sym, ap}
 use Rattle.std.proofs.lemmas.Result.{err_from_is_err_and}
 use Rattle.lsvd_device.specs.Device.{DiskState}
 use Rattle.vol_core.specs.Volume.{SteppedVolume}
-use Rattle.volume_owner.specs.Calls.{IsLengthOf}
-use Rattle.volume_commands.proofs.Served.{drain_refuses_none, drain_counts_none, owner_error, length_stays}
+use Rattle.volume_commands.proofs.Served.{drain_refuses_none, drain_counts_none, drains_all, owner_error}
 use Rattle.volume_commands.proofs.serving.drain.Goals as goal
 
 pub returns-in_err-drained-clause-refused : goal.returns-in_err-drained-clause-refused
@@ -24,8 +23,8 @@ returns-in_err-drained-clause-fault g c =
     c.in_err-drained.ensures.range c.in_err-drained.ensures.call.faults
     (owner_error c.in_err-drained.field-0.0 _ is) disks stores)
 
-pub returns-clause-count : goal.returns-clause-count
-returns-clause-count g c =
-    let count = c.in_ok-drained.field-0 in
-    subst (λ (v : SteppedVolume). IsLengthOf count v.volume) c.new-owner.ensures
-    (length_stays count _ _ c.drain-drained.ensures.call.steps.adds c.in_ok-drained.ensures.count)
+pub returns-clause-drains : goal.returns-clause-drains
+returns-clause-drains g c =
+    drains_all g.S.Receipt.Receipt.state c.in_ok-drained.field-0 c.args.volume c.new-owner.result _
+    (g.S.Store.state c.args.store.now) _ _ c.new-owner.ensures refl
+    c.in_ok-drained.ensures.call c.in_ok-drained.ensures.count c.in_ok-drained.ensures.drained

@@ -18,4 +18,4 @@ pub returns-in-Err-clause-why : goal.returns-in-Err-clause-why
 returns-in-Err-clause-why g c = rw c.into.ensures (λ why is. absurd (world_refuses_none c.in-Err.error why is))
 
 pub returns-clause-mounts : goal.returns-clause-mounts
-returns-clause-mounts g c = (c.in_ok-disk.disk, c.if-is_some.store, c.in_ok-mounted.ensures.mounts)
+returns-clause-mounts g c = (c.in_ok-disk.disk, c.length_anew.new.store, c.in_ok-mounted.ensures.mounts)

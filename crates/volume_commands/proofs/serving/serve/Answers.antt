@@ -46,16 +46,17 @@ returns-in_err-tell_writes-clause-fault g c is disks stores clients =
 pub returns-clause-told : goal.returns-clause-told
 returns-clause-told g c =
     rw c.judge.ensures (both_told _ _ c.in_ok-served.served.entries
-    c.in_ok-served.served.end _ _ _ c.in_default.ensures.ok c.in_ok-tell_writes.ensures.ok)
+    c.in_ok-served.served.lane.end _ _ _ c.in_default.ensures.ok c.in_ok-tell_writes.ensures.ok)
 
 pub returns-clause-serves : goal.returns-clause-serves
 returns-clause-serves g c =
-    rw c.judge.ensures (on_judged c.in_ok-served.served.end
-    (serves_with _ _ _ c.args.request.now _ _ _ c.in_ok-served.served.entries _ _ _
+    rw c.judge.ensures (on_judged c.in_ok-served.served.lane.end (λ succeeds.
+    serves_with _ _ _ _ _ _ c.args.request.now _ _ _ c.in_ok-served.served.lane c.in_ok-served.served.entries _ _ _
     (ap
     (λ (opened : Opened g.row.W-Disk.Denot g.row.W-Store.Denot g.row.W-Clients.Denot g.row.W-Store-Receipt.Denot
     g.row.W-Clients-Link.Denot). opened.mounted) c.opened.view_is)
-    c.in_ok-opened.ensures.mounts c.in_ok-served.ensures.count c.in_default.ensures.ok c.in_ok-tell_writes.ensures.ok))
+    c.in_ok-opened.ensures.mounts succeeds c.in_ok-served.ensures.serves c.in_default.ensures.ok
+    c.in_ok-tell_writes.ensures.ok))
 
 -- a server that ends by a fault is one whose listener failed
 judged_fault : (end : LaneEnd) → IsErrOf (judged end) errors.Fault → end ≡ lanes.Failed
@@ -66,4 +67,4 @@ judged_fault lanes.Failed is = refl
 pub returns-clause-fault : goal.returns-clause-fault
 returns-clause-fault g c is disks stores clients =
     let fault = subst (λ result. IsErrOf result errors.Fault) c.judge.ensures is in
-    absurd (c.in_ok-served.ensures.failed (judged_fault c.in_ok-served.served.end fault) clients)
+    absurd (c.in_ok-served.ensures.failed (judged_fault c.in_ok-served.served.lane.end fault) clients)

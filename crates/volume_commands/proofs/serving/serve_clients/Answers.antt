@@ -13,6 +13,17 @@ returns-in_err-entries-clause-fault g c =
     let p = err_from_is_err_and c.from_residual.result c.from_residual.ensures.1 in
     rw (p.1, p.2) (λ is. c.in_err-entries.ensures.fault (of_other c.in_err-entries.field-0.0 _ is))
 
+pub returns-clause-serves : goal.returns-clause-serves
+returns-clause-serves g c = record {
+  clients = c.args.clients.now;
+  after = c.serve_volume-closing.new.listener;
+  gives = c.serve_volume-closing.ensures.given;
+  ends = c.serve_volume-closing.ensures.end;
+  last = record { volume = c.serve_volume-closing.result.volume; store = g.S.Store.state c.serve_volume-closing.new.store };
+  served = c.serve_volume-closing.ensures.clients;
+  drains = c.in_ok-entries.ensures.drains;
+}
+
 pub returns-clause-failed : goal.returns-clause-failed
 returns-clause-failed g c is constant =
     lane_counts_none g.L.Listener.faults c.args.clients.now c.serve_volume-closing.new.listener _ _

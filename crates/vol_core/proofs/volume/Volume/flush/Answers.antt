@@ -43,7 +43,8 @@ returns-clause-step g c =
       plan = tt;
       sizes = record { geometry = refl; uuid = refl };
       numbers = flush_grow volume log _ end is.plain is.shows c.ordered.ensures c.end.ensures c.commit.ensures;
-      stops = flushing_keeps volume log _ end c.ordered.ensures c.on_disk.ensures c.end.ensures c.commit.ensures;
+      stops = flushing_keeps events.Flush refl volume log _ end c.ordered.ensures c.on_disk.ensures
+          c.end.ensures c.commit.ensures;
       faults = search rules;
       bytes = same_bytes volume (with_log log volume) refl refl;
     })

@@ -154,7 +154,7 @@ returns-clause-step g c =
       plan = has_its_bytes g c;
       sizes = record { geometry = refl; uuid = refl };
       numbers = grow g c;
-      stops = look_keeps volume log c.look.new.pins (is_still g c);
+      stops = look_keeps (events.Look c.args.lba c.args.sectors) volume log c.look.new.pins (is_still g c);
       faults = search rules;
       bytes = same_bytes volume new refl refl;
     })

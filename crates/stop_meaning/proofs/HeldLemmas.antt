@@ -15,12 +15,12 @@ use Rattle.log_meaning.specs.Shows.{commit_of, records_of_rows, record_of_row, S
 use Rattle.log_meaning.proofs.Following.{Reaches}
 use Rattle.log_meaning.proofs.Lists.{released}
 use Rattle.log_meaning.proofs.Shown.{list_of}
-use Rattle.mount_meaning.proofs.RunLemmas.{reach_part}
+use Rattle.stop_meaning.proofs.RunLemmas.{reach_part}
 
 -- ---- rows by their seqs
 
 -- of numbered rows from a commit's tail on those between it and the head are the first
-between_first : (rows : List Row) (seq : ℕ) (body : CommitBody) → AreNumbered seq rows → body.tail.seq ≤ seq
+pub between_first : (rows : List Row) (seq : ℕ) (body : CommitBody) → AreNumbered seq rows → body.tail.seq ≤ seq
     → between body rows ≡ take (body.head.seq - seq) rows
 between_first [] seq body are from = sym (take-nil (body.head.seq - seq))
 between_first (row ∷ rows) seq body are from =
@@ -50,7 +50,7 @@ between_first (row ∷ rows) seq body are from =
     first_none (r ∷ l) = refl
 
 -- those before the tail are left out
-between_since : (held rows : List Row) (body : CommitBody)
+pub between_since : (held rows : List Row) (body : CommitBody)
     → between body (held ++ rows) ≡ between body (since body.tail.seq held ++ rows)
 between_since [] rows body = refl
 between_since (row ∷ held) rows body =
