@@ -1,9 +1,10 @@
 ghost use Rattle.std.specs.Prelude.{◌≡◌, ℕ, List, ◌++◌, [], IfOk, IfSome, IfNone};
 ghost use Rattle.std.specs.String.{string_bytes};
+ghost use Rattle.lsvd_names.specs.Names.{epoch_name, numbered_name, super_name};
 ghost use Rattle.lsvd_names.specs.Spelling.{IsName, IsNumbered, MayHaveNumber, ending, spelling, word};
 
 use crate::digits::number_of;
-use crate::volume::uuid_of;
+use crate::volume::{a_uuid_has_sixteen_bytes, uuid_of};
 use std::alloc::{AllocError, Global};
 use uuid::Uuid;
 
@@ -32,6 +33,45 @@ pub struct ObjName {
 }
 
 impl ObjName {
+    /// The name of the super object of a volume.
+    pub fn super_of(uuid: Uuid) -> ObjName
+        ensures is { result ≡ super_name uuid }
+        ensures named { IsName result }
+    {
+        a_uuid_has_sixteen_bytes(uuid);
+        ObjName {
+            uuid,
+            kind: Kind::Super,
+            number: 0,
+        }
+    }
+
+    /// The name of the epoch of a number of a volume.
+    pub fn epoch(uuid: Uuid, number: u64) -> ObjName
+        ensures is { result ≡ epoch_name uuid number }
+        ensures named { IsName result }
+    {
+        a_uuid_has_sixteen_bytes(uuid);
+        ObjName {
+            uuid,
+            kind: Kind::Epoch,
+            number,
+        }
+    }
+
+    /// The name of the object of a number of a volume's stream: data, a copy, or a checkpoint.
+    pub fn object(uuid: Uuid, number: u64) -> ObjName
+        ensures is { result ≡ numbered_name uuid number }
+        ensures named { IsName result }
+    {
+        a_uuid_has_sixteen_bytes(uuid);
+        ObjName {
+            uuid,
+            kind: Kind::Object,
+            number,
+        }
+    }
+
     /// Spells the name. A super has the number 0 (a condition). The one error is out of memory.
     pub fn print(&self, alloc: Global) -> Result<String, AllocError>
         requires { MayHaveNumber self.now.kind self.now.number }

@@ -1,4 +1,4 @@
-ghost use Rattle.std.specs.Prelude.{◌≡◌, ℕ, List, IfSome, IfNone};
+ghost use Rattle.std.specs.Prelude.{◌≡◌, ℕ, List, length, IfSome, IfNone};
 ghost use Rattle.uuid.specs.Text.{hyphenated_text, lower};
 ghost use Rattle.lsvd_names.specs.Spelling.{IsUuid};
 
@@ -15,3 +15,16 @@ pub(crate) fn uuid_of(text: &str) -> Option<Uuid>
     let spelled: &str = uuid.hyphenated().encode_lower(&mut buffer);
     (spelled == text).then_some(uuid)
 }
+
+/// A law: a uuid has sixteen bytes. Nothing is done.
+pub fn a_uuid_has_sixteen_bytes(uuid: Uuid)
+    ensures { IsUuid uuid }
+{
+    are_bytes(uuid.into_bytes().as_slice());
+}
+
+// A fact for the proof of the caller: sixteen bytes are those of a uuid. Nothing is done.
+fn are_bytes(bytes: &[u8])
+    requires { length bytes.now ≡ 16 }
+    ensures { IsUuid bytes.now }
+{}
