@@ -31,9 +31,9 @@ use Rattle.cache_log.specs.Committed.{first_body}
 use Rattle.commit_slot.specs.Loading.{MakesAtMost}
 use Rattle.plain_disk.specs.State.{created_volume}
 use Rattle.object_recovery.specs.Recovery.{RemovesAllPast}
-use Rattle.log_meaning.specs.Fuses.{fuse_in}
-use Rattle.pending_meaning.specs.Pending.{ShowsPending}
-use Rattle.pending_meaning.proofs.Asked.{asked, has_now}
+use Rattle.refine_log.specs.Fuses.{fuse_in}
+use Rattle.refine_log.specs.Pending.{ShowsPending}
+use Rattle.refine_log.proofs.Asked.{asked, has_now}
 use Rattle.vol_core.specs.Volume.{SteppedVolume}
 use Rattle.vol_core.specs.Creating.{IsCreated, CostsFormat, CanFormat}
 use Rattle.vol_core.proofs.CreateLemmas.{format_covered}

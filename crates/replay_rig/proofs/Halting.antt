@@ -13,10 +13,10 @@ use Rattle.cache_log.specs.Log.{LogState}
 use Rattle.plain_disk.specs.Cache.{PlainCache}
 use Rattle.plain_disk.specs.State.{PlainState}
 use Rattle.plain_disk.specs.Stops.{stopping_after_calls}
-use Rattle.log_meaning.specs.Fuses.{fuse_in}
-use Rattle.pending_meaning.specs.Pending.{ShowsPending}
-use Rattle.pending_meaning.proofs.Shown.{still_shows_pending}
-use Rattle.store_meaning.specs.Puts.{IsObjectOf}
+use Rattle.refine_log.specs.Fuses.{fuse_in}
+use Rattle.refine_log.specs.Pending.{ShowsPending}
+use Rattle.refine_log.proofs.PendingShown.{still_shows_pending}
+use Rattle.refine_store.specs.Puts.{IsObjectOf}
 use Rattle.transcript.specs.Letters.{under_way}
 use Rattle.vol_core.specs.Volume.{VolumeState, SteppedVolume, with_budget_of}
 use Rattle.vol_core.specs.Shows.{Shows}

@@ -33,13 +33,13 @@ use Rattle.plain_disk.specs.State.{PlainState, stream_in, history_length, fronti
 use Rattle.plain_disk.specs.Stops.{cut_to_count, mounted_kept, mounted_lost}
 use Rattle.plain_disk.proofs.EndLemmas.{ends_within}
 use Rattle.plain_disk.proofs.StopLemmas.{kept_is_later, recovers_frontier, recovers_sealed}
-use Rattle.log_meaning.specs.Shows.{commit_of}
-use Rattle.pending_meaning.proofs.Shown.{synced_shows_pending}
-use Rattle.stop_meaning.specs.Stops.{HasCommit}
-use Rattle.mount_meaning.specs.Mounted.{end_of_object, mounted_with, mounted_without}
-use Rattle.mount_meaning.proofs.LeftLemmas.{fates_keep_commit}
-use Rattle.store_meaning.specs.Puts.{IsObjectOf}
-use Rattle.store_meaning.proofs.KeepLemmas.{mounts_keep_object}
+use Rattle.refine_log.specs.Shows.{commit_of}
+use Rattle.refine_log.proofs.PendingShown.{synced_shows_pending}
+use Rattle.refine_log.specs.Stops.{HasCommit}
+use Rattle.refine_mount.specs.Mounted.{end_of_object, mounted_with, mounted_without}
+use Rattle.refine_mount.proofs.LeftLemmas.{fates_keep_commit}
+use Rattle.refine_store.specs.Puts.{IsObjectOf}
+use Rattle.refine_store.proofs.KeepLemmas.{mounts_keep_object}
 use Rattle.vol_core.specs.Shows.{Shows}
 use Rattle.vol_core.specs.Step.{passing}
 use Rattle.vol_mount.specs.Mounted.{MountedState, disk_of, IsMountOf, NumbersNextCommit}

@@ -5,7 +5,7 @@ use Rattle.lsvd_base.specs.declared.geometry.Geometry.{Geometry}
 use Rattle.lsvd_device.specs.Calls.{Fuse, Budget, fuse_of}
 use Rattle.lsvd_objstore.specs.Objects.{Objects}
 use Rattle.plain_disk.specs.State.{PlainState, created_volume}
-use Rattle.log_meaning.specs.Fuses.{fuse_in}
+use Rattle.refine_log.specs.Fuses.{fuse_in}
 use Rattle.vol_core.specs.Volume.{SteppedVolume}
 use Rattle.vol_core.specs.Shows.{Shows}
 use Rattle.vol_core.specs.Step.{passing}

@@ -24,7 +24,7 @@ use Rattle.plain_disk.specs.Reads.{look_calls, passes_look, objects_read, are_pi
 use Rattle.plain_disk.specs.State.{PlainState, frontier_end}
 use Rattle.plain_disk.specs.Step.{plain_after}
 use Rattle.plain_disk.proofs.CommitLemmas.{either}
-use Rattle.log_meaning.proofs.PlainCommits.{plain_commit_takes_calls}
+use Rattle.refine_log.proofs.PlainCommits.{plain_commit_takes_calls}
 use Rattle.replay_rig.specs.Rig.{OpensBlank}
 
 -- ---- fuses

@@ -34,9 +34,9 @@ use Rattle.plain_disk.specs.declared.event.PlainReply.TheVariants as replies
 use Rattle.plain_disk.specs.State.{PlainState}
 use Rattle.plain_disk.specs.Objects.{reply_of_taken, window_after_take, window_after_failed}
 use Rattle.plain_disk.specs.Step.{plain_reply, plain_after}
-use Rattle.store_meaning.specs.Puts.{IsObjectOf}
-use Rattle.store_meaning.proofs.JobLemmas.{job_is_object}
-use Rattle.store_meaning.proofs.KeepLemmas.{events_keep_object}
+use Rattle.refine_store.specs.Puts.{IsObjectOf}
+use Rattle.refine_store.proofs.JobLemmas.{job_is_object}
+use Rattle.refine_store.proofs.KeepLemmas.{events_keep_object}
 use Rattle.vol_core.specs.declared.event.Event.{Event}
 use Rattle.vol_core.specs.declared.event.Event.TheVariants.{TakeJob, JobDone, JobFailed}
 use Rattle.vol_core.specs.declared.reply.Refusal.{Refusal}

@@ -9,8 +9,8 @@ use Rattle.cache_log.specs.Log.{LogState}
 use Rattle.plain_disk.specs.declared.event.PlainEvent.{PlainEvent}
 use Rattle.plain_disk.specs.State.{PlainState}
 use Rattle.plain_disk.specs.Step.{plain_reply, plain_after}
-use Rattle.pending_meaning.specs.Pending.{ShowsPending}
-use Rattle.pending_meaning.proofs.Shown.{still_shows_pending}
+use Rattle.refine_log.specs.Pending.{ShowsPending}
+use Rattle.refine_log.proofs.PendingShown.{still_shows_pending}
 use Rattle.vol_core.specs.declared.event.Event.{Event}
 use Rattle.vol_core.specs.declared.reply.Reply.{Reply}
 use Rattle.vol_core.specs.Volume.{VolumeState, SteppedVolume, with_budget_of}

@@ -13,12 +13,12 @@ use Rattle.plain_disk.specs.Stops.{recovered_number}
 use Rattle.plain_disk.specs.Valid.{IsPlainVolume, MayLand}
 use Rattle.plain_disk.proofs.EndLemmas.{ends_grow, ends_within}
 use Rattle.plain_disk.proofs.StopLemmas.{recovers_frontier, recovers_sealed}
-use Rattle.stop_meaning.specs.Stops.{HasCommitted, IsFoundCommit, HasCommit, StopKeeps}
-use Rattle.stop_meaning.specs.Laws.{ShowsStops}
-use Rattle.stop_meaning.proofs.StopLemmas.{now_keeps}
-use Rattle.mount_meaning.specs.Found.{HasObjects}
-use Rattle.mount_meaning.specs.Mounted.{end_of_object}
-use Rattle.store_meaning.proofs.LeftLemmas.{left_has_objects}
+use Rattle.refine_log.specs.Stops.{HasCommitted, IsFoundCommit, HasCommit, StopKeeps}
+use Rattle.refine_log.specs.StopLaws.{ShowsStops}
+use Rattle.refine_log.proofs.StopLemmas.{now_keeps}
+use Rattle.refine_mount.specs.Found.{HasObjects}
+use Rattle.refine_mount.specs.Mounted.{end_of_object}
+use Rattle.refine_store.proofs.LeftLemmas.{left_has_objects}
 use Rattle.vol_core.specs.Volume.{VolumeState}
 use Rattle.replay_rig.specs.Rig.{RigState, script_uuid, ShowsPlain, Lands, IsKeptByRig}
 use Rattle.replay_rig.proofs.Crashing.{puts_now, are_puts, may_be_left}

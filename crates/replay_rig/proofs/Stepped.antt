@@ -13,9 +13,9 @@ use Rattle.upload_window.specs.Window.{WindowState, IsAcknowledged, has_number}
 use Rattle.plain_disk.specs.declared.event.PlainEvent.{PlainEvent}
 use Rattle.plain_disk.specs.State.{PlainState}
 use Rattle.plain_disk.specs.Step.{plain_reply, plain_after}
-use Rattle.pending_meaning.specs.Pending.{ShowsPending}
-use Rattle.store_meaning.specs.Puts.{IsObjectOf}
-use Rattle.store_meaning.proofs.KeepLemmas.{events_keep_object}
+use Rattle.refine_log.specs.Pending.{ShowsPending}
+use Rattle.refine_store.specs.Puts.{IsObjectOf}
+use Rattle.refine_store.proofs.KeepLemmas.{events_keep_object}
 use Rattle.object_recovery.specs.Checkpoints.{expected_of}
 use Rattle.stopped_volume.specs.Objects.{IsCheckpointOf}
 use Rattle.stopped_volume.specs.Super.{HasVolume}

@@ -15,7 +15,7 @@ use Rattle.stopped_volume.specs.Super.{HasVolume}
 use Rattle.plain_disk.specs.declared.log.PlainCommit.{PlainCommit}
 use Rattle.plain_disk.specs.State.{PlainState, created_volume}
 use Rattle.object_recovery.specs.Checkpoints.{expected_of}
-use Rattle.pending_meaning.specs.Pending.{ShowsPending}
+use Rattle.refine_log.specs.Pending.{ShowsPending}
 use Rattle.vol_core.specs.Volume.{SteppedVolume}
 use Rattle.vol_core.specs.Creating.{IsCreated}
 use Rattle.vol_mount.specs.Mounted.{MountedState, disk_of, IsOfVolume}

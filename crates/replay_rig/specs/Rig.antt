@@ -15,11 +15,11 @@ use Rattle.plain_disk.specs.declared.log.PlainCommit.{PlainCommit}
 use Rattle.plain_disk.specs.State.{PlainState, history_length, frontier_of}
 use Rattle.plain_disk.specs.Stops.{recovered_number}
 use Rattle.object_recovery.specs.Checkpoints.{expected_of}
-use Rattle.pending_meaning.specs.Pending.{ShowsPending}
-use Rattle.stop_meaning.specs.Stops.{IsFoundCommit, HasCommit}
-use Rattle.mount_meaning.specs.Found.{HasObjects}
-use Rattle.mount_meaning.specs.Mounted.{end_of_object}
-use Rattle.store_meaning.specs.Puts.{IsObjectOf}
+use Rattle.refine_log.specs.Pending.{ShowsPending}
+use Rattle.refine_log.specs.Stops.{IsFoundCommit, HasCommit}
+use Rattle.refine_mount.specs.Found.{HasObjects}
+use Rattle.refine_mount.specs.Mounted.{end_of_object}
+use Rattle.refine_store.specs.Puts.{IsObjectOf}
 use Rattle.vol_core.specs.Volume.{SteppedVolume}
 use Rattle.vol_core.specs.Step.{HasBytesOf}
 use Rattle.vol_core.specs.Shows.{Shows}

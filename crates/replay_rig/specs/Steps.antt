@@ -13,7 +13,7 @@ use Rattle.vol_core.specs.declared.event.Event.TheVariants.{Write, Zero, Flush, 
 use Rattle.vol_core.specs.Events.{Asks}
 use Rattle.vol_core.specs.Volume.{SteppedVolume, with_budget_of}
 use Rattle.vol_core.specs.Shows.{Shows}
-use Rattle.log_meaning.specs.Fuses.{fuse_in}
+use Rattle.refine_log.specs.Fuses.{fuse_in}
 use Rattle.plain_disk.specs.Cache.{is_kept}
 use Rattle.transcript.specs.Letters.{landed_by}
 use Rattle.transcript.specs.Answers.{released_by}

@@ -17,14 +17,14 @@ use Rattle.plain_disk.specs.Log.{PlainLog, room_in, with_record}
 use Rattle.plain_disk.specs.Cache.{PlainCache, writes_of, cache_after_entry}
 use Rattle.plain_disk.specs.State.{PlainState, history_length, frontier_end}
 use Rattle.plain_disk.specs.Entries.{after_entering}
-use Rattle.log_meaning.specs.Shows.{ShowsLog}
-use Rattle.log_meaning.specs.Logged.{HasLoggedEntries}
-use Rattle.log_meaning.specs.Fuses.{fuse_in}
-use Rattle.log_meaning.specs.Laws.{HasFuseForEntry}
-use Rattle.log_meaning.proofs.Shown.{same_shows_same}
-use Rattle.log_meaning.proofs.Appended.{appended_shows_record}
-use Rattle.log_meaning.proofs.PlainCommits.{IsCacheOf}
-use Rattle.log_meaning.proofs.FuseLemmas.{entry_has_fuse}
+use Rattle.refine_log.specs.Shows.{ShowsLog}
+use Rattle.refine_log.specs.Logged.{HasLoggedEntries}
+use Rattle.refine_log.specs.Fuses.{fuse_in}
+use Rattle.refine_log.specs.Laws.{HasFuseForEntry}
+use Rattle.refine_log.proofs.Shown.{same_shows_same}
+use Rattle.refine_log.proofs.Appended.{appended_shows_record}
+use Rattle.refine_log.proofs.PlainCommits.{IsCacheOf}
+use Rattle.refine_log.proofs.FuseLemmas.{entry_has_fuse}
 use Rattle.vol_core.specs.Calls.{Appends}
 use Rattle.vol_core.proofs.LoggedLemmas.{with_place, ReachesEnd, logged_alike, logged_appended}
 use Rattle.vol_core.proofs.PlainEntering.{EntersPlain, ComesToCache, has_no_room, write_failed, entry_taken, full_cache}

@@ -12,15 +12,15 @@ use Rattle.plain_disk.specs.Log.{PlainLog}
 use Rattle.plain_disk.specs.State.{PlainState, history_length, frontier_end}
 use Rattle.plain_disk.specs.Valid.{IsPlainVolume}
 use Rattle.plain_disk.proofs.EndLemmas.{frontier_ends}
-use Rattle.log_meaning.specs.Shows.{commit_of, ShowsLog}
-use Rattle.log_meaning.specs.Logged.{HasLoggedEntries}
-use Rattle.log_meaning.specs.Fuses.{LetsCommit}
-use Rattle.log_meaning.specs.Laws.{HasFuse, IsToldFuse}
-use Rattle.log_meaning.proofs.Following.{records_count}
-use Rattle.log_meaning.proofs.Shown.{trimmed_shows_same}
-use Rattle.log_meaning.proofs.PlainCommits.{plain_commit_takes_calls}
-use Rattle.log_meaning.proofs.Commits.{commit_shows_commit}
-use Rattle.log_meaning.proofs.FuseLemmas.{made_commit_has_fuse, failed_commit_has_fuse}
+use Rattle.refine_log.specs.Shows.{commit_of, ShowsLog}
+use Rattle.refine_log.specs.Logged.{HasLoggedEntries}
+use Rattle.refine_log.specs.Fuses.{LetsCommit}
+use Rattle.refine_log.specs.Laws.{HasFuse, IsToldFuse}
+use Rattle.refine_log.proofs.Following.{records_count}
+use Rattle.refine_log.proofs.Shown.{trimmed_shows_same}
+use Rattle.refine_log.proofs.PlainCommits.{plain_commit_takes_calls}
+use Rattle.refine_log.proofs.Commits.{commit_shows_commit}
+use Rattle.refine_log.proofs.FuseLemmas.{made_commit_has_fuse, failed_commit_has_fuse}
 use Rattle.vol_core.specs.Calls.{CommitsFrom}
 use Rattle.vol_core.proofs.LoggedLemmas.{logged_alike, logged_trimmed}
 

@@ -23,13 +23,13 @@ use Rattle.cache_log.specs.Committed.{body_of, HasRecords, LeavesEntries, Leaves
 use Rattle.plain_disk.specs.declared.log.PlainCommit.{PlainCommit}
 use Rattle.plain_disk.specs.State.{PlainState, frontier_end}
 use Rattle.plain_disk.proofs.EndLemmas.{frontier_ends}
-use Rattle.log_meaning.proofs.Shown.{trimmed_shows_same}
+use Rattle.refine_log.proofs.Shown.{trimmed_shows_same}
 use Rattle.stopped_volume.specs.Device.{CacheOwner}
-use Rattle.stop_meaning.specs.Stops.{HasCommitted, IsFoundCommit, IsFoundOrNext, StopKeeps, StopKeepsSince}
-use Rattle.stop_meaning.specs.Laws.{ShowsStops}
-use Rattle.stop_meaning.proofs.StopLemmas.{since_keeps, committing_keeps}
-use Rattle.stop_meaning.proofs.CommittedLemmas.{same_has_committed, trimmed_has_committed, appended_has_committed}
-use Rattle.stop_meaning.proofs.CommittedLemmas.{commit_has_committed}
+use Rattle.refine_log.specs.Stops.{HasCommitted, IsFoundCommit, IsFoundOrNext, StopKeeps, StopKeepsSince}
+use Rattle.refine_log.specs.StopLaws.{ShowsStops}
+use Rattle.refine_log.proofs.StopLemmas.{since_keeps, committing_keeps}
+use Rattle.refine_log.proofs.CommittedLemmas.{same_has_committed, trimmed_has_committed, appended_has_committed}
+use Rattle.refine_log.proofs.CommittedLemmas.{commit_has_committed}
 use Rattle.vol_core.specs.Calls.{CommitsFrom, Appends, EntersLog}
 use Rattle.vol_core.proofs.CommitLemmas.{shown_next}
 use Rattle.vol_core.proofs.LoggedLemmas.{logged_trimmed}

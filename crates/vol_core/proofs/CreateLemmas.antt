@@ -23,17 +23,17 @@ use Rattle.obj_log.specs.State.{ObjLogState}
 use Rattle.plain_disk.specs.State.{PlainState, created_volume}
 use Rattle.plain_disk.specs.Valid.{IsPlainVolume}
 use Rattle.plain_disk.proofs.EventLemmas.{created_is}
-use Rattle.log_meaning.specs.Shows.{ShowsLog}
-use Rattle.log_meaning.specs.Fuses.{fuse_in}
-use Rattle.log_meaning.specs.Logged.{HasLoggedEntries}
-use Rattle.log_meaning.proofs.Shown.{formatted_shows_empty}
+use Rattle.refine_log.specs.Shows.{ShowsLog}
+use Rattle.refine_log.specs.Fuses.{fuse_in}
+use Rattle.refine_log.specs.Logged.{HasLoggedEntries}
+use Rattle.refine_log.proofs.Shown.{formatted_shows_empty}
 use Rattle.plain_disk.specs.Log.{empty_from}
-use Rattle.pending_meaning.specs.Pending.{ShowsPending}
-use Rattle.pending_meaning.proofs.Asked.{AreCovered, asked, has_now}
-use Rattle.pending_meaning.proofs.Shown.{synced_shows_pending}
-use Rattle.objects_meaning.proofs.ShowLemmas.{new_shows_created, shown_with_other_cache}
-use Rattle.stop_meaning.specs.Stops.{HasCommitted}
-use Rattle.stop_meaning.proofs.CommittedLemmas.{formatted_has_committed}
+use Rattle.refine_log.specs.Pending.{ShowsPending}
+use Rattle.refine_log.proofs.Asked.{AreCovered, asked, has_now}
+use Rattle.refine_log.proofs.PendingShown.{synced_shows_pending}
+use Rattle.refine_objects.proofs.ShowLemmas.{new_shows_created, shown_with_other_cache}
+use Rattle.refine_log.specs.Stops.{HasCommitted}
+use Rattle.refine_log.proofs.CommittedLemmas.{formatted_has_committed}
 use Rattle.vol_core.specs.Volume.{volume_of}
 use Rattle.vol_core.specs.Shows.{Shows}
 use Rattle.vol_core.specs.Step.{passing}

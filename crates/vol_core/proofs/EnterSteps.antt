@@ -34,14 +34,14 @@ use Rattle.plain_disk.specs.State.{PlainState, history_length, unsealed_entries}
 use Rattle.plain_disk.specs.Entries.{reply_of_full, batch_refusal, batch_refusal_of, after_entering}
 use Rattle.plain_disk.proofs.EndLemmas.{frontier_ends}
 use Rattle.plain_disk.proofs.EventLemmas.{entering_keeps}
-use Rattle.log_meaning.specs.Shows.{ShowsLog}
-use Rattle.log_meaning.specs.Logged.{HasLoggedEntries}
-use Rattle.log_meaning.specs.Fuses.{fuse_in}
-use Rattle.objects_meaning.specs.Shows.{ShowsObjects}
-use Rattle.pending_meaning.specs.Pending.{ShowsPending}
-use Rattle.objects_meaning.specs.Laws.{HasCounts}
-use Rattle.objects_meaning.proofs.ShowLemmas.{shown_have_counts, shown_with_other_cache, shown_with_other_places, room_shows_same}
-use Rattle.objects_meaning.proofs.ShowLemmas.{added_shows_entry}
+use Rattle.refine_log.specs.Shows.{ShowsLog}
+use Rattle.refine_log.specs.Logged.{HasLoggedEntries}
+use Rattle.refine_log.specs.Fuses.{fuse_in}
+use Rattle.refine_objects.specs.Shows.{ShowsObjects}
+use Rattle.refine_log.specs.Pending.{ShowsPending}
+use Rattle.refine_objects.specs.Laws.{HasCounts}
+use Rattle.refine_objects.proofs.ShowLemmas.{shown_have_counts, shown_with_other_cache, shown_with_other_places, room_shows_same}
+use Rattle.refine_objects.proofs.ShowLemmas.{added_shows_entry}
 use Rattle.vol_core.specs.declared.reply.Refusal.{Refusal}
 use Rattle.vol_core.specs.declared.reply.Refusal.TheVariants as refusals
 use Rattle.vol_core.specs.declared.reply.Reply.{Reply}

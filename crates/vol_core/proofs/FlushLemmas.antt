@@ -16,9 +16,9 @@ use Rattle.plain_disk.specs.Cache.{passes_commit}
 use Rattle.plain_disk.specs.State.{PlainState, history_length}
 use Rattle.plain_disk.specs.Entries.{flush_reply, after_flush}
 use Rattle.plain_disk.proofs.EventLemmas.{flush_keeps}
-use Rattle.log_meaning.specs.Fuses.{fuse_in}
-use Rattle.objects_meaning.proofs.ShowLemmas.{shown_have_counts, shown_with_other_cache}
-use Rattle.pending_meaning.specs.Pending.{ShowsPending}
+use Rattle.refine_log.specs.Fuses.{fuse_in}
+use Rattle.refine_objects.proofs.ShowLemmas.{shown_have_counts, shown_with_other_cache}
+use Rattle.refine_log.specs.Pending.{ShowsPending}
 use Rattle.vol_core.specs.declared.event.Event.TheVariants.{Flush}
 use Rattle.vol_core.specs.declared.reply.Reply.{Reply}
 use Rattle.vol_core.specs.declared.reply.Reply.TheVariants as told

@@ -4,8 +4,8 @@ use Rattle.commit_slot.specs.Commits.{with_budget}
 use Rattle.cache_log.specs.Log.{LogState}
 use Rattle.obj_log.specs.State.{ObjLogState}
 use Rattle.plain_disk.specs.State.{PlainState}
-use Rattle.log_meaning.specs.Fuses.{fuse_in}
-use Rattle.objects_meaning.proofs.ShowLemmas.{shown_with_other_cache}
+use Rattle.refine_log.specs.Fuses.{fuse_in}
+use Rattle.refine_objects.proofs.ShowLemmas.{shown_with_other_cache}
 use Rattle.vol_core.specs.Volume.{VolumeState, volume_of, with_budget_of}
 use Rattle.vol_core.specs.Shows.{Shows, IsSmall}
 use Rattle.vol_core.specs.Step.{passing}

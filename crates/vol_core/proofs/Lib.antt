@@ -20,3 +20,9 @@ mod CommitStops
 mod StopSteps
 mod BytesLemmas
 mod StepsOf
+pub mod LeftLemmas
+pub mod ShownLemmas
+pub mod HoldLemmas
+pub mod OwnerLemmas
+pub mod RunLemmas
+pub mod ReadLemmas

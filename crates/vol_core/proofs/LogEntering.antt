@@ -18,10 +18,10 @@ use Rattle.plain_disk.specs.State.{PlainState, history_length, frontier_end}
 use Rattle.plain_disk.specs.Entries.{batch_refusal, has_room_for, commits_for_room}
 use Rattle.plain_disk.specs.Valid.{IsPlainVolume}
 use Rattle.plain_disk.proofs.EndLemmas.{frontier_ends}
-use Rattle.log_meaning.specs.Shows.{ShowsLog}
-use Rattle.log_meaning.specs.Logged.{HasLoggedEntries}
-use Rattle.log_meaning.specs.Fuses.{fuse_in, calls_to_finish}
-use Rattle.log_meaning.proofs.PlainCommits.{IsCacheOf, calls_before, calls_of_commit, commit_made}
+use Rattle.refine_log.specs.Shows.{ShowsLog}
+use Rattle.refine_log.specs.Logged.{HasLoggedEntries}
+use Rattle.refine_log.specs.Fuses.{fuse_in, calls_to_finish}
+use Rattle.refine_log.proofs.PlainCommits.{IsCacheOf, calls_before, calls_of_commit, commit_made}
 use Rattle.vol_core.specs.Step.{passing}
 use Rattle.vol_core.specs.Calls.{CommitsFrom, Appends, EntersAtOnce, EntersAfterCommit, EntersLog}
 use Rattle.vol_core.proofs.CommitLemmas.{with_left, shown_next, shown_calls, CommitsAs, commit_with, commit_has_fuse}

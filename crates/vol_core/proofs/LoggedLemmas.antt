@@ -17,8 +17,8 @@ use Rattle.cache_log.specs.Committed.{IsOnDisk}
 use Rattle.cache_log.proofs.ForCallers.{rows_more}
 use Rattle.plain_disk.specs.Log.{PlainLog}
 use Rattle.plain_disk.specs.State.{PlainState, history_length, frontier_end, logged_entries}
-use Rattle.log_meaning.specs.Shows.{ShowsLog}
-use Rattle.log_meaning.specs.Logged.{HasLoggedEntries}
+use Rattle.refine_log.specs.Shows.{ShowsLog}
+use Rattle.refine_log.specs.Logged.{HasLoggedEntries}
 
 -- the data of a row begin one sector past its record
 abbrev pub HasDataBehind : (ℕ → ℕ) → Row → Type 0

@@ -24,14 +24,14 @@ use Rattle.object_uploads.specs.Image.{GivesSector}
 use Rattle.obj_log.specs.State.{ObjLogState}
 use Rattle.plain_disk.specs.State.{PlainState, image_now}
 use Rattle.plain_disk.specs.Reads.{look_calls}
-use Rattle.log_meaning.specs.Fuses.{fuse_in}
+use Rattle.refine_log.specs.Fuses.{fuse_in}
 use Rattle.read_plan.specs.Places.{LogHasPlaces, HasObjectSector, ObjectsHavePlaces}
 use Rattle.read_plan.specs.Look.{reads_from, reads_of, ReadsRange}
-use Rattle.reads_meaning.specs.Places.{IsHeldAt, data_row_in_log, data_rows_in_log}
-use Rattle.reads_meaning.specs.Laws.{ShowsReads}
-use Rattle.reads_meaning.proofs.HoldLemmas.{places_hold_sectors}
-use Rattle.reads_meaning.proofs.ReadLemmas.{rows_are_runs}
-use Rattle.reads_meaning.proofs.ShownLemmas.{image_has_sectors}
+use Rattle.vol_core.specs.Places.{IsHeldAt, data_row_in_log, data_rows_in_log}
+use Rattle.vol_core.specs.ReadLaws.{ShowsReads}
+use Rattle.vol_core.proofs.HoldLemmas.{places_hold_sectors}
+use Rattle.vol_core.proofs.ReadLemmas.{rows_are_runs}
+use Rattle.vol_core.proofs.ShownLemmas.{image_has_sectors}
 use Rattle.vol_core.specs.Volume.{VolumeState, SteppedVolume}
 use Rattle.vol_core.specs.Shows.{Shows}
 

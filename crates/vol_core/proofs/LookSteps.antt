@@ -10,9 +10,9 @@ use Rattle.commit_slot.specs.Commits.{IsAsBefore}
 use Rattle.cache_log.specs.Log.{LogState, HasSameEntries}
 use Rattle.cache_log.specs.Reads.{reads_cost}
 use Rattle.object_uploads.specs.Order.{IsUploads}
-use Rattle.pending_meaning.specs.Pending.{ShowsPending}
-use Rattle.pending_meaning.proofs.Asked.{spent_after}
-use Rattle.pending_meaning.proofs.Shown.{still_shows_pending}
+use Rattle.refine_log.specs.Pending.{ShowsPending}
+use Rattle.refine_log.proofs.Asked.{spent_after}
+use Rattle.refine_log.proofs.PendingShown.{still_shows_pending}
 use Rattle.plain_disk.specs.declared.event.PlainEvent.TheVariants as events
 use Rattle.plain_disk.specs.declared.event.PlainReply.{PlainReply}
 use Rattle.plain_disk.specs.declared.event.PlainReply.TheVariants as replies
@@ -21,9 +21,9 @@ use Rattle.plain_disk.specs.Cache.{PlainCache}
 use Rattle.plain_disk.specs.State.{PlainState, history_length, image_now}
 use Rattle.plain_disk.specs.Reads.{objects_read, look_calls, look_reply, after_look}
 use Rattle.plain_disk.specs.Valid.{IsPlainVolume}
-use Rattle.log_meaning.specs.Fuses.{fuse_in}
-use Rattle.log_meaning.proofs.Shown.{same_shows_same}
-use Rattle.objects_meaning.proofs.ShowLemmas.{shown_have_counts, shown_with_other_cache}
+use Rattle.refine_log.specs.Fuses.{fuse_in}
+use Rattle.refine_log.proofs.Shown.{same_shows_same}
+use Rattle.refine_objects.proofs.ShowLemmas.{shown_have_counts, shown_with_other_cache}
 use Rattle.read_plan.specs.Plan.{PlanState, TellsWhole}
 use Rattle.read_plan.specs.Pins.{times, ArePinned, HasSamePins}
 use Rattle.read_plan.specs.Look.{IsReadPlan, reads_of, ReadsRange}

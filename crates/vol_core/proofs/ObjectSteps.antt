@@ -20,10 +20,10 @@ use Rattle.plain_disk.specs.Step.{plain_reply, plain_after}
 use Rattle.plain_disk.specs.Valid.{IsPlainVolume}
 use Rattle.plain_disk.proofs.EndLemmas.{ends_grow}
 use Rattle.plain_disk.proofs.EventLemmas.{seal_keeps, take_keeps, done_keeps, failed_keeps}
-use Rattle.objects_meaning.specs.Shows.{ShowsObjects}
-use Rattle.objects_meaning.proofs.ShowLemmas.{shown_have_counts, room_shows_same}
-use Rattle.objects_meaning.proofs.SealLemmas.{with_sealed, sealed_end, sealed_shows_seal, refused_seal_shows_none}
-use Rattle.objects_meaning.proofs.JobLemmas.{below_marked, taken_shows_take, failed_shows_failed, done_frontier, done_shows_done}
+use Rattle.refine_objects.specs.Shows.{ShowsObjects}
+use Rattle.refine_objects.proofs.ShowLemmas.{shown_have_counts, room_shows_same}
+use Rattle.refine_objects.proofs.SealLemmas.{with_sealed, sealed_end, sealed_shows_seal, refused_seal_shows_none}
+use Rattle.refine_objects.proofs.JobLemmas.{below_marked, taken_shows_take, failed_shows_failed, done_frontier, done_shows_done}
 use Rattle.vol_core.specs.declared.event.Event.{Event}
 use Rattle.vol_core.specs.declared.event.Event.TheVariants.{Seal, TakeJob, JobDone, JobFailed, Status}
 use Rattle.vol_core.specs.declared.reply.Reply.{Reply}

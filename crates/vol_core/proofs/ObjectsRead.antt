@@ -23,11 +23,11 @@ use Rattle.plain_disk.specs.Reads.{is_read_from, objects_read}
 use Rattle.read_plan.specs.Look.{AreObjectsIn}
 use Rattle.read_plan.specs.Pins.{times}
 use Rattle.read_plan.proofs.PinLemmas.{is_it, times_there, times_nowhere}
-use Rattle.reads_meaning.specs.Places.{IsHeldAt}
-use Rattle.reads_meaning.specs.Laws.{ShowsReads}
-use Rattle.reads_meaning.proofs.HoldLemmas.{places_hold_sectors}
-use Rattle.reads_meaning.proofs.OwnerLemmas.{places_are_of_objects_read}
-use Rattle.reads_meaning.proofs.ShownLemmas.{image_has_sectors, counts}
+use Rattle.vol_core.specs.Places.{IsHeldAt}
+use Rattle.vol_core.specs.ReadLaws.{ShowsReads}
+use Rattle.vol_core.proofs.HoldLemmas.{places_hold_sectors}
+use Rattle.vol_core.proofs.OwnerLemmas.{places_are_of_objects_read}
+use Rattle.vol_core.proofs.ShownLemmas.{image_has_sectors, counts}
 use Rattle.vol_core.proofs.PinCounts.{one_of, none_of, counted, Ascend, rest_ascend, times_of_ascending}
 
 -- ---- ascending numbers

@@ -15,13 +15,13 @@ use Rattle.plain_disk.specs.State.{PlainState, frontier_end}
 use Rattle.plain_disk.specs.Entries.{batch_refusal, commits_for_room, after_entering}
 use Rattle.plain_disk.specs.Valid.{IsPlainVolume}
 use Rattle.plain_disk.proofs.EndLemmas.{frontier_ends}
-use Rattle.log_meaning.specs.Shows.{ShowsLog}
-use Rattle.log_meaning.specs.Logged.{HasLoggedEntries}
-use Rattle.log_meaning.specs.Fuses.{fuse_in}
-use Rattle.log_meaning.proofs.Shown.{trimmed_shows_same}
-use Rattle.pending_meaning.specs.Pending.{ShowsPending}
-use Rattle.pending_meaning.specs.Laws.{CanTake}
-use Rattle.pending_meaning.proofs.Shown.{still_shows_pending, entry_shows_pending, made_shows_pending, failed_shows_pending}
+use Rattle.refine_log.specs.Shows.{ShowsLog}
+use Rattle.refine_log.specs.Logged.{HasLoggedEntries}
+use Rattle.refine_log.specs.Fuses.{fuse_in}
+use Rattle.refine_log.proofs.Shown.{trimmed_shows_same}
+use Rattle.refine_log.specs.Pending.{ShowsPending}
+use Rattle.refine_log.specs.PendingLaws.{CanTake}
+use Rattle.refine_log.proofs.PendingShown.{still_shows_pending, entry_shows_pending, made_shows_pending, failed_shows_pending}
 use Rattle.vol_core.specs.Step.{passing}
 use Rattle.vol_core.specs.Calls.{CommitsFrom, Appends, EntersAtOnce, EntersLog}
 use Rattle.vol_core.proofs.CommitLemmas.{with_left, shown_next, CommitsAs, commit_has_fuse}

@@ -28,10 +28,10 @@ use Rattle.read_plan.specs.Places.{OneFetches, HoldsPlace}
 use Rattle.read_plan.specs.Look.{IsReadPlan}
 use Rattle.read_plan.specs.Laws.{TellsAll, IsSectorAt}
 use Rattle.read_plan.proofs.GivenLemmas.{gives_size, gives_sectors}
-use Rattle.reads_meaning.specs.Places.{IsHeldAt}
-use Rattle.reads_meaning.specs.Laws.{ShowsReads}
-use Rattle.reads_meaning.proofs.HoldLemmas.{places_hold_sectors}
-use Rattle.reads_meaning.proofs.ShownLemmas.{image_has_sectors}
+use Rattle.vol_core.specs.Places.{IsHeldAt}
+use Rattle.vol_core.specs.ReadLaws.{ShowsReads}
+use Rattle.vol_core.proofs.HoldLemmas.{places_hold_sectors}
+use Rattle.vol_core.proofs.ShownLemmas.{image_has_sectors}
 
 -- ---- the receipts
 

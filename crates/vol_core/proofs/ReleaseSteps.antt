@@ -13,8 +13,8 @@ use Rattle.plain_disk.specs.State.{PlainState}
 use Rattle.plain_disk.specs.Reads.{are_pinned, without_pins, after_plan_release}
 use Rattle.plain_disk.specs.Valid.{IsPlainVolume}
 use Rattle.plain_disk.proofs.EventLemmas.{release_keeps}
-use Rattle.log_meaning.specs.Logged.{HasLoggedEntries}
-use Rattle.objects_meaning.proofs.ShowLemmas.{shown_with_other_cache}
+use Rattle.refine_log.specs.Logged.{HasLoggedEntries}
+use Rattle.refine_objects.proofs.ShowLemmas.{shown_with_other_cache}
 use Rattle.read_plan.specs.Plan.{PlanState}
 use Rattle.read_plan.specs.Pins.{times, AreUnpinned}
 use Rattle.vol_core.specs.declared.event.Event.TheVariants.{Release}

@@ -16,10 +16,10 @@ use Rattle.plain_disk.specs.State.{PlainState, frontier_of, frontier_end, logged
 use Rattle.plain_disk.specs.Step.{plain_reply, plain_after}
 use Rattle.plain_disk.specs.Valid.{IsPlainVolume}
 use Rattle.plain_disk.proofs.EndLemmas.{ends_from}
-use Rattle.log_meaning.specs.Shows.{ShowsLog}
-use Rattle.log_meaning.specs.Logged.{listed_from, HasLoggedEntries}
-use Rattle.objects_meaning.specs.Shows.{ShowsObjects}
-use Rattle.pending_meaning.specs.Pending.{ShowsPending}
+use Rattle.refine_log.specs.Shows.{ShowsLog}
+use Rattle.refine_log.specs.Logged.{listed_from, HasLoggedEntries}
+use Rattle.refine_objects.specs.Shows.{ShowsObjects}
+use Rattle.refine_log.specs.Pending.{ShowsPending}
 use Rattle.read_plan.specs.Pins.{times}
 use Rattle.vol_core.specs.declared.event.Event.{Event}
 use Rattle.vol_core.specs.declared.reply.Reply.{Reply}

@@ -14,7 +14,7 @@ use Rattle.cache_log.specs.Committed.{IsOnDisk}
 use Rattle.volume_maps.specs.Maps.{MapsState}
 use Rattle.read_plan.specs.Look.{ReadsRange}
 use Rattle.object_uploads.specs.Order.{IsUploads}
-use Rattle.objects_meaning.proofs.ShowLemmas.{shown_have_counts}
+use Rattle.refine_objects.proofs.ShowLemmas.{shown_have_counts}
 use Rattle.obj_log.specs.State.{ObjLogState}
 use Rattle.obj_log.specs.Changes.{IsSame}
 use Rattle.vol_core.specs.declared.reply.Refusal.{Refusal}
@@ -22,10 +22,10 @@ use Rattle.vol_core.specs.declared.reply.Refusal.TheVariants as refusals
 use Rattle.plain_disk.specs.State.{PlainState}
 use Rattle.stopped_volume.specs.Device.{CacheOwner}
 use Rattle.plain_disk.specs.declared.log.PlainCommit.{PlainCommit}
-use Rattle.stop_meaning.specs.Stops.{HasCommitted, IsFoundOrNext, StopKeepsSince}
-use Rattle.stop_meaning.specs.Laws.{ShowsStops}
-use Rattle.stop_meaning.proofs.StopLemmas.{now_keeps}
-use Rattle.stop_meaning.proofs.CommittedLemmas.{same_has_committed}
+use Rattle.refine_log.specs.Stops.{HasCommitted, IsFoundOrNext, StopKeepsSince}
+use Rattle.refine_log.specs.StopLaws.{ShowsStops}
+use Rattle.refine_log.proofs.StopLemmas.{now_keeps}
+use Rattle.refine_log.proofs.CommittedLemmas.{same_has_committed}
 use Rattle.vol_core.specs.declared.reply.Reply.{Reply}
 use Rattle.vol_core.specs.declared.reply.Reply.TheVariants as told
 use Rattle.vol_core.specs.declared.event.Event.{Event}

@@ -31,7 +31,7 @@ use Rattle.vol_core.specs.declared.reply.Refusal.{Refusal}
 use Rattle.vol_core.specs.declared.reply.Refusal.TheVariants as refusals
 use Rattle.vol_core.specs.declared.reply.Reply.{Reply}
 use Rattle.vol_core.specs.declared.reply.Reply.TheVariants as replies
-use Rattle.log_meaning.specs.Laws.{CostsCommit}
+use Rattle.refine_log.specs.Laws.{CostsCommit}
 
 -- the event of an entry
 abbrev pub event_of : {R : Type 0} → Entry → Event R

@@ -8,7 +8,7 @@ use Rattle.commit_slot.specs.Formatting.{format_cost, format_calls}
 use Rattle.commit_slot.specs.Sequence.{Costs}
 use Rattle.cache_log.specs.Committed.{first_body}
 use Rattle.plain_disk.specs.State.{created_volume}
-use Rattle.log_meaning.specs.Fuses.{fuse_in}
+use Rattle.refine_log.specs.Fuses.{fuse_in}
 use Rattle.vol_core.specs.Volume.{SteppedVolume}
 use Rattle.vol_core.specs.Shows.{Shows}
 use Rattle.vol_core.specs.Step.{passing}

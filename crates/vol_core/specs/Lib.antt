@@ -6,3 +6,5 @@ pub mod Creating
 pub mod Stops
 pub mod Refusals
 pub mod Calls
+pub mod Places
+pub mod ReadLaws

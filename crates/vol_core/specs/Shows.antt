@@ -3,10 +3,10 @@ use Rattle.std.specs.Prelude.{◌≡◌, ℕ, ◌+◌, ◌*◌, ◌^◌, ◌≤�
 use Rattle.cache_log.specs.Log.{next_seq}
 use Rattle.plain_disk.specs.State.{PlainState}
 use Rattle.plain_disk.specs.Valid.{IsPlainVolume}
-use Rattle.log_meaning.specs.Shows.{ShowsLog}
-use Rattle.log_meaning.specs.Fuses.{fuse_in}
-use Rattle.log_meaning.specs.Logged.{HasLoggedEntries}
-use Rattle.objects_meaning.specs.Shows.{ShowsObjects}
+use Rattle.refine_log.specs.Shows.{ShowsLog}
+use Rattle.refine_log.specs.Fuses.{fuse_in}
+use Rattle.refine_log.specs.Logged.{HasLoggedEntries}
+use Rattle.refine_objects.specs.Shows.{ShowsObjects}
 use Rattle.read_plan.specs.Pins.{times}
 use Rattle.vol_core.specs.Volume.{VolumeState, SteppedVolume}
 

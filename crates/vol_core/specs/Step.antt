@@ -11,11 +11,11 @@ use Rattle.upload_window.specs.Window.{has_number}
 use Rattle.object_uploads.specs.Queue.{HasBytesAt}
 use Rattle.object_uploads.specs.Changes.{index_of}
 use Rattle.object_uploads.specs.Image.{IsReceiptFor}
-use Rattle.pending_meaning.specs.Pending.{ShowsPending}
+use Rattle.refine_log.specs.Pending.{ShowsPending}
 use Rattle.plain_disk.specs.declared.event.PlainEvent.{PlainEvent}
 use Rattle.plain_disk.specs.State.{PlainState}
 use Rattle.plain_disk.specs.Step.{plain_reply, plain_after}
-use Rattle.log_meaning.specs.Fuses.{fuse_in}
+use Rattle.refine_log.specs.Fuses.{fuse_in}
 use Rattle.vol_core.specs.declared.event.Event.{Event}
 use Rattle.vol_core.specs.declared.event.Event.TheVariants.{Write, Zero, Flush, Look, Release, Seal, JobDone, JobFailed}
 use Rattle.vol_core.specs.declared.reply.Refusal.TheVariants as refusals

@@ -3,7 +3,7 @@ use Rattle.std.specs.Prelude.{◌≡◌, ℕ, ◌⊎◌, Bool, true, false}
 use Rattle.stopped_volume.specs.Device.{CacheOwner}
 use Rattle.plain_disk.specs.declared.log.PlainCommit.{PlainCommit}
 use Rattle.plain_disk.specs.State.{PlainState}
-use Rattle.stop_meaning.specs.Stops.{HasCommitted, IsFoundCommit, next_commit, StopKeepsNow, StopKeepsSince}
+use Rattle.refine_log.specs.Stops.{HasCommitted, IsFoundCommit, next_commit, StopKeepsNow, StopKeepsSince}
 use Rattle.vol_core.specs.declared.event.Event.{Event}
 use Rattle.vol_core.specs.declared.event.Event.TheVariants.{Write, Zero, Flush}
 use Rattle.vol_core.specs.Volume.{VolumeState}

@@ -5,7 +5,7 @@ ghost use Rattle.log_room.specs.Room.{max_log};
 ghost use Rattle.cache_log.specs.Rows.{byte_of};
 ghost use Rattle.commit_slot.specs.Slots.{log_of};
 ghost use Rattle.plain_disk.specs.State.{created_volume};
-ghost use Rattle.pending_meaning.specs.Pending.{ShowsPending};
+ghost use Rattle.refine_log.specs.Pending.{ShowsPending};
 ghost use Rattle.vol_core.specs.Creating.{IsCreated, CostsFormat, CanFormat};
 
 use crate::volume::Volume;

@@ -5,7 +5,7 @@ ghost use Rattle.commit_slot.specs.Lending.{ChangesBudgetAlone};
 ghost use Rattle.cache_log.specs.Committed.{IsOnDisk};
 ghost use Rattle.object_uploads.specs.Order.{IsUploads};
 ghost use Rattle.plain_disk.specs.State.{PlainState};
-ghost use Rattle.log_meaning.specs.Fuses.{fuse_in};
+ghost use Rattle.refine_log.specs.Fuses.{fuse_in};
 ghost use Rattle.vol_core.specs.Volume.{volume_of, with_budget_of};
 ghost use Rattle.vol_core.specs.declared.event.Event.TheVariants as events;
 ghost use Rattle.vol_core.specs.Shows.{Shows, IsVolume, IsSmall, max_number};

@@ -22,7 +22,7 @@ use Rattle.cache_log.specs.Opening.{is_row_in_range, AreRowsInRange}
 use Rattle.object_uploads.specs.Order.{IsUploads}
 use Rattle.obj_log.specs.State.{ObjLogState}
 use Rattle.obj_log.specs.Changes.{IsSame, IsAdded}
-use Rattle.mount_meaning.specs.Mounted.{data_in, AddsEntries}
+use Rattle.refine_mount.specs.Mounted.{data_in, AddsEntries}
 
 -- ---- one after the other
 

@@ -24,7 +24,7 @@ use Rattle.cache_log.specs.Log.{LogState, all_rows, next_seq, AreRowsOf, HasSame
 use Rattle.cache_log.specs.Opening.{AreRowsInRange, is_row_in_range, sectors_between}
 use Rattle.cache_log.specs.Committed.{body_of, HasSameList, IsReleased, LeavesEntries, LeavesEntriesSince, sectors_from}
 use Rattle.obj_log.specs.State.{ObjLogState}
-use Rattle.mount_meaning.specs.Mounted.{data_in, AddsEntries}
+use Rattle.refine_mount.specs.Mounted.{data_in, AddsEntries}
 use Rattle.vol_core.specs.Shows.{max_number}
 use Rattle.vol_mount.specs.Costs.{again_cost}
 use Rattle.vol_mount.specs.Steps.{IsOpenedUpTo, LeavesFrom}

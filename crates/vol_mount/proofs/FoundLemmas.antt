@@ -26,9 +26,9 @@ use Rattle.cache_log.proofs.ForCallers.{have_one_list}
 use Rattle.stopped_volume.specs.Device.{CacheOwner}
 use Rattle.plain_disk.specs.declared.log.PlainCommit.{PlainCommit}
 use Rattle.plain_disk.specs.State.{PlainState}
-use Rattle.stop_meaning.specs.Stops.{entries_past, HasCommit}
-use Rattle.mount_meaning.specs.Mounted.{end_of_object}
-use Rattle.mount_meaning.specs.Stops.{StopKeepsMount}
+use Rattle.refine_log.specs.Stops.{entries_past, HasCommit}
+use Rattle.refine_mount.specs.Mounted.{end_of_object}
+use Rattle.refine_mount.specs.Stops.{StopKeepsMount}
 use Rattle.vol_mount.specs.Mounting.{IsLeft}
 use Rattle.vol_mount.specs.Steps.{IsOpenedOf}
 

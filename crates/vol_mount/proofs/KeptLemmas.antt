@@ -27,21 +27,21 @@ use Rattle.plain_disk.specs.declared.log.PlainCommit.{PlainCommit}
 use Rattle.plain_disk.specs.Log.{PlainLog}
 use Rattle.plain_disk.specs.State.{PlainState, history_length}
 use Rattle.plain_disk.specs.Valid.{IsPlainVolume}
-use Rattle.log_meaning.specs.Shows.{ShowsLog}
-use Rattle.log_meaning.specs.Fuses.{fuse_in}
-use Rattle.log_meaning.specs.Logged.{HasLoggedEntries}
-use Rattle.objects_meaning.specs.Shows.{ShowsObjects}
-use Rattle.stop_meaning.specs.Stops.{HasCommitted, entries_past}
-use Rattle.stop_meaning.proofs.CommittedLemmas.{trimmed_has_committed, commit_has_committed}
-use Rattle.mount_meaning.specs.Mounted.{end_of_object, mounted_with, mounted_without, log_found, committed_at, going_on, data_in}
-use Rattle.mount_meaning.specs.Stops.{StopKeepsMount}
-use Rattle.mount_meaning.specs.Rest.{IsAtRest}
-use Rattle.mount_meaning.proofs.ListLemmas.{list_shows_some}
-use Rattle.mount_meaning.proofs.EntryLemmas.{entries_go_on}
-use Rattle.mount_meaning.proofs.ReopenedLemmas.{reopened_shows_log}
-use Rattle.mount_meaning.proofs.OpenedLemmas.{opened_has_committed, added_are_logged}
-use Rattle.mount_meaning.proofs.GoingLemmas.{mounted_is_plain_volume, mounted_is_going_on}
-use Rattle.mount_meaning.proofs.StopLemmas.{committing_keeps_mount}
+use Rattle.refine_log.specs.Shows.{ShowsLog}
+use Rattle.refine_log.specs.Fuses.{fuse_in}
+use Rattle.refine_log.specs.Logged.{HasLoggedEntries}
+use Rattle.refine_objects.specs.Shows.{ShowsObjects}
+use Rattle.refine_log.specs.Stops.{HasCommitted, entries_past}
+use Rattle.refine_log.proofs.CommittedLemmas.{trimmed_has_committed, commit_has_committed}
+use Rattle.refine_mount.specs.Mounted.{end_of_object, mounted_with, mounted_without, log_found, committed_at, going_on, data_in}
+use Rattle.refine_mount.specs.Stops.{StopKeepsMount}
+use Rattle.refine_mount.specs.Rest.{IsAtRest}
+use Rattle.refine_mount.proofs.ListLemmas.{list_shows_some}
+use Rattle.refine_mount.proofs.EntryLemmas.{entries_go_on}
+use Rattle.refine_mount.proofs.ReopenedLemmas.{reopened_shows_log}
+use Rattle.refine_mount.proofs.OpenedLemmas.{opened_has_committed, added_are_logged}
+use Rattle.refine_mount.proofs.GoingLemmas.{mounted_is_plain_volume, mounted_is_going_on}
+use Rattle.refine_mount.proofs.StopLemmas.{committing_keeps_mount}
 use Rattle.vol_core.specs.Volume.{volume_of}
 use Rattle.vol_core.specs.Shows.{Shows, IsSmall, max_number}
 use Rattle.vol_core.specs.Step.{passing}

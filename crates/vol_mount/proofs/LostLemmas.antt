@@ -18,17 +18,17 @@ use Rattle.obj_log.specs.State.{ObjLogState}
 use Rattle.plain_disk.specs.Log.{empty_from}
 use Rattle.plain_disk.specs.Cache.{PlainCache, cache_with}
 use Rattle.plain_disk.specs.State.{PlainState}
-use Rattle.log_meaning.specs.Shows.{ShowsLog}
-use Rattle.log_meaning.specs.Fuses.{fuse_in}
-use Rattle.log_meaning.specs.Logged.{HasLoggedEntries}
-use Rattle.log_meaning.proofs.Shown.{formatted_shows_empty}
-use Rattle.objects_meaning.specs.Shows.{ShowsObjects}
-use Rattle.stop_meaning.specs.Stops.{HasCommitted}
-use Rattle.stop_meaning.proofs.CommittedLemmas.{formatted_has_committed}
-use Rattle.mount_meaning.specs.Mounted.{data_in, going_on, mounted_without}
-use Rattle.mount_meaning.specs.Rest.{IsAtRest}
-use Rattle.mount_meaning.proofs.ListLemmas.{list_shows_some}
-use Rattle.mount_meaning.proofs.OpenedLemmas.{added_are_logged}
+use Rattle.refine_log.specs.Shows.{ShowsLog}
+use Rattle.refine_log.specs.Fuses.{fuse_in}
+use Rattle.refine_log.specs.Logged.{HasLoggedEntries}
+use Rattle.refine_log.proofs.Shown.{formatted_shows_empty}
+use Rattle.refine_objects.specs.Shows.{ShowsObjects}
+use Rattle.refine_log.specs.Stops.{HasCommitted}
+use Rattle.refine_log.proofs.CommittedLemmas.{formatted_has_committed}
+use Rattle.refine_mount.specs.Mounted.{data_in, going_on, mounted_without}
+use Rattle.refine_mount.specs.Rest.{IsAtRest}
+use Rattle.refine_mount.proofs.ListLemmas.{list_shows_some}
+use Rattle.refine_mount.proofs.OpenedLemmas.{added_are_logged}
 use Rattle.upload_window.specs.Window.{WindowState}
 use Rattle.vol_core.specs.Volume.{volume_of}
 use Rattle.vol_core.specs.Shows.{Shows, IsSmall}

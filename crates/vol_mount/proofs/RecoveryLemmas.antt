@@ -16,11 +16,11 @@ use Rattle.object_recovery.specs.Judging.{HaveLanded}
 use Rattle.object_recovery.specs.Recovery.{HasDataUpTo, IsListUpTo, IsNoLonger, HasRecovered, IsLastLanded, IsRecoveredOf}
 use Rattle.object_recovery.specs.Recovery.{IsRefusal, IsRefused, AreAllGood}
 use Rattle.object_recovery.proofs.RecoverLemmas.{base_is}
-use Rattle.mount_meaning.specs.Found.{HasObjects}
-use Rattle.mount_meaning.specs.Mounted.{end_of_object, mounted_without}
-use Rattle.mount_meaning.specs.Rest.{IsAtRest}
-use Rattle.mount_meaning.proofs.RestLemmas.{mounted_is_at_rest, recovered_shows_objects}
-use Rattle.objects_meaning.specs.Shows.{ShowsObjects}
+use Rattle.refine_mount.specs.Found.{HasObjects}
+use Rattle.refine_mount.specs.Mounted.{end_of_object, mounted_without}
+use Rattle.refine_mount.specs.Rest.{IsAtRest}
+use Rattle.refine_mount.proofs.RestLemmas.{mounted_is_at_rest, recovered_shows_objects}
+use Rattle.refine_objects.specs.Shows.{ShowsObjects}
 use Rattle.vol_core.specs.Shows.{max_number}
 use Rattle.vol_mount.specs.declared.error.MountError.{MountError}
 use Rattle.vol_mount.specs.declared.error.MountError.TheVariants.{NoVolume, BadSuper, HasAncestors, NoCheckpoint, BadObject}

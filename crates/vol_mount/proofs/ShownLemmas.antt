@@ -4,11 +4,11 @@ use Rattle.cache_log.specs.Log.{LogState}
 use Rattle.obj_log.specs.State.{ObjLogState}
 use Rattle.plain_disk.specs.State.{PlainState}
 use Rattle.plain_disk.specs.Valid.{IsPlainVolume}
-use Rattle.log_meaning.specs.Shows.{ShowsLog}
-use Rattle.log_meaning.specs.Fuses.{fuse_in}
-use Rattle.log_meaning.specs.Logged.{HasLoggedEntries}
-use Rattle.objects_meaning.specs.Shows.{ShowsObjects}
-use Rattle.objects_meaning.proofs.ShowLemmas.{shown_with_other_cache}
+use Rattle.refine_log.specs.Shows.{ShowsLog}
+use Rattle.refine_log.specs.Fuses.{fuse_in}
+use Rattle.refine_log.specs.Logged.{HasLoggedEntries}
+use Rattle.refine_objects.specs.Shows.{ShowsObjects}
+use Rattle.refine_objects.proofs.ShowLemmas.{shown_with_other_cache}
 use Rattle.read_plan.specs.Pins.{times}
 use Rattle.vol_core.specs.Volume.{volume_of}
 use Rattle.vol_core.specs.Shows.{Shows}

@@ -5,7 +5,7 @@ use Rattle.lsvd_device.specs.Device.{DiskState, HoldsNow}
 use Rattle.commit_body.specs.declared.body.CommitBody.{CommitBody}
 use Rattle.commit_slot.specs.Slots.{Reads}
 use Rattle.plain_disk.specs.State.{PlainState, history_length}
-use Rattle.log_meaning.specs.Fuses.{fuse_in}
+use Rattle.refine_log.specs.Fuses.{fuse_in}
 use Rattle.vol_core.specs.Volume.{SteppedVolume}
 use Rattle.vol_core.specs.Shows.{Shows}
 use Rattle.vol_core.specs.Step.{passing}

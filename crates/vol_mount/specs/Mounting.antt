@@ -8,10 +8,10 @@ use Rattle.lsvd_objstore.specs.Objects.{Objects}
 use Rattle.plain_disk.specs.declared.log.PlainCommit.{PlainCommit}
 use Rattle.plain_disk.specs.State.{PlainState}
 use Rattle.plain_disk.specs.Valid.{IsPlainVolume}
-use Rattle.stop_meaning.specs.Stops.{HasCommit}
-use Rattle.mount_meaning.specs.Found.{HasObjects}
-use Rattle.mount_meaning.specs.Mounted.{end_of_object, mounted_with, mounted_without}
-use Rattle.mount_meaning.specs.Stops.{StopKeepsMount}
+use Rattle.refine_log.specs.Stops.{HasCommit}
+use Rattle.refine_mount.specs.Found.{HasObjects}
+use Rattle.refine_mount.specs.Mounted.{end_of_object, mounted_with, mounted_without}
+use Rattle.refine_mount.specs.Stops.{StopKeepsMount}
 use Rattle.vol_mount.specs.declared.error.MountError.{MountError}
 use Rattle.vol_mount.specs.Mounted.{MountedState, IsMountOf}
 use Rattle.vol_mount.specs.Refusals.{refuses}

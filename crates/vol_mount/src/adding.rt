@@ -6,7 +6,7 @@ ghost use Rattle.cache_log.specs.declared.row.Row.{Row as RowValue};
 ghost use Rattle.cache_log.specs.Rows.{record_size};
 ghost use Rattle.cache_log.specs.Log.{AreRowsOf};
 ghost use Rattle.cache_log.specs.Opening.{AreRowsInRange};
-ghost use Rattle.mount_meaning.specs.Mounted.{data_in, AddsEntries};
+ghost use Rattle.refine_mount.specs.Mounted.{data_in, AddsEntries};
 ghost use Rattle.vol_mount.specs.declared.error.MountError.TheVariants.{OutOfMemory};
 
 use crate::error::MountError;

@@ -13,8 +13,8 @@ use Rattle.stopped_volume.specs.Super.{super_name, epoch_name, HasVolume}
 use Rattle.plain_disk.specs.State.{created_volume, stream_in}
 use Rattle.plain_disk.proofs.EventLemmas.{created_is}
 use Rattle.object_recovery.specs.Checkpoints.{expected_of}
-use Rattle.store_meaning.specs.Puts.{ArePuts, MayBeLeft}
-use Rattle.store_meaning.specs.Laws.{LeftHasObjects}
+use Rattle.refine_store.specs.Puts.{ArePuts, MayBeLeft}
+use Rattle.refine_store.specs.Laws.{LeftHasObjects}
 use Rattle.super_recovery.specs.Found.{HasEpoch}
 use Rattle.super_recovery.specs.Laws.{VolumeIsCreated}
 use Rattle.super_recovery.specs.Put.{PutsSuper, PutsEpoch}

@@ -17,7 +17,7 @@ use Rattle.object_recovery.specs.Checkpoints.{expected_of}
 use Rattle.super_recovery.specs.declared.error.SuperError.{SuperError}
 use Rattle.super_recovery.specs.declared.error.SuperError.TheVariants as super_errors
 use Rattle.super_recovery.specs.Put.{PutsSuper, PutsEpoch}
-use Rattle.mount_meaning.specs.Found.{HasObjects}
+use Rattle.refine_mount.specs.Found.{HasObjects}
 use Rattle.vol_core.specs.Creating.{CostsFormat}
 use Rattle.vol_recover.specs.declared.creating.CreateError.{CreateError}
 use Rattle.vol_recover.specs.declared.creating.CreateError.TheVariants.{Exists, StoreFault, DeviceFault, OutOfMemory}

@@ -8,7 +8,7 @@
 //! mounted again. What is refused is left as it was. Whether the volume takes a log of so many sectors can be
 //! asked before its cache is made anew. It stands on `super_recovery` for the super object and
 //! epochs, on `vol_mount` for mounts of a volume whose sizes are known, on `vol_core` for the volume, and on
-//! `store_meaning` for the objects that a new store has.
+//! `refine_store` for the objects that a new store has.
 #![tactic(auto)]
 
 mod admitting;

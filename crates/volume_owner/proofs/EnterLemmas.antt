@@ -15,7 +15,7 @@ use Rattle.plain_disk.specs.declared.event.PlainReply.TheVariants as replies
 use Rattle.plain_disk.specs.State.{PlainState, history_length, unsealed_entries}
 use Rattle.plain_disk.specs.Entries.{enter_reply, after_entering}
 use Rattle.plain_disk.specs.Step.{plain_reply, plain_after}
-use Rattle.log_meaning.specs.Fuses.{fuse_in}
+use Rattle.refine_log.specs.Fuses.{fuse_in}
 use Rattle.vol_core.specs.declared.reply.Refusal.{Refusal}
 use Rattle.vol_core.specs.declared.reply.Refusal.TheVariants as refusals
 use Rattle.vol_core.specs.declared.reply.Reply.{Reply}

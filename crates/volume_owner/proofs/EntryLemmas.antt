@@ -29,7 +29,7 @@ use Rattle.plain_disk.specs.Entries.{reply_of_full, batch_refusal, has_room_for,
 use Rattle.plain_disk.specs.Valid.{IsPlainVolume}
 use Rattle.plain_disk.proofs.CommitLemmas.{IsLogOf, commit_keeps}
 use Rattle.plain_disk.proofs.EndLemmas.{ends_from, frontier_ends}
-use Rattle.log_meaning.proofs.PlainCommits.{commit_made, calls_of_commit}
+use Rattle.refine_log.proofs.PlainCommits.{commit_made, calls_of_commit}
 use Rattle.volume_owner.proofs.PlainLemmas.{is_entered}
 
 -- ---- whether it is entered

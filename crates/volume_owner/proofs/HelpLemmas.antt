@@ -20,7 +20,7 @@ use Rattle.upload_window.specs.Window.{entered, below_open}
 use Rattle.object_uploads.specs.Order.{IsUploads}
 use Rattle.object_uploads.specs.State.{JobState}
 use Rattle.object_uploads.specs.Changes.{IsJobOf}
-use Rattle.log_meaning.specs.Fuses.{fuse_in}
+use Rattle.refine_log.specs.Fuses.{fuse_in}
 use Rattle.plain_disk.specs.declared.event.PlainEvent.{PlainEvent}
 use Rattle.plain_disk.specs.declared.event.PlainEvent.TheVariants as events
 use Rattle.plain_disk.specs.declared.event.PlainReply.{PlainReply}

@@ -21,9 +21,9 @@ use Rattle.stopped_volume.specs.Objects.{IsCheckpointOf}
 use Rattle.stopped_volume.specs.Store.{PutState, MayHoldPut}
 use Rattle.stopped_volume.specs.Store.PutState.{Acknowledged, Begun, NotBegun}
 use Rattle.stopped_volume.specs.Super.{HasVolume}
-use Rattle.store_meaning.specs.Puts.{IsObjectOf, state_of_put, AreBytesOfPut}
-use Rattle.store_meaning.specs.Stored.{StoreStands}
-use Rattle.store_meaning.proofs.KeepLemmas.{object_kept, count_within, size_within}
+use Rattle.refine_store.specs.Puts.{IsObjectOf, state_of_put, AreBytesOfPut}
+use Rattle.refine_store.specs.Stored.{StoreStands}
+use Rattle.refine_store.proofs.KeepLemmas.{object_kept, count_within, size_within}
 use Rattle.upload_window.specs.Window.{WindowState, has_number, entered, marked, acknowledged}
 use Rattle.vol_core.specs.Volume.{VolumeState}
 use Rattle.vol_core.specs.Shows.{Shows}

@@ -7,7 +7,7 @@ use Rattle.std.proofs.Math.Bool.{or-true, or-false, and-false}
 use Rattle.std.proofs.lemmas.Bool.{cases_eq, eq-eqb, ne_eqb}
 use Rattle.stopped_volume.specs.Store.{PutState}
 use Rattle.stopped_volume.specs.Store.PutState.{Acknowledged, Begun, NotBegun}
-use Rattle.store_meaning.specs.Puts.{state_of_put}
+use Rattle.refine_store.specs.Puts.{state_of_put}
 use Rattle.upload_window.specs.declared.object.OpenObject.{OpenObject}
 use Rattle.upload_window.specs.Window.{WindowState, Ascends, has_number, below_lowest, is_started, was_started, was_started_with}
 use Rattle.upload_window.specs.Window.{with_started, without, entered, marked, acknowledged}

@@ -9,7 +9,7 @@ use Rattle.lsvd_fault.specs.Faults.{Counts}
 use Rattle.lsvd_device.specs.Calls.{Fuse}
 use Rattle.lsvd_objstore.specs.Store.{ReceiptState}
 use Rattle.upload_window.specs.Window.{WindowState}
-use Rattle.log_meaning.specs.Fuses.{fuse_in}
+use Rattle.refine_log.specs.Fuses.{fuse_in}
 use Rattle.plain_disk.specs.declared.event.PlainEvent.TheVariants as events
 use Rattle.plain_disk.specs.declared.event.PlainReply.TheVariants as replies
 use Rattle.plain_disk.specs.declared.log.PlainCommit.{PlainCommit}

@@ -18,8 +18,8 @@ use Rattle.stopped_volume.specs.Objects.{IsCheckpointOf}
 use Rattle.stopped_volume.specs.Store.{PutState, MayHoldPut}
 use Rattle.stopped_volume.specs.Store.PutState.{Acknowledged, Begun, NotBegun}
 use Rattle.stopped_volume.specs.Super.{HasVolume, super_name, epoch_name}
-use Rattle.store_meaning.specs.Puts.{state_of_put, AreBytesOfPut, MayBeLeft}
-use Rattle.store_meaning.specs.Stored.{StoreStands}
+use Rattle.refine_store.specs.Puts.{state_of_put, AreBytesOfPut, MayBeLeft}
+use Rattle.refine_store.specs.Stored.{StoreStands}
 
 -- ---- the volume as a whole
 

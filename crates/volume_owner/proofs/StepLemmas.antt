@@ -12,7 +12,7 @@ use Rattle.plain_disk.specs.declared.log.PlainCommit.{PlainCommit}
 use Rattle.plain_disk.specs.declared.log.PlainRecord.{PlainRecord}
 use Rattle.plain_disk.specs.State.{PlainState, history_length, unsealed_entries}
 use Rattle.plain_disk.specs.Step.{plain_after}
-use Rattle.log_meaning.proofs.Following.{records_count}
+use Rattle.refine_log.proofs.Following.{records_count}
 use Rattle.read_plan.specs.Pins.{times}
 use Rattle.read_plan.proofs.PinLemmas.{times_there}
 use Rattle.vol_core.specs.declared.event.Event.{Event}

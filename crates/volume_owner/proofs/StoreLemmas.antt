@@ -10,7 +10,7 @@ use Rattle.lsvd_device.specs.Calls.{Fuse}
 use Rattle.lsvd_names.specs.declared.name.ObjName.{ObjName}
 use Rattle.lsvd_objstore.specs.Objects.{Objects, found, IsPut, MayBePut}
 use Rattle.lsvd_objstore.specs.Store.{StoreState, ReceiptState, Becomes}
-use Rattle.log_meaning.specs.Fuses.{fuse_in}
+use Rattle.refine_log.specs.Fuses.{fuse_in}
 use Rattle.object_recovery.specs.Checkpoints.{expected_of}
 use Rattle.object_stream.specs.Replay.{name_of}
 use Rattle.object_stream.specs.declared.object.Content.TheVariants.{Data}
@@ -28,9 +28,9 @@ use Rattle.plain_disk.specs.Reads.{look_calls, passes_look, objects_read, are_pi
 use Rattle.plain_disk.specs.State.{PlainState}
 use Rattle.plain_disk.specs.Step.{plain_reply, plain_after}
 use Rattle.stopped_volume.specs.Store.PutState.{Begun}
-use Rattle.store_meaning.specs.Puts.{IsObjectOf, state_of_put}
-use Rattle.store_meaning.specs.Stored.{StoreStands}
-use Rattle.store_meaning.proofs.JobLemmas.{job_is_object}
+use Rattle.refine_store.specs.Puts.{IsObjectOf, state_of_put}
+use Rattle.refine_store.specs.Stored.{StoreStands}
+use Rattle.refine_store.proofs.JobLemmas.{job_is_object}
 use Rattle.upload_window.specs.Window.{WindowState, below_open, lowest_ready, is_started, entered, marked, acknowledged}
 use Rattle.upload_window.proofs.Starts.{started_were}
 use Rattle.vol_core.specs.declared.event.Event.{Event}

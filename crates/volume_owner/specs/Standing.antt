@@ -4,7 +4,7 @@ use Rattle.lsvd_base.specs.declared.entry.Entry.{Entry}
 use Rattle.lsvd_objstore.specs.Objects.{Objects}
 use Rattle.lsvd_objstore.specs.Store.{ReceiptState}
 use Rattle.plain_disk.specs.State.{PlainState}
-use Rattle.store_meaning.specs.Stored.{StoreStands}
+use Rattle.refine_store.specs.Stored.{StoreStands}
 use Rattle.vol_core.specs.Shows.{Shows}
 use Rattle.volume_owner.specs.Acts.{Moment, Act, entered_by_act, IsAct, AreActs, MayBeLeftInAct}
 use Rattle.volume_owner.specs.History.{GoesOn}

@@ -8,7 +8,7 @@
 //! Each call is made of steps of the volume, puts of its objects and gets, over which the store goes on
 //! standing for the volume. `Eio` is answered exactly where one call of the disk or of the store failed. It
 //! stands on `vol_core` for the volume, on `object_uploads` and `read_plan` for puts and plans, on
-//! `lsvd_objstore` for the store, and on `store_meaning` for what stands in it.
+//! `lsvd_objstore` for the store, and on `refine_store` for what stands in it.
 #![tactic(auto)]
 
 mod draining;

@@ -1,7 +1,7 @@
 use Rattle.std.proofs.Common.{rules, ◌≡◌, length, subst, sym, refl, ◌∙◌, []}
 use Rattle.plain_disk.specs.State.{created_volume}
-use Rattle.log_meaning.specs.Fuses.{fuse_in}
-use Rattle.pending_meaning.specs.Pending.{ShowsPending}
+use Rattle.refine_log.specs.Fuses.{fuse_in}
+use Rattle.refine_log.specs.Pending.{ShowsPending}
 use Rattle.vol_core.specs.Volume.{SteppedVolume, volume_of}
 use Rattle.vol_core.specs.Shows.{Shows}
 use Rattle.vol_core.specs.Step.{passing}

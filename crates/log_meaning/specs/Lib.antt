@@ -1,4 +1,0 @@
-pub mod Shows
-pub mod Logged
-pub mod Fuses
-pub mod Laws

@@ -1,6 +1,0 @@
-use Rattle.mount_meaning.proofs.RestLemmas.{mounts_by_number}
-use Rattle.mount_meaning.proofs.GoingLemmas.{mounted_is_plain_volume, mounted_is_going_on}
-use Rattle.mount_meaning.proofs.laws.a_mount_goes_on_with_the_entries_found.Goals as goal
-
-pub returns : goal.returns
-returns c = record { by_number = mounts_by_number; plain = mounted_is_plain_volume; going_on = mounted_is_going_on }

@@ -1,5 +1,0 @@
-use Rattle.mount_meaning.proofs.StopLemmas.{committing_keeps_mount}
-use Rattle.mount_meaning.proofs.laws.stops_keep_what_is_mounted.Goals as goal
-
-pub returns : goal.returns
-returns c = committing_keeps_mount

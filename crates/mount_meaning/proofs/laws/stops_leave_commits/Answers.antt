@@ -1,5 +1,0 @@
-use Rattle.mount_meaning.proofs.LeftLemmas.{fates_keep_commit}
-use Rattle.mount_meaning.proofs.laws.stops_leave_commits.Goals as goal
-
-pub returns : goal.returns
-returns c = fates_keep_commit

@@ -1,9 +1,0 @@
-//! What the list of a volume's entries and objects means: those of the plain volume that it shows.
-//!
-//! Its contract: these definitions, and the laws that each call of the list does what the plain volume does.
-//! It stands on `obj_log` and the crates below it for the list, and on `plain_disk` for what it shows.
-#![tactic(auto)]
-
-mod laws;
-
-pub use laws::{calls_show_what_the_plain_volume_does, the_list_shows_a_plain_volume};

@@ -1,5 +1,0 @@
-pub mod Asked
-mod Cached
-mod Bodies
-mod Gates
-pub mod Shown

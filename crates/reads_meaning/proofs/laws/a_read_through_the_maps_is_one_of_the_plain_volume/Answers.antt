@@ -1,7 +1,0 @@
-use Rattle.reads_meaning.proofs.HoldLemmas.{places_hold_sectors}
-use Rattle.reads_meaning.proofs.OwnerLemmas.{places_are_of_objects_read}
-use Rattle.reads_meaning.proofs.ReadLemmas.{rows_are_runs}
-use Rattle.reads_meaning.proofs.laws.a_read_through_the_maps_is_one_of_the_plain_volume.Goals as goal
-
-pub returns : goal.returns
-returns c = record { sectors = places_hold_sectors; objects = places_are_of_objects_read; runs = rows_are_runs }

@@ -1,0 +1,357 @@
+-- Whatever a stop leaves of the store has the plain volume's objects up to the one before the first missing number.
+use Rattle.std.proofs.Common.{◌≡◌, ℕ, zero, suc, ◌+◌, ◌-◌, ◌^◌, ◌<◌, ◌==◌, inl, inr, Bool, true, false, cond, ◌&&◌, ◌||◌, Option}
+use Rattle.std.proofs.Common.{Some}
+use Rattle.std.proofs.Common.{None, is_some, List, [], ◌∷◌, take, drop, get_or, refl, sym, ◌∙◌, ap, subst, arith}
+use Rattle.std.specs.Prelude.{IsTrue}
+use Rattle.std.specs.List.{slice_get, list_any, All}
+use Rattle.std.proofs.lemmas.Bool.{cases_lt}
+use Rattle.std.proofs.lemmas.Bool.Decides.{nat_tests}
+use Rattle.std.proofs.lemmas.List.{length-take}
+use Rattle.std.proofs.lemmas.List.Elements.{All-weaker}
+use Rattle.std.proofs.lemmas.Option.{slice_get-get_or}
+use Rattle.lsvd_base.specs.declared.entry.Entry.{Entry}
+use Rattle.lsvd_base.specs.Image.{zero_sector, blank}
+use Rattle.lsvd_base.specs.Laws.{EndsBy}
+use Rattle.lsvd_base.specs.Range.{is_in_range}
+use Rattle.lsvd_objstore.specs.Objects.{Objects, found}
+use Rattle.object_format.specs.declared.expected.Expected.{Expected}
+use Rattle.object_format.specs.declared.rows.Rows.TheVariants as rows_of
+use Rattle.object_stream.specs.declared.object.Content.{Content}
+use Rattle.object_stream.specs.declared.object.Content.TheVariants.{Data}
+use Rattle.object_stream.specs.declared.object.StreamObject.{StreamObject}
+use Rattle.object_stream.specs.Landed.{Numbers, IsFirstMissing}
+use Rattle.object_stream.specs.Replay.{name_of, HasParts, expected_at}
+use Rattle.object_stream.specs.Stored.{HasContent, IsStored, AreStored}
+use Rattle.object_stream.specs.Stream.{Owners, Stream, objects_to, end_after, end_at, EndsFollow}
+use Rattle.object_stream.specs.Value.{StandsForSector, IsValue}
+use Rattle.object_stream.proofs.OneLemmas.{same_parts}
+use Rattle.upload_window.specs.declared.object.OpenObject.{OpenObject}
+use Rattle.upload_window.specs.Window.{WindowState, has_number, was_started, IsAcknowledged}
+use Rattle.stopped_volume.specs.Objects.{landed_in, expected_alone, IsCheckpointOf, AreCheckpoints, IsWhole, AreWholePast}
+use Rattle.stopped_volume.specs.Store.{PutState, MayHoldPut}
+use Rattle.stopped_volume.specs.Store.PutState.{Acknowledged, Begun, NotBegun}
+use Rattle.stopped_volume.specs.Laws.{HasStreamUpTo}
+use Rattle.stopped_volume.proofs.WholeLemmas.{is_whole}
+use Rattle.object_recovery.specs.Checkpoints.{expected_of}
+use Rattle.plain_disk.specs.State.{PlainState, stream_in}
+use Rattle.plain_disk.specs.Stops.{recovered_number}
+use Rattle.plain_disk.specs.Valid.{IsPlainVolume, MayLand}
+use Rattle.plain_disk.proofs.Overlaid.{EndsBy-in_range, sectors_limit}
+use Rattle.plain_disk.proofs.StopLemmas.{recovers_before_missing, recovers_sealed}
+use Rattle.refine_mount.specs.Found.{HasObjects}
+use Rattle.refine_store.specs.Puts.{entries_in_object, IsObjectOf, state_of_put, AreBytesOfPut, ArePuts, MayBeLeft}
+use Rattle.refine_store.specs.Laws.{LeftHasObjects}
+use Rattle.refine_store.proofs.ObjectLemmas.{get_of_first, end_up_to, entries_at, entries_past_first, entries_of_first}
+
+-- ---- the objects of puts
+
+-- an object that is there under a put is the plain volume's
+object_of_put : (volume : Expected) (plain : PlainState) (number : ℕ) (state : PutState) (bytes : List ℕ) (held : Option (List ℕ))
+    → MayHoldPut state bytes held → AreBytesOfPut state volume plain number bytes → is_some held ≡ true
+    → (held ≡ Some bytes) × IsObjectOf volume plain number bytes
+object_of_put volume plain number Acknowledged bytes held may is there = (may, is)
+object_of_put volume plain number Begun bytes held may is there = elim may [
+  | inl none ↦ absurd (let e = ap is_some none in cc)
+  | inr has ↦ (has, is)
+]
+object_of_put volume plain number NotBegun bytes held may is there = absurd (let e = ap is_some may in cc)
+
+-- one that is not open was acknowledged
+none_started_test : (open_here was any started : Bool) → (any ≡ false → started ≡ false) → (open_here || any) ≡ false
+    → ((open_here && was) || started) ≡ false
+none_started_test true was any started rest closed = absurd (cc)
+none_started_test false was any started rest closed = rest closed
+
+none_started : (number : ℕ) (objects : List OpenObject) → list_any (has_number number) objects ≡ false
+    → was_started number objects ≡ false
+none_started number [] closed = refl
+none_started number (object ∷ objects) closed =
+    none_started_test (has_number number object) object.was_started (list_any (has_number number) objects)
+    (was_started number objects)
+    (none_started number objects) closed
+
+acknowledged_put : (window : WindowState) (number : ℕ) → IsAcknowledged window number → state_of_put window number ≡ Acknowledged
+acknowledged_put window number is =
+    ap (λ b. cond b Begun (cond (list_any (has_number number) window.objects) NotBegun Acknowledged))
+    (none_started number window.objects is.not_open)
+    ∙ ap (λ b. cond b NotBegun Acknowledged) is.not_open
+
+-- ---- objects of a store
+
+-- a checkpoint is no data object
+no_data : (volume : Expected) (plain : PlainState) (objects : Objects) (number end : ℕ) (owned : Owners) (bytes : List ℕ)
+    → volume.sectors < 2 ^ 64
+    → IsCheckpointOf volume objects number end owned → found objects (name_of volume.uuid number) ≡ Some bytes
+    → IsObjectOf volume plain number bytes → ⊥
+no_data volume plain objects number end owned bytes wide is there data_is =
+    let same : is.bytes ≡ bytes = let e = is.present in cc in
+    let one =
+    same_parts (expected_alone volume number) (expected_at volume number (end_at (stream_in plain) (number - 1)))
+    is.bytes bytes is.header data_is.header
+    rows_of.Checkpoint (rows_of.Data data_is.rows) is.payload data_is.payload wide wide same is.parts data_is.parts in
+    one.same_rows
+
+-- objects are stored where each is
+module _ (objects : Objects) (uuid_at : ℕ → Option (List ℕ)) (volume : Expected) where
+  -- the object at an index is stored
+  abbrev IsStoredAt : (number end : ℕ) → List Entry → List StreamObject → ℕ → StreamObject → Type 0
+  IsStoredAt number end entries list i object =
+      IsStored objects uuid_at (expected_at volume (number + 1 + i) (end_after end (take i list))) object
+      (entries_at end entries list i object)
+
+  stored_past_first : (number end : ℕ) (entries : List Entry) (first object : StreamObject) (i : ℕ) (more : List StreamObject)
+      → EndsFollow end (first ∷ more) → IsStoredAt number end entries (first ∷ more) (suc i) object
+      → IsStoredAt (number + 1) first.end (drop (first.end - end) entries) more i object
+  stored_past_first number end entries first object i more follow is =
+      let before = end_after first.end (take i more) in
+      let sum : number + 1 + suc i ≡ number + 1 + 1 + i = omega arith in
+      let part = entries_at first.end (drop (first.end - end) entries) more i object in
+      subst (λ n. IsStored objects uuid_at (expected_at volume n before) object part) sum
+      (subst (λ list. IsStored objects uuid_at (expected_at volume (number + 1 + suc i) before) object list)
+      (sym (entries_past_first end entries first object i more follow)) is)
+
+  stored_is_first : (number end : ℕ) (entries : List Entry) (object : StreamObject) (more : List StreamObject)
+      → IsStoredAt number end entries (object ∷ more) 0 object
+      → IsStored objects uuid_at (expected_at volume (number + 1) end) object (take (object.end - end) entries)
+  stored_is_first number end entries object more is =
+      let sum : number + 1 + 0 ≡ number + 1 = omega arith in
+      subst (λ n. IsStored objects uuid_at (expected_at volume n end) object (take (object.end - end) entries)) sum
+      (subst (λ list. IsStored objects uuid_at (expected_at volume (number + 1 + 0) end) object list)
+      (sym (entries_of_first end entries object more)) is)
+
+  stored_by_each : (count number end : ℕ) (entries : List Entry) (list : List StreamObject) → EndsFollow end list
+      → ((i : ℕ) (object : StreamObject) → i < count → slice_get list i ≡ Some object
+      → IsStoredAt number end entries list i object)
+      → AreStored objects uuid_at volume number end entries (take count list)
+  stored_by_each zero number end entries list follow each = tt
+  stored_by_each (suc count) number end entries [] follow each = tt
+  stored_by_each (suc count) number end entries (object ∷ more) follow each = (
+    stored_is_first number end entries object more (each 0 object (omega arith) refl),
+    stored_by_each count (number + 1) object.end (drop (object.end - end) entries) more follow.1
+        (λ i other low at. stored_past_first number end entries object other i more follow (each (suc i) other (omega arith) at)),
+  )
+
+-- a blank image has zeros
+blank_at : (sectors k : ℕ) (sector : List ℕ) → slice_get (blank sectors) k ≡ Some sector → sector ≡ zero_sector
+blank_at zero k sector at = absurd (cc)
+blank_at (suc sectors) zero sector at = let same : zero_sector ≡ sector = cc in sym same
+blank_at (suc sectors) (suc k) sector at = blank_at sectors k sector at
+
+-- ---- what is left
+
+module _ (uuid : List ℕ) (epoch : ℕ) (plain : PlainState) (puts : ℕ → Option (PutState × List ℕ)) (objects : Objects)
+    (valid : IsPlainVolume plain)
+    (are : ArePuts (expected_of uuid plain.geometry) plain puts) (left : MayBeLeft uuid epoch plain puts objects) where
+  abbrev volume : Expected
+  volume = expected_of uuid plain.geometry
+
+  abbrev stream : Stream
+  stream = stream_in plain
+
+  abbrev landed : Numbers
+  landed = landed_in objects uuid
+
+  wide : plain.geometry.sectors < 2 ^ 64
+  wide = omega (arith, sectors_limit plain.geometry valid.limits)
+
+  -- an object past the checkpoint that has landed is the plain volume's
+  landed_object : (number : ℕ) → plain.number < number → IsTrue (landed number)
+      → (bytes : List ℕ) × (found objects (name_of uuid number) ≡ Some bytes) × IsObjectOf volume plain number bytes
+  landed_object number past there =
+      elim (cases_lt plain.window.last number) [
+        | inl over ↦
+            let none = left.held.none_else number past (are.none_else number over) in
+            absurd (let e = ap is_some none in cc)
+        | inr within ↦
+            let known = are.known number past within in
+            let state = state_of_put plain.window number in
+            let held = left.held.puts_are number state known.0 past known.1 in
+            let is = object_of_put volume plain number state known.0 (found objects (name_of uuid number)) held known.2 there in
+            (known.0, is.0, is.1)
+      ]
+
+  -- which objects have landed is a choice that the plain volume allows
+  acknowledged_landed : (number : ℕ) → plain.number < number → IsAcknowledged plain.window number → IsTrue (landed number)
+  acknowledged_landed number past is =
+      let known = are.known number past is.was_entered in
+      let state = acknowledged_put plain.window number is in
+      let held : MayHoldPut Acknowledged known.0 (found objects (name_of uuid number)) =
+      subst (λ s. MayHoldPut s known.0 (found objects (name_of uuid number))) state
+      (left.held.puts_are number (state_of_put plain.window number) known.0 past known.1) in
+      ap is_some held
+
+  may_land : MayLand plain landed
+  may_land = record {
+    surely = λ number some is. elim (cases_lt plain.number number) [
+      | inl past ↦ acknowledged_landed number past is
+      | inr low ↦
+          let same : plain.number ≡ number = omega (arith, left.opened_first) in
+          subst (λ n. IsTrue (landed n)) same (ap is_some left.first.present)
+    ];
+    perhaps = λ number over there.
+        let past : plain.number < number = omega (arith, valid.last) in
+        let none = left.held.none_else number past (are.none_else number over) in
+        let e = ap is_some none in absurd (cc);
+  }
+
+  abbrev number : ℕ
+  number = recovered_number landed plain
+
+  -- ---- the checkpoint
+
+  abbrev is_first : Numbers
+  is_first other = other == plain.number
+
+  missing : IsFirstMissing is_first landed (number + 1)
+  missing = recovers_before_missing plain landed is_first valid may_land (λ other. ap (λ n. other == n) (sym left.opened))
+
+  base_is : missing.base ≡ plain.number
+  base_is = let is : (missing.base == plain.number) ≡ true = missing.newest.is_checkpoint in grind (arith, nat_tests)
+
+  first_checkpoint : (other : ℕ) → other ≡ plain.number → (end : ℕ) × (owned : Owners)
+      × IsCheckpointOf volume objects other end owned
+  first_checkpoint other same =
+      (plain.end, stream.opening, subst (λ n. IsCheckpointOf volume objects n plain.end stream.opening) (sym same) left.first)
+
+  only_checkpoint : (other end : ℕ) (owned : Owners) → IsCheckpointOf volume objects other end owned → other ≡ plain.number
+  only_checkpoint other end owned is =
+      elim (cases_lt other plain.number) [
+        | inl low ↦ let none = left.none_lower other low in let there = is.present in absurd (cc)
+        | inr from ↦ elim (cases_lt plain.number other) [
+          | inl past ↦
+              let object = landed_object other past (ap is_some is.present) in
+              absurd (no_data volume plain objects other end owned object.0 wide is object.1 object.2)
+          | inr to ↦ omega arith
+        ]
+      ]
+
+  same_test : (a b : ℕ) → (a == b) ≡ true → a ≡ b
+  same_test a b is = grind (arith, nat_tests)
+
+  test_same : (a b : ℕ) → a ≡ b → (a == b) ≡ true
+  test_same a b is = grind (arith, nat_tests)
+
+  checkpoints : AreCheckpoints volume objects is_first
+  checkpoints other = (
+    (λ is. first_checkpoint other (same_test other plain.number is)),
+    (λ there. test_same other plain.number (only_checkpoint other there.0 there.1 there.2)),
+  )
+
+  -- ---- the objects past it
+
+  abbrev uuid_at : ℕ → Option (List ℕ)
+  uuid_at level = cond (level == 0) (Some uuid) None
+
+  -- how many of the objects have landed
+  abbrev count : ℕ
+  count = number - plain.number
+
+  module _ (i : ℕ) (object : StreamObject) (low : i < count) (at : slice_get plain.objects i ≡ Some object) where
+    abbrev n : ℕ
+    n = plain.number + 1 + i
+
+    there : (bytes : List ℕ) × (found objects (name_of uuid n) ≡ Some bytes) × IsObjectOf volume plain n bytes
+    there = landed_object n (omega arith) (missing.least n (omega (arith, base_is)) (omega arith))
+
+    is_object : IsObjectOf volume plain n there.0
+    is_object = there.2
+
+    same : object ≡ record { content = Data; end = is_object.header.end_seq }
+    same =
+        let index : i ≡ n - (plain.number + 1) = omega arith in
+        let found_at = sym at ∙ ap (slice_get plain.objects) index ∙ is_object.object in
+        cc
+
+    is_data : object.content ≡ Data
+    is_data = ap (λ (o : StreamObject). o.content) same
+
+    before : end_at stream (n - 1) ≡ end_after plain.end (take i plain.objects)
+    before = let index : n - 1 - plain.number ≡ i = omega arith in ap (λ m. end_after plain.end (take m plain.objects)) index
+
+    ends : end_at stream n ≡ object.end
+    ends =
+        let index : n - plain.number ≡ suc i = omega arith in
+        ap (λ m. end_after plain.end (take m plain.objects)) index ∙ end_up_to plain.end i plain.objects object at
+
+    entries : entries_in_object stream n ≡ entries_at plain.end plain.entries plain.objects i object
+    entries =
+        let from = end_after plain.end (take i plain.objects) in
+        ap (λ last. take (end_at stream n - last) (drop (last - plain.end) plain.entries)) before
+        ∙ ap (λ end. take (end - from) (drop (from - plain.end) plain.entries)) ends
+
+    content : HasContent objects uuid_at object.content (entries_at plain.end plain.entries plain.objects i object)
+        (rows_of.Data is_object.rows) is_object.payload
+    content =
+        let part = entries_at plain.end plain.entries plain.objects i object in
+        let data_has : HasContent objects uuid_at Data part (rows_of.Data is_object.rows) is_object.payload =
+        subst (λ list. HasContent objects uuid_at Data list (rows_of.Data is_object.rows) is_object.payload) entries
+        is_object.changes in
+        subst (λ (c : Content). HasContent objects uuid_at c part (rows_of.Data is_object.rows) is_object.payload)
+        (sym is_data) data_has
+
+    is_stored : IsStoredAt objects uuid_at volume plain.number plain.end plain.entries plain.objects i object
+    is_stored = record {
+      bytes = there.0;
+      header = is_object.header;
+      rows_of = rows_of.Data is_object.rows;
+      payload = is_object.payload;
+      present = there.1;
+      parts =
+          subst (λ end. HasParts (expected_at volume n end) there.0 is_object.header (rows_of.Data is_object.rows)
+          is_object.payload)
+          before is_object.parts;
+      ends = sym (ap (λ (o : StreamObject). o.end) same);
+      content = content;
+    }
+
+  hold_data : All (λ (object : StreamObject). object.content ≡ Data) (objects_to stream number)
+  hold_data i d inside =
+      let list = take count plain.objects in
+      let low : i < count = omega (arith, inside, length-take count plain.objects) in
+      let at = sym (get_of_first count i plain.objects low) ∙ slice_get-get_or list i d inside in
+      is_data i (get_or list i d) low at
+
+  inside : All (EndsBy plain.geometry.sectors) plain.entries
+  inside =
+      let g = plain.geometry in
+      All-weaker (λ entry. is_in_range g entry ≡ true) (EndsBy g.sectors) (EndsBy-in_range g) plain.entries valid.in_range
+
+  value : IsValue objects uuid_at stream.opening (blank plain.geometry.sectors)
+  value k sector at =
+      subst (λ owner. StandsForSector objects uuid_at owner k sector) (sym (left.first.none k))
+      (blank_at plain.geometry.sectors k sector at)
+
+  -- each object past it is the plain volume's too, so it is whole
+  past : AreWholePast volume objects number
+  past other bytes after there =
+      let object = landed_object other (omega (arith, missing.above, base_is, after)) (ap is_some there) in
+      let is = object.2 in
+      let same : object.0 ≡ bytes = let e = object.1 in cc in
+      subst (IsWhole (expected_alone volume other)) same
+      (is_whole volume other (end_at stream (other - 1)) object.0 is.header (rows_of.Data is.rows) is.payload is.parts)
+
+  stored : HasStreamUpTo volume uuid_at objects stream (blank plain.geometry.sectors) number
+  stored = record {
+    checkpoint = is_first;
+    checkpoints = checkpoints;
+    missing = missing;
+    base = base_is;
+    based = left.first;
+    value = value;
+    last = recovers_sealed plain landed valid;
+    stored = stored_by_each objects uuid_at volume count plain.number plain.end plain.entries plain.objects
+        valid.stream.ends is_stored;
+    past = past;
+  }
+
+  has_objects : HasObjects uuid plain number objects
+  has_objects = record {
+    uuid_at = uuid_at;
+    opened = left.opened;
+    blank_is = left.blank_is;
+    stored = record { valid = valid.stream; stored = stored; hold_data = hold_data; inside = inside };
+  }
+
+pub left_has_objects : LeftHasObjects
+left_has_objects uuid epoch plain puts objects valid are left =
+    (has_objects uuid epoch plain puts objects valid are left, may_land uuid epoch plain puts objects valid are left)

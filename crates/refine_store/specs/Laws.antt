@@ -1,0 +1,55 @@
+-- Contract: what a put gives a store is the plain volume's object, and what a stop leaves of the store has its objects.
+use Rattle.std.specs.Prelude.{ℕ, ◌<◌, ◌≤◌, Option, List}
+use Rattle.lsvd_objstore.specs.Objects.{Objects}
+use Rattle.object_format.specs.declared.expected.Expected.{Expected}
+use Rattle.object_uploads.specs.State.{JobState}
+use Rattle.object_uploads.specs.Order.{IsUploads}
+use Rattle.object_uploads.specs.Changes.{IsJobOf}
+use Rattle.obj_log.specs.State.{ObjLogState}
+use Rattle.obj_log.specs.Changes.{expected_of_volume}
+use Rattle.stopped_volume.specs.Objects.{landed_in}
+use Rattle.stopped_volume.specs.Store.{PutState}
+use Rattle.plain_disk.specs.declared.event.PlainEvent.{PlainEvent}
+use Rattle.plain_disk.specs.declared.log.PlainCommit.{PlainCommit}
+use Rattle.plain_disk.specs.State.{PlainState}
+use Rattle.plain_disk.specs.Step.{plain_after}
+use Rattle.plain_disk.specs.Stops.{recovered_number}
+use Rattle.plain_disk.specs.Valid.{IsPlainVolume, MayLand}
+use Rattle.refine_objects.specs.Shows.{ShowsObjects}
+use Rattle.object_recovery.specs.Checkpoints.{expected_of}
+use Rattle.refine_mount.specs.Found.{HasObjects}
+use Rattle.refine_mount.specs.Mounted.{mounted_with, mounted_without}
+use Rattle.refine_store.specs.Puts.{IsObjectOf, ArePuts, MayBeLeft}
+
+-- ---- objects
+
+-- the job of a put that began has the bytes of the plain volume's object
+abbrev pub JobIsObject : Type 0
+JobIsObject =
+    (data_at : ℕ → ℕ) (objects : ObjLogState) (plain : PlainState) (number : ℕ) (job : JobState)
+    → IsUploads objects.uploads.queue objects.uploads.window → IsPlainVolume plain → ShowsObjects data_at objects plain
+    → objects.uploads.queue.frontier < number → number ≤ objects.uploads.window.last
+    → IsJobOf objects.uploads number job → IsObjectOf (expected_of_volume objects) plain number job.bytes
+
+-- an object stays one while events go on
+abbrev pub EventsKeepObject : Type 0
+EventsKeepObject =
+    (volume : Expected) (plain : PlainState) (number : ℕ) (bytes : List ℕ) (event : PlainEvent) → IsPlainVolume plain
+    → IsObjectOf volume plain number bytes → IsObjectOf volume (plain_after event plain) number bytes
+
+-- and over a mount that recovers it
+abbrev pub MountsKeepObject : Type 0
+MountsKeepObject =
+    (volume : Expected) (plain : PlainState) (found : PlainCommit) (last number : ℕ) (bytes : List ℕ) → IsPlainVolume plain
+    → number ≤ last → IsObjectOf volume plain number bytes
+    → IsObjectOf volume (mounted_with found last plain) number bytes × IsObjectOf volume (mounted_without last plain) number bytes
+
+-- ---- stops
+
+-- whatever a stop leaves of the store has the objects of the plain volume up to the one before the first missing number
+abbrev pub LeftHasObjects : Type 0
+LeftHasObjects =
+    (uuid : List ℕ) (epoch : ℕ) (plain : PlainState) (puts : ℕ → Option (PutState × List ℕ)) (objects : Objects)
+    → IsPlainVolume plain
+    → ArePuts (expected_of uuid plain.geometry) plain puts → MayBeLeft uuid epoch plain puts objects
+    → HasObjects uuid plain (recovered_number (landed_in objects uuid) plain) objects × MayLand plain (landed_in objects uuid)

@@ -1,5 +1,0 @@
-use Rattle.store_meaning.proofs.LeftLemmas.{left_has_objects}
-use Rattle.store_meaning.proofs.laws.a_stopped_store_has_the_objects.Goals as goal
-
-pub returns : goal.returns
-returns c = left_has_objects

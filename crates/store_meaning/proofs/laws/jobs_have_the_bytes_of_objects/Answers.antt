@@ -1,6 +1,0 @@
-use Rattle.store_meaning.proofs.JobLemmas.{job_is_object}
-use Rattle.store_meaning.proofs.KeepLemmas.{events_keep_object, mounts_keep_object}
-use Rattle.store_meaning.proofs.laws.jobs_have_the_bytes_of_objects.Goals as goal
-
-pub returns : goal.returns
-returns c = record { job = job_is_object; events = events_keep_object; mounts = mounts_keep_object }
