@@ -17,8 +17,9 @@ use Rattle.object_stream.specs.declared.change.Change.TheVariants.{Put}
 use Rattle.object_stream.specs.Changes.{sector_of, change_from, change_in}
 use Rattle.batcher.specs.declared.place.BatchPlace.{BatchPlace}
 use Rattle.batcher.specs.declared.place.BatchPlace.TheVariants.{Data, Zeros}
-use Rattle.batcher.specs.Places.{place_on, body_at, change_of}
-use Rattle.batcher.specs.Rows.{row_place, row_of, joins, joined, rows_from, rows_of, piece_at, piece_of, payload_bytes, IsInBody}
+use Rattle.batcher.specs.Places.{place_on, entry_body_at, change_of}
+use Rattle.batcher.specs.Rows.{row_place, extent_row, joins, joined, rows_from, rows_of, piece_at, piece_of, payload_bytes}
+use Rattle.batcher.specs.Rows.{IsInBody}
 use Rattle.batcher.specs.Rows.{AreInBodies}
 use Rattle.batcher.proofs.RowLemmas.{rows_end, rows_start, rows_on, rows_off, payload_same, goes_parts, has_payload}
 use Rattle.batcher.proofs.PieceLemmas.{length-piece}
@@ -57,7 +58,7 @@ place_does : (entries : List Entry) (front back : List ℕ) (payload sectors i :
     (place_on i place)
 place_does entries front back payload sectors i (Data entry from) is starts low =
     let part = piece_at entries sectors (Data entry from) in
-    let body = body_at entries entry in
+    let body = entry_body_at entries entry in
     let size : 512 * (i + 1) ≤ length part =
     omega (arith, length-take (512 * sectors) (drop (512 * from) body), length-drop (512 * from) body, is.1, low) in
     ap Put (sector_midst front part back payload i starts size ∙ sector_part body from sectors i low)
@@ -115,7 +116,7 @@ module _ (entries : List Entry) (all : List ℕ) where
     bytes_after : all ≡ (front ++ piece_of entries extent) ++ payload_bytes entries extents
     bytes_after = is ∙ sym (append_assoc front (piece_of entries extent) (payload_bytes entries extents))
 
-    starts_after : length (front ++ piece_of entries extent) ≡ 512 * (payload + data_payload (row_of payload extent))
+    starts_after : length (front ++ piece_of entries extent) ≡ 512 * (payload + data_payload (extent_row payload extent))
     starts_after =
         omega (
           arith,
@@ -127,7 +128,7 @@ module _ (entries : List Entry) (all : List ℕ) where
         )
 
     -- a row of the extent alone does what the extent does
-    own_row : (k : ℕ) → from_row (row_of payload extent) extents k ≡ does (extent ∷ extents) k
+    own_row : (k : ℕ) → from_row (extent_row payload extent) extents k ≡ does (extent ∷ extents) k
     own_row k =
         elim (cases_Bool (is_within extent.lba extent.sectors k)) [
           | inl covers ↦
@@ -147,10 +148,10 @@ module _ (entries : List Entry) (all : List ℕ) where
         ]
 
     -- a row that the extent goes on with does what both do
-    joined_row : (row : DataRow) → joins row (row_of payload extent) ≡ true → EndsAt row.place row.sectors payload → (k : ℕ)
-        → from_row (joined row (row_of payload extent)) extents k ≡ from_row row (extent ∷ extents) k
+    joined_row : (row : DataRow) → joins row (extent_row payload extent) ≡ true → EndsAt row.place row.sectors payload → (k : ℕ)
+        → from_row (joined row (extent_row payload extent)) extents k ≡ from_row row (extent ∷ extents) k
     joined_row row goes ends k =
-        let parts = goes_parts row (row_of payload extent) goes in
+        let parts = goes_parts row (extent_row payload extent) goes in
         let long = is_within row.lba (row.sectors + extent.sectors) k in
         let short = is_within row.lba row.sectors k in
         let next = is_within extent.lba extent.sectors k in
@@ -196,7 +197,7 @@ module _ (entries : List Entry) (all : List ℕ) where
       → change_in (rows_from (Some row) payload extents) all k ≡ from_row row extents k
   rows_change row payload [] front is starts bodies ends k = ap (λ rows. change_in rows all k) (rows_end (Some row) payload)
   rows_change row payload (extent ∷ extents) front is starts bodies ends k =
-      let next = row_of payload extent in
+      let next = extent_row payload extent in
       let after = payload + data_payload next in
       let more = front ++ piece_of entries extent in
       let bytes = bytes_after payload extent extents front is starts bodies.0 in
@@ -222,7 +223,7 @@ pub rows_of_change : (entries : List Entry) (extents : List (Extent BatchPlace))
 rows_of_change entries [] bodies k = ap (λ rows. change_in rows [] k) (rows_end None 0)
 rows_of_change entries (extent ∷ extents) bodies k =
     let all = payload_bytes entries (extent ∷ extents) in
-    let row = row_of 0 extent in
+    let row = extent_row 0 extent in
     ap (λ rows. change_in rows all k) (rows_start 0 extent extents)
     ∙ rows_change entries all row (0 + data_payload row) extents (piece_of entries extent) refl
     (starts_after entries all 0 extent extents [] refl refl bodies.0) bodies.1 (next_ends 0 extent.sectors extent.place) k

@@ -16,7 +16,7 @@ use Rattle.object_format.specs.Rows.{payload_at}
 use Rattle.batcher.specs.declared.place.BatchPlace.{BatchPlace}
 use Rattle.batcher.specs.declared.place.BatchPlace.TheVariants.{Data, Zeros}
 use Rattle.batcher.specs.Batch.{data_sectors}
-use Rattle.batcher.specs.Places.{place_on, extent_of, place_from, place_by}
+use Rattle.batcher.specs.Places.{place_on, extent_of, extent_place, place_by}
 use Rattle.batcher.specs.Rows.{row_place, extent_payload, IsInBody, AreInBodies}
 use Rattle.batcher.proofs.PlaceLemmas.{HasSector}
 
@@ -203,13 +203,13 @@ weight_off : (b : Bool) (place : BatchPlace) → b ≡ false → weight (cond b 
 unfolding weight
 weight_off b place off = ap (λ t. weight (cond t (Some place) None)) off
 
-entry_counts : (entry : Entry) (index from n : ℕ) → count (place_from (extent_of index entry)) from n ≤ data_sectors entry
+entry_counts : (entry : Entry) (index from n : ℕ) → count (extent_place (extent_of index entry)) from n ≤ data_sectors entry
 entry_counts (Write lba body) index from n =
-    let few = count_range (place_from (extent_of index (Write lba body))) lba (length body / 512) from n
+    let few = count_range (extent_place (extent_of index (Write lba body))) lba (length body / 512) from n
     (λ k off. weight_off (is_within lba (length body / 512) k) (Data index (0 + (k - lba))) off) in
     omega (arith, few)
 entry_counts (Zero lba sectors) index from n =
-    let none = count_none (place_from (extent_of index (Zero lba sectors))) from n
+    let none = count_none (extent_place (extent_of index (Zero lba sectors))) from n
     (λ k. weight_zeros (is_within lba sectors k)) in
     omega (arith, none)
 
@@ -219,7 +219,7 @@ entries_count [] index from n =
     let none = count_none (place_by index []) from n (λ k. refl) in
     omega (arith, none)
 entries_count (entry ∷ entries) index from n =
-    let parts = count_or (place_by index (entry ∷ entries)) (place_by (suc index) entries) (place_from (extent_of index entry))
+    let parts = count_or (place_by index (entry ∷ entries)) (place_by (suc index) entries) (extent_place (extent_of index entry))
     from n (λ k. refl) in
     omega (
       arith,

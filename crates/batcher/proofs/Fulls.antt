@@ -19,7 +19,7 @@ use Rattle.lsvd_base.specs.Laws.{EndsBy}
 use Rattle.batcher.specs.declared.place.BatchPlace.{BatchPlace}
 use Rattle.batcher.specs.declared.plan.Plan.{Plan}
 use Rattle.batcher.specs.Batch.{data_sectors, max_entries, fullness, fullness_of_first}
-use Rattle.batcher.specs.Places.{place_from, extent_of, place_by}
+use Rattle.batcher.specs.Places.{extent_place, extent_of, place_by}
 use Rattle.batcher.specs.Plans.{IsPlanOf}
 use Rattle.batcher.specs.Invariant.{IsPutInPlan, IsBatch}
 
@@ -34,14 +34,14 @@ or_twice None b c = refl
 or_twice (Some place) b c = refl
 
 pub place_by_push : (index : ℕ) (entries : List Entry) (entry : Entry) (at k : ℕ) → at ≡ index + length entries
-    → place_by index (entries ++ entry ∷ []) k ≡ option_or (place_from (extent_of at entry) k) (place_by index entries k)
+    → place_by index (entries ++ entry ∷ []) k ≡ option_or (extent_place (extent_of at entry) k) (place_by index entries k)
 place_by_push index [] entry at k is =
     let same : index ≡ at = omega arith in
-    ap (λ i. place_from (extent_of i entry) k) same ∙ sym (or_none (place_from (extent_of at entry) k))
+    ap (λ i. extent_place (extent_of i entry) k) same ∙ sym (or_none (extent_place (extent_of at entry) k))
 place_by_push index (first ∷ entries) entry at k is =
-    ap (λ place. option_or place (place_from (extent_of index first) k))
+    ap (λ place. option_or place (extent_place (extent_of index first) k))
     (place_by_push (suc index) entries entry at k (omega arith))
-    ∙ or_twice (place_from (extent_of at entry) k) (place_by (suc index) entries k) (place_from (extent_of index first) k)
+    ∙ or_twice (extent_place (extent_of at entry) k) (place_by (suc index) entries k) (extent_place (extent_of index first) k)
 
 -- ---- counts
 
@@ -121,7 +121,7 @@ put_is_plan batch entries entry old new is none put =
           ∙ ap (sum_by data_sectors) (sym has);
       changes = λ k.
           put.changes k
-          ∙ ap (option_or (place_from (extent_of old.entries entry) k)) (is.changes k ∙ ap (λ list. place_by 0 list k) had)
+          ∙ ap (option_or (extent_place (extent_of old.entries entry) k)) (is.changes k ∙ ap (λ list. place_by 0 list k) had)
           ∙ sym (place_by_push 0 entries entry old.entries k (omega (arith, all)))
           ∙ ap (λ list. place_by 0 list k) (sym has);
       few = omega (arith, is.few, put.few, put.count);

@@ -8,22 +8,22 @@ use Rattle.lsvd_base.specs.declared.entry.Entry.{Entry}
 use Rattle.extent_map.specs.declared.extent.Extent.{Extent}
 use Rattle.batcher.specs.declared.place.BatchPlace.{BatchPlace}
 use Rattle.batcher.specs.declared.place.BatchPlace.TheVariants.{Data, Zeros}
-use Rattle.batcher.specs.Places.{body_of, body_at}
+use Rattle.batcher.specs.Places.{entry_body, entry_body_at}
 use Rattle.object_format.specs.Rows.{payload_at}
 use Rattle.batcher.specs.Rows.{row_place, piece_at, piece_of, payload_bytes, extent_payload, IsInBody, AreInBodies}
 
 -- ---- bodies
 
 pub body_here : (entries : List Entry) (index : ℕ) (d : Entry) → index < length entries
-    → body_at entries index ≡ body_of (get_or entries index d)
-unfolding body_at
+    → entry_body_at entries index ≡ entry_body (get_or entries index d)
+unfolding entry_body_at
 body_here [] index d inside = absurd (omega arith)
 body_here (entry ∷ entries) zero d inside = refl
 body_here (entry ∷ entries) (suc index) d inside = body_here entries index d (omega arith)
 
 pub body_read : (entries : List Entry) (index : ℕ) (entry : Entry) → index < length entries → entry ≡ get_or entries index entry
-    → body_at entries index ≡ body_of entry
-body_read entries index entry inside reads = body_here entries index entry inside ∙ ap body_of (sym reads)
+    → entry_body_at entries index ≡ entry_body entry
+body_read entries index entry inside reads = body_here entries index entry inside ∙ ap entry_body (sym reads)
 
 pub bodies_at : (entries : List Entry) (extents : List (Extent BatchPlace)) (index : ℕ) (d : Extent BatchPlace)
     → AreInBodies entries extents
@@ -43,7 +43,7 @@ bodies_take entries (suc n) (extent ∷ extents) are = (are.0, bodies_take entri
 length-piece_at : (entries : List Entry) (sectors : ℕ) (place : BatchPlace) → IsInBody entries sectors place
     → length (piece_at entries sectors place) ≡ 512 * payload_at sectors (row_place 0 place)
 length-piece_at entries sectors (Data entry from) is =
-    let body = body_at entries entry in
+    let body = entry_body_at entries entry in
     omega (arith, length-take (512 * sectors) (drop (512 * from) body), length-drop (512 * from) body, is.1)
 length-piece_at entries sectors Zeros is = refl
 

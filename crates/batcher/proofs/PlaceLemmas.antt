@@ -18,7 +18,7 @@ use Rattle.object_stream.specs.declared.change.Change.TheVariants.{Put}
 use Rattle.object_stream.specs.Changes.{sector_of, entry_change, change_at}
 use Rattle.batcher.specs.declared.place.BatchPlace.{BatchPlace}
 use Rattle.batcher.specs.declared.place.BatchPlace.TheVariants.{Data, Zeros}
-use Rattle.batcher.specs.Places.{extent_of, place_from, place_by, body_of, body_at, change_of}
+use Rattle.batcher.specs.Places.{extent_of, extent_place, place_by, entry_body, entry_body_at, change_of}
 
 -- ---- which sectors a range has
 
@@ -30,11 +30,11 @@ within_parts lba sectors k is =
 -- ---- entries in the midst of others
 
 pub body_past : (front more : List Entry) (entry : Entry) (index : ℕ) → index ≡ length front
-    → body_at (front ++ (entry ∷ more)) index ≡ body_of entry
-unfolding body_at
-body_past [] more entry index is = ap (body_at (entry ∷ more)) is
+    → entry_body_at (front ++ (entry ∷ more)) index ≡ entry_body entry
+unfolding entry_body_at
+body_past [] more entry index is = ap (entry_body_at (entry ∷ more)) is
 body_past (first ∷ front) more entry index is =
-    ap (body_at (first ∷ (front ++ (entry ∷ more)))) is ∙ body_past front more entry (length front) refl
+    ap (entry_body_at (first ∷ (front ++ (entry ∷ more)))) is ∙ body_past front more entry (length front) refl
 
 -- a place of two parts of entries is one of the later or of the earlier
 or_parts : (a b : Option BatchPlace) (place : BatchPlace) → option_or a b ≡ Some place → (a ≡ Some place) ⊎ (b ≡ Some place)
@@ -43,17 +43,17 @@ or_parts (Some other) b place is = inl is
 
 -- the data of an entry, as far as a place of it reaches
 abbrev pub HasSector : List Entry → (index sector : ℕ) → Type 0
-HasSector entries index sector = (index < length entries) × (512 * (sector + 1) ≤ length (body_at entries index))
+HasSector entries index sector = (index < length entries) × (512 * (sector + 1) ≤ length (entry_body_at entries index))
 
 here_has : (front more : List Entry) (entry : Entry) (index k at sector : ℕ) → index ≡ length front
-    → place_from (extent_of index entry) k ≡ Some (Data at sector) → HasSector (front ++ (entry ∷ more)) at sector
+    → extent_place (extent_of index entry) k ≡ Some (Data at sector) → HasSector (front ++ (entry ∷ more)) at sector
 here_has front more (Write lba body) index k at sector is gives =
     let parts = cond_some (is_within lba (length body / 512) k) (Data index (0 + (k - lba))) (Data at sector) gives in
     let range = within_parts lba (length body / 512) k parts.0 in
     let same : index ≡ at = cc in
     let from : 0 + (k - lba) ≡ sector = cc in
-    let reads : body_at (front ++ (Write lba body ∷ more)) at ≡ body =
-    ap (body_at (front ++ (Write lba body ∷ more))) (sym same) ∙ body_past front more (Write lba body) index is in (
+    let reads : entry_body_at (front ++ (Write lba body ∷ more)) at ≡ body =
+    ap (entry_body_at (front ++ (Write lba body ∷ more))) (sym same) ∙ body_past front more (Write lba body) index is in (
       omega (arith, length-append front (Write lba body ∷ more), is, same),
       subst (λ b. 512 * (sector + 1) ≤ length b) (sym reads) (omega (arith, range.0, range.1, from)),
     )
@@ -65,7 +65,7 @@ pub place_has : (front entries more : List Entry) (index k at sector : ℕ) → 
     → place_by index entries k ≡ Some (Data at sector) → HasSector (front ++ (entries ++ more)) at sector
 place_has front [] more index k at sector is gives = cc
 place_has front (entry ∷ entries) more index k at sector is gives =
-    elim (or_parts (place_by (suc index) entries k) (place_from (extent_of index entry) k) (Data at sector) gives) [
+    elim (or_parts (place_by (suc index) entries k) (extent_place (extent_of index entry) k) (Data at sector) gives) [
       | inl later ↦
           subst (λ all. HasSector all at sector) (append_assoc front (entry ∷ []) (entries ++ more))
           (place_has (front ++ entry ∷ []) entries more (suc index) k at sector
@@ -76,7 +76,7 @@ place_has front (entry ∷ entries) more index k at sector is gives =
 -- ---- places are inside the volume
 
 here_inside : (geometry : Geometry) (entry : Entry) (index k : ℕ) (place : BatchPlace) → EndsBy geometry.sectors entry
-    → place_from (extent_of index entry) k ≡ Some place → k < geometry.sectors
+    → extent_place (extent_of index entry) k ≡ Some place → k < geometry.sectors
 here_inside geometry (Write lba body) index k place ends gives =
     let parts = cond_some (is_within lba (length body / 512) k) (Data index (0 + (k - lba))) place gives in
     omega (arith, within_parts lba (length body / 512) k parts.0)
@@ -89,7 +89,7 @@ pub place_inside : (geometry : Geometry) (entries : List Entry) (index k : ℕ) 
     → place_by index entries k ≡ Some place → k < geometry.sectors
 place_inside geometry [] index k place ends gives = cc
 place_inside geometry (entry ∷ entries) index k place ends gives =
-    elim (or_parts (place_by (suc index) entries k) (place_from (extent_of index entry) k) place gives) [
+    elim (or_parts (place_by (suc index) entries k) (extent_place (extent_of index entry) k) place gives) [
       | inl later ↦ place_inside geometry entries (suc index) k place (All-tail (EndsBy geometry.sectors) entry entries ends)
           later
       | inr here ↦ here_inside geometry entry index k place (All-head (EndsBy geometry.sectors) entry entries ends) here
@@ -107,12 +107,12 @@ map_cond f true x = refl
 map_cond f false x = refl
 
 here_changes : (front more : List Entry) (entry : Entry) (index k : ℕ) → index ≡ length front
-    → option_map (change_of (front ++ (entry ∷ more))) (place_from (extent_of index entry) k) ≡ entry_change entry k
+    → option_map (change_of (front ++ (entry ∷ more))) (extent_place (extent_of index entry) k) ≡ entry_change entry k
 here_changes front more (Write lba body) index k is =
     let all = front ++ (Write lba body ∷ more) in
     let from : 0 + (k - lba) ≡ k - lba = omega arith in
     map_cond (change_of all) (is_within lba (length body / 512) k) (Data index (0 + (k - lba)))
-    ∙ ap (λ n. cond (is_within lba (length body / 512) k) (Some (Put (sector_of n (body_at all index)))) None) from
+    ∙ ap (λ n. cond (is_within lba (length body / 512) k) (Some (Put (sector_of n (entry_body_at all index)))) None) from
     ∙ ap (λ b. cond (is_within lba (length body / 512) k) (Some (Put (sector_of (k - lba) b))) None)
     (body_past front more (Write lba body) index is)
 here_changes front more (Zero lba sectors) index k is =
@@ -127,6 +127,6 @@ places_change front (entry ∷ entries) more index k is =
     subst (λ list. option_map (change_of list) (place_by (suc index) entries k) ≡ change_at entries k)
     (append_assoc front (entry ∷ []) (entries ++ more))
     (places_change (front ++ entry ∷ []) entries more (suc index) k (omega (arith, is, length-append front (entry ∷ [])))) in
-    map_or (change_of all) (place_by (suc index) entries k) (place_from (extent_of index entry) k)
-    ∙ ap (λ o. option_or o (option_map (change_of all) (place_from (extent_of index entry) k))) later
+    map_or (change_of all) (place_by (suc index) entries k) (extent_place (extent_of index entry) k)
+    ∙ ap (λ o. option_or o (option_map (change_of all) (extent_place (extent_of index entry) k))) later
     ∙ ap (option_or (change_at entries k)) (here_changes front (entries ++ more) entry index k is)

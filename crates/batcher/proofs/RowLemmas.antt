@@ -10,7 +10,7 @@ use Rattle.object_format.specs.declared.data_row.DataRow.{DataRow}
 use Rattle.object_format.specs.Rows.{payload_at, data_payload}
 use Rattle.batcher.specs.declared.place.BatchPlace.{BatchPlace}
 use Rattle.batcher.specs.declared.place.BatchPlace.TheVariants.{Data, Zeros}
-use Rattle.batcher.specs.Rows.{row_place, row_of, joins, joined, rows_from, rows_of, extent_payload}
+use Rattle.batcher.specs.Rows.{row_place, extent_row, joins, joined, rows_from, rows_of, extent_payload}
 
 -- ---- one extent more
 
@@ -20,36 +20,36 @@ rows_end None payload = refl
 rows_end (Some row) payload = refl
 
 pub rows_start : (payload : ℕ) (extent : Extent BatchPlace) (extents : List (Extent BatchPlace))
-    → rows_from None payload (extent ∷ extents) ≡ rows_from (Some (row_of payload extent))
-    (payload + data_payload (row_of payload extent)) extents
+    → rows_from None payload (extent ∷ extents) ≡ rows_from (Some (extent_row payload extent))
+    (payload + data_payload (extent_row payload extent)) extents
 unfolding rows_from
 rows_start payload extent extents = refl
 
 pub rows_on : (row : DataRow) (payload : ℕ) (extent : Extent BatchPlace) (extents : List (Extent BatchPlace))
-    → joins row (row_of payload extent) ≡ true
+    → joins row (extent_row payload extent) ≡ true
     → rows_from (Some row) payload (extent ∷ extents)
-    ≡ rows_from (Some (joined row (row_of payload extent))) (payload + data_payload (row_of payload extent)) extents
+    ≡ rows_from (Some (joined row (extent_row payload extent))) (payload + data_payload (extent_row payload extent)) extents
 unfolding rows_from
 rows_on row payload extent extents goes =
-    let after = payload + data_payload (row_of payload extent) in
-    ap (λ b. cond b (rows_from (Some (joined row (row_of payload extent))) after extents)
-    (row ∷ rows_from (Some (row_of payload extent)) after extents)) goes
+    let after = payload + data_payload (extent_row payload extent) in
+    ap (λ b. cond b (rows_from (Some (joined row (extent_row payload extent))) after extents)
+    (row ∷ rows_from (Some (extent_row payload extent)) after extents)) goes
 
 pub rows_off : (row : DataRow) (payload : ℕ) (extent : Extent BatchPlace) (extents : List (Extent BatchPlace))
-    → joins row (row_of payload extent) ≡ false
+    → joins row (extent_row payload extent) ≡ false
     → rows_from (Some row) payload (extent ∷ extents)
-    ≡ row ∷ rows_from (Some (row_of payload extent)) (payload + data_payload (row_of payload extent)) extents
+    ≡ row ∷ rows_from (Some (extent_row payload extent)) (payload + data_payload (extent_row payload extent)) extents
 unfolding rows_from
 rows_off row payload extent extents stops =
-    let after = payload + data_payload (row_of payload extent) in
-    ap (λ b. cond b (rows_from (Some (joined row (row_of payload extent))) after extents)
-    (row ∷ rows_from (Some (row_of payload extent)) after extents)) stops
+    let after = payload + data_payload (extent_row payload extent) in
+    ap (λ b. cond b (rows_from (Some (joined row (extent_row payload extent))) after extents)
+    (row ∷ rows_from (Some (extent_row payload extent)) after extents)) stops
 
 -- ---- one extent more in the making
 
 module _ (front : List DataRow) (last : Option DataRow) (payload added : ℕ) (extent : Extent BatchPlace) (row : DataRow)
-    (is : row ≡ row_of payload extent) (adds : added ≡ data_payload row) (more : List (Extent BatchPlace)) where
-  after_is : payload + added ≡ payload + data_payload (row_of payload extent)
+    (is : row ≡ extent_row payload extent) (adds : added ≡ data_payload row) (more : List (Extent BatchPlace)) where
+  after_is : payload + added ≡ payload + data_payload (extent_row payload extent)
   after_is = ap (λ n. payload + n) (adds ∙ ap data_payload is)
 
   pub made_first : last ≡ None → front ++ rows_from (Some row) (payload + added) more ≡ front ++ rows_from last payload
@@ -57,7 +57,7 @@ module _ (front : List DataRow) (last : Option DataRow) (payload added : ℕ) (e
   made_first none =
       ap (λ rows. front ++ rows)
       (ap (λ r. rows_from (Some r) (payload + added) more) is
-      ∙ ap (λ n. rows_from (Some (row_of payload extent)) n more) after_is
+      ∙ ap (λ n. rows_from (Some (extent_row payload extent)) n more) after_is
       ∙ sym (rows_start payload extent more)
       ∙ ap (λ l. rows_from l payload (extent ∷ more)) (sym none))
 
@@ -66,7 +66,7 @@ module _ (front : List DataRow) (last : Option DataRow) (payload added : ℕ) (e
   made_on before some goes =
       ap (λ rows. front ++ rows)
       (ap (λ r. rows_from (Some (joined before r)) (payload + added) more) is
-      ∙ ap (λ n. rows_from (Some (joined before (row_of payload extent))) n more) after_is
+      ∙ ap (λ n. rows_from (Some (joined before (extent_row payload extent))) n more) after_is
       ∙ sym (rows_on before payload extent more (ap (joins before) (sym is) ∙ goes))
       ∙ ap (λ l. rows_from l payload (extent ∷ more)) (sym some))
 
@@ -78,7 +78,7 @@ module _ (front : List DataRow) (last : Option DataRow) (payload added : ℕ) (e
       ∙ append_assoc front (before ∷ []) (rows_from (Some row) (payload + added) more)
       ∙ ap (λ list. front ++ list)
       (ap (λ r. before ∷ rows_from (Some r) (payload + added) more) is
-      ∙ ap (λ n. before ∷ rows_from (Some (row_of payload extent)) n more) after_is
+      ∙ ap (λ n. before ∷ rows_from (Some (extent_row payload extent)) n more) after_is
       ∙ sym (rows_off before payload extent more (ap (joins before) (sym is) ∙ stops))
       ∙ ap (λ l. rows_from l payload (extent ∷ more)) (sym some))
 
@@ -89,7 +89,7 @@ same_payload : (payload sectors : ℕ) (place : BatchPlace) → payload_at secto
 same_payload payload sectors (Data entry from) = refl
 same_payload payload sectors Zeros = refl
 
-pub payload_same : (payload : ℕ) (extent : Extent BatchPlace) → data_payload (row_of payload extent) ≡ extent_payload extent
+pub payload_same : (payload : ℕ) (extent : Extent BatchPlace) → data_payload (extent_row payload extent) ≡ extent_payload extent
 payload_same payload extent = same_payload payload extent.sectors extent.place
 
 -- two rows touch and have data, or one of this does not hold
@@ -120,7 +120,7 @@ pub rows_few : (row : DataRow) (payload : ℕ) (extents : List (Extent BatchPlac
     → length (rows_from (Some row) payload extents) ≤ 1 + length extents
 rows_few row payload [] = omega (arith, ap length (rows_end (Some row) payload))
 rows_few row payload (extent ∷ extents) =
-    let next = row_of payload extent in
+    let next = extent_row payload extent in
     let after = payload + data_payload next in
     elim (cases_Bool (joins row next)) [
       | inl goes ↦ omega (arith, ap length (rows_on row payload extent extents goes), rows_few (joined row next) after extents)
@@ -133,15 +133,15 @@ rows_of_few (extent ∷ extents) =
     omega (
       arith,
       ap length (rows_start 0 extent extents),
-      rows_few (row_of 0 extent)
-          (0 + data_payload (row_of 0 extent)) extents,
+      rows_few (extent_row 0 extent)
+          (0 + data_payload (extent_row 0 extent)) extents,
     )
 
 rows_sum : (row : DataRow) (payload : ℕ) (extents : List (Extent BatchPlace))
     → sum_by data_payload (rows_from (Some row) payload extents) ≡ data_payload row + sum_by extent_payload extents
 rows_sum row payload [] = omega (arith, ap (sum_by data_payload) (rows_end (Some row) payload))
 rows_sum row payload (extent ∷ extents) =
-    let next = row_of payload extent in
+    let next = extent_row payload extent in
     let after = payload + data_payload next in
     let same = payload_same payload extent in
     let more = sum_by-cons extent_payload extent extents in
@@ -173,6 +173,6 @@ rows_of_sum (extent ∷ extents) =
     omega (
       arith,
       ap (sum_by data_payload) (rows_start 0 extent extents),
-      rows_sum (row_of 0 extent) (0 + data_payload (row_of 0 extent)) extents,
+      rows_sum (extent_row 0 extent) (0 + data_payload (extent_row 0 extent)) extents,
       sum_by-cons extent_payload extent extents,
     )

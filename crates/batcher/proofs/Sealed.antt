@@ -25,7 +25,7 @@ use Rattle.object_format.specs.Layout.{front_sectors}
 use Rattle.object_format.specs.Header.{HasWidths}
 use Rattle.object_format.specs.Rows.{data_rows_may_stand}
 use Rattle.object_format.specs.Object.{IsObject}
-use Rattle.object_format.specs.Writing.{header_of, payload_of, front_bytes}
+use Rattle.object_format.specs.Writing.{object_header_of, payload_of, front_bytes}
 use Rattle.object_format.specs.Laws.{WritesObjects}
 use Rattle.object_format.proofs.LawLemmas.{writes_objects}
 use Rattle.object_stream.specs.Changes.{change_at, change_in}
@@ -34,7 +34,7 @@ use Rattle.batcher.specs.declared.place.BatchPlace.{BatchPlace}
 use Rattle.batcher.specs.declared.plan.Plan.{Plan}
 use Rattle.batcher.specs.declared.sealing.WrittenObject.{WrittenObject}
 use Rattle.batcher.specs.Batch.{data_sectors, max_entries, fullness, fullness_of_first, IsSealedCount}
-use Rattle.batcher.specs.Places.{place_number, place_on, place_by, change_of}
+use Rattle.batcher.specs.Places.{batch_place_number, place_on, place_by, change_of}
 use Rattle.batcher.specs.Plans.{IsPlanOf}
 use Rattle.batcher.specs.Invariant.{AreInRange, IsBatch}
 use Rattle.batcher.specs.Rows.{rows_of, payload_bytes, extent_payload, AreInBodies}
@@ -132,7 +132,7 @@ module _ (geometry : Geometry) (first : ℕ) (entries : List Entry) (sectors : �
     rows_few : length (rows_of extents) ≤ 65536
     rows_few = omega (arith, rows_of_few extents, ap length are, is.planned.few, few.0)
 
-    pub may_be_sealed : (expected : Expected) → AllFit place_number extents → expected.sectors ≡ geometry.sectors
+    pub may_be_sealed : (expected : Expected) → AllFit batch_place_number extents → expected.sectors ≡ geometry.sectors
         → expected.end_before ≡ Some first
         → MayBeSealed expected first (first + plan.entries) entries extents
     may_be_sealed expected fits volume end_before = record {
@@ -169,11 +169,11 @@ pub has_parts : WritesObjects → (expected : Expected) (first end : ℕ) (entri
     (written : WrittenObject)
     → IsWritten expected first end entries extents written → MayBeSealed expected first end entries extents
     → length expected.uuid ≡ 16 → expected.number < 2 ^ 64 → end < 2 ^ 64
-    → HasParts expected written.object (header_of expected first end (Data written.rows)) (Data written.rows)
+    → HasParts expected written.object (object_header_of expected first end (Data written.rows)) (Data written.rows)
     (payload_bytes entries extents)
 has_parts writes expected first end entries extents written is may uuid number fits =
     let rows = Data written.rows in
-    let header = header_of expected first end rows in
+    let header = object_header_of expected first end rows in
     let payload = payload_bytes entries extents in
     let sum : payload_of rows ≡ sum_by extent_payload extents = payload_is extents written.rows is.rows in
     let size : length payload ≡ 512 * payload_of rows = omega (arith, length-payload entries extents may.bodies, sum) in
@@ -201,7 +201,7 @@ has_parts writes expected first end entries extents written is may uuid number f
 pub is_sealed : (batch : BatchState) (sectors : ℕ) (plan : Plan)
     (is : IsBatch batch.geometry batch.first batch.entries sectors plan)
     → 0 < length batch.entries → (extents : List (Extent BatchPlace)) → extents ≡ plan.changes.rows → IsShortest place_on extents
-    → (expected : Expected) → AllFit place_number extents → IsExpectedOf batch expected
+    → (expected : Expected) → AllFit batch_place_number extents → IsExpectedOf batch expected
     → (written : WrittenObject) → IsWritten expected batch.first (batch.first + plan.entries) batch.entries extents written
     → length expected.uuid ≡ 16 → expected.number < 2 ^ 64
     → (rest : Plan) → IsPlanOf batch.geometry.batch (drop plan.entries batch.entries) rest → batch.reserved ≤ rest.changes.spare

@@ -13,7 +13,7 @@ use Rattle.object_format.specs.Rows.{is_inside, differ, data_payload, is_at, dat
 use Rattle.batcher.specs.declared.place.BatchPlace.{BatchPlace}
 use Rattle.batcher.specs.declared.place.BatchPlace.TheVariants.{Data, Zeros}
 use Rattle.batcher.specs.Places.{place_on}
-use Rattle.batcher.specs.Rows.{row_place, row_of, joins, joined, rows_from, rows_of, extent_payload}
+use Rattle.batcher.specs.Rows.{row_place, extent_row, joins, joined, rows_from, rows_of, extent_payload}
 use Rattle.batcher.proofs.RowLemmas.{rows_end, rows_start, rows_on, rows_off, payload_same, goes_parts, joined_payload}
 
 -- ---- a row and the extents after it
@@ -33,7 +33,7 @@ zeros_on sectors place next is goes = ap (place_on sectors) is ∙ sym goes
 
 row_follow : (payload : ℕ) (extent : Extent BatchPlace) (extents : List (Extent BatchPlace))
     → ComesBeforeFirst place_on extent extents
-    → Follow (row_of payload extent) extents
+    → Follow (extent_row payload extent) extents
 row_follow payload extent [] before = tt
 row_follow payload extent (next ∷ extents) before = (
   before.in_order,
@@ -42,11 +42,11 @@ row_follow payload extent (next ∷ extents) before = (
 )
 
 joined_follow : (row : DataRow) (payload : ℕ) (extent : Extent BatchPlace) (extents : List (Extent BatchPlace))
-    → joins row (row_of payload extent) ≡ true → ComesBeforeFirst place_on extent extents
-    → Follow (joined row (row_of payload extent)) extents
+    → joins row (extent_row payload extent) ≡ true → ComesBeforeFirst place_on extent extents
+    → Follow (joined row (extent_row payload extent)) extents
 joined_follow row payload extent [] goes before = tt
 joined_follow row payload extent (next ∷ extents) goes before =
-    let parts = goes_parts row (row_of payload extent) goes in (
+    let parts = goes_parts row (extent_row payload extent) goes in (
       omega (arith, parts.0, before.in_order),
       λ touch none zeros. both_ways (is_some row.place) (ap is_some none) parts.1,
     )
@@ -81,10 +81,10 @@ not_both a b c is neither = sym (ap (λ x. x && b && c) is) ∙ neither
 -- an extent after a row that it does not go on with may follow it
 may_follow : (row : DataRow) (payload : ℕ) (extent : Extent BatchPlace) (extents : List (Extent BatchPlace))
     → Follow row (extent ∷ extents)
-    → joins row (row_of payload extent) ≡ false → IsTrue (data_may_follow (Some row) (row_of payload extent))
+    → joins row (extent_row payload extent) ≡ false → IsTrue (data_may_follow (Some row) (extent_row payload extent))
 may_follow row payload extent extents follow stops =
     let end = row.lba + row.sectors in
-    let next = row_of payload extent in
+    let next = extent_row payload extent in
     let far = ltb end extent.lba in
     let near = (end == extent.lba) && differ row.place next.place in
     elim (cases_lt end extent.lba) [
@@ -122,7 +122,7 @@ module _ (volume total : ℕ) where
       (stands before at row inside follows placed (omega (arith, adds, sums)))
       (eq-eqb (at + data_payload row) total (omega (arith, adds, sums))))
   rows_stand before at payload row (extent ∷ extents) inside follows placed adds sums follow shortest ends =
-      let next = row_of payload extent in
+      let next = extent_row payload extent in
       let after = payload + data_payload next in
       let more = sum_by-cons extent_payload extent extents in
       let same = payload_same payload extent in
@@ -155,7 +155,7 @@ pub rows_of_stand : (volume : ℕ) (extents : List (Extent BatchPlace)) → IsSh
 rows_of_stand volume [] shortest ends =
     subst (λ list. IsTrue (data_rows_may_stand volume 0 None 0 list)) (sym (rows_end None 0)) refl
 rows_of_stand volume (extent ∷ extents) shortest ends =
-    let row = row_of 0 extent in
+    let row = extent_row 0 extent in
     let total = sum_by extent_payload (extent ∷ extents) in
     subst (λ list. IsTrue (data_rows_may_stand volume total None 0 list)) (sym (rows_start 0 extent extents))
     (rows_stand volume total None 0 (0 + data_payload row) row extents (inside_is volume extent.lba extent.sectors shortest.0

@@ -11,7 +11,7 @@ use Rattle.object_format.specs.declared.expected.Expected.{Expected}
 use Rattle.object_format.specs.declared.rows.Rows.TheVariants.{Data}
 use Rattle.object_format.specs.Header.{begins_at}
 use Rattle.object_format.specs.Rows.{data_payload, data_rows_may_stand}
-use Rattle.object_format.specs.Writing.{header_of, payload_of, MayBeWritten}
+use Rattle.object_format.specs.Writing.{object_header_of, payload_of, MayBeWritten}
 use Rattle.batcher.specs.declared.place.BatchPlace.{BatchPlace}
 use Rattle.batcher.specs.Rows.{rows_of, extent_payload}
 use Rattle.batcher.specs.Writing.{MayBeSealed}
@@ -25,7 +25,7 @@ payload_is extents rows is = ap (sum_by data_payload) is ∙ rows_of_sum extents
 pub may_be_written : (expected : Expected) (first end : ℕ) (entries : List Entry) (extents : List (Extent BatchPlace))
     (rows : Vec DataRow Global)
     → rows.items ≡ rows_of extents → MayBeSealed expected first end entries extents
-    → MayBeWritten expected (header_of expected first end (Data rows)) (Data rows)
+    → MayBeWritten expected (object_header_of expected first end (Data rows)) (Data rows)
 may_be_written expected first end entries extents rows is may =
     let payload = payload_is extents rows is in
     let sum = sum_by extent_payload extents in

@@ -9,7 +9,7 @@ use Rattle.lsvd_base.specs.Range.{is_in_range}
 use Rattle.extent_map.specs.Extents.{place_at}
 use Rattle.batcher.specs.declared.plan.Plan.{Plan}
 use Rattle.batcher.specs.Batch.{data_sectors}
-use Rattle.batcher.specs.Places.{place_on, place_from, extent_of}
+use Rattle.batcher.specs.Places.{place_on, extent_place, extent_of}
 use Rattle.batcher.specs.Plans.{IsPlanOf}
 
 -- the volume takes each entry
@@ -28,7 +28,7 @@ pub record IsBatch (geometry : Geometry) (first : ℕ) (entries : List Entry) (s
 pub record IsPutInPlan (old : Plan) (entry : Entry) (new : Plan) : Type 0 where
   pub count : new.entries ≡ old.entries + 1
   pub sum : new.sectors ≡ old.sectors + data_sectors entry
-  pub changes : (k : ℕ) → place_at place_on new.changes.rows k ≡ option_or (place_from (extent_of old.entries entry) k)
+  pub changes : (k : ℕ) → place_at place_on new.changes.rows k ≡ option_or (extent_place (extent_of old.entries entry) k)
       (place_at place_on old.changes.rows k)
   pub few : length new.changes.rows ≤ length old.changes.rows + 2
   pub room : old.changes.spare ≤ new.changes.spare + 1

@@ -14,9 +14,9 @@ use Rattle.batcher.specs.declared.place.BatchPlace.TheVariants.{Data, Zeros}
 -- ---- places
 
 -- the number of a place: its sector of the entry's body, and 0 for zeros
-abbrev pub place_number : BatchPlace → ℕ
-place_number (Data entry from) = from
-place_number Zeros = 0
+abbrev pub batch_place_number : BatchPlace → ℕ
+batch_place_number (Data entry from) = from
+batch_place_number Zeros = 0
 
 -- the place that stands this many sectors on
 abbrev pub place_on : ℕ → BatchPlace → BatchPlace
@@ -31,28 +31,28 @@ extent_of index (Write lba body) = record { lba = lba; sectors = length body / 5
 extent_of index (Zero lba sectors) = record { lba = lba; sectors = sectors; place = Zeros }
 
 -- the place that one extent gives a sector, where it covers it
-abbrev pub place_from : Extent BatchPlace → ℕ → Option BatchPlace
-place_from extent k = if is_within extent.lba extent.sectors k then Some (place_on (k - extent.lba) extent.place) else None
+abbrev pub extent_place : Extent BatchPlace → ℕ → Option BatchPlace
+extent_place extent k = if is_within extent.lba extent.sectors k then Some (place_on (k - extent.lba) extent.place) else None
 
 -- what a sector gets from entries, the first of which is at an index: a place of the last of them that covers it
 abbrev pub place_by : (index : ℕ) → List Entry → ℕ → Option BatchPlace
 place_by index [] k = None
-place_by index (entry ∷ entries) k = option_or (place_by (suc index) entries k) (place_from (extent_of index entry) k)
+place_by index (entry ∷ entries) k = option_or (place_by (suc index) entries k) (extent_place (extent_of index entry) k)
 
 -- ---- what a place has
 
 -- the data of an entry: a zeroing has none
-abbrev pub body_of : Entry → List ℕ
-body_of (Write lba body) = body
-body_of (Zero lba sectors) = []
+abbrev pub entry_body : Entry → List ℕ
+entry_body (Write lba body) = body
+entry_body (Zero lba sectors) = []
 
 -- the data of the entry at an index
-unfoldable pub body_at : List Entry → (index : ℕ) → List ℕ
-body_at [] index = []
-body_at (entry ∷ entries) zero = body_of entry
-body_at (entry ∷ entries) (suc index) = body_at entries index
+unfoldable pub entry_body_at : List Entry → (index : ℕ) → List ℕ
+entry_body_at [] index = []
+entry_body_at (entry ∷ entries) zero = entry_body entry
+entry_body_at (entry ∷ entries) (suc index) = entry_body_at entries index
 
 -- what a place of these entries does to its sector
 abbrev pub change_of : List Entry → BatchPlace → Change
-change_of entries (Data entry from) = Put (sector_of from (body_at entries entry))
+change_of entries (Data entry from) = Put (sector_of from (entry_body_at entries entry))
 change_of entries Zeros = Clear

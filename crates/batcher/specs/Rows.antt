@@ -9,7 +9,7 @@ use Rattle.object_format.specs.Rows.{data_payload}
 use Rattle.batcher.specs.declared.place.BatchPlace.{BatchPlace}
 use Rattle.batcher.specs.declared.place.BatchPlace.TheVariants.{Data, Zeros}
 use Rattle.batcher.specs.declared.rows.RowMaker.{RowMaker}
-use Rattle.batcher.specs.Places.{body_at}
+use Rattle.batcher.specs.Places.{entry_body_at}
 
 -- ---- rows
 
@@ -19,8 +19,8 @@ row_place payload (Data entry from) = Some payload
 row_place payload Zeros = None
 
 -- the row for an extent
-abbrev pub row_of : (payload : ℕ) → Extent BatchPlace → DataRow
-row_of payload extent = record { lba = extent.lba; sectors = extent.sectors; place = row_place payload extent.place }
+abbrev pub extent_row : (payload : ℕ) → Extent BatchPlace → DataRow
+extent_row payload extent = record { lba = extent.lba; sectors = extent.sectors; place = row_place payload extent.place }
 
 -- the next row touches a row, and both have data
 abbrev pub joins : DataRow → DataRow → Bool
@@ -35,11 +35,11 @@ joined row next = record row { sectors = row.sectors + next.sectors }
 unfoldable pub rows_from : Option DataRow → (payload : ℕ) → List (Extent BatchPlace) → List DataRow
 rows_from last payload [] = option_to_list last
 rows_from None payload (extent ∷ extents) =
-    rows_from (Some (row_of payload extent)) (payload + data_payload (row_of payload extent)) extents
+    rows_from (Some (extent_row payload extent)) (payload + data_payload (extent_row payload extent)) extents
 rows_from (Some row) payload (extent ∷ extents) =
-    if joins row (row_of payload extent)
-    then rows_from (Some (joined row (row_of payload extent))) (payload + data_payload (row_of payload extent)) extents
-    else row ∷ rows_from (Some (row_of payload extent)) (payload + data_payload (row_of payload extent)) extents
+    if joins row (extent_row payload extent)
+    then rows_from (Some (joined row (extent_row payload extent))) (payload + data_payload (extent_row payload extent)) extents
+    else row ∷ rows_from (Some (extent_row payload extent)) (payload + data_payload (extent_row payload extent)) extents
 
 -- the rows of an object that makes these changes
 abbrev pub rows_of : List (Extent BatchPlace) → List DataRow
@@ -58,7 +58,7 @@ EndsInTime (Some row) = row.lba + row.sectors < 2 ^ 63
 
 -- the data of the sectors of an extent
 abbrev pub piece_at : List Entry → (sectors : ℕ) → BatchPlace → List ℕ
-piece_at entries sectors (Data entry from) = take (512 * sectors) (drop (512 * from) (body_at entries entry))
+piece_at entries sectors (Data entry from) = take (512 * sectors) (drop (512 * from) (entry_body_at entries entry))
 piece_at entries sectors Zeros = []
 
 abbrev pub piece_of : List Entry → Extent BatchPlace → List ℕ
@@ -70,11 +70,12 @@ payload_bytes entries extents = flat_map (piece_of entries) extents
 
 -- the sectors of data of an extent
 abbrev pub extent_payload : Extent BatchPlace → ℕ
-extent_payload extent = data_payload (row_of 0 extent)
+extent_payload extent = data_payload (extent_row 0 extent)
 
 -- an extent's data lie within the body of their entry
 abbrev pub IsInBody : List Entry → (sectors : ℕ) → BatchPlace → Type 0
-IsInBody entries sectors (Data entry from) = (entry < length entries) × (512 * (from + sectors) ≤ length (body_at entries entry))
+IsInBody entries sectors (Data entry from) = (entry < length entries)
+    × (512 * (from + sectors) ≤ length (entry_body_at entries entry))
 IsInBody entries sectors Zeros = Unit {0}
 
 abbrev pub AreInBodies : List Entry → List (Extent BatchPlace) → Type 0

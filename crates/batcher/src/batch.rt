@@ -5,7 +5,7 @@ ghost use Rattle.std.specs.VecDeque.{deque_capacity};
 ghost use Rattle.lsvd_base.specs.Limits.{is_within_limits};
 ghost use Rattle.lsvd_base.specs.Range.{is_in_range};
 ghost use Rattle.batcher.specs.Batch.{data_sectors, fullness};
-ghost use Rattle.batcher.specs.Sealing.{IsExpectedOf, IsSealed, IsRestOf};
+ghost use Rattle.batcher.specs.Sealing.{IsExpectedOf, IsSealed, IsBatchRest};
 
 use crate::full::{Full, data_sectors, fullness};
 use crate::plan::{Plan, plan_from};
@@ -172,7 +172,7 @@ impl Batch {
     /// Removes the entries of an object, and goes on with the rest. The rest is of this batch (a condition).
     /// It takes no memory, and there is memory for as many further entries as before, where the rest has it.
     pub fn release(&mut self, rest: Rest)
-        requires { IsRestOf self.old rest }
+        requires { IsBatchRest self.old rest }
         ensures geometry { self.new.geometry ≡ self.old.geometry }
         ensures first { self.new.first ≡ self.old.first + rest.after }
         ensures entries { self.new.entries ≡ drop rest.after self.old.entries }

@@ -17,9 +17,9 @@ impl Place for BatchPlace {
     ghost use Rattle.std.specs.Prelude.{◌+◌, ◌^◌, ◌<◌};
     ghost use Rattle.std.proofs.Common.{arith, inl, inr, refl};
     ghost use Rattle.batcher.specs.declared.place.BatchPlace.TheVariants.{Data, Zeros};
-    ghost use Rattle.batcher.specs.Places.{place_number, place_on};
+    ghost use Rattle.batcher.specs.Places.{batch_place_number, place_on};
 
-    ghost number = { place_number };
+    ghost number = { batch_place_number };
 
     ghost on = { place_on };
 

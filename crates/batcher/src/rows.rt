@@ -4,8 +4,9 @@ ghost use Rattle.extent_map.specs.declared.extent.Extent.{Extent};
 ghost use Rattle.extent_map.specs.Extents.{AllFit};
 ghost use Rattle.object_format.specs.Rows.{data_payload};
 ghost use Rattle.batcher.specs.declared.place.BatchPlace.{BatchPlace};
-ghost use Rattle.batcher.specs.Places.{place_number};
-ghost use Rattle.batcher.specs.Rows.{row_of, joins, joined, rows_of, rows_with, EndsInTime, extent_payload};
+ghost use Rattle.batcher.specs.Places.{batch_place_number};
+ghost use Rattle.batcher.specs.Rows.{extent_row, joins, joined, rows_of, rows_with, EndsInTime};
+ghost use Rattle.batcher.specs.Rows.{extent_payload};
 
 use crate::place::BatchPlace;
 use extent_map::Extent;
@@ -33,7 +34,7 @@ impl RowMaker {
         ensures last { OnOk result (EndsInTime self.new.last) }
         ensures payload { OnOk result (self.new.payload ≡ self.old.payload + extent_payload extent.now) }
     {
-        let row = row_of(self.payload, extent);
+        let row = extent_row(self.payload, extent);
         self.payload += row.payload_sectors();
         let Some(last) = self.last else {
             self.last = Some(row);
@@ -64,8 +65,8 @@ impl RowMaker {
 }
 
 // The row for an extent, with its data at a sector of the payload.
-fn row_of(payload: u64, extent: &Extent<BatchPlace>) -> DataRow
-    ensures { result ≡ row_of payload extent.now }
+fn extent_row(payload: u64, extent: &Extent<BatchPlace>) -> DataRow
+    ensures { result ≡ extent_row payload extent.now }
 {
     let place = match extent.place {
         BatchPlace::Data { .. } => Some(payload),
@@ -92,7 +93,7 @@ pub(crate) fn data_rows(
     alloc: Global,
     extents: &[Extent<BatchPlace>],
 ) -> Result<Vec<DataRow>, AllocError>
-    requires fits { AllFit place_number extents.now }
+    requires fits { AllFit batch_place_number extents.now }
     requires payload { sum_by extent_payload extents.now < 2 ^ 63 }
     ensures { IfOk result (λ rows. rows.items ≡ rows_of extents.now) }
 {

@@ -2,8 +2,8 @@ ghost use Rattle.std.specs.Prelude.{◌≡◌, ◌+◌, ◌*◌, ◌^◌, ◌<�
 ghost use Rattle.std.specs.List.{sum_by};
 ghost use Rattle.object_format.specs.declared.kind.Kind.TheVariants as kinds;
 ghost use Rattle.object_format.specs.declared.rows.Rows.TheVariants.{Data};
-ghost use Rattle.object_format.specs.Rows.{kind_of};
-ghost use Rattle.batcher.specs.Places.{body_of};
+ghost use Rattle.object_format.specs.Rows.{rows_kind};
+ghost use Rattle.batcher.specs.Places.{entry_body};
 ghost use Rattle.batcher.specs.Rows.{payload_bytes, piece_of, extent_payload, IsInBody, AreInBodies};
 ghost use Rattle.batcher.specs.Writing.{MayBeSealed, IsWritten};
 
@@ -78,7 +78,7 @@ pub(crate) fn keep_widths(expected: &Expected)
 
 // The rows of a data object.
 fn into_data(rows: Rows) -> Vec<DataRow>
-    requires { kind_of rows ≡ kinds.Data }
+    requires { rows_kind rows ≡ kinds.Data }
     ensures { rows ≡ Data result }
 {
     match rows {
@@ -118,8 +118,8 @@ fn piece<'a>(entries: &'a VecDeque<Entry>, extent: &Extent<BatchPlace>) -> &'a [
 
 // The data of `sectors` sectors of an entry, from a sector of its body on.
 fn data_of(entry: &Entry, from: u64, sectors: u64) -> &[u8]
-    requires { 512 * (from + sectors) ≤ length (body_of entry.now) }
-    ensures { result.now ≡ take (512 * sectors) (drop (512 * from) (body_of entry.now)) }
+    requires { 512 * (from + sectors) ≤ length (entry_body entry.now) }
+    ensures { result.now ≡ take (512 * sectors) (drop (512 * from) (entry_body entry.now)) }
 {
     match entry {
         Entry::Write { body, .. } => {

@@ -16,7 +16,7 @@ use Rattle.volume_commands.specs.Creating.{TellsCreation}
 use Rattle.volume_commands.specs.Serving.{TellsServing}
 use Rattle.volume_commands.specs.Report.{status_of}
 use Rattle.volume_commands.specs.World.{CountsOneOf}
-use Rattle.command_run.specs.Run.{AreRefused, CountsOneOfAll, Runs, RunsCreate, RunsReplay, RunsServe}
+use Rattle.command_run.specs.Run.{AreWordsRefused, CountsOneOfAll, Runs, RunsCreate, RunsReplay, RunsServe}
 use Rattle.volume_commands.proofs.Told.{nothing_told}
 use Rattle.volume_commands.specs.declared.report.Report.{Report}
 use Rattle.volume_commands.specs.declared.report.Report.TheVariants.{Done, Fault, Usage, BadLine, Refused, Memory}
@@ -92,7 +92,7 @@ runs_as_memory words input old = record {
 }
 
 pub are_refused : (words : List Text) → IsFaulty words ⊎ ((line : Line) × Spells words line × HasBadOptions line)
-    → AreRefused words
+    → AreWordsRefused words
 are_refused words (inl faulty) = inl faulty
 are_refused words (inr (replay, spelled, nothing)) = absurd nothing
 are_refused words (inr (create options, spelled, bad)) = inr (inl (options, spelled, bad))

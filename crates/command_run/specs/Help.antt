@@ -7,13 +7,14 @@ use Rattle.volume_commands.specs.declared.report.Report.{Report}
 use Rattle.volume_commands.specs.declared.report.Report.TheVariants.{Done, Fault, Usage, BadLine, Refused, Memory}
 
 -- what the output took, and its count of faults, where the answer ended so
-abbrev pub IsAnswered : List (List ℕ) → Report → Option (List ℕ) → Option (List ℕ) → ℕ → ℕ → Type 0
+abbrev pub IsHelpAnswered : List (List ℕ) → Report → Option (List ℕ) → Option (List ℕ) → ℕ → ℕ → Type 0
 -- some text was added, and no write failed
-IsAnswered words Done old new before now = AsksForHelp words × (now ≡ before) × ((text : List ℕ) × Appends old new text)
+IsHelpAnswered words Done old new before now = AsksForHelp words × (now ≡ before) × ((text : List ℕ) × Appends old new text)
 -- a write failed, after some text
-IsAnswered words Fault old new before now = AsksForHelp words × CountsOne before now × ((text : List ℕ) × Appends old new text)
+IsHelpAnswered words Fault old new before now = AsksForHelp words × CountsOne before now
+    × ((text : List ℕ) × Appends old new text)
 -- nothing was written
-IsAnswered words Memory old new before now = (new ≡ old) × (now ≡ before)
-IsAnswered words Usage old new before now = ⊥
-IsAnswered words (BadLine number reason) old new before now = ⊥
-IsAnswered words (Refused why) old new before now = ⊥
+IsHelpAnswered words Memory old new before now = (new ≡ old) × (now ≡ before)
+IsHelpAnswered words Usage old new before now = ⊥
+IsHelpAnswered words (BadLine number reason) old new before now = ⊥
+IsHelpAnswered words (Refused why) old new before now = ⊥

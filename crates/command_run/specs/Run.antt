@@ -77,8 +77,8 @@ pub record Runs (words : List Text) (report : Report) (input old new : Option (L
   pub faulty : IsFaulty words → ((report ≡ Usage) ⊎ (report ≡ Memory)) × (new ≡ old)
 
 -- why words are refused: they are faulty, or the values of the options of `create` or `serve` ask for nothing
-abbrev pub AreRefused : List Text → Type 0
-AreRefused words =
+abbrev pub AreWordsRefused : List Text → Type 0
+AreWordsRefused words =
     IsFaulty words
     ⊎ (((options : List Given) × Spells words (create options) × HasBadValue (value_in options))
     ⊎ ((options : List Given) × Spells words (serve options) × HasBadServeValue (serve_value options)))

@@ -2,7 +2,7 @@ ghost use Rattle.std.specs.Prelude.{◌≡◌, ◌⊎◌, ◌≤◌, List, ℕ, 
 ghost use Rattle.std.specs.Io.KnownBytes.{Appends};
 ghost use Rattle.command_line.specs.CommandLine.{AsksForHelp};
 ghost use Rattle.lsvd_fault.specs.Faults.{CountsOne};
-ghost use Rattle.command_run.specs.Help.{IsAnswered};
+ghost use Rattle.command_run.specs.Help.{IsHelpAnswered};
 
 use command_line::help_of;
 use lsvd_fault::{Failed, Sink, write_all};
@@ -13,7 +13,7 @@ use volume_commands::Report;
 /// `Done`, `Fault` where a write failed, or `Memory`, which comes before the first write. None is for words
 /// that ask for neither, and then nothing is written.
 pub fn answer_help<O: Sink>(alloc: Global, words: &[String], out: &mut O) -> Option<Report>
-    ensures some { IfSome result (λ report. IsAnswered (map string_bytes words.now) report
+    ensures some { IfSome result (λ report. IsHelpAnswered (map string_bytes words.now) report
         (O.contents out.old) (O.contents out.new) (O.faults out.old) (O.faults out.new)) }
     ensures none { IfNone result ((AsksForHelp (map string_bytes words.now) → ⊥) × (out.new ≡ out.old)) }
 {

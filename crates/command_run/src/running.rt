@@ -9,7 +9,7 @@ ghost use Rattle.command_line.specs.Serve.{AreValidToServe, serve_value};
 ghost use Rattle.command_line.specs.Values.{IsNoUuid};
 ghost use Rattle.volume_commands.specs.Report.{status_of, line_of, IsTold};
 ghost use Rattle.volume_commands.specs.World.{CountsNone, CountsOneOf};
-ghost use Rattle.command_run.specs.Run.{AreRefused, CountsOneOfAll, Runs, report_of};
+ghost use Rattle.command_run.specs.Run.{AreWordsRefused, CountsOneOfAll, Runs, report_of};
 ghost use Rattle.volume_commands.specs.World.{IsConstant};
 
 use command_line::{CommandLineError, Request, request_of};
@@ -53,7 +53,7 @@ pub fn run<W: World>(
     // 2 is for words that are refused, so never for the one word `replay`, and for plain options of `create`
     // or `serve` only where a text is no uuid, or a log of `create` is too short. Then nothing was read,
     // written or made.
-    ensures usage { result ≡ 2 → AreRefused (map string_bytes words.now) }
+    ensures usage { result ≡ 2 → AreWordsRefused (map string_bytes words.now) }
     ensures replay { map string_bytes words.now ≡ codes "replay" ∷ [] → result ≢ 2 }
     ensures valid { (options : List Given) (sizes : Geometry) → AreValid options sizes
         → map string_bytes words.now ≡ codes "create" ∷ flat_map option_words options
@@ -106,7 +106,7 @@ fn execute<W: World>(
         → input.new ≡ input.old }
     ensures serve_input { (options : List Given) → Spells (map string_bytes words.now) (serve options)
         → input.new ≡ input.old }
-    ensures usage { result ≡ Report.Usage → AreRefused (map string_bytes words.now) }
+    ensures usage { result ≡ Report.Usage → AreWordsRefused (map string_bytes words.now) }
     ensures replay { map string_bytes words.now ≡ codes "replay" ∷ [] → result ≢ Report.Usage }
     ensures valid { (options : List Given) (sizes : Geometry) → AreValid options sizes
         → map string_bytes words.now ≡ codes "create" ∷ flat_map option_words options

@@ -61,7 +61,8 @@ pub record HasLanded (Change : Objects → Objects → Type 0) (old new : FaultS
   pub counted : new.failed ≡ counted_with old.failed 1
 
 -- A call that is planned to land is not acknowledged. Where it failed it landed, or it failed in the store under it.
-pub record Lands (acknowledged failed : Bool) (Change : Objects → Objects → Type 0) (old new : FaultState) : Type 0 where
+pub record LandsUnanswered (acknowledged failed : Bool) (Change : Objects → Objects → Type 0) (old new : FaultState) :
+    Type 0 where
   pub unacknowledged : acknowledged ≡ false
   pub effect : failed ≡ true → HasLanded Change old new ⊎ IsPassed true old new
 
@@ -71,7 +72,7 @@ GoesBy None failed Landed old new = IsPassed failed old new
 GoesBy (Some false) failed Landed old new = IsLost failed old new
 GoesBy (Some true) failed Landed old new = Landed
 
-pub record IsCall (failed : Bool) (Landed : Type 0) (old new : FaultState) : Type 0 where
+pub record IsFaultyCall (failed : Bool) (Landed : Type 0) (old new : FaultState) : Type 0 where
   pub calls : new.calls ≡ counted_with old.calls 1
   pub plan : new.plan ≡ old.plan
   pub outcome : GoesBy (next_fate old) failed Landed old new

@@ -40,9 +40,9 @@ pub record IsSameObject (a b : ReceiptState) : Type 0 where
   pub told : IfSome a.told (λ bytes. IfSome b.told (λ others. bytes ≡ others))
 
 -- where a store tells what it was asked, it was asked one call more
-abbrev pub Asks : StoreCall → Option (List StoreCall) → Option (List StoreCall) → Type 0
-Asks call None new = new ≡ None
-Asks call (Some calls) new = new ≡ Some (call ∷ calls)
+abbrev pub IsAskedOnce : StoreCall → Option (List StoreCall) → Option (List StoreCall) → Type 0
+IsAskedOnce call None new = new ≡ None
+IsAskedOnce call (Some calls) new = new ≡ Some (call ∷ calls)
 
 -- nothing changed but the count of faults
 abbrev pub OnlyCounts : StoreState → StoreState → Type 0

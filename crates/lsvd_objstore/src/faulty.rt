@@ -2,11 +2,13 @@ ghost use Rattle.std.specs.Prelude.{◌≡◌, ℕ, ◌+◌, ◌≤◌, length, 
 ghost use Rattle.std.specs.Prelude.{OnErr, IsErrOf, is_ok, is_err};
 ghost use Rattle.lsvd_names.specs.Spelling.{IsName};
 ghost use Rattle.lsvd_objstore.specs.Objects.{IsPut, MayBePut, IsRemoved, MayBeRemoved, AreNamesOf, Lists};
-ghost use Rattle.lsvd_objstore.specs.Store.{Put, Remove, IsReceiptOf, Asks, OnlyCounts, Becomes, has_failed};
+ghost use Rattle.lsvd_objstore.specs.Store.{Put, Remove, IsReceiptOf, IsAskedOnce, OnlyCounts, Becomes};
+ghost use Rattle.lsvd_objstore.specs.Store.{has_failed};
 ghost use Rattle.lsvd_objstore.specs.Store.{Finds};
 ghost use Rattle.lsvd_fault.specs.Faults.{counted_with, Counts};
-ghost use Rattle.lsvd_objstore.specs.Faulty.{Plan, planned_at, planned_in, faulty_state, IsLost, Lands};
-ghost use Rattle.lsvd_objstore.specs.Faulty.{IsCall};
+ghost use Rattle.lsvd_objstore.specs.Faulty.{Plan, planned_at, planned_in, faulty_state, IsLost};
+ghost use Rattle.lsvd_objstore.specs.Faulty.{LandsUnanswered};
+ghost use Rattle.lsvd_objstore.specs.Faulty.{IsFaultyCall};
 
 use crate::error::StoreError;
 use crate::names::Names;
@@ -120,11 +122,12 @@ impl<S: Store> Store for FaultStore<S> {
         ensures unchanged { IsErrOf result StoreError.OutOfMemory
             → faulty_state self.new ≡ faulty_state self.old }
         ensures asked { (IsErrOf result StoreError.OutOfMemory → ⊥)
-            → Asks (Put name.now bytes.now) (faulty_state self.old).asked (faulty_state self.new).asked }
+            → IsAskedOnce (Put name.now bytes.now) (faulty_state self.old).asked
+            (faulty_state self.new).asked }
         ensures count { Counts (has_failed result) (faulty_state self.old).faults
             (faulty_state self.new).faults }
-        ensures call { IsCall (has_failed result)
-            (Lands (is_ok result) (has_failed result) (IsPut name.now bytes.now) self.old self.new)
+        ensures call { IsFaultyCall (has_failed result)
+            (LandsUnanswered (is_ok result) (has_failed result) (IsPut name.now bytes.now) self.old self.new)
             self.old self.new }
     {
         match begin(&self.planned, &mut self.calls) {
@@ -144,7 +147,8 @@ impl<S: Store> Store for FaultStore<S> {
             (λ told. buf.new ≡ take (length buf.old) (drop from told))) }
         ensures unchanged { OnlyCounts (faulty_state self.old) (faulty_state self.new) }
         ensures count { Counts (is_err result) (faulty_state self.old).faults (faulty_state self.new).faults }
-        ensures call { IsCall (is_err result) (IsLost (is_err result) self.old self.new) self.old self.new }
+        ensures call { IsFaultyCall (is_err result) (IsLost (is_err result) self.old self.new) self.old
+            self.new }
     {
         match begin(&self.planned, &mut self.calls) {
             None => self.store.get(receipt, from, buf),
@@ -159,7 +163,7 @@ impl<S: Store> Store for FaultStore<S> {
         ensures unchanged { OnlyCounts (faulty_state self.old) (faulty_state self.new) }
         ensures count { Counts (has_failed result) (faulty_state self.old).faults
             (faulty_state self.new).faults }
-        ensures call { IsCall (has_failed result) (IsLost (has_failed result) self.old self.new)
+        ensures call { IsFaultyCall (has_failed result) (IsLost (has_failed result) self.old self.new)
             self.old self.new }
     {
         match begin(&self.planned, &mut self.calls) {
@@ -175,7 +179,7 @@ impl<S: Store> Store for FaultStore<S> {
         ensures unchanged { OnlyCounts (faulty_state self.old) (faulty_state self.new) }
         ensures count { Counts (has_failed result) (faulty_state self.old).faults
             (faulty_state self.new).faults }
-        ensures call { IsCall (has_failed result) (IsLost (has_failed result) self.old self.new)
+        ensures call { IsFaultyCall (has_failed result) (IsLost (has_failed result) self.old self.new)
             self.old self.new }
     {
         match begin(&self.planned, &mut self.calls) {
@@ -189,11 +193,12 @@ impl<S: Store> Store for FaultStore<S> {
             self.old.store.objects self.new.store.objects) }
         ensures failed { OnErr result (Becomes (MayBeRemoved (S.Receipt.state receipt.now).name)
             self.old.store.objects self.new.store.objects) }
-        ensures asked { Asks (Remove (S.Receipt.state receipt.now).name) (faulty_state self.old).asked
+        ensures asked { IsAskedOnce (Remove (S.Receipt.state receipt.now).name) (faulty_state self.old).asked
             (faulty_state self.new).asked }
         ensures count { Counts (is_err result) (faulty_state self.old).faults (faulty_state self.new).faults }
-        ensures call { IsCall (is_err result)
-            (Lands (is_ok result) (is_err result) (IsRemoved (S.Receipt.state receipt.now).name) self.old
+        ensures call { IsFaultyCall (is_err result)
+            (LandsUnanswered (is_ok result) (is_err result) (IsRemoved (S.Receipt.state receipt.now).name)
+            self.old
             self.new) self.old self.new }
     {
         match begin(&self.planned, &mut self.calls) {

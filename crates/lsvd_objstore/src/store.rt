@@ -3,7 +3,7 @@ ghost use Rattle.std.specs.Prelude.{OnOk, OnErr, IsErrOf, is_err, ◌↔◌};
 ghost use Rattle.lsvd_names.specs.Spelling.{IsName};
 ghost use Rattle.lsvd_objstore.specs.Objects.{IsPut, MayBePut, IsRemoved, MayBeRemoved, AreNamesOf, Lists};
 ghost use Rattle.lsvd_objstore.specs.Store.{StoreState, ReceiptState, Put, Remove, IsReceiptOf, IsSameObject};
-ghost use Rattle.lsvd_objstore.specs.Store.{Asks, OnlyCounts, Becomes, has_failed, Finds};
+ghost use Rattle.lsvd_objstore.specs.Store.{IsAskedOnce, OnlyCounts, Becomes, has_failed, Finds};
 ghost use Rattle.lsvd_fault.specs.Faults.{Counts};
 
 use crate::error::StoreError;
@@ -78,7 +78,7 @@ pub trait Store {
             → Becomes (MayBePut name.now bytes.now) (state self.old).objects (state self.new).objects }
         ensures unchanged { IsErrOf result StoreError.OutOfMemory → state self.new ≡ state self.old }
         ensures asked { (IsErrOf result StoreError.OutOfMemory → ⊥)
-            → Asks (Put name.now bytes.now) (state self.old).asked (state self.new).asked }
+            → IsAskedOnce (Put name.now bytes.now) (state self.old).asked (state self.new).asked }
         ensures count { Counts (has_failed result) (state self.old).faults (state self.new).faults };
 
     /// Reads the bytes that the receipt stands for, from `from` on, into the whole of `buf`. They are some of
@@ -119,7 +119,7 @@ pub trait Store {
             (state self.old).objects (state self.new).objects) }
         ensures failed { OnErr result (Becomes (MayBeRemoved (Self.Receipt.state receipt.now).name)
             (state self.old).objects (state self.new).objects) }
-        ensures asked { Asks (Remove (Self.Receipt.state receipt.now).name) (state self.old).asked
+        ensures asked { IsAskedOnce (Remove (Self.Receipt.state receipt.now).name) (state self.old).asked
             (state self.new).asked }
         ensures count { Counts (is_err result) (state self.old).faults (state self.new).faults };
 

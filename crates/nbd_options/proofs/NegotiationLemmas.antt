@@ -22,7 +22,7 @@ use Rattle.nbd_options.specs.Negotiation.{ClientOption, client_option_bytes, IsC
 use Rattle.nbd_options.specs.Negotiation.{end_of, Stage, Greeted, Answering, has_zeroes, client_bytes, LeavesOpen, HasCome}
 use Rattle.nbd_options.specs.Negotiation.{HasLast, EndsByAnswer, AreOutOfForm, BreaksInMessage, IsNegotiation, OnInput}
 use Rattle.nbd_options.specs.Negotiation.{Negotiates, end_from, max_options}
-use Rattle.nbd_options.specs.Steps.{Reads, AnswersOption, IsUnderWay, Greets}
+use Rattle.nbd_options.specs.Steps.{ReadsSomeBytes, AnswersOption, IsUnderWay, Greets}
 
 -- ---- the greeting and the client's flags
 
@@ -71,7 +71,7 @@ AreFaulty stage None = ⊤
 AreFaulty stage (Some next) = AreOutOfForm stage next
 
 out_of_form : (export : Export) (stage : Stage) (first old new first_out old_out : Option (List ℕ))
-    → IsUnderWay export stage first old first_out old_out → AreFaulty stage old → Reads old new
+    → IsUnderWay export stage first old first_out old_out → AreFaulty stage old → ReadsSomeBytes old new
     → Negotiates export ends.Closed first new first_out old_out
 out_of_form export stage None old new first_out old_out come faulty read = tt
 out_of_form export stage (Some input) None new first_out old_out come faulty read = absurd come
@@ -85,7 +85,7 @@ BreaksOff export old new old_out new_out =
     OnInput old new (λ input left. (sent : List ℕ) × Appends old_out new_out sent × BreaksInMessage export input left sent)
 
 breaks_off : (export : Export) (stage : Stage) (first old new first_out old_out : Option (List ℕ))
-    → IsUnderWay export stage first old first_out old_out → Reads old new → BreaksOff export first new first_out old_out
+    → IsUnderWay export stage first old first_out old_out → ReadsSomeBytes old new → BreaksOff export first new first_out old_out
 breaks_off export stage None old new first_out old_out come read = tt
 breaks_off export stage (Some input) None new first_out old_out come read = absurd come
 breaks_off export stage (Some input) (Some next) None first_out old_out come read = absurd read.1

@@ -90,13 +90,14 @@ pub record LeavesOpen (export : Export) (exchange : Exchange) : Type 0 where
   pub goes_on : end_of exchange.answer ≡ None
 
 -- the flags are known ones, and none of the answers ended the negotiation
-abbrev pub IsOpen : Export → Stage → Type 0
-IsOpen export Greeted = ⊤
-IsOpen export (Answering flags exchanges) = (flags < 4) × (length exchanges ≤ max_options) × All (LeavesOpen export) exchanges
+abbrev pub IsNegotiating : Export → Stage → Type 0
+IsNegotiating export Greeted = ⊤
+IsNegotiating export (Answering flags exchanges) = (flags < 4) × (length exchanges ≤ max_options)
+    × All (LeavesOpen export) exchanges
 
 -- a negotiation has come so far: the server has sent this, and this comes next in the input
 pub record HasCome (export : Export) (stage : Stage) (input next sent : List ℕ) : Type 0 where
-  pub is_open : IsOpen export stage
+  pub is_open : IsNegotiating export stage
   pub heard : input ≡ client_bytes stage ++ next
   pub said : sent ≡ server_bytes export stage
 
@@ -105,7 +106,7 @@ pub record HasLast (export : Export) (input left : List ℕ) : Type 0 where
   pub flags : ℕ
   pub before : List Exchange
   pub last : Exchange
-  pub is_open : IsOpen export (Answering flags before)
+  pub is_open : IsNegotiating export (Answering flags before)
   pub fewer : length before < max_options
   pub answered : IsExchange export last
   pub heard : input ≡ client_bytes (Answering flags before) ++ client_option_bytes last.option ++ left

@@ -17,8 +17,8 @@ end_in (Ok end) = end
 end_in (Err e) = end_from e
 
 -- some bytes were read
-abbrev pub Reads : Option (List ℕ) → Option (List ℕ) → Type 0
-Reads old new = (bytes : List ℕ) × Consumes old new bytes
+abbrev pub ReadsSomeBytes : Option (List ℕ) → Option (List ℕ) → Type 0
+ReadsSomeBytes old new = (bytes : List ℕ) × Consumes old new bytes
 
 -- an option was read and answered, and nothing of the link's input past it was read; or why not
 abbrev pub AnswersOption : Export → Bool → (old new written_old written_new : Option (List ℕ)) → Result Answer WireEnd → Type 0
@@ -29,12 +29,13 @@ AnswersOption export zeroes old new written_old written_new (Ok answer) =
 AnswersOption export zeroes old new written_old written_new (Err wire.Ended) = IsAtEnd old × Keeps old new
     × (written_new ≡ written_old)
 AnswersOption export zeroes old new written_old written_new (Err wire.Closed) =
-    BeginsNoMessage IsClientOption old × Reads old new × (written_new ≡ written_old)
+    BeginsNoMessage IsClientOption old × ReadsSomeBytes old new × (written_new ≡ written_old)
 AnswersOption export zeroes old new written_old written_new (Err wire.LinkFault) =
-    (Reads old new × (written_new ≡ written_old))
+    (ReadsSomeBytes old new × (written_new ≡ written_old))
     ⊎ ((exchange : Exchange) × IsExchange export exchange × Consumes old new (client_option_bytes exchange.option)
     × WritesFront (reply_bytes export zeroes exchange) written_old written_new)
-AnswersOption export zeroes old new written_old written_new (Err wire.OutOfMemory) = Reads old new × (written_new ≡ written_old)
+AnswersOption export zeroes old new written_old written_new (Err wire.OutOfMemory) = ReadsSomeBytes old new
+    × (written_new ≡ written_old)
 
 -- a negotiation has come to this stage, on a link
 abbrev pub IsUnderWay : Export → Stage → (old new written_old written_new : Option (List ℕ)) → Type 0

@@ -6,7 +6,7 @@ use Rattle.lsvd_objstore.specs.Store.{ReceiptState}
 use Rattle.object_format.specs.declared.data_row.DataRow.{DataRow}
 use Rattle.object_uploads.specs.State.{JobState, SealedState, UploadsState}
 use Rattle.object_uploads.specs.Queue.{with_at, with_spare, with_receipt, just_sealed, end_of_last}
-use Rattle.object_uploads.specs.Changes.{index_of, with_job, IsSealed, IsNotSealed, IsPutDone}
+use Rattle.object_uploads.specs.Changes.{index_of, with_job, IsSealedNext, IsNotSealed, IsPutDone}
 
 -- an object that is changed keeps its end
 changed_end : (index : ℕ) (change : SealedState → SealedState) → ((s : SealedState) → (change s).end ≡ s.end)
@@ -43,7 +43,7 @@ done_end number receipt old new done =
     ∙ (end_in_parts done.count old.queue.end list ∙ changed_end (index_of old number) (with_receipt receipt) (λ s. refl)
     old.queue.end old.queue.sealed))
 
-pub sealed_end : (bytes : List ℕ) (rows : List DataRow) (end : ℕ) (old new : UploadsState) → IsSealed bytes rows end old new
+pub sealed_end : (bytes : List ℕ) (rows : List DataRow) (end : ℕ) (old new : UploadsState) → IsSealedNext bytes rows end old new
     → end_of new ≡ end
 sealed_end bytes rows end old new sealed =
     ap (λ e. end_of_last e new.queue.sealed) sealed.settled.end

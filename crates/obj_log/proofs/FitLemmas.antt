@@ -9,7 +9,7 @@ use Rattle.object_format.specs.declared.expected.Expected.{Expected}
 use Rattle.object_format.specs.declared.rows.Rows.TheVariants.{Data}
 use Rattle.object_format.specs.Layout.{data_front_sectors}
 use Rattle.object_format.specs.Header.{most_rows}
-use Rattle.object_format.specs.Writing.{header_of}
+use Rattle.object_format.specs.Writing.{object_header_of}
 use Rattle.lsvd_base.specs.Limits.{is_within_limits}
 use Rattle.object_stream.specs.Replay.{HasParts}
 use Rattle.volume_maps.proofs.FitLemmas.{rows_fit}
@@ -56,7 +56,7 @@ sealed_fit log expected bytes head rows payload next limits parts =
 pub is_sealed : (old : ObjLogState) (expected : Expected) (sealed : SealedBatch) (end : ℕ) (batch : BatchState)
     (uploads : UploadsState)
     → expected ≡ next_of old → batches.IsSealed old.batch expected sealed → end ≡ old.batch.first + sealed.entries
-    → objects.IsSealed sealed.object sealed.rows.items end old.uploads uploads
+    → objects.IsSealedNext sealed.object sealed.rows.items end old.uploads uploads
     → batch.geometry ≡ old.batch.geometry → batch.first ≡ old.batch.first + sealed.rest.after
     → batch.entries ≡ drop sealed.rest.after old.batch.entries
     → HasSealedObject old (record { batch = batch; uploads = uploads })
@@ -66,7 +66,8 @@ is_sealed old expected sealed end batch uploads next is end_is entered geometry 
   bytes = sealed.object;
   rows = sealed.rows;
   payload = is.payload;
-  parts = subst (λ e. HasParts e sealed.object (header_of e old.batch.first (old.batch.first + sealed.entries) (Data sealed.rows))
+  parts = subst (λ e. HasParts e sealed.object
+      (object_header_of e old.batch.first (old.batch.first + sealed.entries) (Data sealed.rows))
       (Data sealed.rows) is.payload) next is.parts;
   changes = is.changes;
   uploads = rw (← end_is) entered;

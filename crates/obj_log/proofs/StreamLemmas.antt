@@ -5,7 +5,7 @@ use Rattle.std.proofs.lemmas.Bool.Decides.{nat_tests}
 use Rattle.std.proofs.lemmas.List.{drop-drop, drop-append-le}
 use Rattle.lsvd_base.specs.declared.geometry.Geometry.{Geometry}
 use Rattle.object_format.specs.declared.rows.Rows.TheVariants.{Data}
-use Rattle.object_format.specs.Writing.{header_of}
+use Rattle.object_format.specs.Writing.{object_header_of}
 use Rattle.object_stream.specs.declared.object.Content.TheVariants as content
 use Rattle.object_stream.specs.Changes.{change_at}
 use Rattle.object_stream.specs.Replay.{HasParts, expected_at}
@@ -14,7 +14,7 @@ use Rattle.object_stream.proofs.StreamLemmas.{end_no_earlier}
 use Rattle.batcher.specs.State.{BatchState}
 use Rattle.object_uploads.specs.Queue.{just_sealed, IsEntered}
 use Rattle.volume_maps.specs.Maps.{settled_at, logged_at}
-use Rattle.volume_maps.specs.Laws.{owner_of}
+use Rattle.volume_maps.specs.Laws.{place_owner}
 use Rattle.object_uploads.specs.Order.{IsUploads}
 use Rattle.object_uploads.specs.Stream.{IsSealedOf, AreOfStream}
 use Rattle.object_uploads.specs.Laws.{with_entry, with_data_object}
@@ -65,7 +65,7 @@ room_keeps_stream data_at stream old new is same =
       last = are.last;
       end = are.end;
       settled = λ k.
-          ap (λ (rows : List _). owner_of (settled_at
+          ap (λ (rows : List _). place_owner (settled_at
           (record new.uploads.queue.maps { settled = record new.uploads.queue.maps.settled { rows = rows } }) k))
           kept.settled.places.settled
           ∙ are.settled k;
@@ -163,11 +163,12 @@ module _ (data_at : ℕ → ℕ) (stream : Stream) (old new : ObjLogState) (is :
   is_sealed_of = record {
     content = refl;
     end = refl;
-    header = header_of (next_of old) old.batch.first end (Data sealed.rows);
+    header = object_header_of (next_of old) old.batch.first end (Data sealed.rows);
     rows_of = Data sealed.rows;
     payload = sealed.payload;
     parts =
-        subst (λ e. HasParts e sealed.bytes (header_of (next_of old) old.batch.first end (Data sealed.rows)) (Data sealed.rows)
+        subst (λ e. HasParts e sealed.bytes (object_header_of (next_of old) old.batch.first end (Data sealed.rows))
+        (Data sealed.rows)
         sealed.payload)
         expected_same sealed.parts;
     rows_are = refl;

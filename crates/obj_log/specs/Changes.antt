@@ -6,7 +6,7 @@ use Rattle.lsvd_objstore.specs.Store.{ReceiptState}
 use Rattle.object_format.specs.declared.data_row.DataRow.{DataRow}
 use Rattle.object_format.specs.declared.expected.Expected.{Expected}
 use Rattle.object_format.specs.declared.rows.Rows.TheVariants.{Data}
-use Rattle.object_format.specs.Writing.{header_of}
+use Rattle.object_format.specs.Writing.{object_header_of}
 use Rattle.object_stream.specs.Changes.{change_at, change_in}
 use Rattle.object_stream.specs.Replay.{HasParts, expected_at}
 use Rattle.batcher.specs.Batch.{IsSealedCount}
@@ -59,10 +59,10 @@ pub record HasSealedObject (old new : ObjLogState) : Type 0 where
   pub bytes : List ℕ
   pub rows : Vec DataRow
   pub payload : List ℕ
-  pub parts : HasParts (next_of old) bytes (header_of (next_of old) old.batch.first (old.batch.first + count) (Data rows))
+  pub parts : HasParts (next_of old) bytes (object_header_of (next_of old) old.batch.first (old.batch.first + count) (Data rows))
       (Data rows) payload
   pub changes : (k : ℕ) → change_in rows.items payload k ≡ change_at (take count old.batch.entries) k
-  pub uploads : uploads.IsSealed bytes rows.items (old.batch.first + count) old.uploads new.uploads
+  pub uploads : uploads.IsSealedNext bytes rows.items (old.batch.first + count) old.uploads new.uploads
   pub geometry : new.batch.geometry ≡ old.batch.geometry
   pub first : new.batch.first ≡ old.batch.first + count
   pub entries : new.batch.entries ≡ drop count old.batch.entries

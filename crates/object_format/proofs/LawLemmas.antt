@@ -10,10 +10,10 @@ use Rattle.object_format.specs.declared.expected.Expected.{Expected}
 use Rattle.object_format.specs.declared.rows.Rows.{Rows}
 use Rattle.object_format.specs.declared.rows.Rows.TheVariants.{Data, Copy, Checkpoint}
 use Rattle.object_format.specs.Layout.{rows_length, rows_end, padding, length_of}
-use Rattle.object_format.specs.Header.{header_bytes, header_in, IsHeader}
-use Rattle.object_format.specs.Rows.{data_row_bytes, copy_row_bytes, rows_bytes, kind_of, count_of}
+use Rattle.object_format.specs.Header.{header_bytes, header_in, IsObjectHeader}
+use Rattle.object_format.specs.Rows.{data_row_bytes, copy_row_bytes, rows_bytes, rows_kind, count_of}
 use Rattle.object_format.specs.Object.{IsObject}
-use Rattle.object_format.specs.Writing.{header_of, front_bytes}
+use Rattle.object_format.specs.Writing.{object_header_of, front_bytes}
 use Rattle.object_format.specs.Laws.{WritesObjects, AreSameRows, HasOneReading, BeginsNoOther}
 use Rattle.std.specs.Prelude.{Some}
 use Rattle.object_format.proofs.HeaderLemmas.{length-header_bytes}
@@ -35,7 +35,7 @@ length-rows size row_bytes has_size (row ∷ rows) =
       mul-suc size (length rows),
     )
 
-length-rows_bytes : (rows : Rows) → length (rows_bytes rows) ≡ rows_length (kind_of rows) (count_of rows)
+length-rows_bytes : (rows : Rows) → length (rows_bytes rows) ≡ rows_length (rows_kind rows) (count_of rows)
 length-rows_bytes (Data rows) = length-rows 24 data_row_bytes length-data_row_bytes rows.items
 length-rows_bytes (Copy rows) = length-rows 44 copy_row_bytes length-copy_row_bytes rows.items
 length-rows_bytes Checkpoint = refl
@@ -59,7 +59,7 @@ third a b c rest =
 
 pub writes_objects : WritesObjects
 writes_objects expected first_seq end_seq rows payload widths may size =
-    let header = header_of expected first_seq end_seq rows in
+    let header = object_header_of expected first_seq end_seq rows in
     let head = header_bytes header in
     let part = rows_bytes rows in
     let zeros : List ℕ = replicate (padding header) 0 in
@@ -132,8 +132,8 @@ same_rows bytes size expected another header Checkpoint (Copy others) wide wide_
     ∙ sym other.rows_are.kind in cc
 
 -- the header too
-header_of_both : (bytes : List ℕ) (size : ℕ) (expected another : Expected) (a b : Header) → IsHeader bytes size expected a
-    → IsHeader bytes size another b → a ≡ b
+header_of_both : (bytes : List ℕ) (size : ℕ) (expected another : Expected) (a b : Header) → IsObjectHeader bytes size expected a
+    → IsObjectHeader bytes size another b → a ≡ b
 header_of_both bytes size expected another a b is_a is_b =
     let e : header_in (take 64 bytes) ≡ Some a = header_in-IsHeader bytes size expected a is_a in
     let f : header_in (take 64 bytes) ≡ Some b = header_in-IsHeader bytes size another b is_b in

@@ -13,11 +13,11 @@ use Rattle.object_format.specs.declared.rows.Rows.{Rows}
 use Rattle.object_format.specs.declared.rows.Rows.TheVariants.{Data, Copy, Checkpoint}
 use Rattle.object_format.specs.declared.reason.BadObject.TheVariants as reasons
 use Rattle.object_format.specs.Layout.{rows_length, rows_end, front_sectors, padding}
-use Rattle.object_format.specs.Header.{IsHeader}
+use Rattle.object_format.specs.Header.{IsObjectHeader}
 use Rattle.object_format.specs.Rows.{data_row_bytes, copy_row_bytes, rows_bytes, data_row_in, copy_row_in, rows_in}
-use Rattle.object_format.specs.Rows.{data_rows_may_stand, copy_rows_may_stand, may_stand, kind_of, count_of, AreReadAs}
+use Rattle.object_format.specs.Rows.{data_rows_may_stand, copy_rows_may_stand, may_stand, rows_kind, count_of, AreReadAs}
 use Rattle.object_format.specs.Object.{IsObject}
-use Rattle.object_format.specs.Tests.{IsRefusedAs}
+use Rattle.object_format.specs.Tests.{IsObjectRefusedAs}
 use Rattle.object_format.proofs.PartLemmas.{IsBytes, bytes_of_part, length_of_part}
 use Rattle.object_format.proofs.TestLemmas.{header_in-IsHeader, header_passes}
 use Rattle.object_format.proofs.RowLemmas.{length-rows_in, rows_in-flat_map, flat_map-rows_in, DataRowFits, data_row_of_bytes}
@@ -51,7 +51,7 @@ read_bytes header bytes Checkpoint size fits is =
     let none : length bytes ≡ 0 = size ∙ ap (λ kind. rows_length kind header.rows) is.0 ∙ omega (arith, is.1) in
     sym (take_all 0 bytes (omega (arith, none)))
 
-read_kind : (header : Header) (bytes : List ℕ) (rows : Rows) → AreReadAs header bytes rows → kind_of rows ≡ header.kind
+read_kind : (header : Header) (bytes : List ℕ) (rows : Rows) → AreReadAs header bytes rows → rows_kind rows ≡ header.kind
 read_kind header bytes (Data rows) is = sym is.0
 read_kind header bytes (Copy rows) is = sym is.0
 read_kind header bytes Checkpoint is = sym is.0
@@ -74,7 +74,7 @@ length-row_part bytes header room =
     length_of_part 64 (rows_length header.kind header.rows) bytes (omega (arith, room, rows_end_first header))
 
 pub object_if_read : (bytes : List ℕ) (size : ℕ) (expected : Expected) (header : Header) (rows : Rows) → IsBytes bytes
-    → IsHeader bytes size expected header → 512 * front_sectors header ≤ length bytes
+    → IsObjectHeader bytes size expected header → 512 * front_sectors header ≤ length bytes
     → AreReadAs header (row_part header bytes) rows
     → bytes_at (rows_end header) (padding header) bytes ≡ replicate (padding header) 0
     → IsTrue (may_stand expected.sectors header rows) → IsObject bytes size expected header rows
@@ -130,13 +130,13 @@ row_part_between bytes header end is_end =
 
 -- ---- an object has the rows that are read in it
 
-payload_is_low : (bytes : List ℕ) (size : ℕ) (expected : Expected) (header : Header) → IsHeader bytes size expected header
+payload_is_low : (bytes : List ℕ) (size : ℕ) (expected : Expected) (header : Header) → IsObjectHeader bytes size expected header
     → header.payload ≤ 131071
 payload_is_low bytes size expected header is = leb-true _ _ (and_parts _ _ is.limits).1
 
 pub data_of_object : (bytes : List ℕ) (size : ℕ) (expected : Expected) (header : Header) (rows : List DataRow)
     → expected.sectors < 2 ^ 64
-    → IsHeader bytes size expected header → length rows ≡ header.rows
+    → IsObjectHeader bytes size expected header → length rows ≡ header.rows
     → IsTrue (data_rows_may_stand expected.sectors header.payload None 0 rows)
     → row_part header bytes ≡ flat_map data_row_bytes rows
     → rows_in 24 data_row_in header.rows (row_part header bytes) ≡ rows
@@ -149,7 +149,7 @@ data_of_object bytes size expected header rows wide head count stand is =
 
 pub copies_of_object : (bytes : List ℕ) (size : ℕ) (expected : Expected) (header : Header) (rows : List CopyRow)
     → expected.sectors < 2 ^ 64
-    → IsHeader bytes size expected header → length rows ≡ header.rows
+    → IsObjectHeader bytes size expected header → length rows ≡ header.rows
     → IsTrue (copy_rows_may_stand expected.sectors header.payload header.number None 0 rows)
     → row_part header bytes ≡ flat_map copy_row_bytes rows
     → rows_in 44 copy_row_in header.rows (row_part header bytes) ≡ rows
@@ -185,15 +185,16 @@ read_may_stand bytes size expected header Checkpoint (Copy other) wide is object
 
 -- ---- the last reason
 
-pub same_header : (bytes : List ℕ) (size : ℕ) (expected : Expected) (a b : Header) → IsHeader bytes size expected a
-    → IsHeader bytes size expected b → a ≡ b
+pub same_header : (bytes : List ℕ) (size : ℕ) (expected : Expected) (a b : Header) → IsObjectHeader bytes size expected a
+    → IsObjectHeader bytes size expected b → a ≡ b
 same_header bytes size expected a b is_a is_b =
     let e = header_in-IsHeader bytes size expected a is_a in
     let f = header_in-IsHeader bytes size expected b is_b in
     cc
 
-pub refused_as_rows : (bytes : List ℕ) (size : ℕ) (expected : Expected) (header : Header) → IsHeader bytes size expected header
-    → ((rows : Rows) → IsObject bytes size expected header rows → ⊥) → IsRefusedAs bytes size expected reasons.Rows
+pub refused_as_rows : (bytes : List ℕ) (size : ℕ) (expected : Expected) (header : Header)
+    → IsObjectHeader bytes size expected header
+    → ((rows : Rows) → IsObject bytes size expected header rows → ⊥) → IsObjectRefusedAs bytes size expected reasons.Rows
 refused_as_rows bytes size expected header head none = record {
   earlier = λ other below. header_passes bytes size expected header other below head;
   failed = λ passes. fails passes.0 passes.1 passes.2;

@@ -11,15 +11,16 @@ use Rattle.object_format.specs.declared.expected.Expected.{Expected}
 use Rattle.object_format.specs.declared.reason.BadObject.{BadObject}
 use Rattle.object_format.specs.declared.reason.BadObject.TheVariants as reasons
 use Rattle.object_format.specs.Layout.{length_of}
-use Rattle.object_format.specs.Header.{header_in, has_due_seqs, is_within_limits, IsHeader}
-use Rattle.object_format.specs.Tests.{code_of, is_length, PassesObjectTest, IsRefusedAs}
+use Rattle.object_format.specs.Header.{header_in, has_due_seqs, is_header_within_limits, IsObjectHeader}
+use Rattle.object_format.specs.Tests.{code_of, is_length, PassesObjectTest, IsObjectRefusedAs}
 use Rattle.object_format.proofs.PartLemmas.{IsBytes, bytes_of_part}
 use Rattle.object_format.proofs.HeaderLemmas.{magic-header, uuid-header, number-header, header_in-header_bytes}
 use Rattle.object_format.proofs.HeaderLemmas.{bytes_of_header_in, widths_of_header_in, uuid_of_header_in, number_of_header_in}
 
 -- ---- a header passes each test
 
-pub header_in-IsHeader : (bytes : List ℕ) (size : ℕ) (expected : Expected) (header : Header) → IsHeader bytes size expected header
+pub header_in-IsHeader : (bytes : List ℕ) (size : ℕ) (expected : Expected) (header : Header)
+    → IsObjectHeader bytes size expected header
     → header_in (take 64 bytes) ≡ Some header
 header_in-IsHeader bytes size expected header is = ap header_in is.head ∙ header_in-header_bytes header is.widths
 
@@ -27,7 +28,7 @@ same_length : (a b : ℕ) → a ≡ b → IsTrue (a == b)
 same_length a b is = grind (arith, nat_tests)
 
 pub header_passes : (bytes : List ℕ) (size : ℕ) (expected : Expected) (header : Header) (reason : BadObject)
-    → code_of reason < 8 → IsHeader bytes size expected header → PassesObjectTest bytes size expected reason
+    → code_of reason < 8 → IsObjectHeader bytes size expected header → PassesObjectTest bytes size expected reason
 header_passes bytes size expected header reasons.Length h is =
     let P : Option Header → Type 0 = λ o. IsTrue (is_length o size) in
     subst P (sym (header_in-IsHeader bytes size expected header is)) (same_length _ _ is.has_size)
@@ -43,13 +44,13 @@ header_passes bytes size expected header reasons.Seqs h is =
     let P : Option Header → Type 0 = λ o. IsSomeAnd o (λ x. IsTrue (has_due_seqs expected x)) in
     subst P (sym (header_in-IsHeader bytes size expected header is)) is.seqs
 header_passes bytes size expected header reasons.Counts h is =
-    let P : Option Header → Type 0 = λ o. IsSomeAnd o (λ x. IsTrue (is_within_limits expected x)) in
+    let P : Option Header → Type 0 = λ o. IsSomeAnd o (λ x. IsTrue (is_header_within_limits expected x)) in
     subst P (sym (header_in-IsHeader bytes size expected header is)) is.limits
 header_passes bytes size expected header reasons.Rows h is = absurd (omega (arith, h))
 
 -- bytes that fail a test do not begin with a header
 pub no_header : (bytes : List ℕ) (size : ℕ) (expected : Expected) (reason : BadObject) → code_of reason < 8
-    → (PassesObjectTest bytes size expected reason → ⊥) → (header : Header) → IsHeader bytes size expected header → ⊥
+    → (PassesObjectTest bytes size expected reason → ⊥) → (header : Header) → IsObjectHeader bytes size expected header → ⊥
 no_header bytes size expected reason below failed header is = failed (header_passes bytes size expected header reason below is)
 
 -- ---- what the tests have found
@@ -102,13 +103,13 @@ fails_seqs bytes size expected header is failed passes =
     failed (subst P is passes)
 
 pub fails_counts : (bytes : List ℕ) (size : ℕ) (expected : Expected) (header : Header) → header_in (take 64 bytes) ≡ Some header
-    → (IsTrue (is_within_limits expected header) → ⊥) → PassesObjectTest bytes size expected reasons.Counts → ⊥
+    → (IsTrue (is_header_within_limits expected header) → ⊥) → PassesObjectTest bytes size expected reasons.Counts → ⊥
 fails_counts bytes size expected header is failed passes =
-    let P : Option Header → Type 0 = λ o. IsSomeAnd o (λ x. IsTrue (is_within_limits expected x)) in
+    let P : Option Header → Type 0 = λ o. IsSomeAnd o (λ x. IsTrue (is_header_within_limits expected x)) in
     failed (subst P is passes)
 
 pub refused_as_uuid : (bytes : List ℕ) (size : ℕ) (expected : Expected) (header : Header) → Found bytes size expected header
-    → (header.uuid ≡ expected.uuid → ⊥) → IsRefusedAs bytes size expected reasons.Uuid
+    → (header.uuid ≡ expected.uuid → ⊥) → IsObjectRefusedAs bytes size expected reasons.Uuid
 refused_as_uuid bytes size expected header is failed = record {
   earlier = earlier bytes size expected header 4 is (omega arith) (λ h. absurd (omega (arith, h)))
       (λ h. absurd (omega (arith, h))) (λ h. absurd (omega (arith, h)));
@@ -130,7 +131,7 @@ seqs_pass bytes size expected header is seqs =
     subst P (sym is.header_is) seqs
 
 pub refused_as_number : (bytes : List ℕ) (size : ℕ) (expected : Expected) (header : Header) → Found bytes size expected header
-    → header.uuid ≡ expected.uuid → (header.number ≡ expected.number → ⊥) → IsRefusedAs bytes size expected reasons.Number
+    → header.uuid ≡ expected.uuid → (header.number ≡ expected.number → ⊥) → IsObjectRefusedAs bytes size expected reasons.Number
 refused_as_number bytes size expected header is uuid failed = record {
   earlier = earlier bytes size expected header 5 is (omega arith) (λ _. uuid_passes bytes size expected header is uuid)
       (λ h. absurd (omega (arith, h))) (λ h. absurd (omega (arith, h)));
@@ -139,7 +140,7 @@ refused_as_number bytes size expected header is uuid failed = record {
 
 pub refused_as_seqs : (bytes : List ℕ) (size : ℕ) (expected : Expected) (header : Header) → Found bytes size expected header
     → header.uuid ≡ expected.uuid → header.number ≡ expected.number
-    → (IsTrue (has_due_seqs expected header) → ⊥) → IsRefusedAs bytes size expected reasons.Seqs
+    → (IsTrue (has_due_seqs expected header) → ⊥) → IsObjectRefusedAs bytes size expected reasons.Seqs
 refused_as_seqs bytes size expected header is uuid number failed = record {
   earlier = earlier bytes size expected header 6 is (omega arith) (λ _. uuid_passes bytes size expected header is uuid)
       (λ _. number_passes bytes size expected header is number) (λ h. absurd (omega (arith, h)));
@@ -148,7 +149,7 @@ refused_as_seqs bytes size expected header is uuid number failed = record {
 
 pub refused_as_counts : (bytes : List ℕ) (size : ℕ) (expected : Expected) (header : Header) → Found bytes size expected header
     → header.uuid ≡ expected.uuid → header.number ≡ expected.number → IsTrue (has_due_seqs expected header)
-    → (IsTrue (is_within_limits expected header) → ⊥) → IsRefusedAs bytes size expected reasons.Counts
+    → (IsTrue (is_header_within_limits expected header) → ⊥) → IsObjectRefusedAs bytes size expected reasons.Counts
 refused_as_counts bytes size expected header is uuid number seqs failed = record {
   earlier = earlier bytes size expected header 7 is (omega arith) (λ _. uuid_passes bytes size expected header is uuid)
       (λ _. number_passes bytes size expected header is number) (λ _. seqs_pass bytes size expected header is seqs);
@@ -162,7 +163,8 @@ is_size size header is = grind (arith, nat_tests)
 
 pub header_if_passes : (bytes : List ℕ) (size : ℕ) (expected : Expected) (header : Header) → 64 ≤ length bytes → IsBytes bytes
     → Found bytes size expected header → header.uuid ≡ expected.uuid → header.number ≡ expected.number
-    → IsTrue (has_due_seqs expected header) → IsTrue (is_within_limits expected header) → IsHeader bytes size expected header
+    → IsTrue (has_due_seqs expected header) → IsTrue (is_header_within_limits expected header)
+    → IsObjectHeader bytes size expected header
 header_if_passes bytes size expected header room fits is uuid number seqs limits =
     let P : Option Header → Type 0 = λ o. IsTrue (is_length o size) in
     let head_size = length-take-le 64 bytes (omega (arith, room)) in

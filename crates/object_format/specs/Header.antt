@@ -71,16 +71,17 @@ most_rows volume Data = 65536
 most_rows volume Copy = 65536
 most_rows volume Checkpoint = volume
 
-abbrev pub is_within_limits : Expected → Header → Bool
-is_within_limits expected header = nat_le header.rows (most_rows expected.sectors header.kind) && nat_le header.payload 131071
+abbrev pub is_header_within_limits : Expected → Header → Bool
+is_header_within_limits expected header =
+    nat_le header.rows (most_rows expected.sectors header.kind) && nat_le header.payload 131071
 
 -- The first bytes of an object of this many bytes have a header that may stand under the expected number, and the object is
 -- as long as it says.
-pub record IsHeader (bytes : List ℕ) (size : ℕ) (expected : Expected) (header : Header) : Type 0 where
+pub record IsObjectHeader (bytes : List ℕ) (size : ℕ) (expected : Expected) (header : Header) : Type 0 where
   pub head : take 64 bytes ≡ header_bytes header
   pub has_size : size ≡ length_of header
   pub uuid : header.uuid ≡ expected.uuid
   pub number : header.number ≡ expected.number
   pub seqs : IsTrue (has_due_seqs expected header)
-  pub limits : IsTrue (is_within_limits expected header)
+  pub limits : IsTrue (is_header_within_limits expected header)
   pub widths : HasWidths header

@@ -7,21 +7,21 @@ use Rattle.object_format.specs.declared.data_row.DataRow.{DataRow}
 use Rattle.object_format.specs.declared.copy_row.CopyRow.{CopyRow}
 use Rattle.object_format.specs.declared.rows.Rows.{Rows}
 use Rattle.object_format.specs.declared.rows.Rows.TheVariants.{Data, Copy, Checkpoint}
-use Rattle.object_format.specs.Header.{HasWidths, IsHeader}
+use Rattle.object_format.specs.Header.{HasWidths, IsObjectHeader}
 use Rattle.object_format.specs.Rows.{data_payload, data_may_stand, data_rows_may_stand, copy_may_stand, copy_rows_may_stand}
 use Rattle.object_format.specs.Object.{IsObject}
-use Rattle.object_format.specs.Writing.{payload_of, header_of, MayBeWritten, front_bytes}
+use Rattle.object_format.specs.Writing.{payload_of, object_header_of, MayBeWritten, front_bytes}
 
 -- what is written, with a payload of as many sectors as the rows have, is an object
 abbrev pub WritesObjects : Type 0
 WritesObjects =
     (expected : Expected) (first_seq end_seq : ℕ) (rows : Rows) (payload : List ℕ)
-    → HasWidths (header_of expected first_seq end_seq rows)
-    → MayBeWritten expected (header_of expected first_seq end_seq rows) rows
+    → HasWidths (object_header_of expected first_seq end_seq rows)
+    → MayBeWritten expected (object_header_of expected first_seq end_seq rows) rows
     → length payload ≡ 512 * payload_of rows
-    → IsObject (front_bytes (header_of expected first_seq end_seq rows) rows ++ payload)
-    (length (front_bytes (header_of expected first_seq end_seq rows) rows ++ payload)) expected
-    (header_of expected first_seq end_seq rows) rows
+    → IsObject (front_bytes (object_header_of expected first_seq end_seq rows) rows ++ payload)
+    (length (front_bytes (object_header_of expected first_seq end_seq rows) rows ++ payload)) expected
+    (object_header_of expected first_seq end_seq rows) rows
 
 -- two values are the same rows
 abbrev pub AreSameRows : Rows → Rows → Type 0
@@ -42,7 +42,8 @@ HasOneReading =
 abbrev pub BeginsNoOther : Type 0
 BeginsNoOther =
     (bytes more : List ℕ) (expected another : Expected) (a b : Header)
-    → IsHeader bytes (length bytes) expected a → IsHeader (bytes ++ more) (length (bytes ++ more)) another b → more ≡ []
+    → IsObjectHeader bytes (length bytes) expected a → IsObjectHeader (bytes ++ more) (length (bytes ++ more)) another b → more
+    ≡ []
 
 -- ---- rows that are made one after the other
 

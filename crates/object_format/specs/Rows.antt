@@ -158,10 +158,10 @@ may_stand volume header Checkpoint = header.payload == 0
 
 -- ---- what the header says of them
 
-abbrev pub kind_of : Rows → Kind
-kind_of (Data rows) = kinds.Data
-kind_of (Copy rows) = kinds.Copy
-kind_of Checkpoint = kinds.Checkpoint
+abbrev pub rows_kind : Rows → Kind
+rows_kind (Data rows) = kinds.Data
+rows_kind (Copy rows) = kinds.Copy
+rows_kind Checkpoint = kinds.Checkpoint
 
 abbrev pub count_of : Rows → ℕ
 count_of (Data rows) = length rows.items
@@ -169,8 +169,8 @@ count_of (Copy rows) = length rows.items
 count_of Checkpoint = 0
 
 -- the rows are those of an object with this header, in a volume of this many sectors
-pub record AreRowsOf (volume : ℕ) (header : Header) (rows : Rows) : Type 0 where
-  pub kind : kind_of rows ≡ header.kind
+pub record AreObjectRows (volume : ℕ) (header : Header) (rows : Rows) : Type 0 where
+  pub kind : rows_kind rows ≡ header.kind
   pub count : count_of rows ≡ header.rows
   pub spelling : IsTrue (may_stand volume header rows)
 

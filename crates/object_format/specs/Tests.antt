@@ -10,7 +10,7 @@ use Rattle.object_format.specs.declared.rows.Rows.{Rows}
 use Rattle.object_format.specs.declared.rows_reading.ReadError.{ReadError}
 use Rattle.object_format.specs.declared.rows_reading.ReadError.TheVariants.{Bad, OutOfMemory}
 use Rattle.object_format.specs.Layout.{length_of}
-use Rattle.object_format.specs.Header.{header_in, has_due_seqs, is_within_limits}
+use Rattle.object_format.specs.Header.{header_in, has_due_seqs, is_header_within_limits}
 use Rattle.object_format.specs.Object.{IsObject}
 
 -- the number of a reason, in the order of the tests
@@ -39,15 +39,15 @@ PassesObjectTest bytes size expected reasons.Number = number_at w64 28 (take 64 
 PassesObjectTest bytes size expected reasons.Seqs =
     IsSomeAnd (header_in (take 64 bytes)) (λ header. IsTrue (has_due_seqs expected header))
 PassesObjectTest bytes size expected reasons.Counts =
-    IsSomeAnd (header_in (take 64 bytes)) (λ header. IsTrue (is_within_limits expected header))
+    IsSomeAnd (header_in (take 64 bytes)) (λ header. IsTrue (is_header_within_limits expected header))
 PassesObjectTest bytes size expected reasons.Rows = (header : Header) × (rows : Rows) × IsObject bytes size expected header rows
 
 -- the first test that they do not pass is that of this reason
-pub record IsRefusedAs (bytes : List ℕ) (size : ℕ) (expected : Expected) (reason : BadObject) : Type 0 where
+pub record IsObjectRefusedAs (bytes : List ℕ) (size : ℕ) (expected : Expected) (reason : BadObject) : Type 0 where
   pub earlier : (other : BadObject) → code_of other < code_of reason → PassesObjectTest bytes size expected other
   pub failed : ¬ PassesObjectTest bytes size expected reason
 
 -- what an error of a read of rows says of the bytes: the rows are the first that fails
-abbrev pub IsReasonOf : (bytes : List ℕ) (size : ℕ) → Expected → ReadError → Type 0
-IsReasonOf bytes size expected (Bad reason) = (reason ≡ reasons.Rows) × IsRefusedAs bytes size expected reason
-IsReasonOf bytes size expected OutOfMemory = Unit {0}
+abbrev pub IsObjectReason : (bytes : List ℕ) (size : ℕ) → Expected → ReadError → Type 0
+IsObjectReason bytes size expected (Bad reason) = (reason ≡ reasons.Rows) × IsObjectRefusedAs bytes size expected reason
+IsObjectReason bytes size expected OutOfMemory = Unit {0}

@@ -6,8 +6,8 @@ use Rattle.object_format.specs.declared.expected.Expected.{Expected}
 use Rattle.object_format.specs.declared.rows.Rows.{Rows}
 use Rattle.object_format.specs.declared.rows.Rows.TheVariants.{Data, Copy, Checkpoint}
 use Rattle.object_format.specs.Layout.{padding}
-use Rattle.object_format.specs.Header.{header_bytes, has_due_seqs, is_within_limits}
-use Rattle.object_format.specs.Rows.{data_payload, rows_bytes, kind_of, count_of, may_stand}
+use Rattle.object_format.specs.Header.{header_bytes, has_due_seqs, is_header_within_limits}
+use Rattle.object_format.specs.Rows.{data_payload, rows_bytes, rows_kind, count_of, may_stand}
 
 -- the sectors of the payload of rows
 abbrev pub payload_of : Rows → ℕ
@@ -16,9 +16,9 @@ payload_of (Copy rows) = sum_by (λ row. row.sectors) rows.items
 payload_of Checkpoint = 0
 
 -- the header of the expected object that holds entries with these seqs, with these rows
-abbrev pub header_of : Expected → (first_seq end_seq : ℕ) → Rows → Header
-header_of expected first_seq end_seq rows = record {
-  kind = kind_of rows;
+abbrev pub object_header_of : Expected → (first_seq end_seq : ℕ) → Rows → Header
+object_header_of expected first_seq end_seq rows = record {
+  kind = rows_kind rows;
   uuid = expected.uuid;
   number = expected.number;
   first_seq = first_seq;
@@ -30,7 +30,7 @@ header_of expected first_seq end_seq rows = record {
 -- rows may be written under such a header
 pub record MayBeWritten (expected : Expected) (header : Header) (rows : Rows) : Type 0 where
   pub seqs : IsTrue (has_due_seqs expected header)
-  pub limits : IsTrue (is_within_limits expected header)
+  pub limits : IsTrue (is_header_within_limits expected header)
   pub spelling : IsTrue (may_stand expected.sectors header rows)
 
 -- an object up to its payload

@@ -1,6 +1,6 @@
 ghost use Rattle.std.specs.Prelude.{◌≡◌, ◌↔◌, IsTrue};
 ghost use Rattle.object_format.specs.Writing.{MayBeWritten};
-ghost use Rattle.object_format.specs.Header.{has_due_seqs, is_within_limits, most_rows};
+ghost use Rattle.object_format.specs.Header.{has_due_seqs, is_header_within_limits, most_rows};
 
 use crate::MAX_PAYLOAD;
 use crate::header::Header;
@@ -62,7 +62,7 @@ impl Expected {
 
     /// Whether there are no more rows and sectors of payload than an object may have.
     pub(crate) fn allows_counts(&self, header: &Header) -> bool
-        ensures { result ≡ is_within_limits self.now header.now }
+        ensures { result ≡ is_header_within_limits self.now header.now }
     {
         u64::from(header.rows) <= self.most_rows(header.kind) && header.payload <= MAX_PAYLOAD
     }

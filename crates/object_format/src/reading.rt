@@ -1,6 +1,6 @@
 ghost use Rattle.std.specs.Prelude.{◌≡◌, ◌<◌, ◌≤◌, ◌↔◌, IsTrue, IfOk, IfErr, OnErr, length, take, codes, min};
-ghost use Rattle.object_format.specs.Header.{header_in, IsHeader};
-ghost use Rattle.object_format.specs.Tests.{is_length, IsRefusedAs};
+ghost use Rattle.object_format.specs.Header.{header_in, IsObjectHeader};
+ghost use Rattle.object_format.specs.Tests.{is_length, IsObjectRefusedAs};
 ghost use Rattle.object_format.specs.declared.header.Header.{Header};
 
 use crate::expected::Expected;
@@ -17,9 +17,9 @@ use lsvd_bytes::{read_16_bytes, read_u32, read_u64};
 /// and comes exactly where it does not begin with such a header, or is not as long as its header says.
 pub fn read_header(bytes: &[u8], size: u64, expected: &Expected) -> Result<Header, BadObject>
     requires { min 64 size ≤ length bytes.now }
-    ensures ok { IfOk result (IsHeader bytes.now size expected.now) }
-    ensures refused { IfErr result (IsRefusedAs bytes.now size expected.now) }
-    ensures none { OnErr result ((header : Header) → IsHeader bytes.now size expected.now header → ⊥) }
+    ensures ok { IfOk result (IsObjectHeader bytes.now size expected.now) }
+    ensures refused { IfErr result (IsObjectRefusedAs bytes.now size expected.now) }
+    ensures none { OnErr result ((header : Header) → IsObjectHeader bytes.now size expected.now header → ⊥) }
 {
     if !has_its_length(bytes, size) {
         return Err(BadObject::Length);

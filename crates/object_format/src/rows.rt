@@ -1,7 +1,7 @@
 ghost use Rattle.std.specs.Prelude.{◌≡◌, ◌^◌, ◌<◌, length};
 ghost use Rattle.object_format.specs.Layout.{rows_length};
-ghost use Rattle.object_format.specs.Rows.{is_inside, may_stand, kind_of, count_of, rows_bytes};
-ghost use Rattle.object_format.specs.Writing.{payload_of, header_of};
+ghost use Rattle.object_format.specs.Rows.{is_inside, may_stand, rows_kind, count_of, rows_bytes};
+ghost use Rattle.object_format.specs.Writing.{payload_of, object_header_of};
 
 use crate::copy_row::{CopyRow, copies_payload, copy_rows_may_stand, write_copy_rows};
 use crate::data_row::{DataRow, data_payload, data_rows_may_stand, write_data_rows};
@@ -40,7 +40,7 @@ impl Rows {
     pub fn header(&self, expected: &Expected, first_seq: u64, end_seq: u64) -> Header
         requires count { count_of self.now < 2 ^ 32 }
         requires payload { payload_of self.now < 2 ^ 64 }
-        ensures { result ≡ header_of expected.now first_seq end_seq self.now }
+        ensures { result ≡ object_header_of expected.now first_seq end_seq self.now }
     {
         Header {
             kind: self.kind(),
@@ -55,7 +55,7 @@ impl Rows {
 
     // The kind of object that has such rows.
     fn kind(&self) -> Kind
-        ensures { result ≡ kind_of self.now }
+        ensures { result ≡ rows_kind self.now }
     {
         match self {
             Rows::Data(_) => Kind::Data,
@@ -90,7 +90,7 @@ impl Rows {
 
     /// Writes the rows into as many bytes as they have.
     pub(crate) fn write(&self, bytes: &mut [u8])
-        requires { length bytes.old ≡ rows_length (kind_of self.now) (count_of self.now) }
+        requires { length bytes.old ≡ rows_length (rows_kind self.now) (count_of self.now) }
         ensures { bytes.new ≡ rows_bytes self.now }
     {
         match self {

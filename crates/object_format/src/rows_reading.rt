@@ -1,9 +1,9 @@
 ghost use Rattle.std.specs.Prelude.{◌≡◌, ◌*◌, ◌+◌, ◌<◌, ◌≤◌, ◌↔◌, IsTrue, IfOk, IfErr, length, replicate};
 ghost use Rattle.object_format.specs.Layout.{front_sectors, rows_length};
-ghost use Rattle.object_format.specs.Header.{IsHeader};
+ghost use Rattle.object_format.specs.Header.{IsObjectHeader};
 ghost use Rattle.object_format.specs.Rows.{data_row_in, copy_row_in, rows_in, AreReadAs};
 ghost use Rattle.object_format.specs.Object.{IsObject};
-ghost use Rattle.object_format.specs.Tests.{IsReasonOf};
+ghost use Rattle.object_format.specs.Tests.{IsObjectReason};
 ghost use Rattle.object_format.specs.declared.kind.Kind.TheVariants.{Checkpoint};
 ghost use Rattle.object_format.specs.declared.rows_reading.ReadError.TheVariants.{OutOfMemory};
 
@@ -50,11 +50,11 @@ pub fn read_rows(
     expected: &Expected,
     header: &Header,
 ) -> Result<Rows, ReadError>
-    requires header { IsHeader bytes.now size expected.now header.now }
+    requires header { IsObjectHeader bytes.now size expected.now header.now }
     requires front { 512 * front_sectors header.now ≤ length bytes.now }
     requires without { header.now.kind ≡ Checkpoint → header.now.rows ≡ 0 }
     ensures ok { IfOk result (IsObject bytes.now size expected.now header.now) }
-    ensures refused { IfErr result (IsReasonOf bytes.now size expected.now) }
+    ensures refused { IfErr result (IsObjectReason bytes.now size expected.now) }
 {
     let rows_end = header.rows_end() as usize;
     let front = (header.front_sectors() * SECTOR_BYTES) as usize;

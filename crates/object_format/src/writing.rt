@@ -1,8 +1,8 @@
 ghost use Rattle.std.specs.Prelude.{◌≡◌, ◌*◌, ◌+◌, ◌≤◌, ◌++◌, IfOk, length};
 ghost use Rattle.object_format.specs.Layout.{front_sectors, length_of};
 ghost use Rattle.object_format.specs.Header.{header_bytes};
-ghost use Rattle.object_format.specs.Rows.{kind_of, count_of};
-ghost use Rattle.object_format.specs.Writing.{payload_of, header_of, MayBeWritten, front_bytes};
+ghost use Rattle.object_format.specs.Rows.{rows_kind, count_of};
+ghost use Rattle.object_format.specs.Writing.{payload_of, object_header_of, MayBeWritten, front_bytes};
 
 use crate::expected::Expected;
 use crate::header::Header;
@@ -46,13 +46,14 @@ impl ObjectWriter {
         end_seq: u64,
         rows: &Rows,
     ) -> Result<ObjectWriter, AllocError>
-        requires { MayBeWritten expected.now (header_of expected.now first_seq end_seq rows.now) rows.now }
+        requires { MayBeWritten expected.now (object_header_of expected.now first_seq end_seq rows.now)
+            rows.now }
         ensures bytes { IfOk result (λ writer. writer.bytes
-            ≡ front_bytes (header_of expected.now first_seq end_seq rows.now) rows.now) }
+            ≡ front_bytes (object_header_of expected.now first_seq end_seq rows.now) rows.now) }
         ensures missing { IfOk result (λ writer. length writer.bytes + 512 * payload_of rows.now
             ≡ writer.size) }
         ensures size { IfOk result (λ writer. writer.size
-            ≡ length_of (header_of expected.now first_seq end_seq rows.now)) }
+            ≡ length_of (object_header_of expected.now first_seq end_seq rows.now)) }
     {
         let header = rows.header(expected, first_seq, end_seq);
         let front = (header.front_sectors() * SECTOR_BYTES) as usize;
@@ -83,7 +84,7 @@ impl ObjectWriter {
 // Writes the object up to its payload into as many bytes.
 fn write_front(header: &Header, rows: &Rows, front: &mut [u8])
     requires size { length front.old ≡ 512 * front_sectors header.now }
-    requires kind { kind_of rows.now ≡ header.now.kind }
+    requires kind { rows_kind rows.now ≡ header.now.kind }
     requires count { count_of rows.now ≡ header.now.rows }
     ensures { front.new ≡ front_bytes header.now rows.now }
 {

@@ -17,9 +17,9 @@ use Rattle.object_format.specs.declared.rows.Rows.TheVariants as rows_of
 use Rattle.object_format.specs.declared.rows.Rows.TheVariants.{Data}
 use Rattle.object_format.specs.Layout.{data_front_sectors}
 use Rattle.object_format.specs.Header.{most_rows}
-use Rattle.object_format.specs.Rows.{AreRowsOf}
+use Rattle.object_format.specs.Rows.{AreObjectRows}
 use Rattle.object_format.specs.Object.{IsObject}
-use Rattle.object_format.specs.Tests.{IsRefusedAs}
+use Rattle.object_format.specs.Tests.{IsObjectRefusedAs}
 use Rattle.object_stream.specs.Replay.{name_of}
 use Rattle.volume_maps.proofs.FitLemmas.{rows_fit}
 use Rattle.object_uploads.specs.Queue.{front_of, FitObject}
@@ -29,7 +29,7 @@ use Rattle.object_recovery.specs.declared.judging.Refusal.TheVariants as refusal
 use Rattle.object_recovery.specs.declared.reading.ReadObject.TheVariants as read
 use Rattle.object_recovery.specs.Judging.{IsEndOf}
 use Rattle.object_recovery.specs.Read.{IsReadOf}
-use Rattle.object_recovery.specs.Adoption.{IsReadAsData, IsStoredAs, IsLeft, IsLeftAt, HasNoNext}
+use Rattle.object_recovery.specs.Adoption.{IsReadAsData, IsStoredAs, IsNotAdopted, IsLeftAt, HasNoNext}
 use Rattle.object_recovery.proofs.EndLemmas.{end_of_object}
 use Rattle.object_recovery.proofs.FindLemmas.{of_told}
 
@@ -86,12 +86,12 @@ stored_as (Some objects) expected receipt rows end finds some is = record {
 
 pub left_at : (told : Option Objects) (expected : Expected) (receipt : ReceiptState) (reached : Reached)
     → Finds (name_of expected.uuid expected.number) told (Some receipt) → IsSome receipt.told
-    → IfSome receipt.told (λ bytes. IsLeft bytes receipt.size expected reached)
+    → IfSome receipt.told (λ bytes. IsNotAdopted bytes receipt.size expected reached)
     → IfSome told (λ objects. IsLeftAt objects expected reached)
 left_at None expected receipt reached finds some is = tt
 left_at (Some objects) expected receipt reached finds some is = record {
   bytes = finds.0;
   present = finds.1;
-  left = of_told (λ bytes size. IsLeft bytes size expected reached) (name_of expected.uuid expected.number) finds.0 receipt
+  left = of_told (λ bytes size. IsNotAdopted bytes size expected reached) (name_of expected.uuid expected.number) finds.0 receipt
       finds.2 some is;
 }

@@ -26,14 +26,14 @@ use Rattle.object_format.specs.declared.reason.BadObject as reason_type
 use Rattle.object_format.specs.declared.rows.Rows.TheVariants.{Checkpoint}
 use Rattle.object_format.specs.Layout.{front_sectors}
 use Rattle.object_format.specs.Object.{IsObject}
-use Rattle.object_format.specs.Tests.{IsRefusedAs}
+use Rattle.object_format.specs.Tests.{IsObjectRefusedAs}
 use Rattle.object_format.proofs.ObjectLemmas.{same_header}
 use Rattle.object_stream.specs.Replay.{name_of}
 use Rattle.object_stream.specs.Stream.{Owners}
 use Rattle.stopped_volume.specs.Objects.{expected_alone, IsCheckpointOf}
 use Rattle.object_recovery.specs.declared.error.RecoverError.{RecoverError}
 use Rattle.object_recovery.specs.declared.error.RecoverError.TheVariants as errors
-use Rattle.object_recovery.specs.Read.{AreFirstOf, IsHeaderOf, IsWhyNotRead}
+use Rattle.object_recovery.specs.Read.{AreFirstOf, IsReadHeader, IsWhyNotRead}
 use Rattle.object_recovery.specs.Checkpoints.{expected_of, IsEndOfCheckpoint, IsNoCheckpoint, IsCheckpointNamed, HasNoneFrom}
 use Rattle.object_recovery.specs.Checkpoints.{IsNewestWithEnd}
 use Rattle.object_recovery.proofs.ReadLemmas.{header_of_all, refused_is_none}
@@ -41,7 +41,7 @@ use Rattle.object_recovery.proofs.FindLemmas.{of_told, numbered}
 
 -- an object whose header is that of another kind is no checkpoint
 pub other_kind : (receipt : ReceiptState) (expected : Expected) (bytes : List ℕ) (header : Header)
-    → IsHeaderOf receipt expected bytes header
+    → IsReadHeader receipt expected bytes header
     → (header.kind ≡ kinds.Checkpoint → ⊥) → IfSome receipt.told (λ told. IsEndOfCheckpoint told receipt.size expected None)
 other_kind receipt expected bytes header is other = told_so receipt.told is.first
   where
@@ -60,7 +60,7 @@ pub bad_checkpoint : (receipt : ReceiptState) (expected : Expected) (error : Rec
     → IfSome receipt.told (λ told. IsEndOfCheckpoint told receipt.size expected None)
 bad_checkpoint receipt expected error number reason is why = told_so receipt.told (subst (IsWhyNotRead receipt expected) is why).1
   where
-    told_so : (told : Option (List ℕ)) → IfSome told (λ all. IsRefusedAs all receipt.size expected reason)
+    told_so : (told : Option (List ℕ)) → IfSome told (λ all. IsObjectRefusedAs all receipt.size expected reason)
         → IfSome told (λ all. IsEndOfCheckpoint all receipt.size expected None)
     told_so None refused = tt
     told_so (Some all) refused = λ header object. refused_is_none all receipt.size expected reason refused header

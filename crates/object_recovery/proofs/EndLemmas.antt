@@ -11,9 +11,9 @@ use Rattle.object_format.specs.declared.expected.Expected.{Expected}
 use Rattle.object_format.specs.declared.reason.BadObject as reason_type
 use Rattle.object_format.specs.declared.reason.BadObject.TheVariants as reasons
 use Rattle.object_format.specs.declared.rows.Rows.{Rows}
-use Rattle.object_format.specs.Header.{has_due_seqs, begins_at, has_seqs_of_kind, IsHeader}
+use Rattle.object_format.specs.Header.{has_due_seqs, begins_at, has_seqs_of_kind, IsObjectHeader}
 use Rattle.object_format.specs.Object.{IsObject}
-use Rattle.object_format.specs.Tests.{PassesObjectTest, IsRefusedAs}
+use Rattle.object_format.specs.Tests.{PassesObjectTest, IsObjectRefusedAs}
 use Rattle.object_format.proofs.ObjectLemmas.{same_header}
 use Rattle.object_format.proofs.TestLemmas.{header_in-IsHeader, header_passes}
 use Rattle.object_stream.specs.Replay.{name_of}
@@ -21,7 +21,7 @@ use Rattle.stopped_volume.specs.Objects.{expected_alone}
 use Rattle.object_recovery.specs.Judging.{IsEndOf, HasEnd, IsEndBefore, IsGoodObject, IsBadObject}
 use Rattle.object_recovery.specs.declared.error.RecoverError.TheVariants as errors
 use Rattle.object_recovery.specs.declared.reading.ReadObject.TheVariants as read
-use Rattle.object_recovery.specs.Read.{AreFirstOf, HasHead, IsHeaderOf, IsWhyNotRead, IsToldRefused, IsToldEnd, IsReadOf}
+use Rattle.object_recovery.specs.Read.{AreFirstOf, HasHead, IsReadHeader, IsWhyNotRead, IsToldRefused, IsToldEnd, IsReadOf}
 use Rattle.object_recovery.proofs.ReadLemmas.{same_head, moved_header, header_of_all, refused_is_none}
 
 -- ---- by itself
@@ -30,8 +30,8 @@ seqs_alone : (of_kind begins : Bool) → IsTrue (of_kind && begins) → IsTrue (
 seqs_alone true begins is = refl
 seqs_alone false begins is = is
 
-alone_header : (bytes : List ℕ) (size : ℕ) (expected : Expected) (header : Header) → IsHeader bytes size expected header
-    → IsHeader bytes size (expected_alone expected expected.number) header
+alone_header : (bytes : List ℕ) (size : ℕ) (expected : Expected) (header : Header) → IsObjectHeader bytes size expected header
+    → IsObjectHeader bytes size (expected_alone expected expected.number) header
 alone_header bytes size expected header is = record {
   head = is.head;
   has_size = is.has_size;
@@ -63,7 +63,7 @@ end_of_object bytes size expected header rows is = (header, rows, alone_object b
 -- what is refused for another reason than its seqs is none by itself
 pub refused_alone : (bytes : List ℕ) (size : ℕ) (expected : Expected) (reason : reason_type.BadObject)
     → (reason ≡ reasons.Seqs → ⊥)
-    → IsRefusedAs bytes size expected reason → IsEndOf bytes size expected None
+    → IsObjectRefusedAs bytes size expected reason → IsEndOf bytes size expected None
 refused_alone bytes size expected reasons.Length other refused header rows is =
     refused.failed (header_passes bytes size (expected_alone expected expected.number) header reasons.Length
     (omega arith) is.head)
@@ -83,7 +83,7 @@ refused_alone bytes size expected reasons.Counts other refused header rows is =
 refused_alone bytes size expected reasons.Rows other refused header rows is =
     let there = header_in-IsHeader bytes size (expected_alone expected expected.number) header is.head in
     let P : Option Header → Type 0 = λ o. IsSomeAnd o (λ x. IsTrue (has_due_seqs expected x)) in
-    let head : IsHeader bytes size expected header = record {
+    let head : IsObjectHeader bytes size expected header = record {
       head = is.head.head;
       has_size = is.head.has_size;
       uuid = is.head.uuid;
@@ -106,7 +106,7 @@ refused_alone bytes size expected reasons.Rows other refused header rows is =
 
 -- what is refused by itself is none
 pub refused_none : (bytes : List ℕ) (size : ℕ) (expected : Expected) (reason : reason_type.BadObject)
-    → IsRefusedAs bytes size (expected_alone expected expected.number) reason → IsEndOf bytes size expected None
+    → IsObjectRefusedAs bytes size (expected_alone expected expected.number) reason → IsEndOf bytes size expected None
 refused_none bytes size expected reason refused header rows is =
     refused_is_none bytes size (expected_alone expected expected.number) reason refused header rows is
 
@@ -115,11 +115,12 @@ refused_none bytes size expected reason refused header rows is =
 -- what is refused after its header was read is none
 pub front_refused : (receipt : ReceiptState) (expected : Expected) (bytes : List ℕ) (header : Header) (number : ℕ)
     (reason : reason_type.BadObject)
-    → IsHeaderOf receipt expected bytes header → IsWhyNotRead receipt expected (errors.BadObject number reason)
+    → IsReadHeader receipt expected bytes header → IsWhyNotRead receipt expected (errors.BadObject number reason)
     → IsReadOf receipt expected (read.Bad reason None)
 front_refused receipt expected bytes header number reason is why = (why.1, of_told receipt.told is.first why.1)
   where
-    of_told : (told : Option (List ℕ)) → AreFirstOf told bytes → IfSome told (λ all. IsRefusedAs all receipt.size expected reason)
+    of_told : (told : Option (List ℕ)) → AreFirstOf told bytes
+        → IfSome told (λ all. IsObjectRefusedAs all receipt.size expected reason)
         → IfSome told (λ all. IsEndOf all receipt.size expected None)
     of_told None first refused = tt
     of_told (Some all) first refused =
@@ -132,7 +133,7 @@ pub other_reason : (receipt : ReceiptState) (expected : Expected) (reason : reas
     → IsToldRefused receipt expected reason → IsToldEnd receipt expected None
 other_reason receipt expected reason other refused = of_told receipt.told refused
   where
-    of_told : (told : Option (List ℕ)) → IfSome told (λ all. IsRefusedAs all receipt.size expected reason)
+    of_told : (told : Option (List ℕ)) → IfSome told (λ all. IsObjectRefusedAs all receipt.size expected reason)
         → IfSome told (λ all. IsEndOf all receipt.size expected None)
     of_told None refused = tt
     of_told (Some all) refused = refused_alone all receipt.size expected reason other refused
@@ -143,7 +144,7 @@ head_read receipt bytes others same head = subst (HasHead receipt) same head
 -- where the first bytes have no header, it is none
 pub headless : (receipt : ReceiptState) (expected : Expected) (bytes : List ℕ) → HasHead receipt bytes
     → IfSome receipt.told (λ told. receipt.size ≡ length told)
-    → ((header : Header) → IsHeader bytes receipt.size (expected_alone expected expected.number) header → ⊥)
+    → ((header : Header) → IsObjectHeader bytes receipt.size (expected_alone expected expected.number) header → ⊥)
     → IsToldEnd receipt expected None
 headless receipt expected bytes head whole none = of_told receipt.told head.first whole
   where
@@ -170,7 +171,7 @@ pub bad_alone : (receipt : ReceiptState) (expected : Expected) (reason : reason_
 bad_alone receipt expected reason end is = of_told receipt.told is.0
   where
     of_told : (told : Option (List ℕ)) → IfSome told
-        (λ all. IsRefusedAs all receipt.size (expected_alone expected expected.number) reason)
+        (λ all. IsObjectRefusedAs all receipt.size (expected_alone expected expected.number) reason)
         → IfSome told (λ all. IsEndOf all receipt.size expected None)
     of_told None refused = tt
     of_told (Some all) refused = refused_none all receipt.size expected reason refused
@@ -222,4 +223,4 @@ module _ (volume : Expected) (objects : Objects) where
       let is = good.holds in
       let moved = subst (λ e. IsObject good.bytes (length good.bytes) (expected e) is.0 is.1) end is.2 in
       refused_is_none good.bytes (length good.bytes) (expected bad.end_before) reason
-      (subst (λ bytes. IsRefusedAs bytes (length bytes) (expected bad.end_before) reason) same bad.holds) is.0 is.1 moved
+      (subst (λ bytes. IsObjectRefusedAs bytes (length bytes) (expected bad.end_before) reason) same bad.holds) is.0 is.1 moved

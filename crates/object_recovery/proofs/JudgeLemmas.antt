@@ -9,7 +9,7 @@ use Rattle.lsvd_objstore.specs.Store.{ReceiptState, Finds}
 use Rattle.object_format.specs.declared.expected.Expected.{Expected}
 use Rattle.object_format.specs.declared.reason.BadObject.{BadObject}
 use Rattle.object_format.specs.Object.{IsObject}
-use Rattle.object_format.specs.Tests.{IsRefusedAs}
+use Rattle.object_format.specs.Tests.{IsObjectRefusedAs}
 use Rattle.object_stream.specs.Replay.{name_of}
 use Rattle.stopped_volume.specs.Objects.{landed_in, expected_alone, IsWhole}
 use Rattle.object_recovery.specs.declared.judging.Reached.{Reached}
@@ -24,7 +24,7 @@ use Rattle.object_recovery.specs.Read.{IsReadOf}
 use Rattle.object_recovery.specs.Judged.{judged_by, IsBadFor, IsJudged, IsJudgedNext, IsGap, GoesToGap}
 use Rattle.object_recovery.specs.Judged.{refused_with, StaysRefused}
 use Rattle.object_recovery.specs.Judged.{IsVerdict, IsReached}
-use Rattle.object_recovery.specs.Adoption.{IsWhyLeft, IsLeft}
+use Rattle.object_recovery.specs.Adoption.{IsWhyLeft, IsNotAdopted}
 use Rattle.object_recovery.proofs.EndLemmas.{before_next, end_of_object}
 use Rattle.object_recovery.proofs.FindLemmas.{of_told}
 
@@ -55,7 +55,7 @@ told_judged (Some objects) expected receipt (read.Bad reason end) judged is find
       bytes = bytes;
       present = finds.1;
       is_end = of_told (λ bytes size. IsEndOf bytes size expected end) name bytes receipt finds.2 some held.1;
-      is_bad = of_told (λ bytes size. IsRefusedAs bytes size expected reason) name bytes receipt finds.2 some held.0;
+      is_bad = of_told (λ bytes size. IsObjectRefusedAs bytes size expected reason) name bytes receipt finds.2 some held.0;
     })
 
 module _ (volume : Expected) (objects : Objects) where
@@ -169,7 +169,7 @@ module _ (volume : Expected) (objects : Objects) where
 
     -- one that is left, where no object up to there is refused
     module _ (left : Reached) (none : reached.refused ≡ None)
-        (is_left : IsLeft bytes (length bytes) (expected_after volume at reached.end) left) where
+        (is_left : IsNotAdopted bytes (length bytes) (expected_after volume at reached.end) left) where
       all_good : (last : ℕ) → at ≤ last → AreGood volume objects last (UpTo base reached.number)
       all_good last to = subst (IsVerdict volume objects last (UpTo base reached.number)) none
           (is.verdict last (omega (arith, to)))

@@ -21,8 +21,9 @@ use Rattle.object_recovery.specs.Faults.{of_refusal, is_store_fault, IsNoAnswer}
 use Rattle.object_recovery.specs.Judging.{AreGood, HaveLanded, IsRun}
 use Rattle.object_recovery.specs.Judged.{IsVerdict, IsReached, IsGap, JudgesPast, StaysRefused}
 use Rattle.object_recovery.specs.Adoption.{IsWhyLeft, HasEndedAt, KeepsGood, reached_by, ReachesGap, JudgesRest, RefusesRest}
-use Rattle.object_recovery.specs.Adoption.{IsBegun, Recovers}
-use Rattle.object_recovery.specs.Recovery.{IsListUpTo, KeepsStreams, AreAllGood, AreNamedWholePast, IsWhyRefused, IsRefused}
+use Rattle.object_recovery.specs.Adoption.{IsRecoveryBegun, Recovers}
+use Rattle.object_recovery.specs.Recovery.{IsListUpTo, KeepsStreams, AreAllGood, AreNamedWholePast, IsWhyObjectsRefused}
+use Rattle.object_recovery.specs.Recovery.{IsRecoveryRefused}
 use Rattle.object_recovery.proofs.EndLemmas.{alone_object}
 use Rattle.object_recovery.proofs.ListLemmas.{left_good}
 use Rattle.object_recovery.proofs.RecoverLemmas.{IsNewList, stream_to, is_recovered}
@@ -119,7 +120,7 @@ module _ (volume : Expected) (objects : Objects) (base : ℕ) where
       (whole.0, whole.1, alone_object good.bytes (length good.bytes) expected whole.0 whole.1 whole.2)
 
   pub why_refused : (refusal : Refusal) → AreJudged volume objects base (Some refusal)
-      → IsWhyRefused volume objects (of_refusal refusal)
+      → IsWhyObjectsRefused volume objects (of_refusal refusal)
   why_refused (refusals.Bad number reason) is =
       let verdict = is.verdict in (
         base,
@@ -143,7 +144,7 @@ module _ (uuid : List ℕ) (geometry : Geometry) (base end : ℕ) (begun log : O
     (list : IsListUpTo uuid geometry log.uploads.window.last log.uploads.queue.end log) (objects : Objects)
     (streams : KeepsStreams (expected_of_volume begun) objects begun log)
     (good : KeepsGood (expected_of_volume begun) objects begun log)
-    (ended : HasEndedAt objects log left) (from : IsBegun uuid geometry base end names objects) where
+    (ended : HasEndedAt objects log left) (from : IsRecoveryBegun uuid geometry base end names objects) where
   abbrev volume : Expected
   volume = expected_of uuid geometry
 
@@ -178,12 +179,12 @@ module _ (uuid : List ℕ) (geometry : Geometry) (base end : ℕ) (begun log : O
     past = whole_past volume objects base log.uploads.window.last log_reached.from (judged None rest);
   }
 
-  refuses : (error : RecoverError) → RefusesRest objects log names left error → IsRefused volume objects error
+  refuses : (error : RecoverError) → RefusesRest objects log names left error → IsRecoveryRefused volume objects error
   refuses error refused =
       elim refused [
         | inl none ↦ no_answer_refused volume objects error none
         | inr is ↦
-            subst (IsRefused volume objects) (sym is.1)
+            subst (IsRecoveryRefused volume objects) (sym is.1)
             (is_refused volume objects wide (of_refusal is.0) (why_refused volume objects base is.0 (judged (Some is.0) is.2)))
       ]
 
@@ -197,7 +198,7 @@ module _ (uuid : List ℕ) (geometry : Geometry) (base end : ℕ) (begun log : O
       → IfSome told (λ objects. KeepsGood (expected_of_volume begun) objects begun log)
       → IfSome told (λ objects. HasEndedAt objects log left)
       → IfSome told (λ objects. JudgesRest objects log names left None)
-      → IfSome told (λ objects. IsBegun uuid geometry base end names objects
+      → IfSome told (λ objects. IsRecoveryBegun uuid geometry base end names objects
       → Recovers (expected_of uuid geometry) base objects log)
   told_recovers None streams good ended rest = tt
   told_recovers (Some objects) streams good ended rest = λ from.
@@ -208,14 +209,14 @@ module _ (uuid : List ℕ) (geometry : Geometry) (base end : ℕ) (begun log : O
       → IfSome told (λ objects. KeepsGood (expected_of_volume begun) objects begun log)
       → IfSome told (λ objects. HasEndedAt objects log left)
       → IfSome told (λ objects. RefusesRest objects log names left error)
-      → IfSome told (λ objects. IsBegun uuid geometry base end names objects
-      → IsRefused (expected_of uuid geometry) objects error)
+      → IfSome told (λ objects. IsRecoveryBegun uuid geometry base end names objects
+      → IsRecoveryRefused (expected_of uuid geometry) objects error)
   told_refuses None error streams good ended refused = tt
   told_refuses (Some objects) error streams good ended refused = λ from.
       refuses uuid geometry base end begun log names left wide new list objects streams good ended from error refused
 
 pub told_failed : (told : Option Objects) (volume : Expected) (Begun : Objects → Type 0) (error : RecoverError) → IsNoAnswer error
-    → IfSome told (λ objects. Begun objects → IsRefused volume objects error)
+    → IfSome told (λ objects. Begun objects → IsRecoveryRefused volume objects error)
 told_failed None of_volume Begun error none = tt
 told_failed (Some objects) of_volume Begun error none = λ _. no_answer_refused of_volume objects error none
 
@@ -249,6 +250,6 @@ pub told_begun : (told : Option Objects) (uuid : List ℕ) (geometry : Geometry)
     (P : Objects → Type 0)
     → IfSome told (λ objects. IsNewestWithEnd (expected_of uuid geometry) objects base end)
     → IfSome told (λ objects. Lists uuid objects names)
-    → IfSome told (λ objects. IsBegun uuid geometry base end names objects → P objects) → IfSome told P
+    → IfSome told (λ objects. IsRecoveryBegun uuid geometry base end names objects → P objects) → IfSome told P
 told_begun None uuid geometry base end names P newest listed so = tt
 told_begun (Some objects) uuid geometry base end names P newest listed so = so (record { newest = newest; listed = listed })

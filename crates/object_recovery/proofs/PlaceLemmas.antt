@@ -13,7 +13,7 @@ use Rattle.object_format.specs.Layout.{front_sectors, front_with}
 use Rattle.object_format.specs.Rows.{is_at, payload_at, data_payload, data_may_stand, data_rows_may_stand}
 use Rattle.volume_maps.specs.declared.place.ObjectPlace.{ObjectPlace}
 use Rattle.volume_maps.specs.Places.{object_on}
-use Rattle.volume_maps.specs.Maps.{row_place, settled_by_row, settled_by, settled_at}
+use Rattle.volume_maps.specs.Maps.{row_object_place, settled_by_row, settled_by, settled_at}
 use Rattle.object_uploads.specs.State.{QueueState}
 use Rattle.object_uploads.specs.Queue.{front_of, receipt_of, IsNextSettled}
 use Rattle.object_recovery.specs.Places.{IsInsideObject, HasPlacesInside}
@@ -34,7 +34,7 @@ module _ (volume payload number front k : ℕ) (Holds : ObjectPlace → Type 0)
   where
     -- of the place that a row gives a sector which it covers
     by_place : (stand_at sectors i : ℕ) (place : Option ℕ) → k < volume → i < sectors → IsTrue (is_at stand_at place)
-        → IsTrue (nat_le (stand_at + payload_at sectors place) payload) → IfSome (row_place number front place i) Holds
+        → IsTrue (nat_le (stand_at + payload_at sectors place) payload) → IfSome (row_object_place number front place i) Holds
     by_place stand_at sectors i None inside low stands within = tt
     by_place stand_at sectors i (Some at) inside low stands within =
         let here : at + i < payload = grind (arith, nat_tests) in
@@ -43,7 +43,7 @@ module _ (volume payload number front k : ℕ) (Holds : ObjectPlace → Type 0)
     by_test : (test : Bool) (earlier : Option DataRow) (stand_at : ℕ) (row : DataRow) (before : Option ObjectPlace)
         → is_within row.lba row.sectors k ≡ test → IsTrue (data_may_stand volume payload earlier stand_at row)
         → IfSome before Holds
-        → IfSome (cond test (row_place number front row.place (k - row.lba)) before) Holds
+        → IfSome (cond test (row_object_place number front row.place (k - row.lba)) before) Holds
     by_test false earlier stand_at row before test stands holds = holds
     by_test true earlier stand_at row before test stands holds =
         by_place stand_at row.sectors (k - row.lba) row.place (grind (arith, nat_tests)) (grind (arith, nat_tests))

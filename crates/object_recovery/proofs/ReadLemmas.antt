@@ -16,16 +16,16 @@ use Rattle.object_format.specs.declared.rows.Rows.{Rows}
 use Rattle.object_format.specs.declared.rows.Rows.TheVariants as rows_of
 use Rattle.object_format.specs.declared.rows_reading.ReadError.TheVariants.{Bad}
 use Rattle.object_format.specs.Layout.{front_sectors, rows_end, rows_length, padding}
-use Rattle.object_format.specs.Header.{header_in, has_due_seqs, is_within_limits, IsHeader}
-use Rattle.object_format.specs.Rows.{AreRowsOf}
+use Rattle.object_format.specs.Header.{header_in, has_due_seqs, is_header_within_limits, IsObjectHeader}
+use Rattle.object_format.specs.Rows.{AreObjectRows}
 use Rattle.object_format.specs.Object.{IsObject}
-use Rattle.object_format.specs.Tests.{code_of, is_length, PassesObjectTest, IsRefusedAs, IsReasonOf}
+use Rattle.object_format.specs.Tests.{code_of, is_length, PassesObjectTest, IsObjectRefusedAs, IsObjectReason}
 use Rattle.object_format.proofs.HeaderLemmas.{length-header_bytes}
 use Rattle.object_format.proofs.ObjectLemmas.{rows_end_first, refused_as_rows}
 use Rattle.object_format.proofs.TestLemmas.{header_passes}
 use Rattle.lsvd_objstore.specs.Store.{ReceiptState}
 use Rattle.object_recovery.specs.declared.error.RecoverError.TheVariants.{BadObject}
-use Rattle.object_recovery.specs.Read.{AreFirstOf, IsHeaderOf, IsReadAs, IsWhyNotRead}
+use Rattle.object_recovery.specs.Read.{AreFirstOf, IsReadHeader, IsReadAs, IsWhyNotRead}
 
 -- ---- the first bytes
 
@@ -52,7 +52,7 @@ module _ (all bytes : List ℕ) (first : AreFirstOf (Some all) bytes) where
 
 -- bytes that begin alike have one header
 pub moved_header : (bytes others : List ℕ) (size : ℕ) (expected : Expected) (header : Header) → take 64 bytes ≡ take 64 others
-    → IsHeader bytes size expected header → IsHeader others size expected header
+    → IsObjectHeader bytes size expected header → IsObjectHeader others size expected header
 moved_header bytes others size expected header same is = record {
   head = sym same ∙ is.head;
   has_size = is.has_size;
@@ -112,7 +112,7 @@ same_test bytes others size expected reasons.Number low same is = sym (ap (numbe
 same_test bytes others size expected reasons.Seqs low same is =
     subst (λ head. IsSomeAnd (header_in head) (λ header. IsTrue (has_due_seqs expected header))) same is
 same_test bytes others size expected reasons.Counts low same is =
-    subst (λ head. IsSomeAnd (header_in head) (λ header. IsTrue (is_within_limits expected header))) same is
+    subst (λ head. IsSomeAnd (header_in head) (λ header. IsTrue (is_header_within_limits expected header))) same is
 same_test bytes others size expected reasons.Rows low same is = absurd (omega (arith, low))
 
 -- the last test is that of the rows
@@ -139,8 +139,8 @@ is_last reasons.Rows from = refl
 -- what begins with no header is refused for its first bytes
 refused_head : (bytes others : List ℕ) (size : ℕ) (expected : Expected) (reason : reason_type.BadObject)
     → take 64 bytes ≡ take 64 others
-    → ((header : Header) → IsHeader bytes size expected header → ⊥)
-    → IsRefusedAs bytes size expected reason → IsRefusedAs others size expected reason
+    → ((header : Header) → IsObjectHeader bytes size expected header → ⊥)
+    → IsObjectRefusedAs bytes size expected reason → IsObjectRefusedAs others size expected reason
 refused_head bytes others size expected reason same none refused = record {
   earlier = λ other below. same_test bytes others size expected other (omega (arith, below, last_test reason)) same
       (refused.earlier other below);
@@ -157,18 +157,18 @@ refused_head bytes others size expected reason same none refused = record {
 -- an object is refused for its rows where its front is
 refused_front : (all bytes : List ℕ) (size : ℕ) (expected : Expected) (header : Header) (reason : reason_type.BadObject)
     → AreFirstOf (Some all) bytes
-    → IsHeader bytes size expected header → 512 * front_sectors header ≤ length bytes → reason ≡ reasons.Rows
-    → IsRefusedAs bytes size expected reason → IsRefusedAs all size expected reason
+    → IsObjectHeader bytes size expected header → 512 * front_sectors header ≤ length bytes → reason ≡ reasons.Rows
+    → IsObjectRefusedAs bytes size expected reason → IsObjectRefusedAs all size expected reason
 refused_front all bytes size expected header reason first is long rows refused =
     let head = moved_header bytes all size expected header (head_of_all all bytes first (omega (arith, front_long header))) is in
-    subst (IsRefusedAs all size expected) (sym rows)
+    subst (IsObjectRefusedAs all size expected) (sym rows)
     (refused_as_rows all size expected header head
     (λ others object. refused.failed (subst (PassesObjectTest bytes size expected) (sym rows)
     (header, others, front_of_object all bytes first size expected header others long object))))
 
 -- what is refused is no object
 pub refused_is_none : (bytes : List ℕ) (size : ℕ) (expected : Expected) (reason : reason_type.BadObject)
-    → IsRefusedAs bytes size expected reason
+    → IsObjectRefusedAs bytes size expected reason
     → (header : Header) (rows : Rows) → IsObject bytes size expected header rows → ⊥
 refused_is_none bytes size expected reason refused header rows is =
     elim (cases_lt (code_of reason) 8) [
@@ -179,7 +179,7 @@ refused_is_none bytes size expected reason refused header rows is =
 -- ---- what the reads say of the object
 
 -- the bytes of a header are 64
-header_long : (bytes : List ℕ) (size : ℕ) (expected : Expected) (header : Header) → IsHeader bytes size expected header
+header_long : (bytes : List ℕ) (size : ℕ) (expected : Expected) (header : Header) → IsObjectHeader bytes size expected header
     → 64 ≤ length bytes
 header_long bytes size expected header is =
     omega (arith, ap length is.head, length-header_bytes header is.widths.uuid, length-take 64 bytes)
@@ -187,7 +187,7 @@ header_long bytes size expected header is =
 -- bytes that go on have the header
 pub longer_header : (bytes others : List ℕ) (size : ℕ) (expected : Expected) (header : Header) → length bytes ≤ 64
     → take (length bytes) others ≡ bytes
-    → IsHeader bytes size expected header → IsHeader others size expected header
+    → IsObjectHeader bytes size expected header → IsObjectHeader others size expected header
 longer_header bytes others size expected header few kept is =
     let exact : length bytes ≡ 64 = omega (arith, header_long bytes size expected header is) in
     let same : take 64 bytes ≡ take 64 others = take_all 64 bytes (omega arith) ∙ sym kept ∙ ap (λ n. take n others) exact in
@@ -206,25 +206,25 @@ same_head all bytes size count first whole =
 pub why_no_header : (receipt : ReceiptState) (expected : Expected) (bytes : List ℕ) (reason : reason_type.BadObject)
     → AreFirstOf receipt.told bytes
     → length bytes ≡ min receipt.size 64 → IfSome receipt.told (λ told. receipt.size ≡ length told)
-    → ((header : Header) → IsHeader bytes receipt.size expected header → ⊥)
-    → IsRefusedAs bytes receipt.size expected reason → IsWhyNotRead receipt expected (BadObject expected.number reason)
+    → ((header : Header) → IsObjectHeader bytes receipt.size expected header → ⊥)
+    → IsObjectRefusedAs bytes receipt.size expected reason → IsWhyNotRead receipt expected (BadObject expected.number reason)
 why_no_header receipt expected bytes reason first count whole none refused = (refl, of_told receipt.told first whole)
   where
     of_told : (told : Option (List ℕ)) → AreFirstOf told bytes → IfSome told (λ all. receipt.size ≡ length all)
-        → IfSome told (λ all. IsRefusedAs all receipt.size expected reason)
+        → IfSome told (λ all. IsObjectRefusedAs all receipt.size expected reason)
     of_told None first whole = tt
     of_told (Some all) first whole = refused_head bytes all receipt.size expected reason
         (same_head all bytes receipt.size count first whole) none refused
 
 -- the header of the first bytes is that of the whole
 pub header_of_all : (all bytes : List ℕ) → AreFirstOf (Some all) bytes → (size : ℕ) (expected : Expected) (header : Header)
-    → IsHeader bytes size expected header → IsHeader all size expected header
+    → IsObjectHeader bytes size expected header → IsObjectHeader all size expected header
 header_of_all all bytes first size expected header is =
     moved_header bytes all size expected header (head_of_all all bytes first (header_long bytes size expected header is)) is
 
 -- a checkpoint has no rows
 checkpoint_has_no_rows : (volume : ℕ) (header : Header) (rows : Rows) → header.kind ≡ kinds.Checkpoint
-    → AreRowsOf volume header rows
+    → AreObjectRows volume header rows
     → header.rows ≡ 0
 checkpoint_has_no_rows volume header (rows_of.Data rows) kind are = let other = are.kind in cc
 checkpoint_has_no_rows volume header (rows_of.Copy rows) kind are = let other = are.kind in cc
@@ -232,13 +232,13 @@ checkpoint_has_no_rows volume header rows_of.Checkpoint kind are = sym are.count
 
 -- one with rows is refused for them
 pub why_no_checkpoint : (receipt : ReceiptState) (expected : Expected) (bytes : List ℕ) (header : Header)
-    → IsHeaderOf receipt expected bytes header
+    → IsReadHeader receipt expected bytes header
     → header.kind ≡ kinds.Checkpoint → (header.rows ≡ 0 → ⊥)
     → IsWhyNotRead receipt expected (BadObject expected.number reasons.Rows)
 why_no_checkpoint receipt expected bytes header is kind some = (refl, of_told receipt.told is.first)
   where
     of_told : (told : Option (List ℕ)) → AreFirstOf told bytes
-        → IfSome told (λ all. IsRefusedAs all receipt.size expected reasons.Rows)
+        → IfSome told (λ all. IsObjectRefusedAs all receipt.size expected reasons.Rows)
     of_told None first = tt
     of_told (Some all) first =
         let same = head_of_all all bytes first (header_long bytes receipt.size expected header is.header_is) in
@@ -249,11 +249,12 @@ why_no_checkpoint receipt expected bytes header is kind some = (refl, of_told re
 pub why_no_rows : (receipt : ReceiptState) (expected : Expected) (bytes : List ℕ) (header : Header)
     (reason : reason_type.BadObject)
     → AreFirstOf receipt.told bytes
-    → IsHeader bytes receipt.size expected header → 512 * front_sectors header ≤ length bytes
-    → IsReasonOf bytes receipt.size expected (Bad reason) → IsWhyNotRead receipt expected (BadObject expected.number reason)
+    → IsObjectHeader bytes receipt.size expected header → 512 * front_sectors header ≤ length bytes
+    → IsObjectReason bytes receipt.size expected (Bad reason) → IsWhyNotRead receipt expected (BadObject expected.number reason)
 why_no_rows receipt expected bytes header reason first is long refused = (refl, of_told receipt.told first)
   where
-    of_told : (told : Option (List ℕ)) → AreFirstOf told bytes → IfSome told (λ all. IsRefusedAs all receipt.size expected reason)
+    of_told : (told : Option (List ℕ)) → AreFirstOf told bytes
+        → IfSome told (λ all. IsObjectRefusedAs all receipt.size expected reason)
     of_told None first = tt
     of_told (Some all) first = refused_front all bytes receipt.size expected header reason first is long refused.0 refused.1
 

@@ -14,9 +14,9 @@ use Rattle.object_format.specs.declared.kind.Kind.TheVariants as kinds
 use Rattle.object_format.specs.declared.reason.BadObject.{BadObject}
 use Rattle.object_format.specs.declared.rows.Rows.{Rows}
 use Rattle.object_format.specs.declared.rows.Rows.TheVariants as rows_of
-use Rattle.object_format.specs.Rows.{AreRowsOf}
+use Rattle.object_format.specs.Rows.{AreObjectRows}
 use Rattle.object_format.specs.Object.{IsObject}
-use Rattle.object_format.specs.Tests.{IsRefusedAs}
+use Rattle.object_format.specs.Tests.{IsObjectRefusedAs}
 use Rattle.object_format.specs.Layout.{front_sectors}
 use Rattle.object_stream.specs.declared.object.Content.{Content}
 use Rattle.object_stream.specs.declared.object.Content.TheVariants as content
@@ -32,7 +32,7 @@ use Rattle.object_recovery.specs.declared.error.RecoverError.TheVariants as erro
 use Rattle.object_recovery.specs.Faults.{IsNoAnswer}
 use Rattle.object_recovery.specs.Checkpoints.{expected_of, IsNoCheckpoint, IsNewestWithEnd}
 use Rattle.object_recovery.specs.Judging.{HasEnd, IsBadObject, IsNotData, IsRun, expected_after}
-use Rattle.object_recovery.specs.Recovery.{HasDataUpTo, IsWhyRefused, IsRefusal, IsRefused}
+use Rattle.object_recovery.specs.Recovery.{HasDataUpTo, IsWhyObjectsRefused, IsRefusal, IsRecoveryRefused}
 use Rattle.object_recovery.proofs.EndLemmas.{end_of_object, one_end_before, before_next}
 use Rattle.object_recovery.proofs.ReadLemmas.{refused_is_none}
 use Rattle.object_recovery.proofs.StreamLemmas.{is_stored, is_data, next_end}
@@ -40,7 +40,7 @@ use Rattle.object_recovery.proofs.RecoverLemmas.{IsNewList, base_is, begin_end}
 
 -- where there was no answer, nothing is refused
 no_answer_why : (volume : Expected) (objects : Objects) (error : RecoverError) → IsNoAnswer error
-    → IsWhyRefused volume objects error
+    → IsWhyObjectsRefused volume objects error
 no_answer_why volume objects errors.NoCheckpoint none = absurd none
 no_answer_why volume objects (errors.BadObject number reason) none = absurd none
 no_answer_why volume objects (errors.NotData number) none = absurd none
@@ -55,7 +55,7 @@ no_answer_refuses errors.StoreFault none is = is
 no_answer_refuses errors.OutOfMemory none is = is
 
 pub no_answer_refused : (volume : Expected) (objects : Objects) (error : RecoverError) → IsNoAnswer error
-    → IsRefused volume objects error
+    → IsRecoveryRefused volume objects error
 no_answer_refused volume objects error none = record {
   why = no_answer_why volume objects error none;
   no_stream = λ uuid_at stream number has. no_answer_refuses error none;
@@ -63,7 +63,7 @@ no_answer_refused volume objects error none = record {
 
 -- a store without a checkpoint has no stream
 none_refused : (volume : Expected) (objects : Objects) → ((number : ℕ) → IsNoCheckpoint volume objects number)
-    → IsRefused volume objects errors.NoCheckpoint
+    → IsRecoveryRefused volume objects errors.NoCheckpoint
 none_refused volume objects none = record {
   why = none;
   no_stream = λ uuid_at stream number has is. none stream.number stream.end stream.opening has.stored.based;
@@ -75,7 +75,7 @@ none_refused volume objects none = record {
 data_kind : (objects : Objects) (uuid_at : ℕ → Option (List ℕ)) (kind : Content) (entries : List Entry) (rows : Rows)
     (payload : List ℕ)
     (volume : ℕ) (header : Header)
-    → kind ≡ content.Data → HasContent objects uuid_at kind entries rows payload → AreRowsOf volume header rows
+    → kind ≡ content.Data → HasContent objects uuid_at kind entries rows payload → AreObjectRows volume header rows
     → header.kind ≡ kinds.Data
 data_kind objects uuid_at kind entries (rows_of.Data rows) payload volume header is has are = sym are.kind
 data_kind objects uuid_at kind entries (rows_of.Copy rows) payload volume header is has are =
@@ -156,7 +156,8 @@ module _ (volume : Expected) (objects : Objects) (wide : volume.sectors < 2 ^ 64
               let none = bad.is_before.unknown (omega (arith, beyond, ends)) in
               let whole = has.stored.past at bad.bytes beyond bad.present in
               refused_is_none bad.bytes (length bad.bytes) (expected_alone volume at) reason
-              (subst (λ e. IsRefusedAs bad.bytes (length bad.bytes) (expected_after volume at e) reason) none bad.holds) whole.0
+              (subst (λ e. IsObjectRefusedAs bad.bytes (length bad.bytes) (expected_after volume at e) reason) none bad.holds)
+              whole.0
               whole.1 whole.2
           | inr within ↦
               let before = at - 1 in
@@ -172,8 +173,8 @@ module _ (volume : Expected) (objects : Objects) (wide : volume.sectors < 2 ^ 64
               moved.is_before known in
               let same : moved.bytes ≡ stored.bytes = let e = moved.present in let f = stored.present in cc in
               refused_is_none stored.bytes (length stored.bytes) (expected (before + 1) (Some (end_at stream before))) reason
-              (subst (λ b. IsRefusedAs b (length b) (expected (before + 1) (Some (end_at stream before))) reason) same
-              (subst (λ e. IsRefusedAs moved.bytes (length moved.bytes) (expected (before + 1) e) reason) one moved.holds))
+              (subst (λ b. IsObjectRefusedAs b (length b) (expected (before + 1) (Some (end_at stream before))) reason) same
+              (subst (λ e. IsObjectRefusedAs moved.bytes (length moved.bytes) (expected (before + 1) e) reason) one moved.holds))
               stored.header stored.rows_of stored.parts.is_object
         ]
 
@@ -201,7 +202,7 @@ module _ (volume : Expected) (objects : Objects) (wide : volume.sectors < 2 ^ 64
 
 -- so what is refused is no stream
 why_no_stream : (volume : Expected) (objects : Objects) (wide : volume.sectors < 2 ^ 64) (error : RecoverError)
-    → IsWhyRefused volume objects error
+    → IsWhyObjectsRefused volume objects error
     → (uuid_at : ℕ → Option (List ℕ)) (stream : Stream) (number : ℕ) → HasDataUpTo volume uuid_at objects stream number
     → IsRefusal error → ⊥
 why_no_stream volume objects wide errors.NoCheckpoint why uuid_at stream number has is =
@@ -214,15 +215,15 @@ why_no_stream volume objects wide errors.StoreFault why uuid_at stream number ha
 why_no_stream volume objects wide errors.OutOfMemory why uuid_at stream number has is = is
 
 pub is_refused : (volume : Expected) (objects : Objects) (wide : volume.sectors < 2 ^ 64) (error : RecoverError)
-    → IsWhyRefused volume objects error
-    → IsRefused volume objects error
+    → IsWhyObjectsRefused volume objects error
+    → IsRecoveryRefused volume objects error
 is_refused volume objects wide error why = record { why = why; no_stream = why_no_stream volume objects wide error why }
 
 -- ---- where the store tells its objects
 
 -- for the proofs of callers: an error that is no answer refuses nothing
 pub told_no_answer : (told : Option Objects) (volume : Expected) (error : RecoverError) → IsNoAnswer error
-    → IfSome told (λ objects. IsRefused volume objects error)
+    → IfSome told (λ objects. IsRecoveryRefused volume objects error)
 told_no_answer None volume error none = tt
 told_no_answer (Some objects) volume error none = no_answer_refused volume objects error none
 
@@ -239,12 +240,12 @@ IsNewestAmong geometry names number end objects =
 pub newest_refused : (told : Option Objects) (uuid : List ℕ) (geometry : Geometry) (names : List ObjName) (error : RecoverError)
     → IsUuid uuid → IfSome told (λ objects. Lists uuid objects names) → ((error ≡ errors.NoCheckpoint) ⊎ IsNoAnswer error)
     → (error ≡ errors.NoCheckpoint → IfSome told (HasNoneAmong geometry names))
-    → IfSome told (λ objects. IsRefused (expected_of uuid geometry) objects error)
+    → IfSome told (λ objects. IsRecoveryRefused (expected_of uuid geometry) objects error)
 newest_refused None uuid geometry names error is_uuid listed answer none = tt
 newest_refused (Some objects) uuid geometry names error is_uuid listed answer none =
     let volume = expected_of uuid geometry in
     elim answer [
-      | inl no_checkpoint ↦ subst (IsRefused volume objects) (sym no_checkpoint)
+      | inl no_checkpoint ↦ subst (IsRecoveryRefused volume objects) (sym no_checkpoint)
           (none_refused volume objects (λ number. none no_checkpoint uuid number is_uuid listed))
       | inr no_answer ↦ no_answer_refused volume objects error no_answer
     ]

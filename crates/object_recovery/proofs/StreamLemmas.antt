@@ -26,7 +26,7 @@ use Rattle.object_stream.specs.declared.object.Content.TheVariants as content
 use Rattle.object_stream.specs.declared.object.StreamObject.{StreamObject}
 use Rattle.object_stream.specs.Changes.{change_at, change_in}
 use Rattle.object_stream.specs.Replay.{name_of, HasParts, expected_at}
-use Rattle.object_stream.specs.Stored.{HasContent, IsStored, AreStored}
+use Rattle.object_stream.specs.Stored.{HasContent, IsObjectStored, AreStored}
 use Rattle.object_stream.specs.Stream.{Stream, end_after, end_at, GoesTo, EndsFollow}
 use Rattle.object_stream.proofs.OneLemmas.{AreSameParts, same_parts}
 use Rattle.object_stream.proofs.StreamLemmas.{end_in_parts, goes_on, end_no_earlier, follow_first}
@@ -50,16 +50,18 @@ use Rattle.object_recovery.specs.Recovery.{up_to_object, HasDataUpTo, HasStreamT
 stored_at : (objects : Objects) (uuid_at : ℕ → Option (List ℕ)) (volume : Expected) (number end : ℕ) (entries : List Entry)
     (list : List StreamObject) (count i : ℕ) (d : StreamObject)
     → i < count → i < length list → EndsFollow end list → AreStored objects uuid_at volume number end entries (take count list)
-    → IsStored objects uuid_at (expected_at volume (number + i + 1) (end_after end (take i list))) (get_or list i d)
+    → IsObjectStored objects uuid_at (expected_at volume (number + i + 1) (end_after end (take i list))) (get_or list i d)
     (take ((get_or list i d).end - end_after end (take i list)) (drop (end_after end (take i list) - end) entries))
 stored_at objects uuid_at volume number end entries list zero i d below inside follow stored = absurd (omega (arith, below))
 stored_at objects uuid_at volume number end entries [] (suc count) i d below inside follow stored = absurd (omega (arith, inside))
 stored_at objects uuid_at volume number end entries (object ∷ more) (suc count) zero d below inside follow stored =
     let at : number + 1 ≡ number + 0 + 1 = omega arith in
     let none : 0 ≡ end - end = omega arith in
-    subst (λ n. IsStored objects uuid_at (expected_at volume n end) object (take (object.end - end) (drop (end - end) entries)))
+    subst (λ n. IsObjectStored objects uuid_at (expected_at volume n end) object
+    (take (object.end - end) (drop (end - end) entries)))
     at
-    (subst (λ k. IsStored objects uuid_at (expected_at volume (number + 1) end) object (take (object.end - end) (drop k entries)))
+    (subst (λ k. IsObjectStored objects uuid_at (expected_at volume (number + 1) end) object
+    (take (object.end - end) (drop k entries)))
     none stored.0)
 stored_at objects uuid_at volume number end entries (object ∷ more) (suc count) (suc i) d below inside follow stored =
     let last = end_after object.end (take i more) in
@@ -71,9 +73,9 @@ stored_at objects uuid_at volume number end entries (object ∷ more) (suc count
     (omega (arith, below))
     (omega (arith, inside)) follow.1 stored.1 in
     let part = drop-drop (last - object.end) (object.end - end) entries ∙ ap (λ k. drop k entries) skip in
-    subst (λ n. IsStored objects uuid_at (expected_at volume n last) (get_or more i d)
+    subst (λ n. IsObjectStored objects uuid_at (expected_at volume n last) (get_or more i d)
     (take ((get_or more i d).end - last) (drop (last - end) entries))) at
-    (subst (λ es. IsStored objects uuid_at (expected_at volume (number + 1 + i + 1) last) (get_or more i d) (take
+    (subst (λ es. IsObjectStored objects uuid_at (expected_at volume (number + 1 + i + 1) last) (get_or more i d) (take
     ((get_or more i d).end - last) es)) part rest)
 
 -- it goes on where the one before it ends
@@ -170,11 +172,11 @@ module _ (volume : Expected) (uuid_at : ℕ → Option (List ℕ)) (objects : Ob
     inside : i < length all
     inside = omega (arith, enough)
 
-    pub is_stored : IsStored objects uuid_at (expected_at volume (at + 1) end_before) object part
+    pub is_stored : IsObjectStored objects uuid_at (expected_at volume (at + 1) end_before) object part
     is_stored =
         let next : stream.number + i + 1 ≡ at + 1 = omega arith in
         let count : i < number - stream.number = omega arith in
-        subst (λ n. IsStored objects uuid_at (expected_at volume n end_before) object part) next
+        subst (λ n. IsObjectStored objects uuid_at (expected_at volume n end_before) object part) next
         (stored_at objects uuid_at volume stream.number stream.end stream.entries all
         (number - stream.number) i d count inside has.valid.ends has.stored.stored)
 

@@ -12,7 +12,7 @@ use Rattle.object_format.specs.declared.kind.Kind.TheVariants as kinds
 use Rattle.object_format.specs.declared.rows.Rows.{Rows}
 use Rattle.object_format.specs.declared.rows.Rows.TheVariants as rows_of
 use Rattle.object_format.specs.Object.{IsObject}
-use Rattle.object_format.specs.Tests.{IsRefusedAs}
+use Rattle.object_format.specs.Tests.{IsObjectRefusedAs}
 use Rattle.object_stream.specs.Replay.{name_of}
 use Rattle.object_uploads.specs.Image.{IsReceiptFor}
 use Rattle.object_uploads.specs.Order.{IsUploads}
@@ -48,13 +48,13 @@ abbrev pub IsWhyLeft : (bytes : List ℕ) (size : ℕ) → Expected → Option R
 IsWhyLeft bytes size expected None = (2 ^ 64 - 1 ≤ expected.number) × (header : Header) × (rows : Rows)
     × IsObject bytes size expected header rows
 IsWhyLeft bytes size expected (Some (refusals.Bad number reason)) = (number ≡ expected.number)
-    × IsRefusedAs bytes size expected reason
+    × IsObjectRefusedAs bytes size expected reason
 IsWhyLeft bytes size expected (Some (refusals.NotData number)) =
     (number ≡ expected.number) × (header : Header) × (rows : Rows) × IsObject bytes size expected header rows
     × (header.kind ≡ kinds.Data → ⊥)
 
 -- it is not, and was judged so
-pub record IsLeft (bytes : List ℕ) (size : ℕ) (expected : Expected) (reached : Reached) : Type 0 where
+pub record IsNotAdopted (bytes : List ℕ) (size : ℕ) (expected : Expected) (reached : Reached) : Type 0 where
   pub number : reached.number ≡ expected.number
   pub named : reached.number < 2 ^ 64
   pub is_end : IsEndOf bytes size expected reached.end
@@ -64,7 +64,8 @@ pub record IsLeft (bytes : List ℕ) (size : ℕ) (expected : Expected) (reached
 abbrev pub IsNextRead : ReceiptState → Expected → NextObject → Type 0
 IsNextRead receipt expected (next_object.Data object) = IsReadAsData receipt expected object.rows.items object.end
     × (expected.number < 2 ^ 64 - 1)
-IsNextRead receipt expected (next_object.Left reached) = IfSome receipt.told (λ told. IsLeft told receipt.size expected reached)
+IsNextRead receipt expected (next_object.Left reached) =
+    IfSome receipt.told (λ told. IsNotAdopted told receipt.size expected reached)
 
 -- ---- in the store
 
@@ -84,7 +85,7 @@ pub record IsStoredAs (objects : Objects) (expected : Expected) (rows : List Dat
 pub record IsLeftAt (objects : Objects) (expected : Expected) (reached : Reached) : Type 0 where
   pub bytes : List ℕ
   pub present : found objects (name_of expected.uuid expected.number) ≡ Some bytes
-  pub left : IsLeft bytes (length bytes) expected reached
+  pub left : IsNotAdopted bytes (length bytes) expected reached
 
 -- the store has none of the next number, or it is past all numbers
 abbrev pub HasNoNext : Objects → ObjLogState → Type 0
@@ -146,7 +147,8 @@ RefusesRest objects log names left error =
 -- ---- the whole
 
 -- a recovery begins at the newest checkpoint of a volume, with the names of all its objects
-pub record IsBegun (uuid : List ℕ) (geometry : Geometry) (base end : ℕ) (names : List ObjName) (objects : Objects) : Type 0 where
+pub record IsRecoveryBegun (uuid : List ℕ) (geometry : Geometry) (base end : ℕ) (names : List ObjName) (objects : Objects) :
+    Type 0 where
   pub newest : IsNewestWithEnd (expected_of uuid geometry) objects base end
   pub listed : Lists uuid objects names
 

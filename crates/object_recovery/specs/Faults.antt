@@ -1,8 +1,7 @@
--- Contract: which outcomes of a recovery are faults of the store, and when receipts tell what they stand for.
-use Rattle.std.specs.Prelude.{Bool, true, false, Result, Ok, Err, IsSome}
+-- Contract: which outcomes of a recovery are faults of the store.
+use Rattle.std.specs.Prelude.{Bool, true, false, Result, Ok, Err}
 use Rattle.lsvd_objstore.specs.declared.error.StoreError.{StoreError}
 use Rattle.lsvd_objstore.specs.declared.error.StoreError.TheVariants as store
-use Rattle.lsvd_objstore.specs.Store.{ReceiptState}
 use Rattle.object_recovery.specs.declared.judging.Refusal.{Refusal}
 use Rattle.object_recovery.specs.declared.judging.Refusal.TheVariants.{Bad, NotData}
 use Rattle.object_recovery.specs.declared.error.RecoverError.{RecoverError}
@@ -37,7 +36,3 @@ IsNoAnswer (errors.BadObject number reason) = ⊥
 IsNoAnswer (errors.NotData number) = ⊥
 IsNoAnswer errors.StoreFault = Unit {0}
 IsNoAnswer errors.OutOfMemory = Unit {0}
-
--- receipts tell the bytes that they stand for
-abbrev pub TellsBytes : {R : Type 0} → (R → ReceiptState) → Type 0
-TellsBytes {R} state = (receipt : R) → IsSome (state receipt).told

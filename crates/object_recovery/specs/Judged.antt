@@ -4,7 +4,7 @@ use Rattle.lsvd_names.specs.declared.name.ObjName.{ObjName}
 use Rattle.lsvd_objstore.specs.Objects.{Objects, found, Lists}
 use Rattle.object_format.specs.declared.expected.Expected.{Expected}
 use Rattle.object_format.specs.declared.reason.BadObject.{BadObject}
-use Rattle.object_format.specs.Tests.{IsRefusedAs}
+use Rattle.object_format.specs.Tests.{IsObjectRefusedAs}
 use Rattle.object_stream.specs.Replay.{name_of}
 use Rattle.stopped_volume.specs.Objects.{expected_alone, IsWhole}
 use Rattle.object_recovery.specs.declared.reading.ReadObject.{ReadObject}
@@ -20,7 +20,7 @@ use Rattle.object_recovery.specs.Judging.{IsEndOf, HasEnd, IsBadObject, AreGood,
 -- bytes are an object of the grammar under what is expected, or they are refused for this reason
 abbrev pub IsBadFor : Expected → List ℕ → Option BadObject → Type 0
 IsBadFor expected bytes None = IsWhole expected bytes
-IsBadFor expected bytes (Some reason) = IsRefusedAs bytes (length bytes) expected reason
+IsBadFor expected bytes (Some reason) = IsObjectRefusedAs bytes (length bytes) expected reason
 
 -- the store has the expected object, and it was judged so
 pub record IsJudged (objects : Objects) (expected : Expected) (judged : Judged) : Type 0 where

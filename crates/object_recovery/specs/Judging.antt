@@ -7,7 +7,7 @@ use Rattle.object_format.specs.declared.kind.Kind.TheVariants.{Data}
 use Rattle.object_format.specs.declared.reason.BadObject.{BadObject}
 use Rattle.object_format.specs.declared.rows.Rows.{Rows}
 use Rattle.object_format.specs.Object.{IsObject}
-use Rattle.object_format.specs.Tests.{IsRefusedAs}
+use Rattle.object_format.specs.Tests.{IsObjectRefusedAs}
 use Rattle.object_stream.specs.Replay.{name_of}
 use Rattle.stopped_volume.specs.Objects.{landed_in, expected_alone, IsWhole}
 use Rattle.object_recovery.specs.Checkpoints.{IsNewestWithEnd}
@@ -56,7 +56,7 @@ IsGoodObject volume objects last number = HasObject volume objects last number I
 
 abbrev pub IsBadObject : Expected → Objects → (last number : ℕ) → BadObject → Type 0
 IsBadObject volume objects last number reason =
-    HasObject volume objects last number (λ expected bytes. IsRefusedAs bytes (length bytes) expected reason)
+    HasObject volume objects last number (λ expected bytes. IsObjectRefusedAs bytes (length bytes) expected reason)
 
 -- each object of the store with such a number is good
 abbrev pub AreGood : Expected → Objects → (last : ℕ) → (Such : ℕ → Type 0) → Type 0

@@ -3,9 +3,9 @@ use Rattle.std.specs.Prelude.{◌≡◌, ℕ, ◌≤◌, min, Option, Some, None
 use Rattle.object_format.specs.declared.expected.Expected.{Expected}
 use Rattle.object_format.specs.declared.header.Header.{Header}
 use Rattle.object_format.specs.declared.rows.Rows.{Rows}
-use Rattle.object_format.specs.Header.{IsHeader}
+use Rattle.object_format.specs.Header.{IsObjectHeader}
 use Rattle.object_format.specs.Object.{IsObject}
-use Rattle.object_format.specs.Tests.{IsRefusedAs}
+use Rattle.object_format.specs.Tests.{IsObjectRefusedAs}
 use Rattle.object_format.specs.declared.reason.BadObject.{BadObject}
 use Rattle.lsvd_objstore.specs.Store.{ReceiptState}
 use Rattle.object_recovery.specs.declared.reading.ReadObject.{ReadObject}
@@ -25,10 +25,10 @@ pub record HasHead (receipt : ReceiptState) (bytes : List ℕ) : Type 0 where
   pub first : AreFirstOf receipt.told bytes
 
 -- the first bytes of an object, no more than a header has, begin with this header under the expected number
-pub record IsHeaderOf (receipt : ReceiptState) (expected : Expected) (bytes : List ℕ) (header : Header) : Type 0 where
+pub record IsReadHeader (receipt : ReceiptState) (expected : Expected) (bytes : List ℕ) (header : Header) : Type 0 where
   pub few : length bytes ≤ 64
   pub first : AreFirstOf receipt.told bytes
-  pub header_is : IsHeader bytes receipt.size expected header
+  pub header_is : IsObjectHeader bytes receipt.size expected header
 
 -- Some bytes, with as many as the object has, are an object of the grammar under the expected number, with this header and these
 -- rows; where the object's are told, they are.
@@ -42,7 +42,7 @@ pub record IsReadAs (receipt : ReceiptState) (expected : Expected) (header : Hea
 abbrev pub IsWhyNotRead : ReceiptState → Expected → RecoverError → Type 0
 IsWhyNotRead receipt expected errors.NoCheckpoint = ⊥
 IsWhyNotRead receipt expected (errors.BadObject number reason) =
-    (number ≡ expected.number) × IfSome receipt.told (λ told. IsRefusedAs told receipt.size expected reason)
+    (number ≡ expected.number) × IfSome receipt.told (λ told. IsObjectRefusedAs told receipt.size expected reason)
 IsWhyNotRead receipt expected (errors.NotData number) = ⊥
 IsWhyNotRead receipt expected errors.StoreFault = Unit {0}
 IsWhyNotRead receipt expected errors.OutOfMemory = Unit {0}
@@ -50,7 +50,7 @@ IsWhyNotRead receipt expected errors.OutOfMemory = Unit {0}
 -- where an object's bytes are told, they are refused for this reason; and this is their end where they are of the grammar by
 -- themselves
 abbrev pub IsToldRefused : ReceiptState → Expected → BadObject → Type 0
-IsToldRefused receipt expected reason = IfSome receipt.told (λ told. IsRefusedAs told receipt.size expected reason)
+IsToldRefused receipt expected reason = IfSome receipt.told (λ told. IsObjectRefusedAs told receipt.size expected reason)
 
 abbrev pub IsToldEnd : ReceiptState → Expected → Option ℕ → Type 0
 IsToldEnd receipt expected end = IfSome receipt.told (λ told. IsEndOf told receipt.size expected end)

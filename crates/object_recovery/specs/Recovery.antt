@@ -146,12 +146,12 @@ IsNotDataThere volume objects number =
     × AreGood volume objects last (λ other. base < other)
 
 -- why the objects of a store are refused
-abbrev pub IsWhyRefused : (volume : Expected) → Objects → RecoverError → Type 0
-IsWhyRefused volume objects errors.NoCheckpoint = (number : ℕ) → IsNoCheckpoint volume objects number
-IsWhyRefused volume objects (errors.BadObject number reason) = IsBadThere volume objects number reason
-IsWhyRefused volume objects (errors.NotData number) = IsNotDataThere volume objects number
-IsWhyRefused volume objects errors.StoreFault = Unit {0}
-IsWhyRefused volume objects errors.OutOfMemory = Unit {0}
+abbrev pub IsWhyObjectsRefused : (volume : Expected) → Objects → RecoverError → Type 0
+IsWhyObjectsRefused volume objects errors.NoCheckpoint = (number : ℕ) → IsNoCheckpoint volume objects number
+IsWhyObjectsRefused volume objects (errors.BadObject number reason) = IsBadThere volume objects number reason
+IsWhyObjectsRefused volume objects (errors.NotData number) = IsNotDataThere volume objects number
+IsWhyObjectsRefused volume objects errors.StoreFault = Unit {0}
+IsWhyObjectsRefused volume objects errors.OutOfMemory = Unit {0}
 
 -- the error refuses what the store has
 abbrev pub IsRefusal : RecoverError → Type 0
@@ -168,6 +168,6 @@ RefusesNoStream volume objects error =
     → IsRefusal error → ⊥
 
 -- an error with its reason, which refuses no stream that the store has
-pub record IsRefused (volume : Expected) (objects : Objects) (error : RecoverError) : Type 0 where
-  pub why : IsWhyRefused volume objects error
+pub record IsRecoveryRefused (volume : Expected) (objects : Objects) (error : RecoverError) : Type 0 where
+  pub why : IsWhyObjectsRefused volume objects error
   pub no_stream : RefusesNoStream volume objects error

@@ -4,7 +4,8 @@ ghost use Rattle.lsvd_objstore.specs.Store.{StoreState, ReceiptState, OnlyCounts
 ghost use Rattle.lsvd_fault.specs.Faults.{Counts};
 ghost use Rattle.obj_log.specs.State.{ObjLogState};
 ghost use Rattle.obj_log.specs.Changes.{expected_of_volume, next_of};
-ghost use Rattle.object_recovery.specs.Faults.{ends_by_fault, IsNoAnswer, TellsBytes};
+ghost use Rattle.object_recovery.specs.Faults.{ends_by_fault, IsNoAnswer};
+ghost use Rattle.stopped_volume.specs.Store.{TellsBytes};
 ghost use Rattle.object_recovery.specs.Places.{HasPlacesInside};
 ghost use Rattle.object_recovery.specs.Recovery.{IsListUpTo, KeepsStreams};
 ghost use Rattle.object_recovery.specs.Adoption.{IsNextRead, ComesNext, KeepsGood, HasEndedAt};

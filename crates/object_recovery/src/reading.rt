@@ -2,7 +2,7 @@ ghost use Rattle.std.specs.Prelude.{◌≡◌, ◌≤◌, [], length, take, vec_
 ghost use Rattle.lsvd_objstore.specs.Store.{StoreState, ReceiptState, OnlyCounts, has_failed};
 ghost use Rattle.lsvd_fault.specs.Faults.{Counts};
 ghost use Rattle.object_recovery.specs.Faults.{ends_by_fault, IsNoAnswer};
-ghost use Rattle.object_recovery.specs.Read.{AreFirstOf, HasHead, IsHeaderOf, IsReadAs, IsReadOf};
+ghost use Rattle.object_recovery.specs.Read.{AreFirstOf, HasHead, IsReadHeader, IsReadAs, IsReadOf};
 ghost use Rattle.object_recovery.specs.Read.{IsWhyNotRead, IsToldRefused, IsToldEnd};
 
 use crate::error::RecoverError;
@@ -58,7 +58,7 @@ fn read_rest<S: Store>(
     header: &Header,
     bytes: &mut Vec<u8>,
 ) -> Result<ReadObject, RecoverError>
-    requires { IsHeaderOf (S.Receipt.state receipt.now) expected.now bytes.old.items header.now }
+    requires { IsReadHeader (S.Receipt.state receipt.now) expected.now bytes.old.items header.now }
     ensures read { IfOk result (IsReadOf (S.Receipt.state receipt.now) expected.now) }
     ensures answer { IfErr result IsNoAnswer }
     ensures unchanged { OnlyCounts (S.state store.old) (S.state store.new) }
@@ -117,7 +117,7 @@ pub(crate) fn read_head<S: Store>(
     bytes: &mut Vec<u8>,
 ) -> Result<Header, RecoverError>
     requires { bytes.old.items ≡ [] }
-    ensures ok { IfOk result (IsHeaderOf (S.Receipt.state receipt.now) expected.now bytes.new.items) }
+    ensures ok { IfOk result (IsReadHeader (S.Receipt.state receipt.now) expected.now bytes.new.items) }
     ensures bad { IfErr result (IsWhyNotRead (S.Receipt.state receipt.now) expected.now) }
     ensures unchanged { OnlyCounts (S.state store.old) (S.state store.new) }
     ensures faults { Counts (ends_by_fault result) (S.state store.old).faults (S.state store.new).faults }
@@ -140,7 +140,7 @@ pub(crate) fn read_front<S: Store>(
     header: &Header,
     bytes: &mut Vec<u8>,
 ) -> Result<Rows, RecoverError>
-    requires { IsHeaderOf (S.Receipt.state receipt.now) expected.now bytes.old.items header.now }
+    requires { IsReadHeader (S.Receipt.state receipt.now) expected.now bytes.old.items header.now }
     ensures ok { IfOk result (IsReadAs (S.Receipt.state receipt.now) expected.now header.now) }
     ensures bad { IfErr result (IsWhyNotRead (S.Receipt.state receipt.now) expected.now) }
     ensures unchanged { OnlyCounts (S.state store.old) (S.state store.new) }

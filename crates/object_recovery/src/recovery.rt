@@ -5,13 +5,15 @@ ghost use Rattle.lsvd_fault.specs.Faults.{Counts};
 ghost use Rattle.obj_log.specs.State.{ObjLogState};
 ghost use Rattle.obj_log.specs.Changes.{expected_of_volume};
 ghost use Rattle.object_recovery.specs.State.{RecoveredState, HasAllNames};
-ghost use Rattle.object_recovery.specs.Faults.{ends_by_fault, IsNoAnswer, TellsBytes};
+ghost use Rattle.object_recovery.specs.Faults.{ends_by_fault, IsNoAnswer};
+ghost use Rattle.stopped_volume.specs.Store.{TellsBytes};
 ghost use Rattle.object_recovery.specs.Checkpoints.{expected_of, IsNewestWithEnd};
 ghost use Rattle.object_recovery.specs.Places.{HasPlacesInside};
 ghost use Rattle.object_recovery.specs.Recovery.{IsListUpTo, IsNoLonger, IsRecoveredOf, AreAllGood};
-ghost use Rattle.object_recovery.specs.Recovery.{AreNamedWholePast, IsRefused};
+ghost use Rattle.object_recovery.specs.Recovery.{AreNamedWholePast, IsRecoveryRefused};
 ghost use Rattle.object_recovery.specs.Judging.{HaveLanded};
-ghost use Rattle.object_recovery.specs.Adoption.{IsBegun, Recovers, reached_by, ReachesGap, JudgesRest};
+ghost use Rattle.object_recovery.specs.Adoption.{IsRecoveryBegun, Recovers, reached_by, ReachesGap};
+ghost use Rattle.object_recovery.specs.Adoption.{JudgesRest};
 ghost use Rattle.object_recovery.specs.Adoption.{RefusesRest};
 
 use crate::adoption::adopt_all;
@@ -78,7 +80,7 @@ pub fn recover<S: Store>(
         AreNamedWholePast (expected_of uuid geometry) objects recovered.log.uploads.window.last)) }
     ensures refused { TellsBytes S.Receipt.state
         → IfErr result (λ error. IfSome (S.state store.old).objects (λ objects.
-        IsRefused (expected_of uuid geometry) objects error)) }
+        IsRecoveryRefused (expected_of uuid geometry) objects error)) }
     ensures unchanged { OnlyCounts (S.state store.old) (S.state store.new) }
     ensures faults { Counts (ends_by_fault result) (S.state store.old).faults (S.state store.new).faults }
 {
@@ -110,12 +112,12 @@ fn recover_list<S: Store>(
     ensures places { IfOk result (λ log. HasPlacesInside geometry.sectors log.uploads.queue) }
     ensures recovers { TellsBytes S.Receipt.state
         → IfOk result (λ log. IfSome (S.state store.old).objects (λ objects.
-        IsBegun uuid geometry base.now.number base.now.end names.now objects
+        IsRecoveryBegun uuid geometry base.now.number base.now.end names.now objects
         → Recovers (expected_of uuid geometry) base.now.number objects log)) }
     ensures refused { TellsBytes S.Receipt.state
         → IfErr result (λ error. IfSome (S.state store.old).objects (λ objects.
-        IsBegun uuid geometry base.now.number base.now.end names.now objects
-        → IsRefused (expected_of uuid geometry) objects error)) }
+        IsRecoveryBegun uuid geometry base.now.number base.now.end names.now objects
+        → IsRecoveryRefused (expected_of uuid geometry) objects error)) }
     ensures unchanged { OnlyCounts (S.state store.old) (S.state store.new) }
     ensures faults { Counts (ends_by_fault result) (S.state store.old).faults (S.state store.new).faults }
 {

@@ -26,7 +26,7 @@ use Rattle.object_stream.specs.Stream.{Owners, owner_by_change, is_own, owner_by
 use Rattle.object_stream.specs.Stream.{end_after, GoesTo, EndsFollow}
 use Rattle.object_stream.specs.Replay.{expected_at}
 use Rattle.object_stream.specs.Value.{sector_put, sector_in, HasSector, StandsForSector, IsValue}
-use Rattle.object_stream.specs.Stored.{HasContent, IsStored, AreStored}
+use Rattle.object_stream.specs.Stored.{HasContent, IsObjectStored, AreStored}
 use Rattle.object_stream.specs.Laws.{changed_by, ValueIsImageAfter}
 use Rattle.object_stream.proofs.ChangeLemmas.{changes_make_image}
 use Rattle.object_stream.proofs.StreamLemmas.{goes_on, end_no_earlier}
@@ -62,7 +62,7 @@ module _ (objects : Objects) (uuid_at : ℕ → Option (List ℕ)) (volume : Exp
   -- ---- what an object has that is in the store
 
   module _ (number end : ℕ) (object : StreamObject) (part : List Entry)
-      (is : IsStored objects uuid_at (expected_at volume number end) object part) where
+      (is : IsObjectStored objects uuid_at (expected_at volume number end) object part) where
     has_sector : (k : ℕ) (sector : List ℕ) → sector_in is.rows_of is.payload k ≡ Some sector
         → HasSector objects uuid_at (record { level = 0; number = number }) k sector
     has_sector k sector has = record {
@@ -105,7 +105,7 @@ module _ (objects : Objects) (uuid_at : ℕ → Option (List ℕ)) (volume : Exp
   -- ---- one object
 
   module _ (number end : ℕ) (object : StreamObject) (part : List Entry)
-      (is : IsStored objects uuid_at (expected_at volume number end) object part)
+      (is : IsObjectStored objects uuid_at (expected_at volume number end) object part)
       (before : Owners) (image : Image) (value : IsValue objects uuid_at before image) where
     by_change : (k : ℕ) (sector : List ℕ) (change : Option Change) → HasContent objects uuid_at Data part is.rows_of is.payload
         → change_at part k ≡ change → changed_by change (slice_get image k) ≡ Some sector
@@ -151,7 +151,7 @@ module _ (objects : Objects) (uuid_at : ℕ → Option (List ℕ)) (volume : Exp
 
   -- an object that is none of data has no entries
   none_taken : (number end : ℕ) (object : StreamObject) (entries : List Entry)
-      (is : IsStored objects uuid_at (expected_at volume number end) object (take (object.end - end) entries))
+      (is : IsObjectStored objects uuid_at (expected_at volume number end) object (take (object.end - end) entries))
       (before : Owners) (image : Image) (value : IsValue objects uuid_at before image) (content : Content)
       → GoesTo content end object.end
       → HasNone number end object (take (object.end - end) entries) is before image value content

@@ -31,7 +31,7 @@ HasContent objects uuid_at Checkpoint entries rows.Checkpoint payload = Unit {0}
 HasContent objects uuid_at content entries rows payload = ⊥
 
 -- an object of the stream is in the store under its name, of the grammar
-pub record IsStored (objects : Objects) (uuid_at : ℕ → Option (List ℕ)) (expected : Expected) (object : StreamObject)
+pub record IsObjectStored (objects : Objects) (uuid_at : ℕ → Option (List ℕ)) (expected : Expected) (object : StreamObject)
     (entries : List Entry) : Type 0 where
   pub bytes : List ℕ
   pub header : Header
@@ -46,5 +46,5 @@ pub record IsStored (objects : Objects) (uuid_at : ℕ → Option (List ℕ)) (e
 abbrev pub AreStored : Objects → (ℕ → Option (List ℕ)) → Expected → (number end : ℕ) → List Entry → List StreamObject → Type 0
 AreStored objects uuid_at volume number end entries [] = Unit {0}
 AreStored objects uuid_at volume number end entries (object ∷ more) =
-    IsStored objects uuid_at (expected_at volume (number + 1) end) object (take (object.end - end) entries)
+    IsObjectStored objects uuid_at (expected_at volume (number + 1) end) object (take (object.end - end) entries)
     × AreStored objects uuid_at volume (number + 1) object.end (drop (object.end - end) entries) more

@@ -15,7 +15,7 @@ use Rattle.object_stream.specs.Replay.{expected_at}
 use Rattle.object_stream.proofs.StreamLemmas.{after_in_parts, end_in_parts, end_no_earlier}
 use Rattle.volume_maps.specs.Places.{left_at}
 use Rattle.volume_maps.specs.Maps.{settled_by, logged_by, settled_at, logged_at}
-use Rattle.volume_maps.specs.Laws.{owner_of}
+use Rattle.volume_maps.specs.Laws.{place_owner}
 use Rattle.object_uploads.specs.State.{UploadsState}
 use Rattle.object_uploads.specs.Queue.{just_sealed, front_of}
 use Rattle.object_uploads.specs.Order.{IsUploads}
@@ -107,11 +107,11 @@ module _ (volume : Expected) (data_at : ℕ → ℕ) (stream : Stream) (old new 
       ∙ ap (λ os. after_object (last + 1) Data entries (after_objects stream.number stream.end stream.entries stream.opening os)
       k) (sym (all_objects stream)))))
 
-  now_settled : (k : ℕ) → owner_of (settled_at new.queue.maps k) ≡ owners grown (last + 1) k
+  now_settled : (k : ℕ) → place_owner (settled_at new.queue.maps k) ≡ owners grown (last + 1) k
   now_settled k =
       let before = are.settled k ∙ ap (λ n. owners stream n k) at_last in
-      ap owner_of (adopted.settled.settled k)
-      ∙ (ap (λ n. owner_of (settled_by (n + 1) (front_of rows) rows (settled_at old.queue.maps k) k)) at_last
+      ap place_owner (adopted.settled.settled k)
+      ∙ (ap (λ n. place_owner (settled_by (n + 1) (front_of rows) rows (settled_at old.queue.maps k) k)) at_last
       ∙ (settle_one volume data_at k (last + 1) (end_at stream last) entries object (just_sealed bytes rows end)
       (settled_at old.queue.maps k) (owners stream last) is before
       ∙ sym (grown_owners k)))

@@ -16,12 +16,12 @@ use Rattle.object_stream.specs.Laws.{from_object}
 use Rattle.object_stream.proofs.StreamLemmas.{goes_on, end_no_earlier, end_in_parts, follow_first}
 use Rattle.volume_maps.specs.Places.{place_left_by, left_at}
 use Rattle.volume_maps.specs.Maps.{settled_at, logged_at}
-use Rattle.volume_maps.specs.Laws.{owner_of}
+use Rattle.volume_maps.specs.Laws.{place_owner}
 use Rattle.volume_maps.proofs.SettleLemmas.{left_in_parts}
 use Rattle.object_uploads.specs.State.{SealedState, UploadsState}
 use Rattle.object_uploads.specs.Queue.{just_sealed, IsEntered}
 use Rattle.object_uploads.specs.Order.{IsUploads}
-use Rattle.object_uploads.specs.Changes.{IsSealed}
+use Rattle.object_uploads.specs.Changes.{IsSealedNext}
 use Rattle.object_uploads.specs.Stream.{IsSealedOf, AreSealedOf, AreOfStream}
 use Rattle.object_uploads.specs.Laws.{with_entry, with_data_object, StreamBegins, EnteringKeepsStream, SealingKeepsStream}
 use Rattle.object_uploads.proofs.KeepLemmas.{tail_follow, tail_order, tail_last, tail_entries, tail_end, tail_within}
@@ -126,9 +126,9 @@ module _ (volume : Expected) (data_at : ℕ → ℕ) (stream : Stream) (old : Up
     tail_with_entry : drop (tail.end - stream.end) (stream.entries ++ entry ∷ []) ≡ tail.entries ++ entry ∷ []
     tail_with_entry = drop-append-le (tail.end - stream.end) stream.entries (entry ∷ []) (omega (arith, end_within))
 
-    entry_settled : (k : ℕ) → owner_of (settled_at new.queue.maps k) ≡ owners (with_entry entry stream) from k
+    entry_settled : (k : ℕ) → place_owner (settled_at new.queue.maps k) ≡ owners (with_entry entry stream) from k
     entry_settled k =
-        ap (λ (m : _). owner_of (settled_at (record new.queue.maps { settled = m }) k)) entered.settled
+        ap (λ (m : _). place_owner (settled_at (record new.queue.maps { settled = m }) k)) entered.settled
         ∙ (are.settled k
         ∙ sym (ap (λ (f : Owners). f k) (owners_more (entry ∷ []) stream.number stream.end stream.entries stream.opening
         (objects_to stream from) first_follow end_within)))
@@ -233,7 +233,7 @@ module _ (volume : Expected) (data_at : ℕ → ℕ) (stream : Stream) (old : Up
     (is : IsSealedOf (expected_at volume (last_number stream + 1) (end_at stream (last_number stream)))
     (take (end - end_at stream (last_number stream)) (unsealed stream)) (record { content = Data; end = end })
     (just_sealed bytes rows end))
-    (sealed : IsSealed bytes rows end old new) where
+    (sealed : IsSealedNext bytes rows end old new) where
   abbrev first : ℕ
   first = old.queue.frontier
 
@@ -269,9 +269,9 @@ module _ (volume : Expected) (data_at : ℕ → ℕ) (stream : Stream) (old : Up
         within = rw (end_of_more stream end) within;
       }
 
-  grown_settled : (k : ℕ) → owner_of (settled_at new.queue.maps k) ≡ owners grown first k
+  grown_settled : (k : ℕ) → place_owner (settled_at new.queue.maps k) ≡ owners grown first k
   grown_settled k =
-      ap (λ (rows : List _). owner_of (settled_at
+      ap (λ (rows : List _). place_owner (settled_at
       (record new.queue.maps { settled = record new.queue.maps.settled { rows = rows } }) k)) sealed.settled.places.settled
       ∙ (are.settled k
       ∙ ap (λ (os : List StreamObject). after_objects stream.number stream.end stream.entries stream.opening os k)

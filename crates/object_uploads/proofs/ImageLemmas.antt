@@ -20,7 +20,7 @@ use Rattle.object_format.specs.declared.data_row.DataRow.{DataRow}
 use Rattle.object_format.specs.declared.rows.Rows.{Rows}
 use Rattle.object_format.specs.declared.rows.Rows.TheVariants as rows
 use Rattle.object_format.specs.Layout.{front_with, front_sectors}
-use Rattle.object_format.specs.Rows.{AreRowsOf}
+use Rattle.object_format.specs.Rows.{AreObjectRows}
 use Rattle.object_stream.specs.declared.change.Change.{Change}
 use Rattle.object_stream.specs.declared.change.Change.TheVariants.{Put, Clear}
 use Rattle.object_stream.specs.declared.object.StreamObject.{StreamObject}
@@ -185,7 +185,7 @@ module _ (queue : QueueState) (number : ℕ) (receipts : List ReceiptState) (rec
 
 -- the payload of a sealed object stands after its front
 front_is : (header : Header) (rows_of : Rows) (items : List DataRow) (sectors : ℕ) → AreRows rows_of items
-    → AreRowsOf sectors header rows_of → front_sectors header ≡ front_of items
+    → AreObjectRows sectors header rows_of → front_sectors header ≡ front_of items
 front_is header (rows.Data list) items sectors same are =
     ap (λ kind. front_with kind header.rows) (sym are.kind) ∙ (ap (front_with kinds.Data) (sym are.count) ∙ ap front_of same)
 front_is header (rows.Copy list) items sectors same are = absurd same

@@ -24,7 +24,7 @@ use Rattle.object_stream.proofs.StreamLemmas.{keeps_owners, goes_on, end_no_earl
 use Rattle.volume_maps.specs.declared.place.ObjectPlace.{ObjectPlace}
 use Rattle.volume_maps.specs.Places.{left_at}
 use Rattle.volume_maps.specs.Maps.{settled_by, logged_by, settled_at, logged_at}
-use Rattle.volume_maps.specs.Laws.{owner_of}
+use Rattle.volume_maps.specs.Laws.{place_owner}
 use Rattle.volume_maps.proofs.SettleLemmas.{settles_as_replay, log_keeps_later}
 use Rattle.object_uploads.specs.State.{SealedState, UploadsState}
 use Rattle.object_uploads.specs.Queue.{with_at, with_spare, with_receipt, front_of, settled_by_all, logged_by_all, end_of_last}
@@ -107,19 +107,20 @@ data_after number content entries before k is = rw is refl
 module _ (volume : Expected) (data_at : ℕ → ℕ) (k : ℕ) where
   pub settle_one : (number end : ℕ) (entries : List Entry) (object : StreamObject) (sealed : SealedState)
       (before : Option ObjectPlace) (owned : Owners)
-      → IsSealedOf (expected_at volume number end) entries object sealed → owner_of before ≡ owned k
-      → owner_of (settled_by number (front_of sealed.rows) sealed.rows before k) ≡ after_object number object.content
+      → IsSealedOf (expected_at volume number end) entries object sealed → place_owner before ≡ owned k
+      → place_owner (settled_by number (front_of sealed.rows) sealed.rows before k) ≡ after_object number object.content
       entries owned k
   settle_one number end entries object sealed before owned is same =
       let stand = rows_stand volume.sectors is.header is.rows_of sealed.rows is.rows_are is.parts.is_object.rows_are.spelling in
       settles_as_replay volume.sectors is.header.payload number (front_of sealed.rows) k sealed.rows is.payload before stand
-      ∙ (ap (λ change. owner_by_change number change (owner_of before)) (is.changes k)
+      ∙ (ap (λ change. owner_by_change number change (place_owner before)) (is.changes k)
       ∙ (ap (owner_by_change number (change_at entries k)) same ∙ data_after number object.content entries owned k is.content))
 
   settle_all : (count number end : ℕ) (entries : List Entry) (list : List StreamObject) (sealed : List SealedState)
       (before : Option ObjectPlace) (owned : Owners)
-      → AreSealedOf volume number end entries list sealed → owner_of before ≡ owned k
-      → owner_of (settled_by_all number (take count sealed) before k) ≡ after_objects number end entries owned (take count list) k
+      → AreSealedOf volume number end entries list sealed → place_owner before ≡ owned k
+      → place_owner (settled_by_all number (take count sealed) before k)
+      ≡ after_objects number end entries owned (take count list) k
   settle_all zero number end entries list sealed before owned are same = same
   settle_all (suc count) number end entries [] [] before owned are same = same
   settle_all (suc count) number end entries [] (first ∷ sealed) before owned are same = absurd are
@@ -319,9 +320,9 @@ module _ (volume : Expected) (data_at : ℕ → ℕ) (stream : Stream) (old new 
   end_is : new.queue.end ≡ end_at stream after
   end_is = done.settled.end ∙ (ap (λ e. end_of_last e (take done.count list)) are.end ∙ (left.end_is ∙ ends))
 
-  settled_is : (k : ℕ) → owner_of (settled_at new.queue.maps k) ≡ owners stream after k
+  settled_is : (k : ℕ) → place_owner (settled_at new.queue.maps k) ≡ owners stream after k
   settled_is k =
-      ap owner_of (done.settled.settled k)
+      ap place_owner (done.settled.settled k)
       ∙ (settle_all volume data_at k done.count from part.end part.entries part.objects list (settled_at old.queue.maps k)
       (owners stream from) acknowledged_list (are.settled k)
       ∙ later_owners stream from are.valid are.from most done.count within k)

@@ -21,7 +21,7 @@ use Rattle.object_stream.specs.Changes.{change_at, change_in}
 use Rattle.object_stream.specs.Stream.{Stream, owners, end_at, end_after, after_objects}
 use Rattle.object_stream.specs.Landed.{Numbers, IsFirstMissing}
 use Rattle.object_stream.specs.Replay.{name_of, expected_at, Replays}
-use Rattle.object_stream.specs.Stored.{HasContent, IsStored, AreStored}
+use Rattle.object_stream.specs.Stored.{HasContent, IsObjectStored, AreStored}
 use Rattle.object_stream.specs.Laws.{from_object}
 use Rattle.object_stream.proofs.StreamLemmas.{keeps_owners, owns_by_number}
 use Rattle.object_stream.proofs.ReplayLemmas.{stored_are_replayed}
@@ -32,7 +32,7 @@ use Rattle.object_uploads.specs.Queue.{HasBytesAt}
 use Rattle.object_uploads.specs.Order.{IsOpenFirst, AreOpen, IsUploads}
 use Rattle.object_uploads.specs.Changes.{index_of}
 use Rattle.object_uploads.specs.Stream.{AreRows, IsSealedOf, AreSealedOf, AreOfStream}
-use Rattle.object_uploads.specs.Laws.{acknowledged_in, IsLeft, RecoveryFindsStream}
+use Rattle.object_uploads.specs.Laws.{acknowledged_in, IsLeftOfUploads, RecoveryFindsStream}
 
 -- ---- which numbers are open
 
@@ -126,7 +126,7 @@ module _ (objects : Objects) (uuid_at : ℕ → Option (List ℕ)) (volume : Exp
 
   stored_one : (number end : ℕ) (entries : List Entry) (object : StreamObject) (sealed : SealedState) (more : List SealedState)
       → IsSealedOf (expected_at volume (number + 1) end) entries object sealed → IsThere number 0 (sealed ∷ more)
-      → IsStored objects uuid_at (expected_at volume (number + 1) end) object entries
+      → IsObjectStored objects uuid_at (expected_at volume (number + 1) end) object entries
   stored_one number end entries object sealed more is there =
       let same : number + 1 + 0 ≡ number + 1 = omega arith in
       record {
@@ -187,7 +187,7 @@ none_missing landed number there absent = absurd cc
 module _ (volume : Expected) (data_at : ℕ → ℕ) (stream : Stream) (uploads : UploadsState) (objects : Objects)
     (checkpoint landed : Numbers) (number : ℕ)
     (order : IsUploads uploads.queue uploads.window) (are : AreOfStream volume data_at stream uploads)
-    (left : IsLeft volume uploads objects checkpoint landed)
+    (left : IsLeftOfUploads volume uploads objects checkpoint landed)
     (missing : IsFirstMissing checkpoint landed (number + 1)) where
   -- all numbers up to the frontier have landed, and all past it up to this one
   surely : (n : ℕ) → n ≤ uploads.queue.frontier → IsTrue (landed n)

@@ -22,7 +22,7 @@ pub record HasSameSettled (old new : QueueState) : Type 0 where
   pub places : HasSamePlaces old.maps new.maps
 
 -- an object with these bytes, these rows and this end was sealed under the next number
-pub record IsSealed (bytes : List ℕ) (rows : List DataRow) (end : ℕ) (old new : UploadsState) : Type 0 where
+pub record IsSealedNext (bytes : List ℕ) (rows : List DataRow) (end : ℕ) (old new : UploadsState) : Type 0 where
   pub uuid : new.uuid ≡ old.uuid
   pub sealed : new.queue.sealed ≡ old.queue.sealed ++ just_sealed bytes rows end ∷ []
   pub window : new.window ≡ entered (old.window.last + 1) false old.window

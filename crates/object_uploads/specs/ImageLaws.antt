@@ -14,7 +14,7 @@ use Rattle.object_stream.specs.Laws.{from_object}
 use Rattle.object_uploads.specs.State.{QueueState, UploadsState}
 use Rattle.object_uploads.specs.Queue.{IsEntered, just_sealed}
 use Rattle.object_uploads.specs.Order.{IsUploads}
-use Rattle.object_uploads.specs.Changes.{IsSealed, IsNotSealed, with_job, IsOut, IsPutDone, IsAdopted}
+use Rattle.object_uploads.specs.Changes.{IsSealedNext, IsNotSealed, with_job, IsOut, IsPutDone, IsAdopted}
 use Rattle.object_uploads.specs.Stream.{IsSealedOf, AreOfStream}
 use Rattle.object_uploads.specs.Image.{HasImage, IsReceiptFor, HasOwnReceipts}
 
@@ -37,7 +37,7 @@ EnteringKeepsImage = (entry : Entry) (seq data_at : ℕ) (old new : QueueState) 
 -- while objects are sealed, or nothing changes but room
 abbrev pub SealingKeepsImage : Type 0
 SealingKeepsImage =
-    (bytes : List ℕ) (rows : List DataRow) (end : ℕ) (old new : UploadsState) → IsSealed bytes rows end old new
+    (bytes : List ℕ) (rows : List DataRow) (end : ℕ) (old new : UploadsState) → IsSealedNext bytes rows end old new
     → KeepsImage old.queue new.queue
 
 abbrev pub RoomKeepsImage : Type 0

@@ -16,7 +16,7 @@ use Rattle.upload_window.specs.Window.{WindowState, has_number, was_started}
 use Rattle.object_uploads.specs.State.{UploadsState}
 use Rattle.object_uploads.specs.Queue.{HasBytesAt, IsEntered, just_sealed}
 use Rattle.object_uploads.specs.Order.{IsUploads}
-use Rattle.object_uploads.specs.Changes.{index_of, IsSealed, with_job, IsPutDone, IsAdopted}
+use Rattle.object_uploads.specs.Changes.{index_of, IsSealedNext, with_job, IsPutDone, IsAdopted}
 use Rattle.object_uploads.specs.Stream.{IsSealedOf, AreOfStream}
 
 -- the numbers that were acknowledged
@@ -29,7 +29,8 @@ started_in window number = was_started number window.objects
 
 -- A store after a stop, in which these objects have landed: each that was acknowledged and, of those whose put was ever started,
 -- any. Past the frontier it has the sealed bytes of each that has landed, and no checkpoint.
-pub record IsLeft (volume : Expected) (uploads : UploadsState) (objects : Objects) (checkpoint landed : Numbers) : Type 0 where
+pub record IsLeftOfUploads (volume : Expected) (uploads : UploadsState) (objects : Objects) (checkpoint landed : Numbers) :
+    Type 0 where
   pub choice : MayHaveLanded (acknowledged_in uploads.window) (started_in uploads.window) landed
   pub checkpoints : (number : ℕ) → IsTrue (checkpoint number) → number ≤ uploads.queue.frontier
   pub present : (number : ℕ) → uploads.queue.frontier < number → IsTrue (landed number)
@@ -55,7 +56,7 @@ RecoveryFindsStream =
     (volume : Expected) (data_at : ℕ → ℕ) (stream : Stream) (uploads : UploadsState) (objects : Objects)
     (checkpoint landed : Numbers) (number : ℕ)
     → IsUploads uploads.queue uploads.window → AreOfStream volume data_at stream uploads
-    → IsLeft volume uploads objects checkpoint landed
+    → IsLeftOfUploads volume uploads objects checkpoint landed
     → IsFirstMissing checkpoint landed (number + 1) → FindsStream volume stream uploads objects landed number
 
 -- ---- what the calls keep
@@ -95,7 +96,7 @@ SealingKeepsStream =
     → IsSealedOf (expected_at volume (last_number stream + 1) (end_at stream (last_number stream)))
     (take (end - end_at stream (last_number stream)) (unsealed stream)) (record { content = Data; end = end })
     (just_sealed bytes rows end)
-    → IsSealed bytes rows end old new
+    → IsSealedNext bytes rows end old new
     → AreOfStream volume data_at (with_data_object end stream) new
 
 -- while puts begin and fail

@@ -14,7 +14,7 @@ use Rattle.object_stream.specs.Replay.{HasParts, expected_at}
 use Rattle.object_stream.specs.Laws.{from_object}
 use Rattle.volume_maps.specs.Places.{left_at}
 use Rattle.volume_maps.specs.Maps.{settled_at, logged_at}
-use Rattle.volume_maps.specs.Laws.{owner_of}
+use Rattle.volume_maps.specs.Laws.{place_owner}
 use Rattle.object_uploads.specs.State.{SealedState, UploadsState}
 
 -- ---- a sealed object
@@ -57,7 +57,7 @@ pub record AreOfStream (volume : Expected) (data_at : ℕ → ℕ) (stream : Str
   pub from : stream.number ≤ uploads.queue.frontier
   pub last : last_number stream ≡ uploads.window.last
   pub end : uploads.queue.end ≡ end_at stream uploads.queue.frontier
-  pub settled : (k : ℕ) → owner_of (settled_at uploads.queue.maps k) ≡ owners stream uploads.queue.frontier k
+  pub settled : (k : ℕ) → place_owner (settled_at uploads.queue.maps k) ≡ owners stream uploads.queue.frontier k
   pub sealed :
       AreSealedOf volume uploads.queue.frontier uploads.queue.end (from_object uploads.queue.frontier stream).entries
       (from_object uploads.queue.frontier stream).objects uploads.queue.sealed

@@ -9,7 +9,7 @@ ghost use Rattle.volume_maps.specs.Maps.{volume_place_at};
 ghost use Rattle.object_uploads.specs.Queue.{FitObject, HasRoomForEntry, IsEntered, receipt_of};
 ghost use Rattle.object_uploads.specs.Order.{IsUploads};
 ghost use Rattle.object_uploads.specs.Invariant.{IsOpenAt};
-ghost use Rattle.object_uploads.specs.Changes.{index_of, IsSealed, IsNotSealed, with_job, IsJobOf, IsOut};
+ghost use Rattle.object_uploads.specs.Changes.{index_of, IsSealedNext, IsNotSealed, with_job, IsJobOf, IsOut};
 ghost use Rattle.object_uploads.specs.Changes.{IsPutDone, IsAdopted};
 
 use crate::job::Job;
@@ -84,7 +84,7 @@ impl<R: Receipt> Uploads<R> {
         requires spare { spare ≡ object }
         requires fit { FitObject rows.items }
         ensures number { IfOk result (λ number. number ≡ self.old.window.last + 1) }
-        ensures sealed { OnOk result (IsSealed object rows.items end self.old self.new) }
+        ensures sealed { OnOk result (IsSealedNext object rows.items end self.old self.new) }
         ensures same { OnErr result (IsNotSealed self.old self.new) }
     {
         let number = self.window.last() + 1;

@@ -24,7 +24,7 @@ use Rattle.object_stream.specs.Laws.{from_object}
 use Rattle.volume_maps.specs.declared.place.ObjectPlace.{ObjectPlace}
 use Rattle.volume_maps.specs.Places.{left_at}
 use Rattle.volume_maps.specs.Maps.{settled_at}
-use Rattle.volume_maps.specs.Laws.{owner_of}
+use Rattle.volume_maps.specs.Laws.{place_owner}
 use Rattle.object_uploads.specs.State.{QueueState}
 use Rattle.object_uploads.specs.Queue.{receipt_of}
 use Rattle.object_uploads.specs.Stream.{AreSealedOf, AreOfStream}
@@ -96,17 +96,17 @@ has_image sectors queue inside k sector read =
 
 -- the owners that the objects' map gives
 abbrev held_owners : (sectors : ℕ) → QueueState → List (Option Owner)
-held_owners sectors queue = map (λ k. owner_of (settled_at queue.maps k)) (range_with_len 0 sectors)
+held_owners sectors queue = map (λ k. place_owner (settled_at queue.maps k)) (range_with_len 0 sectors)
 
 none_held_past : (sectors k : ℕ) (queue : QueueState) (place : Option ObjectPlace)
-    → ((some : ObjectPlace) → place ≡ Some some → StandsInside sectors k queue some) → sectors ≤ k → owner_of place ≡ None
+    → ((some : ObjectPlace) → place ≡ Some some → StandsInside sectors k queue some) → sectors ≤ k → place_owner place ≡ None
 none_held_past sectors k queue None inside past = refl
 none_held_past sectors k queue (Some place) inside past = absurd (omega (arith, (inside place refl).0))
 
 held_owner_at : (sectors : ℕ) (queue : QueueState) → HasPlacesInside sectors queue → (k : ℕ)
-    → owner_of (settled_at queue.maps k) ≡ get_or (held_owners sectors queue) k None
+    → place_owner (settled_at queue.maps k) ≡ get_or (held_owners sectors queue) k None
 held_owner_at sectors queue inside k =
-    let f : ℕ → Option Owner = λ k. owner_of (settled_at queue.maps k) in
+    let f : ℕ → Option Owner = λ k. place_owner (settled_at queue.maps k) in
     elim (cases_lt k sectors) [
       | inl low ↦ sym (get_or-map-range_with_len f 0 sectors k k None low (omega arith))
       | inr past ↦
@@ -144,7 +144,7 @@ opened_is_at_rest : (geometry : Geometry) (checkpoint number end : ℕ) (queue :
 opened_is_at_rest geometry checkpoint number end queue limits some from =
     let size = log_has_sectors geometry limits in
     let image = length-map-range_with_len (λ k. held_sector queue (settled_at queue.maps k)) 0 geometry.sectors in
-    let owned = length-map-range_with_len (λ k. owner_of (settled_at queue.maps k)) 0 geometry.sectors in
+    let owned = length-map-range_with_len (λ k. place_owner (settled_at queue.maps k)) 0 geometry.sectors in
     let plain = opened_after geometry checkpoint number end queue in
     let ends : end_at (stream_in plain) number ≡ end = end_of_none plain refl number in
     let last_ends = end_of_none plain refl (last_number (stream_in plain)) in

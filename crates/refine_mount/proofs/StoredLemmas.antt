@@ -16,7 +16,7 @@ use Rattle.object_stream.specs.declared.object.Content.{Content}
 use Rattle.object_stream.specs.declared.object.Content.TheVariants.{Data, Copy, Checkpoint}
 use Rattle.object_stream.specs.declared.object.StreamObject.{StreamObject}
 use Rattle.object_stream.specs.Replay.{expected_at}
-use Rattle.object_stream.specs.Stored.{IsStored, AreStored}
+use Rattle.object_stream.specs.Stored.{IsObjectStored, AreStored}
 use Rattle.object_stream.specs.Stream.{GoesTo, EndsFollow, end_after}
 use Rattle.object_stream.proofs.StreamLemmas.{end_no_earlier, follow_first}
 use Rattle.cache_log.specs.Rows.{entry_of, Follow}
@@ -98,7 +98,7 @@ stored_cut objects uuid_at volume number end many entries (object ∷ more) foll
     let size : ℕ = object.end - end in
     let from = no_earlier object.content end object.end follow.0 in
     let rest = end_no_earlier object.end more follow.1 in (
-      subst (IsStored objects uuid_at (expected_at volume (number + 1) end) object)
+      subst (IsObjectStored objects uuid_at (expected_at volume (number + 1) end) object)
           (sym (take-take size many entries (omega (arith, most, rest)))) are.0,
       subst (λ l. AreStored objects uuid_at volume (number + 1) object.end l more) (sym (past_first size many entries))
           (stored_cut objects uuid_at volume (number + 1) object.end (many - size) (drop size entries) more follow.1

@@ -21,7 +21,7 @@ use Rattle.object_stream.specs.declared.object.Content.TheVariants.{Data}
 use Rattle.object_stream.specs.declared.object.StreamObject.{StreamObject}
 use Rattle.object_stream.specs.Landed.{Numbers, IsFirstMissing}
 use Rattle.object_stream.specs.Replay.{name_of, HasParts, expected_at}
-use Rattle.object_stream.specs.Stored.{HasContent, IsStored, AreStored}
+use Rattle.object_stream.specs.Stored.{HasContent, IsObjectStored, AreStored}
 use Rattle.object_stream.specs.Stream.{Owners, Stream, objects_to, end_after, end_at, EndsFollow}
 use Rattle.object_stream.specs.Value.{StandsForSector, IsValue}
 use Rattle.object_stream.proofs.OneLemmas.{same_parts}
@@ -96,7 +96,7 @@ module _ (objects : Objects) (uuid_at : ℕ → Option (List ℕ)) (volume : Exp
   -- the object at an index is stored
   abbrev IsStoredAt : (number end : ℕ) → List Entry → List StreamObject → ℕ → StreamObject → Type 0
   IsStoredAt number end entries list i object =
-      IsStored objects uuid_at (expected_at volume (number + 1 + i) (end_after end (take i list))) object
+      IsObjectStored objects uuid_at (expected_at volume (number + 1 + i) (end_after end (take i list))) object
       (entries_at end entries list i object)
 
   stored_past_first : (number end : ℕ) (entries : List Entry) (first object : StreamObject) (i : ℕ) (more : List StreamObject)
@@ -106,17 +106,17 @@ module _ (objects : Objects) (uuid_at : ℕ → Option (List ℕ)) (volume : Exp
       let before = end_after first.end (take i more) in
       let sum : number + 1 + suc i ≡ number + 1 + 1 + i = omega arith in
       let part = entries_at first.end (drop (first.end - end) entries) more i object in
-      subst (λ n. IsStored objects uuid_at (expected_at volume n before) object part) sum
-      (subst (λ list. IsStored objects uuid_at (expected_at volume (number + 1 + suc i) before) object list)
+      subst (λ n. IsObjectStored objects uuid_at (expected_at volume n before) object part) sum
+      (subst (λ list. IsObjectStored objects uuid_at (expected_at volume (number + 1 + suc i) before) object list)
       (sym (entries_past_first end entries first object i more follow)) is)
 
   stored_is_first : (number end : ℕ) (entries : List Entry) (object : StreamObject) (more : List StreamObject)
       → IsStoredAt number end entries (object ∷ more) 0 object
-      → IsStored objects uuid_at (expected_at volume (number + 1) end) object (take (object.end - end) entries)
+      → IsObjectStored objects uuid_at (expected_at volume (number + 1) end) object (take (object.end - end) entries)
   stored_is_first number end entries object more is =
       let sum : number + 1 + 0 ≡ number + 1 = omega arith in
-      subst (λ n. IsStored objects uuid_at (expected_at volume n end) object (take (object.end - end) entries)) sum
-      (subst (λ list. IsStored objects uuid_at (expected_at volume (number + 1 + 0) end) object list)
+      subst (λ n. IsObjectStored objects uuid_at (expected_at volume n end) object (take (object.end - end) entries)) sum
+      (subst (λ list. IsObjectStored objects uuid_at (expected_at volume (number + 1 + 0) end) object list)
       (sym (entries_of_first end entries object more)) is)
 
   stored_by_each : (count number end : ℕ) (entries : List Entry) (list : List StreamObject) → EndsFollow end list

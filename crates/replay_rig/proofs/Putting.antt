@@ -45,7 +45,7 @@ use Rattle.vol_core.specs.declared.reply.Reply.{Reply}
 use Rattle.vol_core.specs.declared.reply.Reply.TheVariants as told
 use Rattle.vol_core.specs.Volume.{VolumeState, SteppedVolume}
 use Rattle.vol_core.specs.Events.{IsOfPut, IsOfDonePut, Tells, TellsRefusal}
-use Rattle.vol_core.specs.Step.{IsOnItsWay, HasBytesOf, Steps}
+use Rattle.vol_core.specs.Step.{IsOnItsWay, HasBytesOf, CountedStep}
 use Rattle.replay_rig.specs.declared.answer.Answer.{Answer}
 use Rattle.replay_rig.specs.declared.answer.Answer.TheVariants as answers
 use Rattle.replay_rig.specs.Answers.{SaysReply, SaysCounts}
@@ -165,7 +165,7 @@ known_bytes plain volume (put ∷ puts) all = (all.0.bytes, known_bytes plain vo
 puts_go_on : (old : RigState) (volume : SteppedVolume) (objects : Objects) (puts : List PutView) (event : Event Kept)
     (reply : Reply Kept)
     (asked : PlainEvent) (plain : PlainState)
-    → (h : ShowsPlain old plain) → Steps told_receipt event reply old.volume volume
+    → (h : ShowsPlain old plain) → CountedStep told_receipt event reply old.volume volume
     → ShowsVolume h.epoch volume.volume (plain_after asked plain)
     → AreUnderWay (plain_after asked plain).window.objects puts → AllByRecursion (IsKnownPut plain old.volume.volume) puts
     → HasStored (plain_after asked plain) objects → HasVolume script_uuid plain.geometry h.epoch objects
@@ -249,7 +249,7 @@ some_taken (Some number) n is = (let same : number ≡ n = cc in ap Some same)
 -- none is ready
 none_begun : (old : RigState) (volume : SteppedVolume) (reply : Reply Kept) (plain : PlainState)
     → ((job : JobState) → reply ≡ told.Taken job → ⊥)
-    → Steps told_receipt TakeJob reply old.volume volume → (h : ShowsPlain old plain)
+    → CountedStep told_receipt TakeJob reply old.volume volume → (h : ShowsPlain old plain)
     → Tells told_receipt old.volume.volume reply (plain_reply plain events.TakeJob)
     → ShowsVolume h.epoch volume.volume (plain_after events.TakeJob plain)
     → SaysReply (plain_reply plain events.TakeJob) answers.Nothing
@@ -265,7 +265,7 @@ none_begun old volume reply plain not_taken of h tells now =
     )
 
 pub begun_none : (old : RigState) (volume : SteppedVolume) (reply : Reply Kept) (list : List PutView) → list ≡ old.puts
-    → ((job : JobState) → reply ≡ told.Taken job → ⊥) → Steps told_receipt TakeJob reply old.volume volume
+    → ((job : JobState) → reply ≡ told.Taken job → ⊥) → CountedStep told_receipt TakeJob reply old.volume volume
     → AnswersEvent events.TakeJob answers.Nothing old (rig_after old volume old.objects list)
 begun_none old volume reply list same not_taken of = record {
   by = λ plain h.
@@ -305,7 +305,7 @@ job_of_rig rig plain n job h uploads open_ is_job =
 
 job_begun : (old : RigState) (volume : SteppedVolume) (job : JobState) (plain : PlainState)
     → IsUploads old.volume.volume.objects.uploads.queue old.volume.volume.objects.uploads.window
-    → Steps told_receipt TakeJob (told.Taken job) old.volume volume → (h : ShowsPlain old plain)
+    → CountedStep told_receipt TakeJob (told.Taken job) old.volume volume → (h : ShowsPlain old plain)
     → Tells told_receipt old.volume.volume (told.Taken job) (plain_reply plain events.TakeJob)
     → ShowsVolume h.epoch volume.volume (plain_after events.TakeJob plain)
     → ShowsPlain (rig_after old volume old.objects (with_begun job.name.number job.bytes old.puts))
@@ -328,7 +328,7 @@ pub begun_some : (old : RigState) (volume : SteppedVolume) (job : JobState) (num
     → number ≡ job.name.number
     → list ≡ with_begun job.name.number job.bytes old.puts
     → IsUploads old.volume.volume.objects.uploads.queue old.volume.volume.objects.uploads.window
-    → Steps told_receipt TakeJob (told.Taken job) old.volume volume
+    → CountedStep told_receipt TakeJob (told.Taken job) old.volume volume
     → AnswersEvent events.TakeJob (answers.Put number) old (rig_after old volume old.objects list)
 begun_some old volume job number list number_is same uploads of = record {
   by = λ plain h.
@@ -355,7 +355,7 @@ put_failed volume job n None of number out = absurd (of (subst (λ k. IsOut volu
 put_failed volume job n (Some other) of number out = ap Some (of.0 ∙ number)
 
 job_failed : (n : ℕ) (old : RigState) (volume : SteppedVolume) (job : JobState) (reply : Reply Kept) (plain : PlainState)
-    → is_started n plain.window.objects ≡ true → Steps told_receipt (JobFailed job) reply old.volume volume
+    → is_started n plain.window.objects ≡ true → CountedStep told_receipt (JobFailed job) reply old.volume volume
     → (h : ShowsPlain old plain)
     → ShowsVolume h.epoch volume.volume (plain_after (events.JobFailed (Some n)) plain)
     → ShowsPlain (rig_after old volume old.objects (with_failed n old.puts)) (plain_after (events.JobFailed (Some n)) plain)
@@ -374,7 +374,7 @@ job_failed n old volume job reply plain started of h now =
 pub failed_answers : (n : ℕ) (old : RigState) (volume : SteppedVolume) (job : JobState) (reply : Reply Kept) (list : List PutView)
     → ((plain : PlainState) → ShowsPlain old plain → IsTrue (is_started n plain.window.objects)) → job.name.number ≡ n
     → IsPutOut n job.bytes old.puts
-    → list ≡ with_failed n old.puts → Steps told_receipt (JobFailed job) reply old.volume volume
+    → list ≡ with_failed n old.puts → CountedStep told_receipt (JobFailed job) reply old.volume volume
     → FailsPut n (answers.Failed n) old (rig_after old volume old.objects list)
 failed_answers n old volume job reply list out number is same of = record {
   by = λ plain h.
@@ -520,7 +520,7 @@ job_done : (n : ℕ) (bytes : List ℕ) (old : RigState) (volume : SteppedVolume
     (reply : Reply Kept)
     (plain : PlainState)
     → is_started n plain.window.objects ≡ true → IsPutOut n bytes old.puts → IsPut (name_of script_uuid n) bytes old.objects store
-    → Steps told_receipt (JobDone job receipt) reply old.volume volume → (h : ShowsPlain old plain)
+    → CountedStep told_receipt (JobDone job receipt) reply old.volume volume → (h : ShowsPlain old plain)
     → ShowsVolume h.epoch volume.volume (plain_after (events.JobDone (Some n)) plain)
     → ShowsPlain (rig_after old volume store (without_put n old.puts)) (plain_after (events.JobDone (Some n)) plain)
 job_done n bytes old volume store job receipt reply plain started is put of h now =
@@ -548,7 +548,7 @@ done_on : (n : ℕ) (old : RigState) (volume : SteppedVolume) (store : Objects) 
     (reply : Reply Kept)
     (list : List PutView) (plain : PlainState)
     → IsMadePut n old store job receipt → list ≡ without_put n old.puts
-    → Steps told_receipt (JobDone job receipt) reply old.volume volume
+    → CountedStep told_receipt (JobDone job receipt) reply old.volume volume
     → ShowsPlain old plain
     → Tells told_receipt old.volume.volume reply (plain_reply plain (events.JobDone (Some n)))
     × ShowsPlain (rig_after old volume store list) (plain_after (events.JobDone (Some n)) plain)
@@ -573,7 +573,7 @@ pub done_shows : (n : ℕ) (old : RigState) (volume : SteppedVolume) (store : Ob
     (reply : Reply Kept)
     (list : List PutView) (plain : PlainState)
     → IsMadePut n old store job receipt → list ≡ without_put n old.puts
-    → Steps told_receipt (JobDone job receipt) reply old.volume volume
+    → CountedStep told_receipt (JobDone job receipt) reply old.volume volume
     → ShowsPlain old plain → (now : PlainState) × ShowsPlain (rig_after old volume store list) now
 done_shows n old volume store job receipt reply list plain made same of h =
     (plain_after (events.JobDone (Some n)) plain, (done_on n old volume store job receipt reply list plain made same of h).1)
@@ -582,7 +582,7 @@ pub done_answers : (n : ℕ) (old : RigState) (volume : SteppedVolume) (store : 
     (reply : Reply Kept)
     (list : List PutView) (result : Result Answer AllocError)
     → IsMadePut n old store job receipt → list ≡ without_put n old.puts
-    → Steps told_receipt (JobDone job receipt) reply old.volume volume
+    → CountedStep told_receipt (JobDone job receipt) reply old.volume volume
     → IfOk result (SaysCounts reply)
     → IfOk result (λ answer. AnswersEvent (events.JobDone (Some n)) answer old (rig_after old volume store list))
 done_answers n old volume store job receipt reply list (Err error) made same of says = tt

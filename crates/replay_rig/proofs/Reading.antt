@@ -35,7 +35,7 @@ use Rattle.vol_core.specs.declared.reply.Reply.TheVariants as told
 use Rattle.vol_core.specs.Events.{Tells, TellsRefusal}
 use Rattle.vol_core.specs.Volume.{VolumeState, SteppedVolume}
 use Rattle.batcher.specs.declared.full.Full.TheVariants as full
-use Rattle.vol_core.specs.Step.{Steps}
+use Rattle.vol_core.specs.Step.{CountedStep}
 use Rattle.replay_rig.specs.declared.answer.Answer.{Answer}
 use Rattle.replay_rig.specs.declared.answer.Answer.TheVariants as answers
 use Rattle.replay_rig.specs.Answers.{SaysReply, SaysCounts}
@@ -112,7 +112,8 @@ no_room_needed (Some budget) is = (omega arith, omega arith)
 -- the rig a line later, where the volume looked as the plain one does
 looked_rig : (lba sectors : ℕ) (old : RigState) (volume : SteppedVolume) (plain : PlainState) (reply : Reply Kept)
     (asked : PlainEvent)
-    → (h : ShowsPlain old plain) → Steps told_receipt (Look lba sectors) reply old.volume volume → asked ≡ events.Look lba sectors
+    → (h : ShowsPlain old plain) → CountedStep told_receipt (Look lba sectors) reply old.volume volume → asked
+    ≡ events.Look lba sectors
     → ShowsVolume h.epoch volume.volume (plain_after asked plain)
     → ShowsPlain (rig_of volume old.objects old.puts old.is_stopping (old.lines + 1)) (plain_after asked plain)
 looked_rig lba sectors old volume plain reply asked h of is now =
@@ -123,7 +124,7 @@ looked_rig lba sectors old volume plain reply asked h of is now =
 
 pub look_shows : (lba sectors : ℕ) (old : RigState) (volume : SteppedVolume) (plain : PlainState) (reply : Reply Kept)
     → ShowsPlain old plain
-    → Steps told_receipt (Look lba sectors) reply old.volume volume
+    → CountedStep told_receipt (Look lba sectors) reply old.volume volume
     → (now : PlainState) × ShowsPlain (rig_of volume old.objects old.puts old.is_stopping (old.lines + 1)) now
 look_shows lba sectors old volume plain reply h of =
     elim (step_of_plain h.epoch (Look lba sectors) reply plain old.volume volume (volume_shown old plain h)
@@ -183,7 +184,7 @@ plans_none volume reply front bytes objects false passes none tells = record { c
 
 pub read_refused : (lba sectors : ℕ) (old : RigState) (volume : SteppedVolume) (reply : Reply Kept)
     (result : Result Answer AllocError)
-    → ((plan : PlanState) → reply ≡ told.Planned plan → ⊥) → Steps told_receipt (Look lba sectors) reply old.volume volume
+    → ((plan : PlanState) → reply ≡ told.Planned plan → ⊥) → CountedStep told_receipt (Look lba sectors) reply old.volume volume
     → IfOk result (SaysCounts reply)
     → IfOk result (λ answer. AnswersRead lba sectors answer old
     (rig_of volume old.objects old.puts old.is_stopping (old.lines + 1)))
@@ -221,7 +222,8 @@ record IsPlanned (lba sectors : ℕ) (plan : PlanState) (old : RigState) (middle
 
 is_planned : (lba sectors : ℕ) (old : RigState) (middle : SteppedVolume) (plain : PlainState) (plan : PlanState)
     → ShowsPlain old plain
-    → Steps told_receipt (Look lba sectors) (told.Planned plan) old.volume middle → IsPlanned lba sectors plan old middle plain
+    → CountedStep told_receipt (Look lba sectors) (told.Planned plan) old.volume middle
+    → IsPlanned lba sectors plan old middle plain
 is_planned lba sectors old middle plain plan h of =
     let rig : RigState = rig_of middle old.objects old.puts old.is_stopping (old.lines + 1) in
     elim (step_of_plain h.epoch (Look lba sectors) (told.Planned plan) plain old.volume middle (volume_shown old plain h)
@@ -242,8 +244,8 @@ is_planned lba sectors old middle plain plan h of =
 -- and after it was given back
 given_back : (lba sectors : ℕ) (old : RigState) (middle volume : SteppedVolume) (plain : PlainState) (plan : PlanState)
     (reply : Reply Kept)
-    → ShowsPlain old plain → Steps told_receipt (Look lba sectors) (told.Planned plan) old.volume middle
-    → Steps told_receipt (Release plan) reply middle volume
+    → ShowsPlain old plain → CountedStep told_receipt (Look lba sectors) (told.Planned plan) old.volume middle
+    → CountedStep told_receipt (Release plan) reply middle volume
     → ShowsPlain (rig_of middle old.objects old.puts old.is_stopping (old.lines + 1))
     (plain_after (events.Look lba sectors) plain)
     → ShowsPlain (rig_of volume old.objects old.puts old.is_stopping (old.lines + 1))
@@ -266,8 +268,8 @@ given_back lba sectors old middle volume plain plan reply h of back shown =
 
 pub read_shows : (lba sectors : ℕ) (old : RigState) (middle volume : SteppedVolume) (plain : PlainState) (plan : PlanState)
     (reply : Reply Kept)
-    → ShowsPlain old plain → Steps told_receipt (Look lba sectors) (told.Planned plan) old.volume middle
-    → Steps told_receipt (Release plan) reply middle volume
+    → ShowsPlain old plain → CountedStep told_receipt (Look lba sectors) (told.Planned plan) old.volume middle
+    → CountedStep told_receipt (Release plan) reply middle volume
     → (now : PlainState) × ShowsPlain (rig_of volume old.objects old.puts old.is_stopping (old.lines + 1)) now
 read_shows lba sectors old middle volume plain plan reply h of back =
     let planned = is_planned lba sectors old middle plain plan h of in (
@@ -285,8 +287,8 @@ told_here G P rows (now ∷ past) entries is has known = subst (λ e. IfSome e (
 
 pub read_planned : (lba sectors : ℕ) (old : RigState) (middle volume : SteppedVolume) (plan : PlanState) (reply : Reply Kept)
     (held : Vec ℕ)
-    → IsOnDisk old.volume.volume.log → Steps told_receipt (Look lba sectors) (told.Planned plan) old.volume middle
-    → Steps told_receipt (Release plan) reply middle volume → GivesNoOther plan held.items
+    → IsOnDisk old.volume.volume.log → CountedStep told_receipt (Look lba sectors) (told.Planned plan) old.volume middle
+    → CountedStep told_receipt (Release plan) reply middle volume → GivesNoOther plan held.items
     → AnswersRead lba sectors (answers.Sectors held) old (rig_of volume old.objects old.puts old.is_stopping (old.lines + 1))
 read_planned lba sectors old middle volume plan reply held on_disk of back only = record {
   by = λ plain h.

@@ -14,7 +14,7 @@ use Rattle.refine_log.proofs.PendingShown.{still_shows_pending}
 use Rattle.vol_core.specs.declared.event.Event.{Event}
 use Rattle.vol_core.specs.declared.reply.Reply.{Reply}
 use Rattle.vol_core.specs.Volume.{VolumeState, SteppedVolume, with_budget_of}
-use Rattle.vol_core.specs.Step.{HasBytesOf, Steps}
+use Rattle.vol_core.specs.Step.{HasBytesOf, CountedStep}
 use Rattle.vol_core.specs.Events.{Asks}
 use Rattle.vol_core.specs.Stops.{HasOwnCommits}
 use Rattle.replay_rig.specs.declared.answer.Answer.{Answer}
@@ -102,7 +102,7 @@ later_rig old lines plain later h = record {
 -- where memory ran out in a step, the rig shows what it showed, a line later
 pub no_step_rig : (old : RigState) (volume : SteppedVolume) (plain : PlainState) (event : Event Kept) (reply : Reply Kept)
     → (h : ShowsPlain old plain)
-    → Steps told_receipt event reply old.volume volume → ShowsVolume h.epoch volume.volume plain
+    → CountedStep told_receipt event reply old.volume volume → ShowsVolume h.epoch volume.volume plain
     → ShowsPlain (rig_of volume old.objects old.puts old.is_stopping (old.lines + 1)) plain
 no_step_rig old volume plain event reply h of now = record {
   shows = now.shows;
@@ -144,7 +144,7 @@ pub record CountsOn (event : Event Kept) (reply : Reply Kept) (old : RigState) (
 
 pub counts_on : (event : Event Kept) (reply : Reply Kept) (old : RigState) (middle volume : SteppedVolume) (plain : PlainState)
     → is_counted event ≡ true → IsUntouched old.volume middle → HasRoomForEvent event middle.volume
-    → Steps told_receipt event reply middle volume
+    → CountedStep told_receipt event reply middle volume
     → ShowsPlain old plain
     → CountsOn event reply old middle volume plain
     ⊎ (ShowsPlain (rig_of volume old.objects old.puts old.is_stopping (old.lines + 1)) plain
@@ -172,7 +172,7 @@ counts_on event reply old middle volume plain is of room steps h =
 pub counted_shows : (event : Event Kept) (reply : Reply Kept) (old : RigState) (middle volume : SteppedVolume)
     (plain : PlainState)
     → is_counted event ≡ true → IsUntouched old.volume middle → HasRoomForEvent event middle.volume
-    → Steps told_receipt event reply middle volume
+    → CountedStep told_receipt event reply middle volume
     → ShowsPlain old plain → (now : PlainState)
     × ShowsPlain (rig_of volume old.objects old.puts old.is_stopping (old.lines + 1)) now
 counted_shows event reply old middle volume plain is of room steps h =
@@ -185,7 +185,7 @@ counted_shows event reply old middle volume plain is of room steps h =
 pub counted_answers : (event : Event Kept) (reply : Reply Kept) (old : RigState) (middle volume : SteppedVolume)
     (result : Result Answer AllocError)
     → is_counted event ≡ true → IsUntouched old.volume middle → HasRoomForEvent event middle.volume
-    → Steps told_receipt event reply middle volume
+    → CountedStep told_receipt event reply middle volume
     → IfOk result (SaysCounts reply)
     → IfOk result (λ answer. AnswersAsked event answer old (rig_of volume old.objects old.puts old.is_stopping (old.lines + 1)))
 counted_answers event reply old middle volume (Err error) is of room steps says = tt

@@ -24,7 +24,7 @@ use Rattle.vol_core.specs.declared.reply.Reply.{Reply}
 use Rattle.vol_core.specs.Volume.{VolumeState, SteppedVolume}
 use Rattle.vol_core.specs.Shows.{Shows}
 use Rattle.vol_core.specs.Events.{Asks, Tells}
-use Rattle.vol_core.specs.Step.{most_of_step, may_lack_memory, lacks_memory, passing, IsOnItsWay, Steps}
+use Rattle.vol_core.specs.Step.{most_of_step, may_lack_memory, lacks_memory, passing, IsOnItsWay, CountedStep}
 use Rattle.vol_core.specs.Step.{HasBytesOf, KeepsBytes}
 use Rattle.vol_core.specs.Stops.{HasOwnCommits}
 use Rattle.replay_rig.specs.Puts.{PutView}
@@ -65,7 +65,7 @@ HasRoomForEvent event volume = HasRoom (most_of_step event).changes (most_of_ste
 
 pub step_of_plain : (epoch : ℕ) (event : Event Kept) (reply : Reply Kept) (plain : PlainState) (old new : SteppedVolume)
     → ShowsVolume epoch old.volume plain
-    → HasRoomForEvent event old.volume → Steps told_receipt event reply old new
+    → HasRoomForEvent event old.volume → CountedStep told_receipt event reply old new
     → StepsPlain epoch event reply plain old.volume new.volume ⊎ StepsNot epoch event reply plain new.volume
 step_of_plain epoch event reply plain old new h room of =
     let own = (of.step.stops epoch h.own).own in
@@ -209,7 +209,7 @@ same_under_way window = record { under_way = λ puts are. are; back = λ number 
 -- The rig shows the plain volume after an event that leaves the puts alone.
 pub goes_on_with : (old : RigState) (volume : SteppedVolume) (lines : ℕ) (event : Event Kept) (reply : Reply Kept)
     (asked : PlainEvent) (plain : PlainState)
-    → (h : ShowsPlain old plain) → Steps told_receipt event reply old.volume volume
+    → (h : ShowsPlain old plain) → CountedStep told_receipt event reply old.volume volume
     → ShowsVolume h.epoch volume.volume (plain_after asked plain)
     → KeepsUnderWay plain.window (plain_after asked plain).window → old.lines ≤ lines
     → IsYoung (rig_of volume old.objects old.puts old.is_stopping lines) (plain_after asked plain)
@@ -242,7 +242,7 @@ goes_on_with old volume lines event reply asked plain h of now keeps later young
 -- one line later
 pub goes_on : (old : RigState) (volume : SteppedVolume) (event : Event Kept) (reply : Reply Kept) (asked : PlainEvent)
     (plain : PlainState)
-    → (h : ShowsPlain old plain) → Steps told_receipt event reply old.volume volume
+    → (h : ShowsPlain old plain) → CountedStep told_receipt event reply old.volume volume
     → ShowsVolume h.epoch volume.volume (plain_after asked plain)
     → KeepsUnderWay plain.window (plain_after asked plain).window
     → ShowsPlain (rig_of volume old.objects old.puts old.is_stopping (old.lines + 1)) (plain_after asked plain)

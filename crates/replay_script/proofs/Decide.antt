@@ -11,7 +11,8 @@ use Rattle.std.proofs.lemmas.List.Splits.{length-slice_split}
 use Rattle.std.proofs.lemmas.Slice.Eq.{bytes_eq-Decides}
 use Rattle.lsvd_base.specs.Limits.{is_within_limits}
 use Rattle.lsvd_base.specs.declared.geometry.Geometry.{Geometry}
-use Rattle.replay_script.specs.Grammar.{Spells, spelling, Fits, SizesFit, words_of, name_of, BeginAs, BeginsAs, CountsAs}
+use Rattle.replay_script.specs.Grammar.{SpellsCommand, command_spelling, Fits, SizesFit, words_of, command_name, BeginAs}
+use Rattle.replay_script.specs.Grammar.{BeginsAs, CountsAs}
 use Rattle.replay_script.specs.Grammar.{IsUnknown, HasWrongWordCount, IsMisspelt, Spell, SpellNone, AreRefusedAs}
 use Rattle.replay_script.specs.declared.command.Command.{Command}
 use Rattle.replay_script.specs.declared.command.Command.TheVariants.{New, Write, Zero, Read, Flush, Seal, TakeJob, JobDone}
@@ -41,7 +42,7 @@ same_fields : (s s' m m' b b' l l' : ℕ) → s ≡ s' → m ≡ m' → b ≡ b'
 same_fields s s' m m' b b' l l' e1 e2 e3 e4 = cc
 
 -- two geometries that are spelled alike are one
-pub same_geometry : (g h : Geometry) → spelling (New g) ≡ spelling (New h) → SizesFit g → Fits (New h) → g ≡ h
+pub same_geometry : (g h : Geometry) → command_spelling (New g) ≡ command_spelling (New h) → SizesFit g → Fits (New h) → g ≡ h
 same_geometry g h e fits_g fits =
     let fits_h = geometry_fits h fits in
     let sectors = decimal_injective g.sectors h.sectors fits_g.0 fits_h.0 (cc) in
@@ -51,8 +52,8 @@ same_geometry g h e fits_g fits =
     same_fields g.sectors h.sectors g.max_write h.max_write g.batch h.batch g.log h.log sectors max_write batch log
 
 -- where the numbers make no geometry within the limits, the words spell no command `new`
-pub no_new_outside : (words : List (List ℕ)) (g : Geometry) → words ≡ spelling (New g) → SizesFit g
-    → (IsTrue (is_within_limits g) → ⊥) → (h : Geometry) → words ≡ spelling (New h) → Fits (New h) → ⊥
+pub no_new_outside : (words : List (List ℕ)) (g : Geometry) → words ≡ command_spelling (New g) → SizesFit g
+    → (IsTrue (is_within_limits g) → ⊥) → (h : Geometry) → words ≡ command_spelling (New h) → Fits (New h) → ⊥
 no_new_outside words g e fits outside h e' fits_h =
     let same = same_geometry g h (sym e ∙ e') fits fits_h in
     outside (subst (λ (x : Geometry). IsTrue (is_within_limits x)) (sym same) fits_h)
@@ -68,7 +69,7 @@ kind_by ((byte ∷ next ∷ bytes) ∷ words) = cond (byte == 99) (256 + first_b
 kind_by words = first_byte words
 
 -- words spell one command
-pub one_spelling : (a b : Command) → spelling a ≡ spelling b → Fits a → Fits b → a ≡ b
+pub one_spelling : (a b : Command) → command_spelling a ≡ command_spelling b → Fits a → Fits b → a ≡ b
 unfolding first_byte kind_by
 one_spelling (New g) (New h) e fits_g fits_h = ap New (same_geometry g h e (geometry_fits g fits_g) fits_h)
 one_spelling (Write lba sectors byte) (Write lba' sectors' byte') e fits_a fits_b =
@@ -94,11 +95,11 @@ one_spelling Status Status e fits_a fits_b = refl
 one_spelling (Stop calls) (Stop calls') e fits_a fits_b = ap Stop (decimal_injective calls calls' fits_a fits_b (cc))
 one_spelling (CrashKeep device objects) (CrashKeep device' objects') e fits_a fits_b = cc
 one_spelling (CrashLost device objects) (CrashLost device' objects') e fits_a fits_b = cc
-one_spelling a b e fits_a fits_b = let kinds : kind_by (spelling a) ≡ kind_by (spelling b) = ap kind_by e in
+one_spelling a b e fits_a fits_b = let kinds : kind_by (command_spelling a) ≡ kind_by (command_spelling b) = ap kind_by e in
     absurd (omega (arith, kinds))
 
 -- a line spells one command
-pub one_command : (line : List ℕ) (a b : Command) → Spells line a → Spells line b → a ≡ b
+pub one_command : (line : List ℕ) (a b : Command) → SpellsCommand line a → SpellsCommand line b → a ≡ b
 one_command line a b spells_a spells_b = one_spelling a b (sym spells_a.words ∙ spells_b.words) spells_a.fits spells_b.fits
 
 -- ---- which command words spell
@@ -108,7 +109,7 @@ abbrev IsSpelled : List (List ℕ) → Type 0
 IsSpelled words = (command : Command) × Spell words command
 
 -- whether words of these sizes spell the command `new` is decided
-decide_limits : (words : List (List ℕ)) (g : Geometry) → words ≡ spelling (New g) → SizesFit g
+decide_limits : (words : List (List ℕ)) (g : Geometry) → words ≡ command_spelling (New g) → SizesFit g
     → IsSpelled words ⊎ ((h : Geometry) → ¬ Spell words (New h))
 decide_limits words g e fits =
     elim (decided (is_within_limits g) ((λ t. t), (λ t. t))) [
@@ -141,7 +142,7 @@ decide_new (name ∷ a ∷ b ∷ c ∷ d ∷ []) =
                                     batch =
                                         batch.0;
                                   } in
-                                  let e : name ∷ a ∷ b ∷ c ∷ d ∷ [] ≡ spelling (New g) =
+                                  let e : name ∷ a ∷ b ∷ c ∷ d ∷ [] ≡ command_spelling (New g) =
                                   cc (is_new, sectors.2, log.2, max_write.2, batch.2) in
                                   decide_limits _ g e (sectors.1, log.1, max_write.1, batch.1)
                             ]
@@ -387,12 +388,14 @@ decide_spelling words =
     })))))))))))))))
 
 -- where its numbers make no geometry within the limits, they spell no command
-no_new : (words : List (List ℕ)) (g : Geometry) → words ≡ spelling (New g) → SizesFit g → (IsTrue (is_within_limits g) → ⊥)
+no_new : (words : List (List ℕ)) (g : Geometry) → words ≡ command_spelling (New g) → SizesFit g
+    → (IsTrue (is_within_limits g) → ⊥)
     → SpellNone words
 unfolding first_byte kind_by
 no_new words g e fits outside (New h) (e', fits_h) = no_new_outside words g e fits outside h e' fits_h
 no_new words g e fits outside command (e', fits') =
-    let kinds : kind_by (spelling (New g)) ≡ kind_by (spelling command) = ap kind_by (sym e ∙ e') in omega (arith, kinds)
+    let kinds : kind_by (command_spelling (New g)) ≡ kind_by (command_spelling command) =
+    ap kind_by (sym e ∙ e') in omega (arith, kinds)
 
 -- what `then_some` gives where the geometry of these words may be outside the limits
 pub new_none : (a b c d : List ℕ) (g : Geometry) (inside : Bool) (found : Option Command) → a ≡ decimal g.sectors
@@ -429,7 +432,7 @@ first_word (word ∷ words) = word
 
 -- words that begin with a command's name begin with its first word
 begins_first : (word : List ℕ) (words : List (List ℕ)) (command : Command) → BeginAs (word ∷ words) command
-    → word ≡ first_word (name_of command)
+    → word ≡ first_word (command_name command)
 unfolding first_word
 begins_first word words (New g) e = sym (ap first_word e)
 begins_first word words (Write lba sectors byte) e = sym (ap first_word e)
@@ -446,7 +449,7 @@ begins_first word words (CrashKeep device objects) e = sym (ap first_word e)
 begins_first word words (CrashLost device objects) e = sym (ap first_word e)
 
 -- what spells a command begins with its name
-spelling_begins : (command : Command) → BeginAs (spelling command) command
+spelling_begins : (command : Command) → BeginAs (command_spelling command) command
 spelling_begins (New g) = refl
 spelling_begins (Write lba sectors byte) = refl
 spelling_begins (Zero lba sectors) = refl
@@ -461,7 +464,7 @@ spelling_begins (Stop calls) = refl
 spelling_begins (CrashKeep device objects) = refl
 spelling_begins (CrashLost device objects) = refl
 
-spelled_begins : (line : List ℕ) (command : Command) → words_of line ≡ spelling command → BeginsAs line command
+spelled_begins : (line : List ℕ) (command : Command) → words_of line ≡ command_spelling command → BeginsAs line command
 spelled_begins line command e = let P : List (List ℕ) → Type 0 = λ words. BeginAs words command in
     subst P (sym e) (spelling_begins command)
 
@@ -477,7 +480,7 @@ words_after (byte ∷ []) = words_after_byte byte
 words_after (byte ∷ next ∷ bytes) = cond (byte == 110) 5 (cond (byte == 115) 2 4)
 
 -- a command has as many words as its first word has
-count_by_name : (command : Command) → length (spelling command) ≡ words_after (first_word (name_of command))
+count_by_name : (command : Command) → length (command_spelling command) ≡ words_after (first_word (command_name command))
 unfolding words_after_byte words_after first_word
 count_by_name (New g) = refl
 count_by_name (Write lba sectors byte) = refl
@@ -495,7 +498,7 @@ count_by_name (CrashLost device objects) = refl
 
 -- commands with whose names the same words begin have as many words
 same_count : (words : List (List ℕ)) (a b : Command) → (words ≡ [] → ⊥) → BeginAs words a → BeginAs words b
-    → length (spelling a) ≡ length (spelling b)
+    → length (command_spelling a) ≡ length (command_spelling b)
 same_count [] a b some begins_a begins_b = absurd (some refl)
 same_count (word ∷ words) a b some begins_a begins_b =
     count_by_name a ∙ (ap words_after (sym (begins_first word words a begins_a) ∙ begins_first word words b begins_b)
@@ -517,12 +520,13 @@ of_words words line command e begins = let P : List (List ℕ) → Type 0 = λ w
 
 -- the same of its words
 pub miscounted : (words : List (List ℕ)) (command : Command) → BeginAs words command
-    → ¬ (length words ≡ length (spelling command)) → AreRefusedAs words WordCount
+    → ¬ (length words ≡ length (command_spelling command)) → AreRefusedAs words WordCount
 miscounted words command begins other_count line e =
     miscounted_line line command (of_words words line command e begins) (λ counts. other_count (ap length (sym e) ∙ counts))
 
 -- words that begin with a command's name, as many as it has, that spell none are not in their form
-pub misspelt : (words : List (List ℕ)) (command : Command) → BeginAs words command → length words ≡ length (spelling command)
+pub misspelt : (words : List (List ℕ)) (command : Command) → BeginAs words command → length words
+    ≡ length (command_spelling command)
     → SpellNone words → AreRefusedAs words Form
 misspelt words command begins counts none line e = record {
   command = command;
@@ -575,7 +579,8 @@ pub no_words : (words : List (List ℕ)) → words ≡ [] → AreRefusedAs words
 no_words words none line e command begins = some_word line (e ∙ none)
 
 -- whether a line spells a command is decided
-pub decide_line : (line : List ℕ) → ((command : Command) × Spells line command) ⊎ ((command : Command) → Spells line command → ⊥)
+pub decide_line : (line : List ℕ) → ((command : Command) × SpellsCommand line command)
+    ⊎ ((command : Command) → SpellsCommand line command → ⊥)
 decide_line line =
     elim (decide_spelling (words_of line)) [
       | inl found ↦ inl (found.0, record { words = found.1.0; fits = found.1.1 })
@@ -585,14 +590,14 @@ decide_line line =
 -- ---- why a line spells no command: for one reason, and always for some
 
 -- a line that is refused spells no command
-pub unknown_unspelled : (line : List ℕ) → IsUnknown line → (command : Command) → ¬ Spells line command
+pub unknown_unspelled : (line : List ℕ) → IsUnknown line → (command : Command) → ¬ SpellsCommand line command
 unknown_unspelled line unknown command spells = unknown command (spelled_begins line command spells.words)
 
-pub miscounted_unspelled : (line : List ℕ) → HasWrongWordCount line → (command : Command) → ¬ Spells line command
+pub miscounted_unspelled : (line : List ℕ) → HasWrongWordCount line → (command : Command) → ¬ SpellsCommand line command
 miscounted_unspelled line wrong command spells = wrong.miscounted command (spelled_begins line command spells.words)
     (ap length spells.words)
 
-pub misspelt_unspelled : (line : List ℕ) → IsMisspelt line → (command : Command) → ¬ Spells line command
+pub misspelt_unspelled : (line : List ℕ) → IsMisspelt line → (command : Command) → ¬ SpellsCommand line command
 misspelt_unspelled line wrong = wrong.unspelled
 
 -- a line is refused for one reason
@@ -627,7 +632,7 @@ decide_kind name (kind ∷ words) is =
     ]
 
 -- whether a word is the name of a command, which is one word, is decided
-decide_first : (name word : List ℕ) (words : List (List ℕ)) (command : Command) → name_of command ≡ name ∷ []
+decide_first : (name word : List ℕ) (words : List (List ℕ)) (command : Command) → command_name command ≡ name ∷ []
     → BeginSome (word ∷ words) ⊎ ¬ (word ≡ name)
 decide_first name word words command is =
     elim (decided (bytes_eq word name) (bytes_eq-Decides word name)) [
@@ -673,15 +678,15 @@ decide_words [] some = absurd (some refl)
 decide_words (word ∷ words) some = decide_name word words
 
 -- whether a line that begins as a command and spells none has as many words is decided
-judge_named : (line : List ℕ) (command : Command) → BeginsAs line command → ((other : Command) → ¬ Spells line other)
+judge_named : (line : List ℕ) (command : Command) → BeginsAs line command → ((other : Command) → ¬ SpellsCommand line other)
     → HasWrongWordCount line ⊎ IsMisspelt line
 judge_named line command begins none =
-    elim (decided (length (words_of line) == length (spelling command)) (Decides-eqb _ _)) [
+    elim (decided (length (words_of line) == length (command_spelling command)) (Decides-eqb _ _)) [
       | inl counts ↦ inr (record { command = command; known = begins; counted = counts; unspelled = none })
       | inr other_count ↦ inl (miscounted_line line command begins other_count)
     ]
 
-judge_unspelled : (line : List ℕ) → ((command : Command) → ¬ Spells line command) → IsUnknown line
+judge_unspelled : (line : List ℕ) → ((command : Command) → ¬ SpellsCommand line command) → IsUnknown line
     ⊎ (HasWrongWordCount line ⊎ IsMisspelt line)
 judge_unspelled line none =
     elim (decide_words (words_of line) (some_word line)) [
@@ -690,7 +695,7 @@ judge_unspelled line none =
     ]
 
 -- each line spells a command or is refused
-pub judge_line : (line : List ℕ) → ((command : Command) × Spells line command)
+pub judge_line : (line : List ℕ) → ((command : Command) × SpellsCommand line command)
     ⊎ (IsUnknown line ⊎ (HasWrongWordCount line ⊎ IsMisspelt line))
 judge_line line =
     elim (decide_line line) [

@@ -3,7 +3,7 @@ use Rattle.std.proofs.Common.{◌≡◌, ℕ, ◌<◌, List, [], ◌∷◌, leng
 use Rattle.std.proofs.Common.{◌∙◌, subst, arith}
 use Rattle.std.specs.Prelude.{IfSome, ok_or}
 use Rattle.std.specs.Option.{IfNone}
-use Rattle.replay_script.specs.Grammar.{spelling, name_of, BeginAs, Spell, SpellNone, AreRefusedAs}
+use Rattle.replay_script.specs.Grammar.{command_spelling, command_name, BeginAs, Spell, SpellNone, AreRefusedAs}
 use Rattle.replay_script.specs.Names.{BeginWith, words_of_name, word_count_of}
 use Rattle.replay_script.specs.declared.command.Command.{Command}
 use Rattle.replay_script.specs.declared.command.Command.TheVariants.{New, Write, Zero, Read, Flush, Seal, TakeJob, JobDone}
@@ -42,36 +42,37 @@ some_command names.CrashKeep = CrashKeep [] []
 some_command names.CrashLost = CrashLost [] []
 
 -- its name is spelled as this one, and it has as many words
-name_of-some_command : (name : Name) → (name_of (some_command name) ≡ words_of_name name)
-    × (length (spelling (some_command name)) ≡ word_count_of name)
-name_of-some_command names.New = (refl, refl)
-name_of-some_command names.Write = (refl, refl)
-name_of-some_command names.Zero = (refl, refl)
-name_of-some_command names.Read = (refl, refl)
-name_of-some_command names.Flush = (refl, refl)
-name_of-some_command names.Seal = (refl, refl)
-name_of-some_command names.TakeJob = (refl, refl)
-name_of-some_command names.JobDone = (refl, refl)
-name_of-some_command names.JobFailed = (refl, refl)
-name_of-some_command names.Status = (refl, refl)
-name_of-some_command names.Stop = (refl, refl)
-name_of-some_command names.CrashKeep = (refl, refl)
-name_of-some_command names.CrashLost = (refl, refl)
+command_name-some_command : (name : Name) → (command_name (some_command name) ≡ words_of_name name)
+    × (length (command_spelling (some_command name)) ≡ word_count_of name)
+command_name-some_command names.New = (refl, refl)
+command_name-some_command names.Write = (refl, refl)
+command_name-some_command names.Zero = (refl, refl)
+command_name-some_command names.Read = (refl, refl)
+command_name-some_command names.Flush = (refl, refl)
+command_name-some_command names.Seal = (refl, refl)
+command_name-some_command names.TakeJob = (refl, refl)
+command_name-some_command names.JobDone = (refl, refl)
+command_name-some_command names.JobFailed = (refl, refl)
+command_name-some_command names.Status = (refl, refl)
+command_name-some_command names.Stop = (refl, refl)
+command_name-some_command names.CrashKeep = (refl, refl)
+command_name-some_command names.CrashLost = (refl, refl)
 
 begins_some : (words : List (List ℕ)) (name : Name) → BeginWith words name → BeginAs words (some_command name)
-begins_some words name begin = rw (name_of-some_command name).0 begin
+begins_some words name begin = rw (command_name-some_command name).0 begin
 
 -- words that begin with a name, and are not as many as its command has
 pub miscounted_name : (words : List (List ℕ)) (name : Name) → BeginWith words name → ¬ (length words ≡ word_count_of name)
     → AreRefusedAs words WordCount
 miscounted_name words name begin other =
-    miscounted words (some_command name) (begins_some words name begin) (λ counts. other (counts ∙ (name_of-some_command name).1))
+    miscounted words (some_command name) (begins_some words name begin)
+    (λ counts. other (counts ∙ (command_name-some_command name).1))
 
 -- words that begin with a name, as many as its command has, in which a reading found no command
 pub misspelt_name : (words : List (List ℕ)) (name : Name) (found : Option Command) → BeginWith words name
     → length words ≡ word_count_of name → IfNone found (SpellNone words) → IfErr (ok_or found Form) (AreRefusedAs words)
 misspelt_name words name None begin counted none =
-    misspelt words (some_command name) (begins_some words name begin) (counted ∙ sym (name_of-some_command name).1) none
+    misspelt words (some_command name) (begins_some words name begin) (counted ∙ sym (command_name-some_command name).1) none
 misspelt_name words name (Some command) begin counted none = tt
 
 -- a command that is read from words is spelled by words that are the same

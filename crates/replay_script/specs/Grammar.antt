@@ -29,20 +29,20 @@ abbrev pub hexadecimal : ℕ → List ℕ
 hexadecimal byte = digit_char (byte / 16) ∷ digit_char (byte % 16) ∷ []
 
 -- the words that spell a command; a number is in decimal digits without sign or needless zeros
-abbrev pub spelling : Command → List (List ℕ)
-spelling (New g) = codes "new" ∷ decimal g.sectors ∷ decimal g.log ∷ decimal g.max_write ∷ decimal g.batch ∷ []
-spelling (Write lba sectors byte) = codes "w" ∷ decimal lba ∷ decimal sectors ∷ hexadecimal byte ∷ []
-spelling (Zero lba sectors) = codes "z" ∷ decimal lba ∷ decimal sectors ∷ []
-spelling (Read lba sectors) = codes "r" ∷ decimal lba ∷ decimal sectors ∷ []
-spelling Flush = codes "f" ∷ []
-spelling Seal = codes "s" ∷ []
-spelling TakeJob = codes "u" ∷ []
-spelling (JobDone number) = codes "d" ∷ decimal number ∷ []
-spelling (JobFailed number) = codes "x" ∷ decimal number ∷ []
-spelling Status = codes "i" ∷ []
-spelling (Stop calls) = codes "stop" ∷ decimal calls ∷ []
-spelling (CrashKeep device objects) = codes "crash" ∷ codes "keep" ∷ device ∷ objects ∷ []
-spelling (CrashLost device objects) = codes "crash" ∷ codes "lost" ∷ device ∷ objects ∷ []
+abbrev pub command_spelling : Command → List (List ℕ)
+command_spelling (New g) = codes "new" ∷ decimal g.sectors ∷ decimal g.log ∷ decimal g.max_write ∷ decimal g.batch ∷ []
+command_spelling (Write lba sectors byte) = codes "w" ∷ decimal lba ∷ decimal sectors ∷ hexadecimal byte ∷ []
+command_spelling (Zero lba sectors) = codes "z" ∷ decimal lba ∷ decimal sectors ∷ []
+command_spelling (Read lba sectors) = codes "r" ∷ decimal lba ∷ decimal sectors ∷ []
+command_spelling Flush = codes "f" ∷ []
+command_spelling Seal = codes "s" ∷ []
+command_spelling TakeJob = codes "u" ∷ []
+command_spelling (JobDone number) = codes "d" ∷ decimal number ∷ []
+command_spelling (JobFailed number) = codes "x" ∷ decimal number ∷ []
+command_spelling Status = codes "i" ∷ []
+command_spelling (Stop calls) = codes "stop" ∷ decimal calls ∷ []
+command_spelling (CrashKeep device objects) = codes "crash" ∷ codes "keep" ∷ device ∷ objects ∷ []
+command_spelling (CrashLost device objects) = codes "crash" ∷ codes "lost" ∷ device ∷ objects ∷ []
 
 -- each size of a geometry is below 2^64
 abbrev pub SizesFit : Geometry → Type 0
@@ -66,29 +66,29 @@ Fits (CrashKeep device objects) = Unit {0}
 Fits (CrashLost device objects) = Unit {0}
 
 -- a line is a command
-pub record Spells (line : List ℕ) (command : Command) : Type 0 where
-  pub words : words_of line ≡ spelling command
+pub record SpellsCommand (line : List ℕ) (command : Command) : Type 0 where
+  pub words : words_of line ≡ command_spelling command
   pub fits : Fits command
 
 -- the words of a command's name: one or two
-abbrev pub name_of : Command → List (List ℕ)
-name_of (New g) = codes "new" ∷ []
-name_of (Write lba sectors byte) = codes "w" ∷ []
-name_of (Zero lba sectors) = codes "z" ∷ []
-name_of (Read lba sectors) = codes "r" ∷ []
-name_of Flush = codes "f" ∷ []
-name_of Seal = codes "s" ∷ []
-name_of TakeJob = codes "u" ∷ []
-name_of (JobDone number) = codes "d" ∷ []
-name_of (JobFailed number) = codes "x" ∷ []
-name_of Status = codes "i" ∷ []
-name_of (Stop calls) = codes "stop" ∷ []
-name_of (CrashKeep device objects) = codes "crash" ∷ codes "keep" ∷ []
-name_of (CrashLost device objects) = codes "crash" ∷ codes "lost" ∷ []
+abbrev pub command_name : Command → List (List ℕ)
+command_name (New g) = codes "new" ∷ []
+command_name (Write lba sectors byte) = codes "w" ∷ []
+command_name (Zero lba sectors) = codes "z" ∷ []
+command_name (Read lba sectors) = codes "r" ∷ []
+command_name Flush = codes "f" ∷ []
+command_name Seal = codes "s" ∷ []
+command_name TakeJob = codes "u" ∷ []
+command_name (JobDone number) = codes "d" ∷ []
+command_name (JobFailed number) = codes "x" ∷ []
+command_name Status = codes "i" ∷ []
+command_name (Stop calls) = codes "stop" ∷ []
+command_name (CrashKeep device objects) = codes "crash" ∷ codes "keep" ∷ []
+command_name (CrashLost device objects) = codes "crash" ∷ codes "lost" ∷ []
 
 -- these words begin with the command's name, or are a front of that name
 abbrev pub BeginAs : List (List ℕ) → Command → Type 0
-BeginAs words command = take (length words) (name_of command) ≡ take (length (name_of command)) words
+BeginAs words command = take (length words) (command_name command) ≡ take (length (command_name command)) words
 
 -- the line begins with the command's name, or is a front of that name
 abbrev pub BeginsAs : List ℕ → Command → Type 0
@@ -96,7 +96,7 @@ BeginsAs line command = BeginAs (words_of line) command
 
 -- the line has as many words as the command
 abbrev pub CountsAs : List ℕ → Command → Type 0
-CountsAs line command = length (words_of line) ≡ length (spelling command)
+CountsAs line command = length (words_of line) ≡ length (command_spelling command)
 
 -- the line begins with no command's name, and is no front of one
 abbrev pub IsUnknown : List ℕ → Type 0
@@ -113,20 +113,20 @@ pub record IsMisspelt (line : List ℕ) : Type 0 where
   pub command : Command
   pub known : BeginsAs line command
   pub counted : CountsAs line command
-  pub unspelled : (other : Command) → ¬ Spells line other
+  pub unspelled : (other : Command) → ¬ SpellsCommand line other
 
 -- why the line spells no command; where it is out of memory, nothing is said
-abbrev pub IsRefusedAs : List ℕ → LineError → Type 0
-IsRefusedAs line UnknownCommand = IsUnknown line
-IsRefusedAs line WordCount = HasWrongWordCount line
-IsRefusedAs line Form = IsMisspelt line
-IsRefusedAs line OutOfMemory = Unit {0}
+abbrev pub IsLineRefusedAs : List ℕ → LineError → Type 0
+IsLineRefusedAs line UnknownCommand = IsUnknown line
+IsLineRefusedAs line WordCount = HasWrongWordCount line
+IsLineRefusedAs line Form = IsMisspelt line
+IsLineRefusedAs line OutOfMemory = Unit {0}
 
 -- ---- the same of words, for the private clauses
 
 -- a line of these words spells the command
 abbrev pub Spell : List (List ℕ) → Command → Type 0
-Spell words command = (words ≡ spelling command) × Fits command
+Spell words command = (words ≡ command_spelling command) × Fits command
 
 -- a line of these words spells no command
 abbrev pub SpellNone : List (List ℕ) → Type 0
@@ -134,4 +134,4 @@ SpellNone words = (command : Command) → ¬ Spell words command
 
 -- a line of these words is refused so
 abbrev pub AreRefusedAs : List (List ℕ) → LineError → Type 0
-AreRefusedAs words error = (line : List ℕ) → words_of line ≡ words → IsRefusedAs line error
+AreRefusedAs words error = (line : List ℕ) → words_of line ≡ words → IsLineRefusedAs line error

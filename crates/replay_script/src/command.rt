@@ -1,6 +1,6 @@
 ghost use Rattle.std.specs.Prelude.{IsTrue, ◌↔◌, IfOk, IfErr, IfSome, IfNone, ◌≡◌, ℕ, List, [], ◌∷◌, map};
 ghost use Rattle.std.specs.Prelude.{codes, length};
-ghost use Rattle.replay_script.specs.Grammar.{Spells, IsRefusedAs, Spell, SpellNone, AreRefusedAs};
+ghost use Rattle.replay_script.specs.Grammar.{SpellsCommand, IsLineRefusedAs, Spell, SpellNone, AreRefusedAs};
 ghost use Rattle.replay_script.specs.Names.{BeginWith, word_count_of};
 ghost use Rattle.replay_script.specs.declared.error.LineError.TheVariants.{UnknownCommand};
 
@@ -47,8 +47,8 @@ pub enum Command {
 /// Reads a line, without its newline, as the command that it spells. Where it spells none, the error is the
 /// first of `UnknownCommand`, `WordCount` and `Form` that applies; `OutOfMemory` may come for each line.
 pub fn command_of(alloc: Global, line: &[u8]) -> Result<Command, LineError>
-    ensures found { IfOk result (Spells line.now) }
-    ensures refused { IfErr result (IsRefusedAs line.now) }
+    ensures found { IfOk result (SpellsCommand line.now) }
+    ensures refused { IfErr result (IsLineRefusedAs line.now) }
 {
     let words: Vec<&[u8]> = line.split(|b| *b == b' ').collect(alloc)?;
     command_from(alloc, &words)
@@ -56,7 +56,7 @@ pub fn command_of(alloc: Global, line: &[u8]) -> Result<Command, LineError>
 
 /// A law: a line spells at most one command.
 pub fn a_line_spells_one_command()
-    ensures { (line : List ℕ) (a b : Command) → Spells line a → Spells line b → a ≡ b }
+    ensures { (line : List ℕ) (a b : Command) → SpellsCommand line a → SpellsCommand line b → a ≡ b }
 {}
 
 // The name of a command.

@@ -11,7 +11,7 @@ use Rattle.lsvd_bytes.proofs.PlaceLemmas.{IsBytes, width_32, width_64}
 use Rattle.clone_chain.specs.declared.ancestor.Ancestor.{Ancestor}
 use Rattle.super_format.specs.declared.super_object.Super.{Super}
 use Rattle.super_format.specs.Ancestors.{chain_bytes, chain_in}
-use Rattle.super_format.specs.Super.{head_bytes, super_bytes, super_in, HasWidths, geometry_with, keeps_limits}
+use Rattle.super_format.specs.Super.{head_bytes, super_bytes, super_in, HasSuperWidths, geometry_with, keeps_limits}
 use Rattle.super_format.proofs.PartLemmas.{bytes_of_rest, length_of_part, part_of, front_more, number_behind}
 use Rattle.super_format.proofs.ChainLemmas.{length-chain_in, chain_again, chain_of_bytes, length-chain_bytes, widths_of_chain_in}
 
@@ -75,7 +75,7 @@ length-numbers_of : (volume : Super) → length (numbers_of volume) ≡ 20
 unfolding numbers_of
 length-numbers_of volume = refl
 
-pub length-super_bytes : (volume : Super) → HasWidths volume → length (super_bytes volume) ≡ 48 + 24 * length volume.chain
+pub length-super_bytes : (volume : Super) → HasSuperWidths volume → length (super_bytes volume) ≡ 48 + 24 * length volume.chain
 length-super_bytes volume widths =
     let rest = numbers_of volume ++ chain_bytes volume.chain in
     omega (
@@ -152,7 +152,7 @@ super_of uuid sectors max_write batch chain = record {
 }
 
 -- what was written is read again
-pub super_again : (volume : Super) → HasWidths volume → HasSizes volume → super_in (super_bytes volume) ≡ volume
+pub super_again : (volume : Super) → HasSuperWidths volume → HasSizes volume → super_in (super_bytes volume) ≡ volume
 super_again volume widths sizes =
     let bytes = super_bytes volume in
     let sectors = number_at w64 28 bytes in
@@ -199,7 +199,8 @@ bytes_again bytes size fits magic version =
     (sym (take_all (24 * count) rest (omega (arith, whole)))
     ∙ sym (chain_of_bytes count rest (omega (arith, whole)) (bytes_of_rest 48 bytes fits)))
 
-pub widths_again : (bytes : List ℕ) → length bytes ≡ 48 + 24 * number_at w32 44 bytes → IsBytes bytes → HasWidths (super_in bytes)
+pub widths_again : (bytes : List ℕ) → length bytes ≡ 48 + 24 * number_at w32 44 bytes → IsBytes bytes
+    → HasSuperWidths (super_in bytes)
 widths_again bytes size fits = record {
   uuid = length_of_part 12 16 bytes (omega (arith, size));
   chain = widths_of_chain_in (number_at w32 44 bytes) (drop 48 bytes) (omega (arith, length-drop 48 bytes, size))

@@ -15,7 +15,7 @@ use Rattle.super_format.specs.declared.reason.Reason.{Reason}
 use Rattle.super_format.specs.declared.reason.Reason.TheVariants as reasons
 use Rattle.super_format.specs.Ancestors.{chain_in}
 use Rattle.super_format.specs.Super.{super_in, geometry_with, keeps_limits, HasNoVolumeTwice, IsSuper}
-use Rattle.super_format.specs.Tests.{code_of, PassesSuperTest, PassesTestsBefore, IsRefusedAs}
+use Rattle.super_format.specs.Tests.{code_of, PassesSuperTest, PassesTestsBefore, IsSuperRefusedAs}
 use Rattle.super_format.proofs.HeadLemmas.{super_of, few_ancestors, sizes_fit, length-super_bytes, magic_again, version_again}
 use Rattle.super_format.proofs.HeadLemmas.{uuid_again, count_again, super_again, bytes_again, widths_again}
 
@@ -56,7 +56,7 @@ super_if_passes bytes uuid fits passes once =
 -- ---- the first test that fails
 
 pub refused_as : (bytes uuid : List ℕ) (reason : Reason) → PassesTestsBefore bytes uuid reason
-    → (PassesSuperTest bytes uuid reason → ⊥) → IsRefusedAs bytes uuid reason
+    → (PassesSuperTest bytes uuid reason → ⊥) → IsSuperRefusedAs bytes uuid reason
 refused_as bytes uuid reason earlier failed = record {
   earlier = earlier;
   failed = failed;
@@ -152,7 +152,7 @@ pub record HasRead (bytes uuid : List ℕ) (count : ℕ) (chain : List Ancestor)
 -- two of them are one volume
 pub refused_as_no_chain : (bytes uuid : List ℕ) (count : ℕ) (chain : List Ancestor) → HasRead bytes uuid count chain
     → (IsChain chain → ⊥)
-    → IsRefusedAs bytes uuid reasons.Ancestors
+    → IsSuperRefusedAs bytes uuid reasons.Ancestors
 refused_as_no_chain bytes uuid count chain has none =
     let is = chain_is bytes count chain has.count_is has.chain_is_in in
     refused_as bytes uuid reasons.Ancestors has.passes (λ once. none (subst IsChain (sym is) (record {
@@ -163,7 +163,7 @@ refused_as_no_chain bytes uuid count chain has none =
 -- one of them is the volume itself
 pub refused_as_own : (bytes uuid : List ℕ) (count : ℕ) (chain : List Ancestor) (result : Option ℕ)
     → HasRead bytes uuid count chain
-    → IfSome result (IsLevelOf chain uuid) → is_some result ≡ true → IsRefusedAs bytes uuid reasons.Ancestors
+    → IfSome result (IsLevelOf chain uuid) → is_some result ≡ true → IsSuperRefusedAs bytes uuid reasons.Ancestors
 refused_as_own bytes uuid count chain (Some level) has found is_level =
     let is = chain_is bytes count chain has.count_is has.chain_is_in in
     let P : List Ancestor → Type 0 = λ xs. IsNoAncestor xs uuid in

@@ -35,7 +35,7 @@ super_in bytes = record {
 }
 
 -- its uuids and the numbers of checkpoints have the width of their places
-pub record HasWidths (volume : Super) : Type 0 where
+pub record HasSuperWidths (volume : Super) : Type 0 where
   pub uuid : length volume.uuid ≡ 16
   pub chain : All HasAncestorWidths volume.chain
 
@@ -59,7 +59,7 @@ pub record HasNoVolumeTwice (volume : Super) : Type 0 where
   pub apart : AreApart volume.chain
   pub own : IsNoAncestor volume.chain volume.uuid
 
-pub record MayStand (volume : Super) : Type 0 where
+pub record MayBeSuper (volume : Super) : Type 0 where
   pub limits : IsTrue (keeps_limits volume)
   pub once : HasNoVolumeTwice volume
 
@@ -69,5 +69,5 @@ pub record MayStand (volume : Super) : Type 0 where
 pub record IsSuper (bytes : List ℕ) (uuid : List ℕ) (volume : Super) : Type 0 where
   pub spelled : bytes ≡ super_bytes volume
   pub uuid_is : volume.uuid ≡ uuid
-  pub may_stand : MayStand volume
-  pub widths : HasWidths volume
+  pub may_stand : MayBeSuper volume
+  pub widths : HasSuperWidths volume

@@ -32,12 +32,12 @@ abbrev pub PassesTestsBefore : (bytes uuid : List ℕ) → Reason → Type 0
 PassesTestsBefore bytes uuid reason = (other : Reason) → code_of other < code_of reason → PassesSuperTest bytes uuid other
 
 -- the first test that they do not pass is that of this reason, and they are no super object of the volume
-pub record IsRefusedAs (bytes uuid : List ℕ) (reason : Reason) : Type 0 where
+pub record IsSuperRefusedAs (bytes uuid : List ℕ) (reason : Reason) : Type 0 where
   pub earlier : PassesTestsBefore bytes uuid reason
   pub failed : PassesSuperTest bytes uuid reason → ⊥
   pub none : (volume : Super) → IsSuper bytes uuid volume → ⊥
 
 -- what an error of a read says of the bytes
-abbrev pub IsReasonOf : (bytes uuid : List ℕ) → ReadError → Type 0
-IsReasonOf bytes uuid (BadSuper reason) = IsRefusedAs bytes uuid reason
-IsReasonOf bytes uuid OutOfMemory = PassesTestsBefore bytes uuid reasons.Ancestors
+abbrev pub IsSuperReason : (bytes uuid : List ℕ) → ReadError → Type 0
+IsSuperReason bytes uuid (BadSuper reason) = IsSuperRefusedAs bytes uuid reason
+IsSuperReason bytes uuid OutOfMemory = PassesTestsBefore bytes uuid reasons.Ancestors

@@ -5,7 +5,7 @@ ghost use Rattle.lsvd_bytes.specs.Places.{bytes_at, number_at};
 ghost use Rattle.super_format.specs.declared.reading.ReadError.TheVariants.{BadSuper, OutOfMemory};
 ghost use Rattle.super_format.specs.declared.reason.Reason.TheVariants.{Ancestors};
 ghost use Rattle.super_format.specs.Super.{super_in, geometry_with, keeps_limits, IsSuper};
-ghost use Rattle.super_format.specs.Tests.{PassesTestsBefore, IsRefusedAs, IsReasonOf};
+ghost use Rattle.super_format.specs.Tests.{PassesTestsBefore, IsSuperRefusedAs, IsSuperReason};
 
 use crate::ancestors::{ANCESTOR_BYTES, read_ancestors};
 use crate::reason::Reason;
@@ -52,7 +52,7 @@ impl Super {
     /// memory ran out, or it comes exactly where they are none, and names the first test that they fail.
     pub fn read(alloc: Global, bytes: &[u8], uuid: Uuid) -> Result<Super, ReadError>
         ensures ok { IfOk result (IsSuper bytes.now uuid) }
-        ensures refused { IfErr result (IsReasonOf bytes.now uuid) }
+        ensures refused { IfErr result (IsSuperReason bytes.now uuid) }
     {
         test_head(bytes, uuid)?;
         let ancestors = read_ancestors(alloc, &bytes[HEAD_BYTES..], read_u32(bytes, COUNT_AT))?;
@@ -76,7 +76,7 @@ impl Super {
 // Makes each test but that of the ancestors.
 fn test_head(bytes: &[u8], uuid: Uuid) -> Result<(), Reason>
     ensures passed { OnOk result (PassesTestsBefore bytes.now uuid Ancestors) }
-    ensures refused { IfErr result (IsRefusedAs bytes.now uuid) }
+    ensures refused { IfErr result (IsSuperRefusedAs bytes.now uuid) }
 {
     if !has_its_length(bytes) {
         return Err(Reason::Length);

@@ -1,5 +1,5 @@
 ghost use Rattle.std.specs.Prelude.{◌≡◌, ◌↔◌, IsTrue};
-ghost use Rattle.super_format.specs.Super.{geometry_with, MayStand};
+ghost use Rattle.super_format.specs.Super.{geometry_with, MayBeSuper};
 
 use clone_chain::Chain;
 use lsvd_base::Geometry;
@@ -36,7 +36,7 @@ impl Super {
     /// Whether it may be written: its sizes keep their limits, and none of its ancestors is the volume
     /// itself.
     pub fn may_stand(&self) -> bool
-        ensures { IsTrue result ↔ MayStand self.now }
+        ensures { IsTrue result ↔ MayBeSuper self.now }
     {
         let sizes = self.geometry(Geometry::MAX_LOG);
         self.chain.count() < Chain::MAX_LEVELS

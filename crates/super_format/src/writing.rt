@@ -1,5 +1,5 @@
 ghost use Rattle.std.specs.Prelude.{◌≡◌, ◌+◌, ◌*◌, IfOk, length};
-ghost use Rattle.super_format.specs.Super.{head_bytes, super_bytes, HasWidths, MayStand, IsSuper};
+ghost use Rattle.super_format.specs.Super.{head_bytes, super_bytes, HasSuperWidths, MayBeSuper, IsSuper};
 
 use crate::ancestors::{ANCESTOR_BYTES, write_ancestors};
 use crate::super_object::Super;
@@ -14,7 +14,7 @@ impl Super {
     /// The bytes of the super object that says this, which may stand in one (a condition, that `may_stand`
     /// tests). The one error is that memory ran out.
     pub fn write(&self, alloc: Global) -> Result<ObjectBytes, AllocError>
-        requires { MayStand self.now }
+        requires { MayBeSuper self.now }
         ensures { IfOk result (λ object. IsSuper object self.now.uuid self.now) }
     {
         let size = HEAD_BYTES + ANCESTOR_BYTES * self.chain.count() as usize;
@@ -25,10 +25,10 @@ impl Super {
 
     // Writes it into as many bytes as it has.
     fn write_into(&self, bytes: &mut [u8])
-        requires stands { MayStand self.now }
+        requires stands { MayBeSuper self.now }
         requires size { length bytes.old ≡ 48 + 24 * length self.now.chain }
         ensures bytes { bytes.new ≡ super_bytes self.now }
-        ensures widths { HasWidths self.now }
+        ensures widths { HasSuperWidths self.now }
     {
         self.write_head(&mut bytes[..HEAD_BYTES]);
         write_ancestors(self.chain.ancestors(), &mut bytes[HEAD_BYTES..]);
@@ -36,7 +36,7 @@ impl Super {
 
     // Writes what stands before the ancestors into 48 bytes.
     fn write_head(&self, head: &mut [u8])
-        requires stands { MayStand self.now }
+        requires stands { MayBeSuper self.now }
         requires size { length head.old ≡ 48 }
         ensures bytes { head.new ≡ head_bytes self.now }
         ensures width { length self.now.uuid ≡ 16 }

@@ -19,8 +19,9 @@ use Rattle.super_recovery.specs.declared.error.SuperError.{SuperError}
 use Rattle.super_recovery.specs.declared.error.SuperError.TheVariants as errors
 use Rattle.super_recovery.specs.declared.finding.FoundVolume.{FoundVolume}
 use Rattle.super_recovery.specs.Faults.{IsNoAnswer}
-use Rattle.super_recovery.specs.Found.{IsReadOf, IsGreatestEpoch, IsGreatestIn, HasEpoch, HasNoEpoch, HasBadEpoch, IsWhyNoEpoch}
-use Rattle.super_recovery.specs.Found.{IsWhyRefused, IsFound, IsRefused}
+use Rattle.super_recovery.specs.Found.{IsWholeReadOf, IsGreatestEpoch, IsGreatestIn, HasEpoch, HasNoEpoch, HasBadEpoch}
+use Rattle.super_recovery.specs.Found.{IsWhyNoEpoch}
+use Rattle.super_recovery.specs.Found.{IsWhyVolumeRefused, IsFound, IsVolumeRefused}
 use Rattle.super_recovery.proofs.LawLemmas.{one_super, one_newest, sizes_of_super, epoch_fits}
 use Rattle.super_recovery.proofs.Results.{told_so, told_both}
 
@@ -151,7 +152,7 @@ is_found uuid objects it says newest = record {
 -- ---- why it is refused
 
 pub why_refused : (uuid : List ℕ) (objects : Objects) (volume : Super) (error : SuperError) → HasSuper uuid volume objects
-    → IsWhyNoEpoch uuid objects error → IsWhyRefused uuid objects error
+    → IsWhyNoEpoch uuid objects error → IsWhyVolumeRefused uuid objects error
 why_refused uuid objects volume errors.NoVolume says why = absurd why
 why_refused uuid objects volume (errors.BadSuper (reasons.Super reason)) says why = absurd why
 why_refused uuid objects volume (errors.BadSuper reasons.NoEpoch) says why = ((volume, says), why)
@@ -171,7 +172,7 @@ bytes_of None some = cc
 bytes_of (Some bytes) some = (bytes, refl)
 
 no_volume : (uuid : List ℕ) (objects : Objects) (geometry : Geometry) (epoch : ℕ) (error : SuperError)
-    → IsWhyRefused uuid objects error
+    → IsWhyVolumeRefused uuid objects error
     → HasVolume uuid geometry epoch objects → IsNoAnswer error
 no_volume uuid objects geometry epoch errors.NoVolume why has =
     one_of (found objects (super_name uuid)) has.says.bytes has.says.present why
@@ -189,8 +190,8 @@ no_volume uuid objects geometry epoch (errors.BadSuper (reasons.BadEpoch number)
 no_volume uuid objects geometry epoch errors.StoreFault why has = tt
 no_volume uuid objects geometry epoch errors.OutOfMemory why has = tt
 
-pub is_refused : (uuid : List ℕ) (objects : Objects) (error : SuperError) → IsWhyRefused uuid objects error
-    → IsRefused uuid objects error
+pub is_refused : (uuid : List ℕ) (objects : Objects) (error : SuperError) → IsWhyVolumeRefused uuid objects error
+    → IsVolumeRefused uuid objects error
 is_refused uuid objects error why = record {
   why = why;
   no_volume = λ geometry epoch has. no_volume uuid objects geometry epoch
@@ -224,18 +225,18 @@ module _ (told : Option Objects) (uuid : List ℕ) where
       → IfSome told (λ objects. IsFound uuid objects it)
   told_found it = told_both _ _ _ told (λ objects. is_found uuid objects it)
 
-  pub told_refused : (error : SuperError) → IfSome told (λ objects. IsWhyRefused uuid objects error)
-      → IfSome told (λ objects. IsRefused uuid objects error)
+  pub told_refused : (error : SuperError) → IfSome told (λ objects. IsWhyVolumeRefused uuid objects error)
+      → IfSome told (λ objects. IsVolumeRefused uuid objects error)
   told_refused error = told_so _ _ told (λ objects. is_refused uuid objects error)
 
   pub told_why : (volume : Super) (error : SuperError) → IfSome told (HasSuper uuid volume)
       → IfSome told (λ objects. IsWhyNoEpoch uuid objects error)
-      → IfSome told (λ objects. IsRefused uuid objects error)
+      → IfSome told (λ objects. IsVolumeRefused uuid objects error)
   told_why volume error = told_both _ _ _ told
       (λ objects says why. is_refused uuid objects error (why_refused uuid objects volume error says why))
 
 -- where no object has the name of the super object, there is no volume
-pub told_absent : (told : Option Objects) (uuid : List ℕ) (name : ObjName) → name ≡ super_name uuid → IsReadOf told name None
-    → IfSome told (λ objects. IsWhyRefused uuid objects errors.NoVolume)
+pub told_absent : (told : Option Objects) (uuid : List ℕ) (name : ObjName) → name ≡ super_name uuid → IsWholeReadOf told name None
+    → IfSome told (λ objects. IsWhyVolumeRefused uuid objects errors.NoVolume)
 told_absent None uuid name same absent = tt
 told_absent (Some objects) uuid name same absent = sym (ap (found objects) same) ∙ absent

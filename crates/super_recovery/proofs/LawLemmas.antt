@@ -11,7 +11,8 @@ use Rattle.super_format.specs.Super.{geometry_with}
 use Rattle.super_format.proofs.LawLemmas.{supers_have_one_spelling}
 use Rattle.stopped_volume.specs.Super.{super_name, epoch_name, HasSuper, HasNewestEpoch, HasVolume}
 use Rattle.super_recovery.specs.Found.{HasEpoch}
-use Rattle.super_recovery.specs.Laws.{KeepsVolume, SaysTheSame, IsOtherKind, IsOther, ChangesOnly, OthersKeepVolume, HasOneSuper}
+use Rattle.super_recovery.specs.Laws.{KeepsVolume, SaysTheSame, IsOtherKind, IsOtherName, ChangesOnly, OthersKeepVolume}
+use Rattle.super_recovery.specs.Laws.{HasOneSuper}
 use Rattle.super_recovery.specs.Laws.{HasOneNewest, HasOneVolume, NextEpochIsBegun, VolumeIsCreated}
 
 -- ---- other objects
@@ -44,11 +45,11 @@ says_the_same uuid old new keeps =
     record { says = same_super uuid old new keeps; newest = same_newest uuid old new keeps; has = same_volume uuid old new keeps }
 
 -- a name of another kind or of another volume is none of the super object, and none of an epoch
-no_super : (uuid : List ℕ) (name : ObjName) → IsOther uuid name → super_name uuid ≡ name → ⊥
+no_super : (uuid : List ℕ) (name : ObjName) → IsOtherName uuid name → super_name uuid ≡ name → ⊥
 no_super uuid name (inl kind) same = subst IsOtherKind (sym (ap (λ (n : ObjName). n.kind) same)) kind
 no_super uuid name (inr other) same = other (sym (ap (λ (n : ObjName). n.uuid) same))
 
-no_epoch : (uuid : List ℕ) (number : ℕ) (name : ObjName) → IsOther uuid name → epoch_name uuid number ≡ name → ⊥
+no_epoch : (uuid : List ℕ) (number : ℕ) (name : ObjName) → IsOtherName uuid name → epoch_name uuid number ≡ name → ⊥
 no_epoch uuid number name (inl kind) same = subst IsOtherKind (sym (ap (λ (n : ObjName). n.kind) same)) kind
 no_epoch uuid number name (inr other) same = other (sym (ap (λ (n : ObjName). n.uuid) same))
 

@@ -11,7 +11,7 @@ use Rattle.super_format.specs.declared.super_object.Super.{Super}
 use Rattle.super_format.specs.Epoch.{IsEpoch}
 use Rattle.super_format.specs.Super.{geometry_with}
 use Rattle.super_format.specs.Tests as super_tests
-use Rattle.super_format.specs.Tests.{IsRefusedAs}
+use Rattle.super_format.specs.Tests.{IsSuperRefusedAs}
 use Rattle.stopped_volume.specs.Super.{super_name, epoch_name, HasSuper, HasNewestEpoch, HasVolume}
 use Rattle.super_recovery.specs.declared.error.BadSuper.{BadSuper}
 use Rattle.super_recovery.specs.declared.error.BadSuper.TheVariants as reasons
@@ -23,10 +23,10 @@ use Rattle.super_recovery.specs.Faults.{IsNoAnswer}
 -- ---- objects and names
 
 -- what was read of the object with a name: all its bytes, or none where no object has the name
-abbrev pub IsReadOf : Option Objects → ObjName → Option (Vec ℕ) → Type 0
-IsReadOf None name bytes = Unit {0}
-IsReadOf (Some objects) name None = found objects name ≡ None
-IsReadOf (Some objects) name (Some bytes) = found objects name ≡ Some bytes.items
+abbrev pub IsWholeReadOf : Option Objects → ObjName → Option (Vec ℕ) → Type 0
+IsWholeReadOf None name bytes = Unit {0}
+IsWholeReadOf (Some objects) name None = found objects name ≡ None
+IsWholeReadOf (Some objects) name (Some bytes) = found objects name ≡ Some bytes.items
 
 -- the greatest number among names of epochs
 pub record IsGreatestEpoch (names : List ObjName) (number : ℕ) : Type 0 where
@@ -82,20 +82,20 @@ IsWhyNoEpoch uuid objects errors.StoreFault = Unit {0}
 IsWhyNoEpoch uuid objects errors.OutOfMemory = Unit {0}
 
 -- why the volume is refused; for its epochs only where it has a super object of the grammar
-abbrev pub IsWhyRefused : (uuid : List ℕ) → Objects → SuperError → Type 0
-IsWhyRefused uuid objects errors.NoVolume = found objects (super_name uuid) ≡ None
-IsWhyRefused uuid objects (errors.BadSuper (reasons.Super reason)) =
-    (bytes : List ℕ) × (found objects (super_name uuid) ≡ Some bytes) × IsRefusedAs bytes uuid reason
-IsWhyRefused uuid objects (errors.BadSuper reasons.NoEpoch) = HasSomeSuper uuid objects × HasNoEpoch uuid objects
-IsWhyRefused uuid objects (errors.BadSuper (reasons.BadEpoch number)) = HasSomeSuper uuid objects
+abbrev pub IsWhyVolumeRefused : (uuid : List ℕ) → Objects → SuperError → Type 0
+IsWhyVolumeRefused uuid objects errors.NoVolume = found objects (super_name uuid) ≡ None
+IsWhyVolumeRefused uuid objects (errors.BadSuper (reasons.Super reason)) =
+    (bytes : List ℕ) × (found objects (super_name uuid) ≡ Some bytes) × IsSuperRefusedAs bytes uuid reason
+IsWhyVolumeRefused uuid objects (errors.BadSuper reasons.NoEpoch) = HasSomeSuper uuid objects × HasNoEpoch uuid objects
+IsWhyVolumeRefused uuid objects (errors.BadSuper (reasons.BadEpoch number)) = HasSomeSuper uuid objects
     × HasBadEpoch uuid number objects
-IsWhyRefused uuid objects errors.StoreFault = Unit {0}
-IsWhyRefused uuid objects errors.OutOfMemory = Unit {0}
+IsWhyVolumeRefused uuid objects errors.StoreFault = Unit {0}
+IsWhyVolumeRefused uuid objects errors.OutOfMemory = Unit {0}
 
 -- ---- the whole
 
 -- what was found is a volume of these sizes, without ancestors, in this epoch
-pub record IsVolume (geometry : Geometry) (epoch : ℕ) (it : FoundVolume) : Type 0 where
+pub record IsFoundVolume (geometry : Geometry) (epoch : ℕ) (it : FoundVolume) : Type 0 where
   pub sizes : geometry ≡ geometry_with it.volume geometry.log
   pub alone : it.volume.chain ≡ []
   pub epoch_is : it.epoch ≡ epoch
@@ -104,9 +104,9 @@ pub record IsVolume (geometry : Geometry) (epoch : ℕ) (it : FoundVolume) : Typ
 pub record IsFound (uuid : List ℕ) (objects : Objects) (it : FoundVolume) : Type 0 where
   pub says : HasSuper uuid it.volume objects
   pub newest : HasNewestEpoch uuid it.epoch objects
-  pub only : (geometry : Geometry) (epoch : ℕ) → HasVolume uuid geometry epoch objects → IsVolume geometry epoch it
+  pub only : (geometry : Geometry) (epoch : ℕ) → HasVolume uuid geometry epoch objects → IsFoundVolume geometry epoch it
 
 -- an error with its reason, which refuses no volume that the store has
-pub record IsRefused (uuid : List ℕ) (objects : Objects) (error : SuperError) : Type 0 where
-  pub why : IsWhyRefused uuid objects error
+pub record IsVolumeRefused (uuid : List ℕ) (objects : Objects) (error : SuperError) : Type 0 where
+  pub why : IsWhyVolumeRefused uuid objects error
   pub no_volume : (geometry : Geometry) (epoch : ℕ) → HasVolume uuid geometry epoch objects → IsNoAnswer error

@@ -35,8 +35,8 @@ IsOtherKind Object = Unit {0}
 IsOtherKind Hold = Unit {0}
 
 -- the name is that of an object of another kind, or of another volume
-abbrev pub IsOther : (uuid : List ℕ) → ObjName → Type 0
-IsOther uuid name = IsOtherKind name.kind ⊎ (name.uuid ≡ uuid → ⊥)
+abbrev pub IsOtherName : (uuid : List ℕ) → ObjName → Type 0
+IsOtherName uuid name = IsOtherKind name.kind ⊎ (name.uuid ≡ uuid → ⊥)
 
 -- where nothing changed but the object with one name, or that was put or removed, acknowledged or not
 abbrev pub ChangesOnly : ObjName → Objects → Objects → Type 0
@@ -44,7 +44,7 @@ ChangesOnly name old new = KeepsOthers name old new
     ⊎ (((bytes : List ℕ) × MayBePut name bytes old new) ⊎ MayBeRemoved name old new)
 
 abbrev pub OthersKeepVolume : Type 0
-OthersKeepVolume = (uuid : List ℕ) (name : ObjName) (old new : Objects) → IsOther uuid name → ChangesOnly name old new
+OthersKeepVolume = (uuid : List ℕ) (name : ObjName) (old new : Objects) → IsOtherName uuid name → ChangesOnly name old new
     → KeepsVolume uuid old new
 
 -- ---- one volume

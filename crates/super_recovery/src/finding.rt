@@ -3,12 +3,12 @@ ghost use Rattle.lsvd_fault.specs.Faults.{Counts};
 ghost use Rattle.lsvd_names.specs.declared.name.ObjName.{ObjName};
 ghost use Rattle.lsvd_objstore.specs.Objects.{found};
 ghost use Rattle.lsvd_objstore.specs.Store.{StoreState, ReceiptState, OnlyCounts, has_failed};
-ghost use Rattle.super_format.specs.Super.{MayStand};
+ghost use Rattle.super_format.specs.Super.{MayBeSuper};
 ghost use Rattle.stopped_volume.specs.Super.{super_name, HasSuper, HasNewestEpoch};
 ghost use Rattle.stopped_volume.specs.Store.{TellsBytes};
 ghost use Rattle.super_recovery.specs.Faults.{ends_by_fault, IsNoAnswer};
-ghost use Rattle.super_recovery.specs.Found.{HasEpoch, IsGreatestIn, IsFound, IsRefused, IsWhyNoEpoch};
-ghost use Rattle.super_recovery.specs.Found.{IsWhyRefused};
+ghost use Rattle.super_recovery.specs.Found.{HasEpoch, IsGreatestIn, IsFound, IsVolumeRefused, IsWhyNoEpoch};
+ghost use Rattle.super_recovery.specs.Found.{IsWhyVolumeRefused};
 
 use crate::error::{BadSuper, SuperError};
 use crate::naming::{epoch_name, is_uuid, super_name};
@@ -45,14 +45,14 @@ pub fn find_volume<S: Store>(
     store: &mut S,
     uuid: Uuid,
 ) -> Result<FoundVolume, SuperError>
-    ensures stands { IfOk result (λ found. MayStand found.volume) }
+    ensures stands { IfOk result (λ found. MayBeSuper found.volume) }
     ensures uuid { IfOk result (λ found. found.volume.uuid ≡ uuid) }
     ensures found { TellsBytes S.Receipt.state
         → IfOk result (λ found. IfSome (S.state store.old).objects (λ objects.
         IsFound uuid objects found)) }
     ensures refused { TellsBytes S.Receipt.state
         → IfErr result (λ error. IfSome (S.state store.old).objects (λ objects.
-        IsRefused uuid objects error)) }
+        IsVolumeRefused uuid objects error)) }
     ensures unchanged { OnlyCounts (S.state store.old) (S.state store.new) }
     ensures faults { Counts (ends_by_fault result) (S.state store.old).faults (S.state store.new).faults }
 {
@@ -77,13 +77,13 @@ pub fn has_super<S: Store>(alloc: Global, store: &mut S, uuid: Uuid) -> Result<b
 
 // What the super object of a volume says.
 fn find_super<S: Store>(alloc: Global, store: &mut S, uuid: Uuid) -> Result<Super, SuperError>
-    ensures stands { IfOk result MayStand }
+    ensures stands { IfOk result MayBeSuper }
     ensures uuid { IfOk result (λ volume. volume.uuid ≡ uuid) }
     ensures says { TellsBytes S.Receipt.state
         → IfOk result (λ volume. IfSome (S.state store.old).objects (HasSuper uuid volume)) }
     ensures why { TellsBytes S.Receipt.state
         → IfErr result (λ error. IfSome (S.state store.old).objects (λ objects.
-        IsWhyRefused uuid objects error)) }
+        IsWhyVolumeRefused uuid objects error)) }
     ensures unchanged { OnlyCounts (S.state store.old) (S.state store.new) }
     ensures faults { Counts (ends_by_fault result) (S.state store.old).faults (S.state store.new).faults }
 {

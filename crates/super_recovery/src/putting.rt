@@ -1,7 +1,7 @@
 ghost use Rattle.std.specs.Prelude.{◌≡◌, IfErr, OnOk, IsErrOf};
 ghost use Rattle.lsvd_fault.specs.Faults.{Counts};
 ghost use Rattle.lsvd_objstore.specs.Store.{StoreState, Becomes};
-ghost use Rattle.super_format.specs.Super.{MayStand};
+ghost use Rattle.super_format.specs.Super.{MayBeSuper};
 ghost use Rattle.super_recovery.specs.Faults.{ends_by_fault, IsNoAnswer};
 ghost use Rattle.super_recovery.specs.Put.{PutsSuper, PutsEpoch, MayBecome};
 
@@ -19,7 +19,7 @@ use uuid::Uuid;
 ///   super object.
 /// - `OutOfMemory`: memory ran out. Nothing changed.
 pub fn put_super<S: Store>(alloc: Global, store: &mut S, volume: &Super) -> Result<(), SuperError>
-    requires { MayStand volume.now }
+    requires { MayBeSuper volume.now }
     ensures ok { OnOk result (Becomes (PutsSuper volume.now) (S.state store.old).objects
         (S.state store.new).objects) }
     ensures failed { IsErrOf result SuperError.StoreFault

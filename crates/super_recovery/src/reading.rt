@@ -3,7 +3,7 @@ ghost use Rattle.lsvd_fault.specs.Faults.{Counts};
 ghost use Rattle.lsvd_names.specs.Spelling.{IsName};
 ghost use Rattle.lsvd_objstore.specs.Store.{StoreState, ReceiptState, OnlyCounts, has_failed};
 ghost use Rattle.stopped_volume.specs.Store.{TellsBytes};
-ghost use Rattle.super_recovery.specs.Found.{IsReadOf};
+ghost use Rattle.super_recovery.specs.Found.{IsWholeReadOf};
 
 use lsvd_names::ObjName;
 use lsvd_objstore::{Receipt, Store, StoreError};
@@ -16,7 +16,8 @@ pub(crate) fn read_whole<S: Store>(
     name: &ObjName,
 ) -> Result<Option<Vec<u8>>, StoreError>
     requires { IsName name.now }
-    ensures read { TellsBytes S.Receipt.state → IfOk result (IsReadOf (S.state store.old).objects name.now) }
+    ensures read { TellsBytes S.Receipt.state
+        → IfOk result (IsWholeReadOf (S.state store.old).objects name.now) }
     ensures unchanged { OnlyCounts (S.state store.old) (S.state store.new) }
     ensures faults { Counts (has_failed result) (S.state store.old).faults (S.state store.new).faults }
 {

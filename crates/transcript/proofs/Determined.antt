@@ -18,7 +18,7 @@ use Rattle.replay_script.proofs.Decide.{unknown_or_miscounted, unknown_or_misspe
 use Rattle.replay_script.proofs.Runs.{one_run_text}
 use Rattle.transcript.specs.declared.reason.Reason.{Reason}
 use Rattle.transcript.specs.declared.reason.Reason.TheVariants.{UnknownCommand, WordCount, Form, NotAllowed, Letters, TooLong}
-use Rattle.transcript.specs.Answers.{State, TellsReply, Steps, Answers, IsAllowed, FitsLetters}
+use Rattle.transcript.specs.Answers.{State, TellsReply, AnswersStep, Answers, IsAllowed, FitsLetters}
 use Rattle.transcript.specs.Transcript.{Ending, Stopped, IsMisplaced, HasUnfitLetters, IsBad, IsAnswered, Transcript}
 use Rattle.transcript.specs.Transcript.{IsTranscript}
 
@@ -45,7 +45,8 @@ one_telling Fault a b s t = s ∙ sym t
 abbrev AreSame : List ℕ → List ℕ → State → State → Type 0
 AreSame a b p q = (a ≡ b) × (p ≡ q)
 
-one_step : (plain : PlainState) (event : PlainEvent) (a b : List ℕ) (p q : State) → Steps plain event a p → Steps plain event b q
+one_step : (plain : PlainState) (event : PlainEvent) (a b : List ℕ) (p q : State) → AnswersStep plain event a p
+    → AnswersStep plain event b q
     → AreSame a b p q
 one_step plain event a b p q s t = (one_telling (plain_reply plain event) a b s.0 t.0, s.1 ∙ sym t.1)
 

@@ -12,12 +12,12 @@ use Rattle.plain_disk.specs.declared.event.PlainEvent.TheVariants as events
 use Rattle.replay_script.specs.declared.command.Command.{Command}
 use Rattle.replay_script.specs.declared.command.Command.TheVariants.{New, Write, Zero, Read, Flush, Seal, TakeJob, JobDone}
 use Rattle.replay_script.specs.declared.command.Command.TheVariants.{JobFailed, Status, Stop, CrashKeep, CrashLost}
-use Rattle.replay_script.specs.Grammar.{lines_of, Spells, IsUnknown, HasWrongWordCount, IsMisspelt}
+use Rattle.replay_script.specs.Grammar.{lines_of, SpellsCommand, IsUnknown, HasWrongWordCount, IsMisspelt}
 use Rattle.replay_script.proofs.Decide.{judge_line}
 use Rattle.transcript.specs.declared.reason.Reason.{Reason}
 use Rattle.transcript.specs.declared.reason.Reason.TheVariants.{UnknownCommand, WordCount, Form, NotAllowed, Letters, TooLong}
 use Rattle.transcript.specs.Letters.{is_dash, fits_writes, kept_by, under_way, fits_objects, landed_by}
-use Rattle.transcript.specs.Answers.{State, Steps, Reads, released_by, text_of_mount, IsAllowed, FitsLetters, Answers}
+use Rattle.transcript.specs.Answers.{State, AnswersStep, AnswersLook, released_by, text_of_mount, IsAllowed, FitsLetters, Answers}
 use Rattle.transcript.specs.Transcript.{Ending, AllAnswered, Stopped, IsBad, IsAnswered, Transcript, line_after, IsTranscript}
 use Rattle.transcript.specs.Transcript.{IsFrontOfTranscript}
 use Rattle.transcript.proofs.Determined.{StopsAt}
@@ -32,12 +32,12 @@ abbrev IsUnfitAtAll : State → Command → Type 0
 IsUnfitAtAll state command = ¬ IsAllowed state command ⊎ (IsAllowed state command × ¬ FitsLetters state command)
 
 some_step : (plain : PlainState) (event : PlainEvent) → IsLineEvent event → (text : List ℕ) × (next : State)
-    × Steps plain event text next
+    × AnswersStep plain event text next
 some_step plain event is =
     let told = some_telling (plain_reply plain event) (line_reply plain event is) in
     (told.0, Some (plain_after event plain), (told.1, refl))
 
-some_read : (plain : PlainState) (lba sectors : ℕ) → (text : List ℕ) × (next : State) × Reads plain lba sectors text next
+some_read : (plain : PlainState) (lba sectors : ℕ) → (text : List ℕ) × (next : State) × AnswersLook plain lba sectors text next
 some_read plain lba sectors =
     let reply = plain_reply plain (events.Look lba sectors) in
     let told = some_telling reply (line_reply plain (events.Look lba sectors) tt) in
@@ -129,7 +129,7 @@ data LineFate (number : ℕ) (state : State) (line : List ℕ) : Type 0 where
 fate_bad : (number : ℕ) (state : State) (line : List ℕ) (reason : Reason) → IsBad state line reason → LineFate number state line
 fate_bad number state line reason bad = stops (Stopped number reason) (reason, bad, refl)
 
-fate_spelled : (number : ℕ) (state : State) (line : List ℕ) (command : Command) → length line ≤ 65536 → Spells line command
+fate_spelled : (number : ℕ) (state : State) (line : List ℕ) (command : Command) → length line ≤ 65536 → SpellsCommand line command
     → HasAnswer state command ⊎ IsUnfitAtAll state command → LineFate number state line
 fate_spelled number state line command short spelled (inl a) =
     goes a.0 a.1 (record { short = short; command = command; spelled = spelled; answered = a.2 })
@@ -139,7 +139,7 @@ fate_spelled number state line command short spelled (inr (inr unfit)) =
     fate_bad number state line Letters (short, (command, spelled, unfit.0, unfit.1))
 
 fate_short : (number : ℕ) (state : State) (line : List ℕ) → length line ≤ 65536
-    → ((command : Command) × Spells line command) ⊎ (IsUnknown line ⊎ (HasWrongWordCount line ⊎ IsMisspelt line))
+    → ((command : Command) × SpellsCommand line command) ⊎ (IsUnknown line ⊎ (HasWrongWordCount line ⊎ IsMisspelt line))
     → LineFate number state line
 fate_short number state line short (inl c) = fate_spelled number state line c.0 short c.1 (some_answer state c.0)
 fate_short number state line short (inr (inl unknown)) = fate_bad number state line UnknownCommand (short, unknown)

@@ -43,16 +43,16 @@ TellsReply Busy text = text ≡ codes "busy"
 TellsReply Fault text = text ≡ codes "fault"
 
 -- the volume takes the event, tells its reply by this text, and is the next one then
-abbrev pub Steps : PlainState → PlainEvent → List ℕ → State → Type 0
-Steps plain event text next = TellsReply (plain_reply plain event) text × (next ≡ Some (plain_after event plain))
+abbrev pub AnswersStep : PlainState → PlainEvent → List ℕ → State → Type 0
+AnswersStep plain event text next = TellsReply (plain_reply plain event) text × (next ≡ Some (plain_after event plain))
 
 -- a read gives the plan back that it was answered
 abbrev pub released_by : PlainReply → PlainState → PlainState
 released_by (Planned front bytes objects) plain = plain_after (events.Release objects) plain
 released_by reply plain = plain
 
-abbrev pub Reads : PlainState → (lba sectors : ℕ) → List ℕ → State → Type 0
-Reads plain lba sectors text next =
+abbrev pub AnswersLook : PlainState → (lba sectors : ℕ) → List ℕ → State → Type 0
+AnswersLook plain lba sectors text next =
     TellsReply (plain_reply plain (events.Look lba sectors)) text
     × (next ≡ Some (released_by (plain_reply plain (events.Look lba sectors)) (plain_after (events.Look lba sectors) plain)))
 
@@ -76,13 +76,14 @@ abbrev pub Mounts : Numbers → (old mounted : PlainState) → List ℕ → Stat
 Mounts landed old mounted text next =
     (text ≡ text_of_mount (history_length mounted) (recovered_number landed old)) × (next ≡ Some mounted)
 
-abbrev pub MountsKept : PlainState → (device objects : List ℕ) → List ℕ → State → Type 0
-MountsKept plain device objects =
+abbrev pub AnswersKeptMount : PlainState → (device objects : List ℕ) → List ℕ → State → Type 0
+AnswersKeptMount plain device objects =
     Mounts (landed_by plain.window objects) plain
     (mounted_kept (landed_by plain.window objects) (kept_by (length plain.cache.pending) device) plain)
 
-abbrev pub MountsLost : PlainState → (objects : List ℕ) → List ℕ → State → Type 0
-MountsLost plain objects = Mounts (landed_by plain.window objects) plain (mounted_lost (landed_by plain.window objects) plain)
+abbrev pub AnswersLostMount : PlainState → (objects : List ℕ) → List ℕ → State → Type 0
+AnswersLostMount plain objects =
+    Mounts (landed_by plain.window objects) plain (mounted_lost (landed_by plain.window objects) plain)
 
 -- ---- commands
 
@@ -146,44 +147,45 @@ FitsLetters (Some plain) command = FitsVolume plain command
 -- ---- answers
 
 -- a command makes the volume, and is answered by this text
-abbrev pub Creates : Command → List ℕ → State → Type 0
-Creates (commands.New g) text next = (text ≡ codes "new " ++ decimal g.sectors) × (next ≡ Some (created_volume g))
-Creates (commands.Write lba sectors byte) text next = ⊥
-Creates (commands.Zero lba sectors) text next = ⊥
-Creates (commands.Read lba sectors) text next = ⊥
-Creates commands.Flush text next = ⊥
-Creates commands.Seal text next = ⊥
-Creates commands.TakeJob text next = ⊥
-Creates (commands.JobDone number) text next = ⊥
-Creates (commands.JobFailed number) text next = ⊥
-Creates commands.Status text next = ⊥
-Creates (commands.Stop calls) text next = ⊥
-Creates (commands.CrashKeep device objects) text next = ⊥
-Creates (commands.CrashLost device objects) text next = ⊥
+abbrev pub AnswersCreation : Command → List ℕ → State → Type 0
+AnswersCreation (commands.New g) text next = (text ≡ codes "new " ++ decimal g.sectors) × (next ≡ Some (created_volume g))
+AnswersCreation (commands.Write lba sectors byte) text next = ⊥
+AnswersCreation (commands.Zero lba sectors) text next = ⊥
+AnswersCreation (commands.Read lba sectors) text next = ⊥
+AnswersCreation commands.Flush text next = ⊥
+AnswersCreation commands.Seal text next = ⊥
+AnswersCreation commands.TakeJob text next = ⊥
+AnswersCreation (commands.JobDone number) text next = ⊥
+AnswersCreation (commands.JobFailed number) text next = ⊥
+AnswersCreation commands.Status text next = ⊥
+AnswersCreation (commands.Stop calls) text next = ⊥
+AnswersCreation (commands.CrashKeep device objects) text next = ⊥
+AnswersCreation (commands.CrashLost device objects) text next = ⊥
 
 -- the volume answers the command by this text, and this is what it leaves
 abbrev pub AnswersOn : PlainState → Command → List ℕ → State → Type 0
 AnswersOn plain (commands.New g) text next = ⊥
 AnswersOn plain (commands.Write lba sectors byte) text next =
-    Steps plain (events.Write lba (replicate (512 * sectors) byte)) text next
-AnswersOn plain (commands.Zero lba sectors) text next = Steps plain (events.Zero lba sectors) text next
-AnswersOn plain (commands.Read lba sectors) text next = Reads plain lba sectors text next
-AnswersOn plain commands.Flush text next = Steps plain events.Flush text next
-AnswersOn plain commands.Seal text next = Steps plain events.Seal text next
-AnswersOn plain commands.TakeJob text next = Steps plain events.TakeJob text next
+    AnswersStep plain (events.Write lba (replicate (512 * sectors) byte)) text next
+AnswersOn plain (commands.Zero lba sectors) text next = AnswersStep plain (events.Zero lba sectors) text next
+AnswersOn plain (commands.Read lba sectors) text next = AnswersLook plain lba sectors text next
+AnswersOn plain commands.Flush text next = AnswersStep plain events.Flush text next
+AnswersOn plain commands.Seal text next = AnswersStep plain events.Seal text next
+AnswersOn plain commands.TakeJob text next = AnswersStep plain events.TakeJob text next
 AnswersOn plain (commands.JobDone number) text next =
-    IsTrue (is_started number plain.window.objects) × Steps plain (events.JobDone (Some number)) text next
+    IsTrue (is_started number plain.window.objects) × AnswersStep plain (events.JobDone (Some number)) text next
 AnswersOn plain (commands.JobFailed number) text next =
     IsTrue (is_started number plain.window.objects)
     × (text ≡ codes "failed " ++ decimal number) × (next ≡ Some (plain_after (events.JobFailed (Some number)) plain))
-AnswersOn plain commands.Status text next = Steps plain events.Status text next
+AnswersOn plain commands.Status text next = AnswersStep plain events.Status text next
 AnswersOn plain (commands.Stop calls) text next =
     (plain.cache.left ≡ None) × (text ≡ codes "stop " ++ decimal calls) × (next ≡ Some (stopping_after_calls calls plain))
 AnswersOn plain (commands.CrashKeep device objects) text next = FitKept plain device objects
-    × MountsKept plain device objects text next
-AnswersOn plain (commands.CrashLost device objects) text next = FitLost plain device objects × MountsLost plain objects text next
+    × AnswersKeptMount plain device objects text next
+AnswersOn plain (commands.CrashLost device objects) text next = FitLost plain device objects
+    × AnswersLostMount plain objects text next
 
 -- in this state the command is answered by this text, and leaves the next state
 abbrev pub Answers : State → Command → List ℕ → State → Type 0
-Answers None command text next = Creates command text next
+Answers None command text next = AnswersCreation command text next
 Answers (Some plain) command text next = AnswersOn plain command text next

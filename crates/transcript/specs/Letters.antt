@@ -1,12 +1,13 @@
 -- Contract: the letters of a crash: what becomes of each write that was not synced, and which of the objects under way have
 -- landed.
-use Rattle.std.specs.Prelude.{ℕ, ◌==◌, nat_le, Bool, true, false, not, ◌&&◌, ◌||◌, List, [], ◌∷◌, length, map, replicate}
+use Rattle.std.specs.Prelude.{ℕ, ◌==◌, nat_le, Bool, false, not, ◌&&◌, ◌||◌, List, [], ◌∷◌, length, map, replicate}
 use Rattle.std.specs.Prelude.{if◌then◌else◌, codes}
 use Rattle.std.specs.List.{list_all, list_any, filter}
 use Rattle.std.specs.Str.{bytes_eq}
 use Rattle.lsvd_device.specs.declared.fate.Fate.{Fate}
 use Rattle.lsvd_device.specs.declared.fate.Fate.TheVariants.{Kept, Old, Zeros, Torn}
 use Rattle.object_stream.specs.Landed.{Numbers}
+use Rattle.plain_disk.specs.Cache.{is_kept}
 use Rattle.upload_window.specs.Window.{WindowState, has_number}
 
 -- the word that keeps all writes, and lands no object
@@ -30,12 +31,6 @@ fate_of letter = if letter == 107 then Kept else (if letter == 111 then Old else
 -- the fates of N writes
 abbrev pub fates_of : ℕ → List ℕ → List Fate
 fates_of pending word = if is_dash word then replicate pending Kept else map fate_of word
-
-abbrev pub is_kept : Fate → Bool
-is_kept Kept = true
-is_kept Old = false
-is_kept Zeros = false
-is_kept Torn = false
 
 -- which of N writes are kept
 abbrev pub kept_by : ℕ → List ℕ → List Bool

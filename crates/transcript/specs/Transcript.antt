@@ -1,7 +1,7 @@
 -- Contract: the transcript of a script: which text answers its lines, and how it ends.
 use Rattle.std.specs.Prelude.{◌≡◌, ℕ, ◌+◌, ◌^◌, ◌<◌, ◌≤◌, ◌⊎◌, None, List, [], ◌∷◌, ◌++◌, ◌==◌, length, take, count_by}
 use Rattle.replay_script.specs.declared.command.Command.{Command}
-use Rattle.replay_script.specs.Grammar.{lines_of, Spells, IsUnknown, HasWrongWordCount, IsMisspelt}
+use Rattle.replay_script.specs.Grammar.{lines_of, SpellsCommand, IsUnknown, HasWrongWordCount, IsMisspelt}
 use Rattle.transcript.specs.declared.reason.Reason.{Reason}
 use Rattle.transcript.specs.declared.reason.Reason.TheVariants.{UnknownCommand, WordCount, Form, NotAllowed, Letters, TooLong}
 use Rattle.transcript.specs.Answers.{State, Answers, IsAllowed, FitsLetters}
@@ -15,11 +15,12 @@ pub data Ending : Type 0 where
 
 -- the line spells a command that this state does not allow
 abbrev pub IsMisplaced : State → List ℕ → Type 0
-IsMisplaced state line = (command : Command) × Spells line command × (IsAllowed state command → ⊥)
+IsMisplaced state line = (command : Command) × SpellsCommand line command × (IsAllowed state command → ⊥)
 
 -- the line spells a command that this state allows, but whose letters do not fit it
 abbrev pub HasUnfitLetters : State → List ℕ → Type 0
-HasUnfitLetters state line = (command : Command) × Spells line command × IsAllowed state command × (FitsLetters state command → ⊥)
+HasUnfitLetters state line = (command : Command) × SpellsCommand line command × IsAllowed state command
+    × (FitsLetters state command → ⊥)
 
 -- the line is bad for this reason
 abbrev pub IsBad : State → List ℕ → Reason → Type 0
@@ -36,7 +37,7 @@ IsBad state line TooLong = 65536 < length line
 pub record IsAnswered (state : State) (line answer : List ℕ) (next : State) : Type 0 where
   pub short : length line ≤ 65536
   pub command : Command
-  pub spelled : Spells line command
+  pub spelled : SpellsCommand line command
   pub answered : Answers state command answer next
 
 -- The answers to the lines from this state on, each ended by a newline, up to the end or the first bad line, whose number counts

@@ -20,7 +20,7 @@ use Rattle.vol_core.specs.declared.reply.Reply.{Reply}
 use Rattle.vol_core.specs.declared.reply.Reply.TheVariants as told
 use Rattle.vol_core.specs.Volume.{VolumeState}
 use Rattle.vol_core.specs.Step.{KeepsBytes}
-use Rattle.vol_core.specs.Calls.{Seals, Takes, Finishes, Returns, IsRefusedEntry, Enters}
+use Rattle.vol_core.specs.Calls.{Seals, TakesLowestReady, Finishes, Returns, IsRefusedEntry, Enters}
 use Rattle.vol_core.proofs.StepLemmas.{with_objects}
 use Rattle.vol_core.proofs.EnterSteps.{with_both}
 
@@ -142,7 +142,7 @@ module _ (old : VolumeState) (objects : ObjLogState) where
   seal_keeps_bytes told.OutOfMemory seals = roomier_bytes seals
   seal_keeps_bytes reply seals = absurd seals
 
-  pub taking_keeps_bytes : {R : Type 0} (reply : Reply R) → Takes reply old.objects objects → KeepsBytes old now
+  pub taking_keeps_bytes : {R : Type 0} (reply : Reply R) → TakesLowestReady reply old.objects objects → KeepsBytes old now
   taking_keeps_bytes (told.Taken job) taken =
       changed_bytes _ (with_spare false) (λ object. refl) (ap (λ (o : ObjLogState). o.uploads.queue.sealed) taken.2)
       (ap (λ (o : ObjLogState). o.uploads.queue.frontier) taken.2)

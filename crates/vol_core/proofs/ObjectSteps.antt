@@ -32,7 +32,7 @@ use Rattle.vol_core.specs.Volume.{VolumeState}
 use Rattle.vol_core.specs.Shows.{Shows, NumbersGrow}
 use Rattle.vol_core.specs.Events.{Asks, Tells}
 use Rattle.vol_core.specs.Step.{IsStep, StepsAsPlain}
-use Rattle.vol_core.specs.Calls.{Seals, Takes, Finishes, Returns}
+use Rattle.vol_core.specs.Calls.{Seals, TakesLowestReady, Finishes, Returns}
 use Rattle.vol_core.proofs.StepLemmas.{quiet_step, IsOfOtherObjects, with_objects, objects_shown}
 
 -- ---- numbers
@@ -51,7 +51,7 @@ module _ (old : VolumeState) (objects : ObjLogState) where
   by_list list is within = by_window list.uploads.window (ap (λ (o : ObjLogState). o.uploads.window) is) within
 
 module _ {R : Type 0} (old : VolumeState) (objects : ObjLogState) where
-  pub taken_grow : (reply : Reply R) → Takes reply old.objects objects → NumbersGrow old (with_objects objects old)
+  pub taken_grow : (reply : Reply R) → TakesLowestReady reply old.objects objects → NumbersGrow old (with_objects objects old)
   taken_grow (told.Taken job) taken = by_list old objects _ taken.2 (omega arith)
   taken_grow told.Nothing taken = by_list old objects old.objects taken.1 (omega arith)
   taken_grow reply taken = absurd taken
@@ -165,7 +165,7 @@ module _ {R : Type 0} (state : R → ReceiptState) (old : VolumeState) (objects 
 
   -- ---- a put begins
 
-  pub taken_steps : (reply : Reply R) → Takes reply old.objects objects → StepsAsPlain state TakeJob reply old changed
+  pub taken_steps : (reply : Reply R) → TakesLowestReady reply old.objects objects → StepsAsPlain state TakeJob reply old changed
   taken_steps (told.Taken job) taken plain shows =
       let number = job.name.number in
       let lowest = lowest_ready plain.window.objects in

@@ -13,7 +13,7 @@ use Rattle.volume_maps.specs.declared.place.ObjectPlace.{ObjectPlace}
 use Rattle.volume_maps.specs.declared.place.VolumePlace.TheVariants.{Object}
 use Rattle.volume_maps.specs.Places.{place_in}
 use Rattle.volume_maps.specs.Maps.{settled_at, logged_at}
-use Rattle.volume_maps.specs.Laws.{owner_of}
+use Rattle.volume_maps.specs.Laws.{place_owner}
 use Rattle.object_uploads.specs.Image.{HoldsSector}
 use Rattle.obj_log.specs.State.{ObjLogState}
 use Rattle.plain_disk.specs.State.{stream_in, frontier_of, frontier_end, logged_entries}
@@ -34,10 +34,10 @@ covered_is data_at first entries k (Some (Zeros seq)) left = left.covered
 -- a sector's place is in the object of a number exactly where that is its own object, and the log's map does not have it
 read_where : (number : ℕ) (logged : Option LogPlace) (settled : Option ObjectPlace) → IfSome settled (λ place. place.level ≡ 0)
     → ((place : ObjectPlace) × (place_in logged settled ≡ Some (Object place)) × (place.number ≡ number))
-    ↔ ((is_own number (owner_of settled) && not (is_some logged)) ≡ true)
+    ↔ ((is_own number (place_owner settled) && not (is_some logged)) ≡ true)
 read_where number (Some place) settled own = (
   λ is. let bad : ⊥ = (let e = is.1 in cc) in absurd bad,
-  λ is. absurd (false≢true (and_parts (is_own number (owner_of settled)) false is).1),
+  λ is. absurd (false≢true (and_parts (is_own number (place_owner settled)) false is).1),
 )
 read_where number None None own = (
   λ is. let bad : ⊥ = (let e = is.1 in cc) in absurd bad,
@@ -50,9 +50,9 @@ read_where number None (Some place) own = (
       let named : place.number ≡ number = ap (λ (p : ObjectPlace). p.number) same ∙ is.2 in
       let is_own_one = and_from (place.level == 0) (place.number == number) (eq-eqb place.level 0 own)
       (eq-eqb place.number number named) in
-      and_from (is_own number (owner_of (Some place))) true is_own_one refl,
+      and_from (is_own number (place_owner (Some place))) true is_own_one refl,
   λ is.
-      let is_own_one = (and_parts (is_own number (owner_of (Some place))) true is).0 in
+      let is_own_one = (and_parts (is_own number (place_owner (Some place))) true is).0 in
       (place, refl, eqb-true place.number number (and_parts (place.level == 0) (place.number == number) is_own_one).1),
 )
 
@@ -71,11 +71,12 @@ places_are_of_objects_read data_at objects log plain k number shows inside =
     let there : slice_get (settled_image plain) k ≡ Some sector =
     slice_get-get_or (settled_image plain) k [] (omega (arith, settled_has_sectors plain shows.valid)) in
     let level = level_is objects (settled_at maps k) sector (shows.objects_are.image k sector there) in
-    let owner : owner_of (settled_at maps k) ≡ owners (stream_in plain) (frontier_of plain) k =
+    let owner : place_owner (settled_at maps k) ≡ owners (stream_in plain) (frontier_of plain) k =
     shows.objects_are.stream.objects.settled k ∙ ap (λ n. owners (stream_in plain) n k) same_count.frontier in
     let left = logged_leave data_at objects log plain shows k in
     let covered = covered_is data_at (frontier_end plain) (logged_entries plain) k (logged_at maps k) left in
-    let reads : (is_own number (owner_of (settled_at maps k)) && not (is_some (logged_at maps k))) ≡ is_read_from plain number k =
+    let reads : (is_own number (place_owner (settled_at maps k)) && not (is_some (logged_at maps k)))
+    ≡ is_read_from plain number k =
     ap (λ o. is_own number o && not (is_some (logged_at maps k))) owner
     ∙ ap (λ b. is_own number (owners (stream_in plain) (frontier_of plain) k) && not b) (sym covered) in
     let where_read = read_where number (logged_at maps k) (settled_at maps k) level in (

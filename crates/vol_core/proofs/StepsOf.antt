@@ -13,7 +13,7 @@ use Rattle.vol_core.specs.declared.reply.Reply.TheVariants as told
 use Rattle.vol_core.specs.Volume.{VolumeState}
 use Rattle.vol_core.specs.Shows.{NumbersGrow}
 use Rattle.vol_core.specs.Step.{StepsAsPlain, StepOf, HandsBack, HasItsBytes, KeepsBytes, tells_fault}
-use Rattle.vol_core.specs.Calls.{Seals, Takes, Finishes, Returns}
+use Rattle.vol_core.specs.Calls.{Seals, TakesLowestReady, Finishes, Returns}
 use Rattle.vol_core.proofs.StepLemmas.{with_objects, numbers_stay}
 use Rattle.vol_core.proofs.ObjectSteps.{seal_steps, taken_steps, done_steps, returned_steps}
 use Rattle.vol_core.proofs.ObjectSteps.{sealed_grow, taken_grow, done_grow, returned_grow}
@@ -44,7 +44,8 @@ sealed_list told.OutOfMemory old new seals =
     record { same = record { uuid = seals.uploads.uuid; geometry = seals.geometry }; back = tt; quiet = refl }
 sealed_list reply old new seals = absurd seals
 
-taken_list : {R : Type 0} (reply : Reply R) (old new : ObjLogState) → Takes reply old new → IsOfList TakeJob reply old new
+taken_list : {R : Type 0} (reply : Reply R) (old new : ObjLogState) → TakesLowestReady reply old new
+    → IsOfList TakeJob reply old new
 taken_list (told.Taken job) old new taken = record {
   same = subst (IsOfSameVolume old) (sym taken.2) (record { uuid = refl; geometry = refl });
   back = tt;
@@ -103,7 +104,7 @@ module _ {R : Type 0} (state : R → ReceiptState) (old : VolumeState) (objects 
       (seal_steps state old objects reply uploads seals) (sealed_grow old objects reply seals)
       (seal_keeps_bytes old objects reply seals)
 
-  pub step_of_take : (reply : Reply R) → Takes reply old.objects objects
+  pub step_of_take : (reply : Reply R) → TakesLowestReady reply old.objects objects
       → StepOf state TakeJob reply old (with_objects objects old)
   step_of_take reply taken =
       step_of_list TakeJob reply (taken_list reply old.objects objects taken) tt (taken_steps state old objects reply taken)

@@ -154,12 +154,12 @@ Seals replies.OutOfMemory old new = IsSame old new
 Seals reply old new = ⊥
 
 -- the lowest ready object was asked for
-abbrev pub Takes : {R : Type 0} → Reply R → (old new : ObjLogState) → Type 0
-Takes (replies.Taken job) old new =
+abbrev pub TakesLowestReady : {R : Type 0} → Reply R → (old new : ObjLogState) → Type 0
+TakesLowestReady (replies.Taken job) old new =
     (lowest_ready old.uploads.window.objects ≡ Some job.name.number) × IsJobOf old.uploads job.name.number job
     × (new ≡ record old { uploads = with_job job.name.number true old.uploads })
-Takes replies.Nothing old new = (lowest_ready old.uploads.window.objects ≡ None) × (new ≡ old)
-Takes reply old new = ⊥
+TakesLowestReady replies.Nothing old new = (lowest_ready old.uploads.window.objects ≡ None) × (new ≡ old)
+TakesLowestReady reply old new = ⊥
 
 -- a put is out, and the receipt names its object
 abbrev pub IsDone : JobState → ReceiptState → ObjLogState → Type 0

@@ -169,7 +169,7 @@ pub record StepOf {R : Type 0} (state : R → ReceiptState) (event : Event R) (r
   pub bytes : KeepsBytes old new
 
 -- the same of a volume that counts its steps
-pub record Steps {R : Type 0} (state : R → ReceiptState) (event : Event R) (reply : Reply R) (old new : SteppedVolume) :
+pub record CountedStep {R : Type 0} (state : R → ReceiptState) (event : Event R) (reply : Reply R) (old new : SteppedVolume) :
     Type 0 where
   pub step : StepOf state event reply old.volume new.volume
   pub count : new.steps ≡ old.steps + 1

@@ -1,5 +1,5 @@
 ghost use Rattle.std.specs.Prelude.{◌+◌, ◌-◌, ◌^◌, ◌<◌};
-ghost use Rattle.vol_core.specs.Calls.{Seals, Takes, Finishes, Returns};
+ghost use Rattle.vol_core.specs.Calls.{Seals, TakesLowestReady, Finishes, Returns};
 
 use crate::reply::Reply;
 use lsvd_objstore::Receipt;
@@ -22,7 +22,7 @@ pub(crate) fn seal<R: Receipt>(alloc: Global, objects: &mut ObjLog<R>) -> Reply<
 
 /// Begins the put of the lowest ready object.
 pub(crate) fn take_job<R: Receipt>(objects: &mut ObjLog<R>) -> Reply<R>
-    ensures { Takes result objects.old objects.new }
+    ensures { TakesLowestReady result objects.old objects.new }
 {
     match objects.take_job() {
         Some(job) => Reply::Taken(job),

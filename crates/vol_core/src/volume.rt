@@ -9,7 +9,7 @@ ghost use Rattle.refine_log.specs.Fuses.{fuse_in};
 ghost use Rattle.vol_core.specs.Volume.{volume_of, with_budget_of};
 ghost use Rattle.vol_core.specs.declared.event.Event.TheVariants as events;
 ghost use Rattle.vol_core.specs.Shows.{Shows, IsVolume, IsSmall, max_number};
-ghost use Rattle.vol_core.specs.Step.{passing, HasItsReceipt, StepOf, Steps};
+ghost use Rattle.vol_core.specs.Step.{passing, HasItsReceipt, StepOf, CountedStep};
 ghost use Rattle.vol_core.specs.Stops.{HasOwnCommits, KeepsNow};
 ghost use Rattle.vol_core.specs.Calls.{HasRoomForStep, event_of};
 
@@ -89,7 +89,7 @@ impl<D: Disk, R: Receipt> Volume<D, R> {
     pub fn step(&mut self, event: Event<R>) -> Reply<R>
         requires steps { self.old.steps < max_number }
         requires receipt { HasItsReceipt R.state event }
-        ensures { Steps R.state event result self.old self.new }
+        ensures { CountedStep R.state event result self.old self.new }
     {
         self.count_step();
         self.answer(event)

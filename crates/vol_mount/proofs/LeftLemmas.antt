@@ -22,7 +22,8 @@ use Rattle.vol_mount.specs.declared.error.MountError.TheVariants.{NoVolume, BadS
 use Rattle.vol_mount.specs.declared.error.MountError.TheVariants.{NotData, NoSlot, WrongVolume, StaleCache, BadRecord, Worn}
 use Rattle.vol_mount.specs.declared.error.MountError.TheVariants.{StoreFault, DeviceFault, OutOfMemory}
 use Rattle.vol_mount.specs.Mounting.{IsLeft, KeepsLeft, RefusesNoneStored, RefusesNoneLeft}
-use Rattle.vol_mount.specs.Refusals.{ReadsAs, IsBadLeftLog, IsOwnCommit, IsWhyNotOpened, IsFault, refuses, is_store_fault_of}
+use Rattle.vol_mount.specs.Refusals.{ReadsAsCommitOf, IsBadLeftLog, IsOwnCommit, IsWhyNotOpened, IsFault, refuses}
+use Rattle.vol_mount.specs.Refusals.{is_store_fault_of}
 use Rattle.vol_mount.specs.Leaving.{MayLeaveDevice, LeavesDevice}
 use Rattle.vol_mount.specs.Steps.{IsRecovered, IsRecoveredFrom}
 use Rattle.vol_mount.proofs.RecoveryLemmas.{list_of, faults_refuse_none}
@@ -120,7 +121,7 @@ module _ (uuid : List ℕ) (geometry : Geometry) (epoch : ℕ) (told : Option Ob
   module _ (plain : PlainState) (found : PlainCommit) (number : ℕ) (left : IsLeft uuid geometry epoch plain found number told old)
     where
       -- the device reads as the commit of the plain volume alone
-      reads_as_left : (P : ℕ → CommitBody → Type 0) → ReadsAs geometry P old
+      reads_as_left : (P : ℕ → CommitBody → Type 0) → ReadsAsCommitOf geometry P old
           → P (has_commit uuid geometry epoch plain found number told old size sectors is_disk left).number
           (has_commit uuid geometry epoch plain found number told old size sectors is_disk left).body
       reads_as_left P reads =
@@ -163,7 +164,7 @@ module _ (uuid : List ℕ) (geometry : Geometry) (epoch : ℕ) (told : Option Ob
         abbrev Past : ℕ → CommitBody → Type 0
         Past n b = (owner_of b ≡ record { uuid = uuid; epoch = epoch }) × (list.uploads.queue.end < b.tail.seq)
 
-        begins_before : ReadsAs geometry Past old → ⊥
+        begins_before : ReadsAsCommitOf geometry Past old → ⊥
         begins_before reads =
             let past = (reads_as_left Past reads).1 in
             let has = has_commit uuid geometry epoch plain found number told old size sectors is_disk left in

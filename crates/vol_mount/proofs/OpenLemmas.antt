@@ -29,7 +29,7 @@ use Rattle.vol_mount.specs.declared.error.MountError.TheVariants.{NoVolume, BadS
 use Rattle.vol_mount.specs.declared.error.MountError.TheVariants.{NotData, NoSlot, WrongVolume, StaleCache, BadRecord, Worn}
 use Rattle.vol_mount.specs.declared.error.MountError.TheVariants.{StoreFault, DeviceFault, OutOfMemory}
 use Rattle.stopped_volume.specs.Device.{owner_of}
-use Rattle.vol_mount.specs.Refusals.{of_load, of_open, ReadsAs, ReadsWhole, IsBadLeftLog, IsOwnCommit, IsFirstGreat}
+use Rattle.vol_mount.specs.Refusals.{of_load, of_open, ReadsAsCommitOf, ReadsWhole, IsBadLeftLog, IsOwnCommit, IsFirstGreat}
 use Rattle.vol_mount.specs.Refusals.{IsWhyNotOpened, is_device_fault}
 use Rattle.vol_mount.specs.Leaving.{IsButLoaded, KeepsCommit, MayLeaveDevice}
 use Rattle.vol_mount.specs.Costs.{open_cost, CostsMount}
@@ -68,7 +68,7 @@ module _ (uuid : List ℕ) (geometry : Geometry) (epoch end greatest : ℕ) (old
     read_is = subst (λ n. HoldsNow (λ now. Reads n now.bytes commits.body commits.number) old.moments) (sym sectors) loaded.read
 
     -- it reads as this commit
-    reads_as : (P : ℕ → CommitBody → Type 0) → P commits.number commits.body → ReadsAs geometry P old
+    reads_as : (P : ℕ → CommitBody → Type 0) → P commits.number commits.body → ReadsAsCommitOf geometry P old
     reads_as P is =
         now_as (λ now. Reads geometry.log now.bytes commits.body commits.number)
         (λ now. (number : ℕ) × (body : CommitBody) × Reads geometry.log now.bytes body number × P number body) old.moments

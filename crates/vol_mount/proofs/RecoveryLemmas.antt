@@ -14,7 +14,7 @@ use Rattle.object_recovery.specs.Faults.{is_store_fault, IsNoAnswer}
 use Rattle.object_recovery.specs.Checkpoints.{expected_of, IsNewestWithEnd, IsNoCheckpoint}
 use Rattle.object_recovery.specs.Judging.{HaveLanded}
 use Rattle.object_recovery.specs.Recovery.{HasDataUpTo, IsListUpTo, IsNoLonger, HasRecovered, IsLastLanded, IsRecoveredOf}
-use Rattle.object_recovery.specs.Recovery.{IsRefusal, IsRefused, AreAllGood}
+use Rattle.object_recovery.specs.Recovery.{IsRefusal, IsRecoveryRefused, AreAllGood}
 use Rattle.object_recovery.proofs.RecoverLemmas.{base_is}
 use Rattle.refine_mount.specs.Found.{HasObjects}
 use Rattle.refine_mount.specs.Mounted.{end_of_object, mounted_without}
@@ -49,13 +49,13 @@ same_fault recovery.StoreFault = refl
 same_fault recovery.OutOfMemory = refl
 
 none_is : (uuid : List ℕ) (geometry : Geometry) (objects : Option Objects)
-    → IfSome objects (λ o. IsRefused (expected_of uuid geometry) o recovery.NoCheckpoint)
+    → IfSome objects (λ o. IsRecoveryRefused (expected_of uuid geometry) o recovery.NoCheckpoint)
     → IfSome objects (λ o. (number : ℕ) → 0 < number → IsNoCheckpoint (expected_of uuid geometry) o number)
 none_is uuid geometry None refused = tt
 none_is uuid geometry (Some objects) refused = λ number more. refused.why number
 
 pub why_of : (error : RecoverError) (uuid : List ℕ) (geometry : Geometry) (objects : Option Objects)
-    → IfSome objects (λ o. IsRefused (expected_of uuid geometry) o error)
+    → IfSome objects (λ o. IsRecoveryRefused (expected_of uuid geometry) o error)
     → IsWhyNotStored uuid geometry objects (of_recovery error)
 why_of recovery.NoCheckpoint uuid geometry objects refused = none_is uuid geometry objects refused
 why_of (recovery.BadObject number reason) uuid geometry objects refused = refused
@@ -71,7 +71,7 @@ data_of uuid geometry plain number objects same has =
     subst (λ g. HasDataUpTo (expected_of uuid g) has.uuid_at objects (stream_in plain) number) same has.stored
 
 refuses_none : (error : RecoverError) (uuid : List ℕ) (geometry : Geometry) (objects : Option Objects) → IsRefusal error
-    → IfSome objects (λ o. IsRefused (expected_of uuid geometry) o error) → (plain : PlainState) (number : ℕ)
+    → IfSome objects (λ o. IsRecoveryRefused (expected_of uuid geometry) o error) → (plain : PlainState) (number : ℕ)
     → IsStored uuid geometry plain number objects → ⊥
 refuses_none error uuid geometry None refusal refused plain number stored = absurd stored.objects_are
 refuses_none error uuid geometry (Some objects) refusal refused plain number stored =
@@ -80,7 +80,7 @@ refuses_none error uuid geometry (Some objects) refusal refused plain number sto
     refusal
 
 pub no_refusal_of : (error : RecoverError) (uuid : List ℕ) (geometry : Geometry) (objects : Option Objects)
-    → IfSome objects (λ o. IsRefused (expected_of uuid geometry) o error)
+    → IfSome objects (λ o. IsRecoveryRefused (expected_of uuid geometry) o error)
     → RefusesNoneStored uuid geometry objects (of_recovery error)
 no_refusal_of recovery.NoCheckpoint uuid geometry objects refused = λ plain number stored.
     absurd (refuses_none recovery.NoCheckpoint uuid geometry objects tt refused plain number stored)

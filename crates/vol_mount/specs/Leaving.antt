@@ -10,7 +10,7 @@ use Rattle.commit_slot.specs.Loading.{IsCrashSafeLoad, LeavesSettled}
 use Rattle.vol_mount.specs.declared.error.MountError.{MountError}
 use Rattle.vol_mount.specs.declared.error.MountError.TheVariants.{NoSlot, WrongVolume, StaleCache, BadRecord, Worn, StoreFault}
 use Rattle.vol_mount.specs.declared.error.MountError.TheVariants.{DeviceFault, OutOfMemory}
-use Rattle.vol_mount.specs.Refusals.{ReadsAs}
+use Rattle.vol_mount.specs.Refusals.{ReadsAsCommitOf}
 
 -- A device was no more than loaded. Where nothing was pending on it, a stop at each moment since leaves the commit that it read
 -- as, and the log area as it was; and where its slots are as between two commits, it was not written.
@@ -22,7 +22,7 @@ pub record IsButLoaded (old new : DiskState) : Type 0 where
 -- nothing is pending.
 pub record KeepsCommit (geometry : Geometry) (old new : DiskState) : Type 0 where
   pub loaded : IsButLoaded old new
-  pub commit : ReadsAs geometry (λ number body. LeavesNow (IsCommit number body) new) old
+  pub commit : ReadsAsCommitOf geometry (λ number body. LeavesNow (IsCommit number body) new) old
   pub log_area : MakesLogAreaDurable old.moments new.moments
   pub synced : HoldsNow IsSynced new.moments
 

@@ -26,7 +26,7 @@ use Rattle.super_recovery.specs.declared.error.SuperError.TheVariants as supers
 use Rattle.object_recovery.specs.declared.error.RecoverError.{RecoverError}
 use Rattle.object_recovery.specs.declared.error.RecoverError.TheVariants as recovery
 use Rattle.object_recovery.specs.Checkpoints.{expected_of, IsNoCheckpoint}
-use Rattle.object_recovery.specs.Recovery.{HasDataUpTo, IsPastOf, IsRefused, AreAllGood}
+use Rattle.object_recovery.specs.Recovery.{HasDataUpTo, IsPastOf, IsRecoveryRefused, AreAllGood}
 use Rattle.vol_mount.specs.declared.error.MountError.{MountError}
 use Rattle.vol_mount.specs.declared.error.MountError.TheVariants.{NoVolume, BadSuper, NoCheckpoint, BadObject}
 use Rattle.vol_mount.specs.declared.error.MountError.TheVariants.{NotData, NoSlot, WrongVolume, StaleCache, BadRecord, Worn}
@@ -71,8 +71,8 @@ HasGoodObjects uuid geometry objects =
 -- ---- the device
 
 -- a device reads as a commit with P
-abbrev pub ReadsAs : Geometry → (ℕ → CommitBody → Type 0) → DiskState → Type 0
-ReadsAs geometry P disk = HoldsNow (λ now. (number : ℕ) × (body : CommitBody) × Reads geometry.log now.bytes body number
+abbrev pub ReadsAsCommitOf : Geometry → (ℕ → CommitBody → Type 0) → DiskState → Type 0
+ReadsAsCommitOf geometry P disk = HoldsNow (λ now. (number : ℕ) × (body : CommitBody) × Reads geometry.log now.bytes body number
     × P number body) disk.moments
 
 -- and its log has the records of that commit up to the head
@@ -125,9 +125,9 @@ abbrev pub IsWhyNotStored : (uuid : List ℕ) → Geometry → Option Objects �
 IsWhyNotStored uuid geometry objects NoCheckpoint =
     IfSome objects (λ objects. (number : ℕ) → 0 < number → IsNoCheckpoint (expected_of uuid geometry) objects number)
 IsWhyNotStored uuid geometry objects (BadObject number reason) =
-    IfSome objects (λ objects. IsRefused (expected_of uuid geometry) objects (recovery.BadObject number reason))
+    IfSome objects (λ objects. IsRecoveryRefused (expected_of uuid geometry) objects (recovery.BadObject number reason))
 IsWhyNotStored uuid geometry objects (NotData number) =
-    IfSome objects (λ objects. IsRefused (expected_of uuid geometry) objects (recovery.NotData number))
+    IfSome objects (λ objects. IsRecoveryRefused (expected_of uuid geometry) objects (recovery.NotData number))
 IsWhyNotStored uuid geometry objects StoreFault = Unit {0}
 IsWhyNotStored uuid geometry objects DeviceFault = Unit {0}
 IsWhyNotStored uuid geometry objects OutOfMemory = Unit {0}
@@ -151,12 +151,14 @@ abbrev pub IsWhyNotOpened : (uuid : List ℕ) → Geometry → (epoch end greate
 IsWhyNotOpened uuid geometry epoch end greatest disk (NoSlot log) =
     (log ≡ geometry.log) × HoldsNow (λ now. ReadsNone geometry.log now.bytes) disk.moments
 IsWhyNotOpened uuid geometry epoch end greatest disk (WrongVolume found) =
-    ReadsAs geometry (λ number body. (body.uuid ≡ found) × (found ≡ uuid → ⊥)) disk
+    ReadsAsCommitOf geometry (λ number body. (body.uuid ≡ found) × (found ≡ uuid → ⊥)) disk
 IsWhyNotOpened uuid geometry epoch end greatest disk (StaleCache cache store) =
-    (store ≡ epoch) × (cache ≡ epoch → ⊥) × ReadsAs geometry (λ number body. (body.uuid ≡ uuid) × (body.epoch ≡ cache)) disk
+    (store ≡ epoch) × (cache ≡ epoch → ⊥)
+    × ReadsAsCommitOf geometry (λ number body. (body.uuid ≡ uuid) × (body.epoch ≡ cache)) disk
 IsWhyNotOpened uuid geometry epoch end greatest disk (BadRecord seq reason) =
     ((seq ≡ end) × (reason ≡ reasons.Seq)
-    × ReadsAs geometry (λ number body. (owner_of body ≡ record { uuid = uuid; epoch = epoch }) × (end < body.tail.seq)) disk)
+    × ReadsAsCommitOf geometry (λ number body. (owner_of body ≡ record { uuid = uuid; epoch = epoch }) × (end < body.tail.seq))
+    disk)
     ⊎ IsBadLeftLog geometry (λ number body. IsOwnCommit uuid epoch end body) disk seq reason
 IsWhyNotOpened uuid geometry epoch end greatest disk (Worn value) =
     ReadsWhole geometry (λ number body. IsFirstGreat (number ∷ epoch ∷ greatest ∷ max end body.head.seq ∷ []) value

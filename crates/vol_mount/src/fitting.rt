@@ -3,7 +3,7 @@ ghost use Rattle.lsvd_base.specs.Limits.{is_within_limits};
 ghost use Rattle.log_room.specs.Room.{max_log};
 ghost use Rattle.lsvd_fault.specs.Faults.{Counts};
 ghost use Rattle.lsvd_objstore.specs.Store.{StoreState, ReceiptState, OnlyCounts};
-ghost use Rattle.object_recovery.specs.Faults.{TellsBytes};
+ghost use Rattle.stopped_volume.specs.Store.{TellsBytes};
 ghost use Rattle.vol_mount.specs.Refusals.{IsUnfitting, IsWhyNotStored, is_device_fault, is_store_fault_of};
 
 use crate::error::MountError;

@@ -6,7 +6,7 @@ ghost use Rattle.lsvd_objstore.specs.Store.{Becomes};
 ghost use Rattle.commit_slot.specs.Slots.{log_of};
 ghost use Rattle.commit_slot.specs.Commits.{CommitsState};
 ghost use Rattle.commit_slot.specs.Loading.{MakesAtMost};
-ghost use Rattle.object_recovery.specs.Faults.{TellsBytes};
+ghost use Rattle.stopped_volume.specs.Store.{TellsBytes};
 ghost use Rattle.object_recovery.specs.Recovery.{IsPastOf, RemovesAllPast};
 ghost use Rattle.object_recovery.specs.Removal.{Removes};
 ghost use Rattle.object_recovery.specs.State.{HasAllNames};

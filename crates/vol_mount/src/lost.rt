@@ -4,7 +4,7 @@ ghost use Rattle.lsvd_fault.specs.Faults.{Counts};
 ghost use Rattle.lsvd_device.specs.Device.{IsDisk};
 ghost use Rattle.lsvd_objstore.specs.Store.{Becomes};
 ghost use Rattle.commit_slot.specs.Slots.{log_of};
-ghost use Rattle.object_recovery.specs.Faults.{TellsBytes};
+ghost use Rattle.stopped_volume.specs.Store.{TellsBytes};
 ghost use Rattle.object_recovery.specs.Checkpoints.{expected_of};
 ghost use Rattle.object_recovery.specs.Recovery.{RemovesAllPast, MayRemovePast};
 ghost use Rattle.vol_mount.specs.Epochs.{BeginsEpoch, MayBeginEpoch};

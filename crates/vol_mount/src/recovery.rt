@@ -2,7 +2,7 @@ ghost use Rattle.std.specs.Prelude.{IsTrue, IfOk, IfErr, IfSome, ◌≡◌, fals
 ghost use Rattle.lsvd_base.specs.Limits.{is_within_limits};
 ghost use Rattle.lsvd_fault.specs.Faults.{Counts};
 ghost use Rattle.lsvd_objstore.specs.Store.{OnlyCounts};
-ghost use Rattle.object_recovery.specs.Faults.{TellsBytes};
+ghost use Rattle.stopped_volume.specs.Store.{TellsBytes};
 ghost use Rattle.object_recovery.specs.State.{HasAllNames};
 ghost use Rattle.vol_mount.specs.Mounting.{RefusesNoneStored};
 ghost use Rattle.vol_mount.specs.Refusals.{IsWhyNotStored, is_device_fault};

@@ -13,7 +13,7 @@ use Rattle.object_format.specs.declared.rows.Rows.TheVariants.{Checkpoint}
 use Rattle.object_format.specs.Header.{HasWidths}
 use Rattle.object_format.specs.Laws.{WritesObjects}
 use Rattle.object_format.specs.Object.{IsObject}
-use Rattle.object_format.specs.Writing.{header_of, MayBeWritten, front_bytes}
+use Rattle.object_format.specs.Writing.{object_header_of, MayBeWritten, front_bytes}
 use Rattle.object_stream.specs.Replay.{name_of}
 use Rattle.stopped_volume.specs.Objects.{expected_alone}
 use Rattle.object_recovery.specs.Checkpoints.{expected_of}
@@ -35,7 +35,7 @@ abbrev first_expected : (uuid : List ℕ) → Geometry → Expected
 first_expected uuid geometry = expected_alone (expected_of uuid geometry) 1
 
 abbrev first_header : (uuid : List ℕ) → Geometry → Header
-first_header uuid geometry = header_of (first_expected uuid geometry) 0 0 Checkpoint
+first_header uuid geometry = object_header_of (first_expected uuid geometry) 0 0 Checkpoint
 
 pub may_be_written : (uuid : List ℕ) (geometry : Geometry)
     → MayBeWritten (first_expected uuid geometry) (first_header uuid geometry) Checkpoint

@@ -7,7 +7,7 @@ use Rattle.super_format.specs.declared.super_object.Super.{Super}
 use Rattle.super_format.specs.Super.{geometry_with}
 use Rattle.stopped_volume.specs.Super.{HasSuper, HasNewestEpoch, HasVolume}
 use Rattle.super_recovery.specs.declared.error.SuperError.TheVariants as supers
-use Rattle.super_recovery.specs.Found.{IsRefused}
+use Rattle.super_recovery.specs.Found.{IsVolumeRefused}
 use Rattle.vol_mount.specs.declared.error.MountError.{MountError}
 use Rattle.vol_mount.specs.declared.error.MountError.TheVariants.{NoVolume, BadSuper, HasAncestors, StoreFault, OutOfMemory}
 use Rattle.vol_mount.specs.Refusals.{IsUnfitting}
@@ -32,8 +32,9 @@ pub record SaysVolume (uuid : List ℕ) (geometry : Geometry) (epoch : ℕ) (obj
 
 -- why the volume as a whole is refused, where receipts tell what they stand for
 abbrev pub IsWhyNotDescribed : (uuid : List ℕ) → Option Objects → MountError → Type 0
-IsWhyNotDescribed uuid objects NoVolume = IfSome objects (λ objects. IsRefused uuid objects supers.NoVolume)
-IsWhyNotDescribed uuid objects (BadSuper reason) = IfSome objects (λ objects. IsRefused uuid objects (supers.BadSuper reason))
+IsWhyNotDescribed uuid objects NoVolume = IfSome objects (λ objects. IsVolumeRefused uuid objects supers.NoVolume)
+IsWhyNotDescribed uuid objects (BadSuper reason) =
+    IfSome objects (λ objects. IsVolumeRefused uuid objects (supers.BadSuper reason))
 IsWhyNotDescribed uuid objects (HasAncestors count) =
     IfSome objects (λ objects. (volume : Super) × HasSuper uuid volume objects × (volume.chain ≡ [] → ⊥))
 IsWhyNotDescribed uuid objects StoreFault = Unit {0}

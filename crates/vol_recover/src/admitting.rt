@@ -1,7 +1,7 @@
 ghost use Rattle.std.specs.Prelude.{◌≡◌, false, IfErr, IfSome, OnOk};
 ghost use Rattle.lsvd_fault.specs.Faults.{Counts};
 ghost use Rattle.lsvd_objstore.specs.Store.{StoreState, ReceiptState, OnlyCounts};
-ghost use Rattle.object_recovery.specs.Faults.{TellsBytes};
+ghost use Rattle.stopped_volume.specs.Store.{TellsBytes};
 ghost use Rattle.vol_mount.specs.Refusals.{is_device_fault};
 ghost use Rattle.vol_mount.specs.Steps.{ends_by_store};
 ghost use Rattle.vol_recover.specs.Admitting.{IsAdmitted, IsWhyNotAdmitted};

@@ -1,7 +1,7 @@
 ghost use Rattle.std.specs.Prelude.{◌≡◌};
 ghost use Rattle.lsvd_device.specs.Device.{IsDisk};
 ghost use Rattle.commit_slot.specs.Slots.{log_of};
-ghost use Rattle.object_recovery.specs.Faults.{TellsBytes};
+ghost use Rattle.stopped_volume.specs.Store.{TellsBytes};
 ghost use Rattle.vol_recover.specs.Mounting.{MountsKept, MountsLost};
 
 use crate::describing::describe;

@@ -3,7 +3,6 @@ use Rattle.std.proofs.Common.{◌≡◌, ℕ, Bool, true, false, List, [], ◌�
 use Rattle.std.specs.Prelude.{Option, Some, None, is_some, IsTrue, Result, Err, IfOk}
 use Rattle.lsvd_base.specs.declared.geometry.Geometry.{Geometry}
 use Rattle.lsvd_device.specs.declared.fate.Fate.{Fate}
-use Rattle.lsvd_device.specs.declared.fate.Fate.TheVariants as fates
 use Rattle.object_stream.specs.Landed.{Numbers}
 use Rattle.upload_window.specs.Window.{is_started}
 use Rattle.plain_disk.specs.declared.event.PlainEvent.{PlainEvent}
@@ -17,9 +16,9 @@ use Rattle.plain_disk.specs.Stops.{stopping_after_calls, recovered_number, mount
 use Rattle.replay_script.specs.declared.command.Command.{Command}
 use Rattle.replay_script.specs.declared.command.Command.TheVariants as commands
 use Rattle.replay_script.specs.RunText.{IsRunText}
-use Rattle.transcript.specs.Letters as letters
 use Rattle.transcript.specs.Letters.{is_dash, fits_writes, fates_of, kept_by, under_way, fits_objects, landed_by}
-use Rattle.transcript.specs.Answers.{State, TellsReply, Steps, released_by, FitKept, FitLost, AnswersOn, IsNew, text_of_mount}
+use Rattle.transcript.specs.Answers.{State, TellsReply, AnswersStep, released_by, FitKept, FitLost, AnswersOn, IsNew}
+use Rattle.transcript.specs.Answers.{text_of_mount}
 use Rattle.transcript.specs.declared.reason.Reason.TheVariants.{NotAllowed, Letters}
 use Rattle.replay_rig.specs.declared.answer.Answer.{Answer}
 use Rattle.replay_rig.specs.declared.answer.Answer.TheVariants as answers
@@ -56,7 +55,7 @@ tells_reply replies.Fault answer text says tells = subst (λ a. TellsAnswer a te
 
 -- a command that is one event is answered as that is
 pub event_in : (command : Command) (event : PlainEvent) (answer : Answer) (old new : RigState)
-    → ((plain : PlainState) (text : List ℕ) (next : State) → ShowsPlain old plain → Steps plain event text next
+    → ((plain : PlainState) (text : List ℕ) (next : State) → ShowsPlain old plain → AnswersStep plain event text next
     → AnswersOn plain command text next)
     → AnswersEvent event answer old new → (state : State) → AnswersIn command answer (Some old) (Some new) state
 event_in command event answer old new is h None shown = absurd shown
@@ -212,14 +211,6 @@ mount_told : (landed : Numbers) (plain mounted : PlainState) (answer : Answer) (
     → TellsAnswer answer text → text ≡ text_of_mount (history_length mounted) (recovered_number landed plain)
 mount_told landed plain mounted answer text is tells = subst (λ a. TellsAnswer a text) is tells
 
--- which writes are kept is read of their fates in one way
-kept_alike : (list : List Fate) → map plain_cache.is_kept list ≡ map letters.is_kept list
-kept_alike [] = refl
-kept_alike (fates.Kept ∷ list) = ap (λ rest. true ∷ rest) (kept_alike list)
-kept_alike (fates.Old ∷ list) = ap (λ rest. false ∷ rest) (kept_alike list)
-kept_alike (fates.Zeros ∷ list) = ap (λ rest. false ∷ rest) (kept_alike list)
-kept_alike (fates.Torn ∷ list) = ap (λ rest. false ∷ rest) (kept_alike list)
-
 pub keep_in : (device objects : List ℕ) (list : List Fate) (pending : ℕ) (answer : Answer) (old new : RigState)
     → ((plain : PlainState) → ShowsPlain old plain → FitKept plain device objects)
     → ((plain : PlainState) → ShowsPlain old plain → pending ≡ length plain.cache.pending) → list ≡ fates_of pending device
@@ -230,7 +221,7 @@ keep_in device objects list pending answer old new fit count are h (Some plain) 
     let landed : Numbers = landed_by plain.window objects in
     let kept : List Bool = map plain_cache.is_kept list in
     let read : kept ≡ kept_by (length plain.cache.pending) device =
-    kept_alike list ∙ ap (map letters.is_kept) (are ∙ ap (λ n. fates_of n device) (count plain shown)) in
+    ap (map plain_cache.is_kept) (are ∙ ap (λ n. fates_of n device) (count plain shown)) in
     let both = subst (λ k. IsMountTold landed plain (mounted_kept landed k plain) answer
     × ShowsPlain new (mounted_kept landed k plain)) read (h.by plain shown) in
     let mounted : PlainState = mounted_kept landed (kept_by (length plain.cache.pending) device) plain in

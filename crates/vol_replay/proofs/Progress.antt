@@ -13,7 +13,7 @@ use Rattle.vol_replay.specs.declared.outcome.Outcome.{Outcome}
 use Rattle.vol_replay.specs.declared.outcome.Outcome.TheVariants.{Done, BadLine, WriteFault, OutOfMemory}
 use Rattle.vol_replay.specs.Lines.{TakesFront, MovesOn, IsHandedOver, AnswersLine}
 use Rattle.replay_rig.specs.Rig.{RigState}
-use Rattle.vol_replay.specs.Written.{ShowsState, IsWritten}
+use Rattle.vol_replay.specs.Written.{ShowsState, IsOutcomeOf}
 use Rattle.std.specs.Io.KnownBytes.{Appends}
 use Rattle.lsvd_fault.proofs.Streams.{appends_nothing, appends_more}
 
@@ -135,7 +135,7 @@ run_more old mid new script pending rest line after middle left number before ne
     }
 
 abbrev pub WritesText : Option (List ℕ) → Option (List ℕ) → List ℕ → Outcome → Type 0
-WritesText old new script outcome = (text : List ℕ) × Appends old new text × IsWritten script text outcome
+WritesText old new script outcome = (text : List ℕ) × Appends old new text × IsOutcomeOf script text outcome
 
 -- each line was answered, and the last answers are handed over
 pub written_done : (old mid new : Option (List ℕ)) (script pending rest : List ℕ) (number : ℕ) (rig : Option RigState)

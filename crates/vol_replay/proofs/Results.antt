@@ -13,7 +13,7 @@ use Rattle.lsvd_fault.specs.Faults.{Counts, CountsOne}
 use Rattle.lsvd_fault.proofs.Streams.{appends_nothing}
 use Rattle.transcript.specs.Transcript.{Ending, AllAnswered, Stopped, IsTranscript, IsFrontOfTranscript, line_after}
 use Rattle.transcript.proofs.Existence.{nothing_written}
-use Rattle.vol_replay.specs.Written.{IsWritten}
+use Rattle.vol_replay.specs.Written.{IsOutcomeOf}
 use Rattle.vol_replay.specs.Lines.{IsHandedOver}
 
 -- what holds at an error
@@ -79,8 +79,8 @@ front_of_longer front left text long t =
           t.transcript;
     }
 
-written_of_longer : (front left text : List ℕ) (outcome : Outcome) → 2 ^ 24 < length front → IsWritten front text outcome
-    → IsWritten (front ++ left) text outcome
+written_of_longer : (front left text : List ℕ) (outcome : Outcome) → 2 ^ 24 < length front → IsOutcomeOf front text outcome
+    → IsOutcomeOf (front ++ left) text outcome
 written_of_longer front left text (Done rig) long t = (t.0, transcript_of_longer front left text (AllAnswered t.0) long t.1, t.2)
 written_of_longer front left text (BadLine number reason) long t =
     transcript_of_longer front left text (Stopped number reason) long t
@@ -89,20 +89,20 @@ written_of_longer front left text WriteFault long t = front_of_longer front left
 written_of_longer front left text OutOfMemory long t = front_of_longer front left text long t
 
 written_by_length : (front left text : List ℕ) (outcome : Outcome) → (length front ≤ 2 ^ 24 → left ≡ [])
-    → IsWritten front text outcome
-    → (2 ^ 24 < length front) ⊎ (length front ≤ 2 ^ 24) → IsWritten (front ++ left) text outcome
+    → IsOutcomeOf front text outcome
+    → (2 ^ 24 < length front) ⊎ (length front ≤ 2 ^ 24) → IsOutcomeOf (front ++ left) text outcome
 written_by_length front left text outcome end w (inl long) = written_of_longer front left text outcome long w
 written_by_length front left text outcome end w (inr short) =
-    let P : List ℕ → Type 0 = λ xs. IsWritten xs text outcome in
+    let P : List ℕ → Type 0 = λ xs. IsOutcomeOf xs text outcome in
     subst P (sym (ap (λ xs. front ++ xs) (end short) ∙ append-nil front)) w
 
 -- what was written for the bytes that were read was written for the script that the source had
 pub written_for_source : (old now out_old out_new : Option (List ℕ)) (bytes : List ℕ) (outcome : Outcome) → Consumes old now bytes
     → (length bytes ≤ 2 ^ 24 → IsAtEnd now)
-    → (text : List ℕ) × Appends out_old out_new text × IsWritten bytes text outcome
-    → IfSome old (λ script. (text : List ℕ) × Appends out_old out_new text × IsWritten script text outcome)
+    → (text : List ℕ) × Appends out_old out_new text × IsOutcomeOf bytes text outcome
+    → IfSome old (λ script. (text : List ℕ) × Appends out_old out_new text × IsOutcomeOf script text outcome)
 written_for_source None now out_old out_new bytes outcome read end w = tt
 written_for_source (Some script) None out_old out_new bytes outcome read end w = absurd read
 written_for_source (Some script) (Some left) out_old out_new bytes outcome read end w =
-    let P : List ℕ → Type 0 = λ xs. IsWritten xs w.0 outcome in
+    let P : List ℕ → Type 0 = λ xs. IsOutcomeOf xs w.0 outcome in
     (w.0, w.1, subst P (sym read) (written_by_length bytes left w.0 outcome end w.2 (cases_lt (2 ^ 24) (length bytes))))

@@ -19,9 +19,9 @@ use Rattle.replay_rig.specs.Rig.{RigState}
 use Rattle.vol_replay.specs.Written.{ShowsState}
 
 -- how many lines a rig has answered
-abbrev pub lines_of : Option RigState → ℕ
-lines_of None = 0
-lines_of (Some rig) = rig.lines
+abbrev pub lines_answered : Option RigState → ℕ
+lines_answered None = 0
+lines_answered (Some rig) = rig.lines
 
 -- ---- commands
 
@@ -64,10 +64,10 @@ pub record AnswersLine (line : List ℕ) (old new : Option RigState) (before aft
       × (after ≡ before ++ (answer ++ 10 ∷ []))
 
 -- the line was not answered: a bad one left the answers as they were
-abbrev pub IsRefused : List ℕ → Option RigState → (before after : List ℕ) → Refusal → Type 0
-IsRefused line old before after (Bad reason) = (after ≡ before)
+abbrev pub EndsUnanswered : List ℕ → Option RigState → (before after : List ℕ) → Refusal → Type 0
+EndsUnanswered line old before after (Bad reason) = (after ≡ before)
     × ((state : State) → ShowsState old state → IsBad state line reason)
-IsRefused line old before after OutOfMemory = Unit {0}
+EndsUnanswered line old before after OutOfMemory = Unit {0}
 
 -- how the error that a line gives is told
 abbrev pub refusal_of : LineError → Refusal

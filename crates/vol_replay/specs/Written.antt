@@ -15,20 +15,20 @@ ShowsState (Some rig) (Some plain) = ShowsPlain rig plain
 
 -- The whole transcript where each line was answered, and the rig shows what it leaves; the answers before a bad line; and a front
 -- of the transcript after a fault or where memory ran out.
-abbrev pub IsWritten : List ℕ → List ℕ → Outcome → Type 0
-IsWritten script text (Done rig) = (state : State) × IsTranscript script text (AllAnswered state) × ShowsState rig state
-IsWritten script text (BadLine number reason) = IsTranscript script text (Stopped number reason)
-IsWritten script text ReadFault = IsFrontOfTranscript script text
-IsWritten script text WriteFault = IsFrontOfTranscript script text
-IsWritten script text OutOfMemory = IsFrontOfTranscript script text
+abbrev pub IsOutcomeOf : List ℕ → List ℕ → Outcome → Type 0
+IsOutcomeOf script text (Done rig) = (state : State) × IsTranscript script text (AllAnswered state) × ShowsState rig state
+IsOutcomeOf script text (BadLine number reason) = IsTranscript script text (Stopped number reason)
+IsOutcomeOf script text ReadFault = IsFrontOfTranscript script text
+IsOutcomeOf script text WriteFault = IsFrontOfTranscript script text
+IsOutcomeOf script text OutOfMemory = IsFrontOfTranscript script text
 
 -- each line was answered
-abbrev pub IsDone : Outcome → Type 0
-IsDone (Done rig) = Unit {0}
-IsDone (BadLine number reason) = ⊥
-IsDone ReadFault = ⊥
-IsDone WriteFault = ⊥
-IsDone OutOfMemory = ⊥
+abbrev pub AreAllAnswered : Outcome → Type 0
+AreAllAnswered (Done rig) = Unit {0}
+AreAllAnswered (BadLine number reason) = ⊥
+AreAllAnswered ReadFault = ⊥
+AreAllAnswered WriteFault = ⊥
+AreAllAnswered OutOfMemory = ⊥
 
 -- whether a replay ended by a fault of the source, and by one of the sink
 abbrev pub ends_by_read_fault : Outcome → Bool

@@ -1,8 +1,8 @@
 ghost use Rattle.std.specs.Prelude.{◌≡◌, false, ◌+◌, ◌^◌, ◌<◌, ◌≤◌, IsTrue, IfOk, IfErr, OnOk, Some, None};
 ghost use Rattle.lsvd_base.specs.Limits.{is_within_limits};
 ghost use Rattle.replay_script.specs.Grammar.{Fits};
-ghost use Rattle.vol_replay.specs.Lines.{AnswersCommand, IsUnanswered, AnswersLine, IsRefused, is_crash};
-ghost use Rattle.vol_replay.specs.Lines.{refusal_of, lines_of};
+ghost use Rattle.vol_replay.specs.Lines.{AnswersCommand, IsUnanswered, AnswersLine, EndsUnanswered, is_crash};
+ghost use Rattle.vol_replay.specs.Lines.{refusal_of, lines_answered};
 ghost use Rattle.vol_replay.specs.declared.line.Refusal.TheVariants as refusals;
 
 use crate::letters::{fates_of, fits_objects, fits_writes, is_dash};
@@ -302,10 +302,10 @@ fn answer_command(
     command: Command,
 ) -> Result<(Rig, Answer), Refusal>
     requires fits { Fits command }
-    requires lines { lines_of rig < 2 ^ 40 }
+    requires lines { lines_answered rig < 2 ^ 40 }
     ensures ok { IfOk result (λ made. AnswersCommand command made.1 rig (Some made.0)) }
     ensures refused { IfErr result (IsUnanswered rig command) }
-    ensures lines { IfOk result (λ made. made.0.lines ≤ lines_of rig + 1) }
+    ensures lines { IfOk result (λ made. made.0.lines ≤ lines_answered rig + 1) }
 {
     match rig {
         Some(rig) => answer_on(alloc, rig, command),
@@ -320,10 +320,10 @@ fn answer_in_place(
     command: Command,
 ) -> Result<Answer, Refusal>
     requires fits { Fits command }
-    requires lines { lines_of rig.old < 2 ^ 40 }
+    requires lines { lines_answered rig.old < 2 ^ 40 }
     ensures ok { IfOk result (λ answer. AnswersCommand command answer rig.old rig.new) }
     ensures refused { IfErr result (IsUnanswered rig.old command) }
-    ensures lines { lines_of rig.new ≤ lines_of rig.old + 1 }
+    ensures lines { lines_answered rig.new ≤ lines_answered rig.old + 1 }
 {
     let (made, answer) = answer_command(alloc, rig.take(), command)?;
     // There is none any more that could be replaced.
@@ -339,10 +339,10 @@ pub(crate) fn answer_line(
     line: &[u8],
     answers: &mut Vec<u8>,
 ) -> Result<(), Refusal>
-    requires { lines_of rig.old < 2 ^ 40 }
+    requires { lines_answered rig.old < 2 ^ 40 }
     ensures ok { OnOk result (AnswersLine line.now rig.old rig.new answers.old.items answers.new.items) }
-    ensures refused { IfErr result (IsRefused line.now rig.old answers.old.items answers.new.items) }
-    ensures lines { lines_of rig.new ≤ lines_of rig.old + 1 }
+    ensures refused { IfErr result (EndsUnanswered line.now rig.old answers.old.items answers.new.items) }
+    ensures lines { lines_answered rig.new ≤ lines_answered rig.old + 1 }
 {
     if line.len() > LINE_LIMIT {
         return Err(Refusal::Bad(Reason::TooLong));

@@ -2,7 +2,8 @@ ghost use Rattle.std.specs.Prelude.{◌≡◌, ◌≢◌, ℕ, ◌^◌, ◌≤�
 ghost use Rattle.std.specs.Io.KnownBytes.{Appends, IsAtEnd};
 ghost use Rattle.lsvd_fault.specs.Faults.{Counts};
 ghost use Rattle.vol_replay.specs.Lines.{TakesFront, MovesOn, IsHandedOver};
-ghost use Rattle.vol_replay.specs.Written.{IsWritten, IsDone, ends_by_read_fault, ends_by_write_fault};
+ghost use Rattle.vol_replay.specs.Written.{IsOutcomeOf, AreAllAnswered, ends_by_read_fault};
+ghost use Rattle.vol_replay.specs.Written.{ends_by_write_fault};
 
 use crate::line::{Refusal, answer_line};
 use crate::outcome::Outcome;
@@ -18,8 +19,8 @@ const BATCH: usize = 65_536;
 pub fn replay<I: Source, O: Sink>(alloc: Global, source: &mut I, sink: &mut O) -> Outcome
     // Where the source tells the script, the sink took what the outcome says of its transcript.
     ensures transcript { IfSome (I.remaining source.old) (λ script. (text : List ℕ)
-        × Appends (O.contents sink.old) (O.contents sink.new) text × IsWritten script text result) }
-    ensures end { IsDone result → IsAtEnd (I.remaining source.new) }
+        × Appends (O.contents sink.old) (O.contents sink.new) text × IsOutcomeOf script text result) }
+    ensures end { AreAllAnswered result → IsAtEnd (I.remaining source.new) }
     ensures nothing_run { result ≡ Outcome.ReadFault → O.contents sink.new ≡ O.contents sink.old }
 
     // A fault of either end was counted once and ended the replay as just that fault; else none was counted.
@@ -36,8 +37,8 @@ pub fn replay<I: Source, O: Sink>(alloc: Global, source: &mut I, sink: &mut O) -
 // Writes the answers to a script that was read, up to its end or past its limit.
 fn run_script<O: Sink>(alloc: Global, script: &[u8], sink: &mut O) -> Outcome
     ensures transcript { (text : List ℕ) × Appends (O.contents sink.old) (O.contents sink.new) text
-        × IsWritten script.now text result }
-    ensures within { IsDone result → length script.now ≤ 2 ^ 24 }
+        × IsOutcomeOf script.now text result }
+    ensures within { AreAllAnswered result → length script.now ≤ 2 ^ 24 }
     ensures no_read { result ≢ Outcome.ReadFault }
     ensures count { Counts (ends_by_write_fault result) (O.faults sink.old) (O.faults sink.new) }
 {
@@ -55,7 +56,7 @@ fn run_script<O: Sink>(alloc: Global, script: &[u8], sink: &mut O) -> Outcome
 fn run_lines<O: Sink>(alloc: Global, script: &[u8], sink: &mut O) -> Outcome
     requires { length script.now ≤ 2 ^ 24 }
     ensures transcript { (text : List ℕ) × Appends (O.contents sink.old) (O.contents sink.new) text
-        × IsWritten script.now text result }
+        × IsOutcomeOf script.now text result }
     ensures no_read { result ≢ Outcome.ReadFault }
     ensures count { Counts (ends_by_write_fault result) (O.faults sink.old) (O.faults sink.new) }
 {

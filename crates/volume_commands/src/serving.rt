@@ -5,7 +5,7 @@ ghost use Rattle.lsvd_device.specs.Device.{IsDisk};
 ghost use Rattle.lsvd_fault.specs.Faults.{Counts, CountsOne};
 ghost use Rattle.nbd_session.specs.History.{most_steps};
 ghost use Rattle.volume_owner.specs.Owner.{IsIdle};
-ghost use Rattle.object_recovery.specs.Faults.{TellsBytes};
+ghost use Rattle.stopped_volume.specs.Store.{TellsBytes};
 ghost use Rattle.volume_commands.specs.Mounting.{IsMountedFrom, IsRefusalFor, IsWhyBefore};
 ghost use Rattle.volume_commands.specs.Mounting.{MountsFor, RefusesFor, Drains, ServesClients, Serves};
 ghost use Rattle.volume_commands.specs.Serving.{HasLogLength, TellsServing, TellsServed, judged};

@@ -18,10 +18,10 @@ use Rattle.object_stream.specs.declared.change.Change.TheVariants.{Put, Clear}
 use Rattle.object_stream.specs.declared.owner.Owner.{Owner}
 use Rattle.object_stream.specs.Changes.{sector_of, entry_change, change_at, change_from, change_in}
 use Rattle.object_stream.specs.Stream.{owner_by_change}
-use Rattle.volume_maps.specs.Places.{seq_of, place_left_by, left_at}
-use Rattle.volume_maps.specs.Laws.{owner_of, SettlesAsReplay, IsPlacedBy, SettlesPlaces, LogKeepsLaterEntries}
+use Rattle.volume_maps.specs.Places.{place_seq, place_left_by, left_at}
+use Rattle.volume_maps.specs.Laws.{place_owner, SettlesAsReplay, IsPlacedBy, SettlesPlaces, LogKeepsLaterEntries}
 use Rattle.lsvd_base.specs.declared.entry.Entry.TheVariants.{Write, Zero}
-use Rattle.volume_maps.specs.Maps.{row_place, settled_by_row, settled_by, from_seq, logged_by_row, logged_by}
+use Rattle.volume_maps.specs.Maps.{row_object_place, settled_by_row, settled_by, from_seq, logged_by_row, logged_by}
 
 -- one row more
 pub settled_push : (number front : ℕ) (rows : List DataRow) (row : DataRow) (before : Option ObjectPlace) (k : ℕ)
@@ -63,32 +63,32 @@ module _ (volume payload number front k : ℕ) (bytes : List ℕ) where
       let after : row.lba + row.sectors ≤ next.lba =
       follows volume payload place row next (first_stands volume payload place (Some row) next rows stand) in
       let out : is_within next.lba next.sectors k ≡ false = not_below next.lba next.sectors k (omega arith) in
-      ap (λ b. settled_by number front rows (cond b (row_place number front next.place (k - next.lba)) before) k) out
+      ap (λ b. settled_by number front rows (cond b (row_object_place number front next.place (k - next.lba)) before) k) out
       ∙ settled_past (place + data_payload next) next rows before (rest_stand volume payload place (Some row) next rows stand)
       (omega arith)
 
   owner_of_row : (place : Option ℕ) (i : ℕ) (before : Option Owner)
-      → owner_of (row_place number front place i) ≡ owner_by_change number (Some (change_from place bytes i)) before
+      → place_owner (row_object_place number front place i) ≡ owner_by_change number (Some (change_from place bytes i)) before
   owner_of_row None i before = refl
   owner_of_row (Some place) i before = refl
 
   by_row : (test : Bool) (place : ℕ) (earlier : Option DataRow) (row : DataRow) (rows : List DataRow)
       (before : Option ObjectPlace)
       → is_within row.lba row.sectors k ≡ test → IsTrue (data_rows_may_stand volume payload earlier place (row ∷ rows))
-      → owner_of (settled_by number front rows before k) ≡ owner_by_change number (change_in rows bytes k) (owner_of before)
-      → owner_of (settled_by number front rows (cond test (row_place number front row.place (k - row.lba)) before) k)
+      → place_owner (settled_by number front rows before k) ≡ owner_by_change number (change_in rows bytes k) (place_owner before)
+      → place_owner (settled_by number front rows (cond test (row_object_place number front row.place (k - row.lba)) before) k)
       ≡ owner_by_change number (cond test (Some (change_from row.place bytes (k - row.lba))) (change_in rows bytes k))
-      (owner_of before)
+      (place_owner before)
   by_row false place earlier row rows before test stand rest = rest
   by_row true place earlier row rows before test stand rest =
       let low : k < row.lba + row.sectors = grind (arith, nat_tests) in
-      ap owner_of (settled_past (place + data_payload row) row rows (row_place number front row.place (k - row.lba))
+      ap place_owner (settled_past (place + data_payload row) row rows (row_object_place number front row.place (k - row.lba))
       (rest_stand volume payload place earlier row rows stand) low)
-      ∙ owner_of_row row.place (k - row.lba) (owner_of before)
+      ∙ owner_of_row row.place (k - row.lba) (place_owner before)
 
   settles : (place : ℕ) (earlier : Option DataRow) (rows : List DataRow) (before : Option ObjectPlace)
       → IsTrue (data_rows_may_stand volume payload earlier place rows)
-      → owner_of (settled_by number front rows before k) ≡ owner_by_change number (change_in rows bytes k) (owner_of before)
+      → place_owner (settled_by number front rows before k) ≡ owner_by_change number (change_in rows bytes k) (place_owner before)
   settles place earlier [] before stand = refl
   settles place earlier (row ∷ rows) before stand =
       by_row (is_within row.lba row.sectors k) place earlier row rows before refl stand
@@ -109,7 +109,8 @@ payload_sector front place i bytes =
 
 module _ (volume payload number front k : ℕ) (bytes : List ℕ) where
   placed_by_row : (place : Option ℕ) (i : ℕ) (before : Option ObjectPlace)
-      → IsPlacedBy number bytes (Some (change_from place (drop (512 * front) bytes) i)) before (row_place number front place i)
+      → IsPlacedBy number bytes (Some (change_from place (drop (512 * front) bytes) i)) before
+      (row_object_place number front place i)
   placed_by_row None i before = refl
   placed_by_row (Some place) i before = (front + place + i, refl, payload_sector front place i bytes)
 
@@ -119,11 +120,11 @@ module _ (volume payload number front k : ℕ) (bytes : List ℕ) where
       → IsPlacedBy number bytes (change_in rows (drop (512 * front) bytes) k) before (settled_by number front rows before k)
       → IsPlacedBy number bytes (cond test (Some (change_from row.place (drop (512 * front) bytes) (k - row.lba)))
       (change_in rows (drop (512 * front) bytes) k)) before
-      (settled_by number front rows (cond test (row_place number front row.place (k - row.lba)) before) k)
+      (settled_by number front rows (cond test (row_object_place number front row.place (k - row.lba)) before) k)
   placed_by_test false place earlier row rows before test stand rest = rest
   placed_by_test true place earlier row rows before test stand rest =
       let low : k < row.lba + row.sectors = grind (arith, nat_tests) in
-      let own = row_place number front row.place (k - row.lba) in
+      let own = row_object_place number front row.place (k - row.lba) in
       let stays = settled_past volume payload number front k bytes (place + data_payload row) row rows own
       (rest_stand volume payload place earlier row rows stand) low in
       rw stays (placed_by_row row.place (k - row.lba) before)
@@ -169,9 +170,9 @@ left_in_parts data_at first (entry ∷ entries) later k =
 -- the seqs that entries leave are theirs
 abbrev HasSeqOf : (from to : ℕ) → Option LogPlace → Type 0
 HasSeqOf from to None = Unit {0}
-HasSeqOf from to (Some place) = (from ≤ seq_of place) × (seq_of place < to)
+HasSeqOf from to (Some place) = (from ≤ place_seq place) × (place_seq place < to)
 
-seq_by_test : (test : Bool) (seq : ℕ) (place : LogPlace) → seq_of place ≡ seq
+seq_by_test : (test : Bool) (seq : ℕ) (place : LogPlace) → place_seq place ≡ seq
     → HasSeqOf seq (seq + 1) (cond test (Some place) None)
 seq_by_test true seq place same = (omega arith, omega arith)
 seq_by_test false seq place same = tt
@@ -199,11 +200,11 @@ seqs_left data_at first (entry ∷ entries) k =
 -- what is before a seq goes, and what is not stays
 goes : (from end : ℕ) (place : Option LogPlace) → HasSeqOf from end place → from_seq end place ≡ None
 goes from end None seq = refl
-goes from end (Some place) seq = let yes_ : nat_lt (seq_of place) end ≡ true = grind (arith, nat_tests) in rw yes_ refl
+goes from end (Some place) seq = let yes_ : nat_lt (place_seq place) end ≡ true = grind (arith, nat_tests) in rw yes_ refl
 
 stays : (end to : ℕ) (place : Option LogPlace) → HasSeqOf end to place → from_seq end place ≡ place
 stays end to None seq = refl
-stays end to (Some place) seq = let no_ : nat_lt (seq_of place) end ≡ false = grind (arith, nat_tests) in rw no_ refl
+stays end to (Some place) seq = let no_ : nat_lt (place_seq place) end ≡ false = grind (arith, nat_tests) in rw no_ refl
 
 -- entries that do nothing to a sector leave it nowhere
 none_by_test : (test : Bool) (change : Change) (place : LogPlace) → cond test (Some change) None ≡ None
@@ -229,14 +230,14 @@ left_nowhere data_at first (entry ∷ entries) k none =
 
 -- the log's map after rows: as before where none covers a sector, and else without what is older
 module _ (end k : ℕ) (bytes : List ℕ) where
-  again_by : (test : Bool) (place : LogPlace) → nat_lt (seq_of place) end ≡ test → from_seq end (cond test None (Some place))
+  again_by : (test : Bool) (place : LogPlace) → nat_lt (place_seq place) end ≡ test → from_seq end (cond test None (Some place))
       ≡ cond test None (Some place)
   again_by true place test = refl
   again_by false place test = rw test refl
 
   again : (place : Option LogPlace) → from_seq end (from_seq end place) ≡ from_seq end place
   again None = refl
-  again (Some place) = again_by (nat_lt (seq_of place) end) place refl
+  again (Some place) = again_by (nat_lt (place_seq place) end) place refl
 
   kept_by : (test : Bool) (place : Option LogPlace) → cond test (from_seq end (from_seq end place)) (from_seq end place)
       ≡ from_seq end place

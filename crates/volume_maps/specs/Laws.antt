@@ -13,15 +13,15 @@ use Rattle.volume_maps.specs.Places.{left_at}
 use Rattle.volume_maps.specs.Maps.{settled_by, logged_by}
 
 -- the object that a place is in
-abbrev pub owner_of : Option ObjectPlace → Option Owner
-owner_of place = option_map (λ (p : ObjectPlace). record { level = p.level; number = p.number }) place
+abbrev pub place_owner : Option ObjectPlace → Option Owner
+place_owner place = option_map (λ (p : ObjectPlace). record { level = p.level; number = p.number }) place
 
 -- the owner of a sector after the rows of a data object are settled is that after the object's replay
 abbrev pub SettlesAsReplay : Type 0
 SettlesAsReplay =
     (volume sectors number front k : ℕ) (rows : List DataRow) (payload : List ℕ) (before : Option ObjectPlace)
     → IsTrue (data_rows_may_stand volume sectors None 0 rows)
-    → owner_of (settled_by number front rows before k) ≡ owner_by_change number (change_in rows payload k) (owner_of before)
+    → place_owner (settled_by number front rows before k) ≡ owner_by_change number (change_in rows payload k) (place_owner before)
 
 -- A sector's place before and after an object of this number and these bytes did this to it: a sector that it put is at a place
 -- of the object, one that it cleared has none, and any other is where it was.

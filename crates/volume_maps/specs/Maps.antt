@@ -7,7 +7,7 @@ use Rattle.object_format.specs.declared.data_row.DataRow.{DataRow}
 use Rattle.volume_maps.specs.declared.place.ObjectPlace.{ObjectPlace}
 use Rattle.volume_maps.specs.declared.place.LogPlace.{LogPlace}
 use Rattle.volume_maps.specs.declared.place.VolumePlace.{VolumePlace}
-use Rattle.volume_maps.specs.Places.{object_on, log_on, seq_of, place_in}
+use Rattle.volume_maps.specs.Places.{object_on, log_on, place_seq, place_in}
 
 -- the maps of a volume: which object has a sector that the objects up to the frontier put, and where the log has those that
 -- entries past the frontier changed
@@ -28,13 +28,14 @@ volume_place_at maps k = place_in (logged_at maps k) (settled_at maps k)
 -- ---- a data object is settled
 
 -- where the object of this number, whose payload stands after so many sectors, has the i-th sector of a row; none for zeros
-abbrev pub row_place : (number front : ℕ) → Option ℕ → ℕ → Option ObjectPlace
-row_place number front None i = None
-row_place number front (Some place) i = Some (record { level = 0; number = number; sector = front + place + i })
+abbrev pub row_object_place : (number front : ℕ) → Option ℕ → ℕ → Option ObjectPlace
+row_object_place number front None i = None
+row_object_place number front (Some place) i = Some (record { level = 0; number = number; sector = front + place + i })
 
 -- a sector's place in the objects' map after a row of that object
 abbrev pub settled_by_row : (number front : ℕ) → DataRow → Option ObjectPlace → ℕ → Option ObjectPlace
-settled_by_row number front row before k = if is_within row.lba row.sectors k then row_place number front row.place (k - row.lba)
+settled_by_row number front row before k =
+    if is_within row.lba row.sectors k then row_object_place number front row.place (k - row.lba)
     else before
 
 -- and after rows, one after the other
@@ -45,7 +46,7 @@ settled_by number front (row ∷ rows) before k = settled_by number front rows (
 -- a place in the log, unless the entry that left it is before a seq
 abbrev pub from_seq : ℕ → Option LogPlace → Option LogPlace
 from_seq seq None = None
-from_seq seq (Some place) = if nat_lt (seq_of place) seq then None else Some place
+from_seq seq (Some place) = if nat_lt (place_seq place) seq then None else Some place
 
 -- a sector's place in the log's map after a row of an object whose entries are before a seq
 abbrev pub logged_by_row : (end : ℕ) → DataRow → Option LogPlace → ℕ → Option LogPlace

@@ -40,9 +40,9 @@ volume_number (Log place) = log_number place
 volume_number (Object place) = object_number place
 
 -- the seq of the entry that left a sector there
-abbrev pub seq_of : LogPlace → ℕ
-seq_of (Data seq sector) = seq
-seq_of (Zeros seq) = seq
+abbrev pub place_seq : LogPlace → ℕ
+place_seq (Data seq sector) = seq
+place_seq (Zeros seq) = seq
 
 -- ---- where entries leave sectors
 

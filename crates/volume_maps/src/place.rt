@@ -1,5 +1,5 @@
 ghost use Rattle.std.specs.Prelude.{◌≡◌};
-ghost use Rattle.volume_maps.specs.Places.{seq_of};
+ghost use Rattle.volume_maps.specs.Places.{place_seq};
 
 use extent_map::Place;
 
@@ -61,7 +61,7 @@ pub enum LogPlace {
 impl LogPlace {
     /// The seq of the entry.
     pub fn seq(&self) -> u64
-        ensures { result ≡ seq_of self.now }
+        ensures { result ≡ place_seq self.now }
     {
         match self {
             LogPlace::Data { seq, .. } | LogPlace::Zeros { seq } => *seq,

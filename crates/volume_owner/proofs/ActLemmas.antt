@@ -10,7 +10,7 @@ use Rattle.lsvd_names.specs.declared.name.ObjName.{ObjName}
 use Rattle.lsvd_objstore.specs.declared.error.StoreError.{StoreError}
 use Rattle.lsvd_objstore.specs.declared.error.StoreError.TheVariants as store_errors
 use Rattle.lsvd_objstore.specs.Objects.{Objects, found, IsPut, MayBePut}
-use Rattle.lsvd_objstore.specs.Store.{StoreState, ReceiptState, Put, Asks, Becomes, OnlyCounts}
+use Rattle.lsvd_objstore.specs.Store.{StoreState, ReceiptState, Put, IsAskedOnce, Becomes, OnlyCounts}
 use Rattle.object_stream.specs.Replay.{name_of}
 use Rattle.object_uploads.specs.State.{JobState}
 use Rattle.vol_core.specs.declared.event.Event.{Event}
@@ -20,7 +20,7 @@ use Rattle.vol_core.specs.declared.reply.Reply.{Reply}
 use Rattle.vol_core.specs.declared.reply.Reply.TheVariants as told
 use Rattle.vol_core.specs.Volume.{VolumeState, SteppedVolume}
 use Rattle.vol_core.specs.Calls.{event_of}
-use Rattle.vol_core.specs.Step.{Steps}
+use Rattle.vol_core.specs.Step.{CountedStep}
 use Rattle.volume_owner.specs.Acts.{Moment, moment_of, Act, Made, Puts, Gets, entered_if_told, entered_by_event, entered_by_act}
 use Rattle.volume_owner.specs.Acts.{HasItsObject, FindsOrder, PutLeaves, IsPutAct, IsAct, AreActs, IsMadeOfActs, MakesStep}
 use Rattle.volume_owner.specs.Helping.{IsTaken, entered_by}
@@ -70,7 +70,7 @@ one_act state act added old new is entered = record {
 -- a step of the volume
 pub step_act : {R : Type 0} (state : R → ReceiptState) (event : Event R) (reply : Reply R) (added : List Entry)
     (old new : SteppedVolume) (store : StoreState)
-    → Steps state event reply old new → HasItsObject event old.volume store → FindsOrder event old.volume
+    → CountedStep state event reply old new → HasItsObject event old.volume store → FindsOrder event old.volume
     → entered_by_event event reply ≡ added
     → IsMadeOfActs state added (moment_of old store) (moment_of new store)
 step_act state event reply added old new store of object order entered =
@@ -143,7 +143,7 @@ event_enters (entries.Zero lba sectors) reply = refl
 
 -- an attempt is one step
 pub attempt_step : {R : Type 0} (state : R → ReceiptState) (entry : Entry) (reply : Reply R) (old new : SteppedVolume)
-    → Steps state (event_of entry) reply old new
+    → CountedStep state (event_of entry) reply old new
     → MakesStep state (event_of entry) (entered_by entry (attempt_in reply)) old new
 attempt_step state entry reply old new of = record {
   reply = reply;
@@ -162,10 +162,11 @@ has_put name own bytes same (Some old) new is =
 module _ {R : Type 0} (state : R → ReceiptState) (job : JobState) (name : ObjName) (bytes : List ℕ) (reply : Reply R)
     (old new : SteppedVolume) (first second : StoreState) (taken : IsTaken job old.volume) (named : name ≡ job.name)
     (same : bytes ≡ job.bytes) where
-  asked_of_job : Asks (Put name bytes) first.asked second.asked → Asks (Put job.name job.bytes) first.asked second.asked
+  asked_of_job : IsAskedOnce (Put name bytes) first.asked second.asked
+      → IsAskedOnce (Put job.name job.bytes) first.asked second.asked
   asked_of_job asked =
-      subst (λ n. Asks (Put n job.bytes) first.asked second.asked) named
-      (subst (λ b. Asks (Put name b) first.asked second.asked) same asked)
+      subst (λ n. IsAskedOnce (Put n job.bytes) first.asked second.asked) named
+      (subst (λ b. IsAskedOnce (Put name b) first.asked second.asked) same asked)
 
   left_of_job : (failed : Bool) → Becomes (PutLeaves failed name bytes) first.objects second.objects
       → Becomes (PutLeaves failed job.name job.bytes) first.objects second.objects
@@ -174,7 +175,7 @@ module _ {R : Type 0} (state : R → ReceiptState) (job : JobState) (name : ObjN
       (subst (λ b. Becomes (PutLeaves failed name b) first.objects second.objects) same left)
 
   the_put : (failed : Bool) → Becomes (PutLeaves failed name bytes) first.objects second.objects
-      → Asks (Put name bytes) first.asked second.asked → Counts failed first.faults second.faults
+      → IsAskedOnce (Put name bytes) first.asked second.asked → Counts failed first.faults second.faults
       → IsMadeOfActs state [] (moment_of old first) (moment_of old second)
   the_put failed left asked counts = put_acts state job failed (moment_of old first) (moment_of old second) (record {
     volume = refl;
@@ -187,8 +188,8 @@ module _ {R : Type 0} (state : R → ReceiptState) (job : JobState) (name : ObjN
 
   -- it is done
   pub done_acts : (receipt : R) → Becomes (IsPut name bytes) first.objects second.objects
-      → Asks (Put name bytes) first.asked second.asked
-      → second.faults ≡ first.faults → Steps state (asks.JobDone job receipt) reply old new
+      → IsAskedOnce (Put name bytes) first.asked second.asked
+      → second.faults ≡ first.faults → CountedStep state (asks.JobDone job receipt) reply old new
       → IsMadeOfActs state [] (moment_of old first) (moment_of new second)
   done_acts receipt put asked counts of =
       made_then state [] [] (moment_of old first) (moment_of old second) (moment_of new second)
@@ -199,8 +200,8 @@ module _ {R : Type 0} (state : R → ReceiptState) (job : JobState) (name : ObjN
 
   -- it failed
   pub failed_acts : Becomes (MayBePut name bytes) first.objects second.objects
-      → Asks (Put name bytes) first.asked second.asked
-      → Counts true first.faults second.faults → Steps state (asks.JobFailed job) reply old new
+      → IsAskedOnce (Put name bytes) first.asked second.asked
+      → Counts true first.faults second.faults → CountedStep state (asks.JobFailed job) reply old new
       → IsMadeOfActs state [] (moment_of old first) (moment_of new second)
   failed_acts left asked counts of =
       made_then state [] [] (moment_of old first) (moment_of old second) (moment_of new second)

@@ -24,7 +24,7 @@ use Rattle.vol_core.specs.Volume.{VolumeState, SteppedVolume}
 use Rattle.vol_core.specs.Shows.{Shows}
 use Rattle.vol_core.specs.Calls.{event_of}
 use Rattle.vol_core.specs.Events.{Asks, Tells, TellsRefusal}
-use Rattle.vol_core.specs.Step.{passing, IsStep, IsNoStep, lacks_memory, tells_fault, HandsBack, Steps}
+use Rattle.vol_core.specs.Step.{passing, IsStep, IsNoStep, lacks_memory, tells_fault, HandsBack, CountedStep}
 use Rattle.vol_core.proofs.StepLemmas.{passing_keeps}
 use Rattle.volume_owner.specs.Owner.{IsIdle}
 use Rattle.volume_owner.specs.History.{GoesOn}
@@ -187,7 +187,7 @@ again_tells refusals.Fault reply count again tells is = cc
 again_tells refusals.OutOfMemory reply count again tells is = tells
 
 module _ {R : Type 0} (state : R → ReceiptState) (entry : Entry) (reply : Reply R) (old new : SteppedVolume)
-    (of : Steps state (event_of entry) reply old new) where
+    (of : CountedStep state (event_of entry) reply old new) where
   -- an entry that is told to be entered is
   pub entered_makes : (count : ℕ) → reply ≡ told.Entered count → MakesSteps 1 (entry ∷ []) old new
   entered_makes count is = record {

@@ -40,7 +40,7 @@ use Rattle.vol_core.specs.declared.reply.Reply.TheVariants as told
 use Rattle.vol_core.specs.Volume.{VolumeState, SteppedVolume}
 use Rattle.vol_core.specs.Shows.{Shows}
 use Rattle.vol_core.specs.Events.{Asks, Tells, IsOfPut, IsOfDonePut}
-use Rattle.vol_core.specs.Step.{passing, IsStep, IsNoStep, lacks_memory, tells_fault, Steps}
+use Rattle.vol_core.specs.Step.{passing, IsStep, IsNoStep, lacks_memory, tells_fault, CountedStep}
 use Rattle.volume_owner.specs.Owner.{IsIdle}
 use Rattle.volume_owner.specs.Calls.{MakesSteps}
 use Rattle.volume_owner.specs.declared.error.OwnerError.{OwnerError}
@@ -96,7 +96,7 @@ silent_reply plain events.Status silent is = cc
 pub silent_faults : {R : Type 0} (state : R → ReceiptState) (event : Event R) (reply : Reply R) (plain : PlainState)
     (old new : SteppedVolume)
     → ((asked : PlainEvent) → Asks state old.volume event asked → is_silent asked ≡ true) → Shows old.volume plain
-    → Steps state event reply old new
+    → CountedStep state event reply old new
     → new.volume.log.commits.disk.faults ≡ old.volume.log.commits.disk.faults
 silent_faults state event reply plain old new silent shows of =
     let none : tells_fault reply ≡ false =
@@ -164,7 +164,7 @@ none_lowest state volume reply (Some number) tells none =
     absurd bad
 
 module _ {R : Type 0} (state : R → ReceiptState) (reply : Reply R) (old new : SteppedVolume)
-    (of : Steps state asks.TakeJob reply old new)
+    (of : CountedStep state asks.TakeJob reply old new)
     (plain : PlainState) (shows : Shows old.volume plain) where
   taking : IsAfterTake state reply plain old.volume new.volume
   taking = after_take_by state reply plain old.volume new.volume shows (of.step.step plain shows)
@@ -261,7 +261,7 @@ failed_put volume job None taken is = absurd (is taken.out)
 failed_put volume job (Some number) taken is = ap Some is.0
 
 module _ {R : Type 0} (state : R → ReceiptState) (job : JobState) (receipt : R) (reply : Reply R) (old new : SteppedVolume)
-    (of : Steps state (asks.JobDone job receipt) reply old new) (plain : PlainState) (shows : Shows old.volume plain)
+    (of : CountedStep state (asks.JobDone job receipt) reply old new) (plain : PlainState) (shows : Shows old.volume plain)
     (taken : IsTaken job old.volume) (named : (state receipt).name ≡ job.name) where
   started_is : is_started job.name.number plain.window.objects ≡ true
   started_is = ap (λ (w : WindowState). is_started job.name.number w.objects) (sym shows.objects.window) ∙ taken.out.started
@@ -311,7 +311,7 @@ module _ {R : Type 0} (state : R → ReceiptState) (job : JobState) (receipt : R
       )
 
 module _ {R : Type 0} (state : R → ReceiptState) (job : JobState) (reply : Reply R) (old new : SteppedVolume)
-    (of : Steps state (asks.JobFailed job) reply old new) (plain : PlainState) (shows : Shows old.volume plain)
+    (of : CountedStep state (asks.JobFailed job) reply old new) (plain : PlainState) (shows : Shows old.volume plain)
     (taken : IsTaken job old.volume) where
   was_started_is : is_started job.name.number plain.window.objects ≡ true
   was_started_is = ap (λ (w : WindowState). is_started job.name.number w.objects) (sym shows.objects.window) ∙ taken.out.started
@@ -452,7 +452,7 @@ nothing_lacks : (R : Type 0) → lacks_memory {R = R} told.Nothing ≡ true → 
 nothing_lacks R lacks = cc
 
 module _ {R : Type 0} (state : R → ReceiptState) (reply : Reply R) (old new : SteppedVolume)
-    (of : Steps state asks.Seal reply old new)
+    (of : CountedStep state asks.Seal reply old new)
     (plain : PlainState) (shows : Shows old.volume plain) where
   pub seal_makes : MakesSteps 1 [] old new
   seal_makes = quiet_makes state asks.Seal reply old new (λ asked is. ap is_quiet is) of

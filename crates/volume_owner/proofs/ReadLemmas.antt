@@ -28,7 +28,7 @@ use Rattle.vol_core.specs.declared.reply.Reply.TheVariants as told
 use Rattle.vol_core.specs.Volume.{VolumeState, SteppedVolume}
 use Rattle.vol_core.specs.Shows.{Shows}
 use Rattle.vol_core.specs.Events.{Tells}
-use Rattle.vol_core.specs.Step.{passing, IsStep, IsNoStep, lacks_memory, tells_fault, Steps}
+use Rattle.vol_core.specs.Step.{passing, IsStep, IsNoStep, lacks_memory, tells_fault, CountedStep}
 use Rattle.vol_core.proofs.StepLemmas.{passing_keeps}
 use Rattle.volume_owner.specs.Owner.{IsIdle}
 use Rattle.volume_owner.specs.Calls.{IsLengthOf, IsDurable, HasSectors, MakesSteps}
@@ -76,7 +76,7 @@ flush_by state volume reply true count tells = inl (refl, tells_flushed state vo
 flush_by state volume reply false count tells = inr (tells_failed state volume reply tells)
 
 module _ {R : Type 0} (state : R → ReceiptState) (reply : Reply R) (old new : SteppedVolume)
-    (of : Steps state asks.Flush reply old new)
+    (of : CountedStep state asks.Flush reply old new)
     (plain : PlainState) (shows : Shows old.volume plain) where
   flushing : IsAfterFlush state reply plain old.volume new.volume
   flushing = after_flush_by state reply plain old.volume new.volume (of.step.step plain shows)
@@ -217,7 +217,7 @@ pinned_again (number ∷ numbers) =
     )
 
 module _ {R : Type 0} (state : R → ReceiptState) (reply : Reply R) (lba sectors : ℕ) (old new : SteppedVolume)
-    (of : Steps state (asks.Look lba sectors) reply old new) where
+    (of : CountedStep state (asks.Look lba sectors) reply old new) where
   pub look_makes : MakesSteps 1 [] old new
   look_makes = quiet_makes state (asks.Look lba sectors) reply old new (λ asked is. ap is_quiet is) of
 
@@ -307,7 +307,8 @@ module _ {R : Type 0} (state : R → ReceiptState) (reply : Reply R) (lba sector
 
   -- ---- the plan is given back
 
-  module _ (plan : PlanState) (back : Reply R) (last : SteppedVolume) (given : Steps state (asks.Release plan) back new last)
+  module _ (plan : PlanState) (back : Reply R) (last : SteppedVolume)
+      (given : CountedStep state (asks.Release plan) back new last)
     where
       pub release_makes : MakesSteps 1 [] new last
       release_makes = quiet_makes state (asks.Release plan) back new last (λ asked is. ap is_quiet is) given

@@ -20,7 +20,7 @@ use Rattle.vol_core.specs.declared.reply.Reply.{Reply}
 use Rattle.vol_core.specs.Volume.{VolumeState, SteppedVolume}
 use Rattle.vol_core.specs.Shows.{Shows}
 use Rattle.vol_core.specs.Events.{Asks}
-use Rattle.vol_core.specs.Step.{passing, IsStep, IsNoStep, HasSameSizes, Steps}
+use Rattle.vol_core.specs.Step.{passing, IsStep, IsNoStep, HasSameSizes, CountedStep}
 use Rattle.vol_core.proofs.StepLemmas.{passing_keeps}
 use Rattle.volume_owner.specs.Owner.{IsIdle}
 use Rattle.volume_owner.specs.History.{GoesOn}
@@ -204,7 +204,7 @@ quiet_after state event reply plain old new quiet shows (inl s) =
 quiet_after state event reply plain old new quiet shows (inr n) = (plain, n.shows, goes_on_nothing plain)
 
 pub quiet_makes : {R : Type 0} (state : R → ReceiptState) (event : Event R) (reply : Reply R) (old new : SteppedVolume)
-    → ((asked : PlainEvent) → Asks state old.volume event asked → is_quiet asked ≡ true) → Steps state event reply old new
+    → ((asked : PlainEvent) → Asks state old.volume event asked → is_quiet asked ≡ true) → CountedStep state event reply old new
     → MakesSteps 1 [] old new
 quiet_makes state event reply old new quiet of = record {
   adds = λ plain shows. quiet_after state event reply plain old.volume new.volume quiet shows (of.step.step plain shows);

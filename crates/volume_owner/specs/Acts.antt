@@ -5,7 +5,7 @@ use Rattle.lsvd_base.specs.declared.entry.Entry.TheVariants as entries
 use Rattle.lsvd_fault.specs.Faults.{Counts}
 use Rattle.lsvd_names.specs.declared.name.ObjName.{ObjName}
 use Rattle.lsvd_objstore.specs.Objects.{Objects, found, IsPut, MayBePut}
-use Rattle.lsvd_objstore.specs.Store.{StoreState, ReceiptState, Put, Asks, Becomes, OnlyCounts}
+use Rattle.lsvd_objstore.specs.Store.{StoreState, ReceiptState, Put, IsAskedOnce, Becomes, OnlyCounts}
 use Rattle.object_stream.specs.Replay.{name_of}
 use Rattle.object_uploads.specs.State.{JobState}
 use Rattle.object_uploads.specs.Order.{IsUploads}
@@ -15,7 +15,7 @@ use Rattle.vol_core.specs.declared.event.Event.TheVariants as events
 use Rattle.vol_core.specs.declared.reply.Reply.{Reply}
 use Rattle.vol_core.specs.declared.reply.Reply.TheVariants as told
 use Rattle.vol_core.specs.Volume.{VolumeState, SteppedVolume}
-use Rattle.vol_core.specs.Step.{Steps}
+use Rattle.vol_core.specs.Step.{CountedStep}
 
 -- ---- moments
 
@@ -67,7 +67,7 @@ FindsOrder event volume = Unit {0}
 
 -- a step of the volume, in which the store stays
 pub record IsStepAct {R : Type 0} (state : R → ReceiptState) (event : Event R) (reply : Reply R) (old new : Moment) : Type 0 where
-  pub step : Steps state event reply old.volume new.volume
+  pub step : CountedStep state event reply old.volume new.volume
   pub store : new.store ≡ old.store
   pub object : HasItsObject event old.volume.volume old.store
   pub order : FindsOrder event old.volume.volume
@@ -83,7 +83,7 @@ pub record IsPutAct (job : JobState) (failed : Bool) (old new : Moment) : Type 0
   pub out : IsOut old.volume.volume.objects.uploads job.name.number job.bytes
   pub named : job.name ≡ name_of old.volume.volume.objects.uploads.uuid job.name.number
   pub objects : Becomes (PutLeaves failed job.name job.bytes) old.store.objects new.store.objects
-  pub asked : Asks (Put job.name job.bytes) old.store.asked new.store.asked
+  pub asked : IsAskedOnce (Put job.name job.bytes) old.store.asked new.store.asked
   pub faults : Counts failed old.store.faults new.store.faults
 
 -- gets, in which the volume stays, and what the store holds
@@ -115,7 +115,7 @@ pub record IsMadeOfActs {R : Type 0} (state : R → ReceiptState) (added : List 
 pub record MakesStep {R : Type 0} (state : R → ReceiptState) (event : Event R) (added : List Entry) (old new : SteppedVolume) :
     Type 0 where
   pub reply : Reply R
-  pub step : Steps state event reply old new
+  pub step : CountedStep state event reply old new
   pub entered : entered_by_event event reply ≡ added
 
 -- ---- stops

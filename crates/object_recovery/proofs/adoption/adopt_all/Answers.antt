@@ -7,7 +7,7 @@ use Rattle.upload_window.specs.Window.{WindowState}
 use Rattle.obj_log.specs.Changes.{expected_of_volume, next_of}
 use Rattle.obj_log.specs.State.{ObjLogState}
 use Rattle.obj_log.proofs.StreamLemmas.{same_volume}
-use Rattle.object_recovery.specs.Faults.{TellsBytes}
+use Rattle.stopped_volume.specs.Store.{TellsBytes}
 use Rattle.object_recovery.specs.Places.{HasPlacesInside}
 use Rattle.object_recovery.specs.Adoption.{AdoptsNext, KeepsGood}
 use Rattle.object_recovery.specs.Recovery.{KeepsStreams}

@@ -1,7 +1,7 @@
 use Rattle.std.proofs.Common.{◌≡◌, ◌-◌, ◌^◌, ◌≤◌}
 use Rattle.std.specs.Prelude.{IfSome}
 use Rattle.obj_log.specs.Changes.{expected_of_volume}
-use Rattle.object_recovery.specs.Faults.{TellsBytes}
+use Rattle.stopped_volume.specs.Store.{TellsBytes}
 use Rattle.object_recovery.specs.Places.{HasPlacesInside}
 use Rattle.object_recovery.specs.Adoption.{KeepsGood}
 use Rattle.object_recovery.specs.Recovery.{IsListUpTo, KeepsStreams}

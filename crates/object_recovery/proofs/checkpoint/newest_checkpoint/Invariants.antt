@@ -1,6 +1,6 @@
 use Rattle.std.proofs.Common.{◌≡◌, ◌≤◌, length}
 use Rattle.std.specs.Prelude.{IfSome}
-use Rattle.object_recovery.specs.Faults.{TellsBytes}
+use Rattle.stopped_volume.specs.Store.{TellsBytes}
 use Rattle.object_recovery.specs.Checkpoints.{HasNoneFrom}
 use Rattle.object_recovery.proofs.checkpoint.newest_checkpoint.Given as goal
 

@@ -1,6 +1,6 @@
 use Rattle.std.proofs.Common.{◌≡◌}
 use Rattle.std.specs.Prelude.{IfSome}
-use Rattle.object_recovery.specs.Faults.{TellsBytes}
+use Rattle.stopped_volume.specs.Store.{TellsBytes}
 use Rattle.object_recovery.specs.Judged.{StaysRefused}
 use Rattle.object_recovery.proofs.PastLemmas.{IsJudgedBy}
 use Rattle.object_recovery.proofs.judging.judge_past.Given as goal

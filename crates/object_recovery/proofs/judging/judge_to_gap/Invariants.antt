@@ -1,6 +1,6 @@
 use Rattle.std.proofs.Common.{◌≡◌, ℕ, ◌-◌, ◌^◌}
 use Rattle.std.specs.Prelude.{IfSome}
-use Rattle.object_recovery.specs.Faults.{TellsBytes}
+use Rattle.stopped_volume.specs.Store.{TellsBytes}
 use Rattle.object_recovery.specs.Judged.{StaysRefused, IsReached}
 use Rattle.object_recovery.proofs.judging.judge_to_gap.Given as goal
 

@@ -1,5 +1,5 @@
 use Rattle.std.proofs.Common.{subst, sym, rules}
-use Rattle.object_format.specs.Header.{IsHeader}
+use Rattle.object_format.specs.Header.{IsObjectHeader}
 use Rattle.stopped_volume.specs.Objects.{expected_alone}
 use Rattle.object_recovery.specs.Read.{IsReadOf}
 use Rattle.object_recovery.proofs.EndLemmas.{other_reason, headless, end_alone, bad_alone, head_read}
@@ -19,7 +19,7 @@ returns-in_default-clause-end g c =
     (sym c.as_slice.ensures.value) c.requires.head)
     (g.met.S.Receipt.Receipt.told_whole c.args.receipt.now)
     (λ header is. c.in_default.ensures.none header
-    (subst (λ n. IsHeader c.as_slice.result.now n (expected_alone expected expected.number) header) (sym c.len.ensures) is))
+    (subst (λ n. IsObjectHeader c.as_slice.result.now n (expected_alone expected expected.number) header) (sym c.len.ensures) is))
 
 pub returns-clause-end : goal.returns-clause-end
 returns-clause-end g c =

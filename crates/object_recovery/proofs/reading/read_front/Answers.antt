@@ -1,8 +1,8 @@
 use Rattle.std.proofs.Common.{◌≡◌, ◌*◌, ◌≤◌, take, length, subst, sym, ap, ◌∙◌, arith, rules}
 use Rattle.object_format.specs.Layout.{front_sectors}
-use Rattle.object_format.specs.Header.{IsHeader}
+use Rattle.object_format.specs.Header.{IsObjectHeader}
 use Rattle.object_format.specs.Object.{IsObject}
-use Rattle.object_format.specs.Tests.{IsReasonOf}
+use Rattle.object_format.specs.Tests.{IsObjectReason}
 use Rattle.object_format.specs.declared.rows_reading.ReadError.TheVariants.{Bad}
 use Rattle.object_recovery.specs.declared.error.RecoverError.TheVariants.{BadObject}
 use Rattle.object_recovery.specs.Read.{AreFirstOf, IsWhyNotRead}
@@ -22,7 +22,7 @@ read_rows-requires-clause-header g c =
     let kept = c.in_ok-read_up_to.ensures.kept in
     let same : take (length bytes) c.as_slice.result.now ≡ bytes = ap (take (length bytes)) c.as_slice.ensures.value ∙ kept in
     longer_header bytes c.as_slice.result.now c.len-size.result c.args.expected.now c.args.header.now c.requires.few same
-    (subst (λ n. IsHeader bytes n c.args.expected.now c.args.header.now) (sym c.len-size.ensures) c.requires.header_is)
+    (subst (λ n. IsObjectHeader bytes n c.args.expected.now c.args.header.now) (sym c.len-size.ensures) c.requires.header_is)
 
 pub returns-in-Ok-clause-ok : goal.returns-in-Ok-clause-ok
 returns-in-Ok-clause-ok g c =
@@ -48,4 +48,4 @@ returns-in-Err-Bad-clause-bad g c =
     (why_no_rows receipt c.args.expected.now bytes header c.in-Err-Bad.reason
     (subst (AreFirstOf receipt.told) (sym c.as_slice.ensures.value) c.in_ok-read_up_to.ensures.first)
     (longer_header before bytes receipt.size c.args.expected.now header c.requires.few same c.requires.header_is) long
-    (subst (λ n. IsReasonOf bytes n c.args.expected.now (Bad c.in-Err-Bad.reason)) c.len-size.ensures reason.refused))
+    (subst (λ n. IsObjectReason bytes n c.args.expected.now (Bad c.in-Err-Bad.reason)) c.len-size.ensures reason.refused))

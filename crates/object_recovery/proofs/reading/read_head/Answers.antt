@@ -1,6 +1,6 @@
 use Rattle.std.proofs.Common.{subst, sym, arith}
-use Rattle.object_format.specs.Header.{IsHeader}
-use Rattle.object_format.specs.Tests.{IsRefusedAs}
+use Rattle.object_format.specs.Header.{IsObjectHeader}
+use Rattle.object_format.specs.Tests.{IsObjectRefusedAs}
 use Rattle.object_recovery.specs.Read.{AreFirstOf, IsWhyNotRead}
 use Rattle.object_recovery.proofs.ReadLemmas.{why_no_header}
 use Rattle.object_recovery.proofs.reading.read_head.Goals as goal
@@ -16,5 +16,5 @@ returns-in-Err-clause-bad g c =
     (subst (AreFirstOf receipt.told) (sym c.as_slice.ensures.value) c.in_ok-read_up_to.ensures.first)
     (omega (arith, c.as_slice.ensures.len, c.in_ok-read_up_to.ensures.count, c.min.ensures, size))
     (g.met.S.Receipt.Receipt.told_whole c.args.receipt.now)
-    (λ header is. c.in-Err.ensures.none header (subst (λ n. IsHeader bytes n expected header) (sym size) is))
-    (subst (λ n. IsRefusedAs bytes n expected c.in-Err.reason) size c.in-Err.ensures.refused))
+    (λ header is. c.in-Err.ensures.none header (subst (λ n. IsObjectHeader bytes n expected header) (sym size) is))
+    (subst (λ n. IsObjectRefusedAs bytes n expected c.in-Err.reason) size c.in-Err.ensures.refused))

@@ -1,6 +1,6 @@
 use Rattle.std.proofs.Common.{subst, sym, arith, ap, ◌∙◌}
-use Rattle.object_format.specs.Header.{IsHeader}
-use Rattle.object_format.specs.Tests.{IsRefusedAs}
+use Rattle.object_format.specs.Header.{IsObjectHeader}
+use Rattle.object_format.specs.Tests.{IsObjectRefusedAs}
 use Rattle.object_recovery.specs.Read.{AreFirstOf}
 use Rattle.object_recovery.proofs.ReadLemmas.{why_no_header}
 use Rattle.object_recovery.proofs.reading.read_object.Goals as goal
@@ -15,8 +15,8 @@ own_end-requires-clause-refused g c =
     (subst (AreFirstOf receipt.told) (sym c.as_slice.ensures.value) c.in_ok-read_up_to.ensures.first)
     (omega (arith, c.as_slice.ensures.len, c.in_ok-read_up_to.ensures.count, c.min.ensures, size))
     (g.met.S.Receipt.Receipt.told_whole c.args.receipt.now)
-    (λ header is. c.in-Err.ensures.none header (subst (λ n. IsHeader bytes n expected header) (sym size) is))
-    (subst (λ n. IsRefusedAs bytes n expected c.in-Err.reason) size c.in-Err.ensures.refused) in
+    (λ header is. c.in-Err.ensures.none header (subst (λ n. IsObjectHeader bytes n expected header) (sym size) is))
+    (subst (λ n. IsObjectRefusedAs bytes n expected c.in-Err.reason) size c.in-Err.ensures.refused) in
     why.1
 
 pub returns-clause-read : goal.returns-clause-read
@@ -29,6 +29,6 @@ returns-clause-read g c =
     (subst (AreFirstOf receipt.told) (sym c.as_slice.ensures.value) c.in_ok-read_up_to.ensures.first)
     (omega (arith, c.as_slice.ensures.len, c.in_ok-read_up_to.ensures.count, c.min.ensures, size))
     (g.met.S.Receipt.Receipt.told_whole c.args.receipt.now)
-    (λ header is. c.in-Err.ensures.none header (subst (λ n. IsHeader bytes n expected header) (sym size) is))
-    (subst (λ n. IsRefusedAs bytes n expected c.in-Err.reason) size c.in-Err.ensures.refused) in
+    (λ header is. c.in-Err.ensures.none header (subst (λ n. IsObjectHeader bytes n expected header) (sym size) is))
+    (subst (λ n. IsObjectRefusedAs bytes n expected c.in-Err.reason) size c.in-Err.ensures.refused) in
     (why.1, c.in_ok-end-in-Err.ensures.end)

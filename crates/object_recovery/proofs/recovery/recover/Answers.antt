@@ -4,11 +4,11 @@ use Rattle.lsvd_names.specs.Spelling.{IsUuid}
 use Rattle.lsvd_objstore.specs.Objects.{AreNamesOf, Lists}
 use Rattle.lsvd_objstore.specs.Store.{StoreState}
 use Rattle.object_recovery.specs.declared.error.RecoverError.TheVariants as errors
-use Rattle.object_recovery.specs.Adoption.{IsBegun, Recovers}
+use Rattle.object_recovery.specs.Adoption.{IsRecoveryBegun, Recovers}
 use Rattle.object_recovery.specs.Checkpoints.{expected_of, IsNewestWithEnd}
-use Rattle.object_recovery.specs.Faults.{TellsBytes}
+use Rattle.stopped_volume.specs.Store.{TellsBytes}
 use Rattle.object_recovery.specs.Judging.{HaveLanded}
-use Rattle.object_recovery.specs.Recovery.{IsRecoveredOf, IsNoLonger, AreAllGood, AreNamedWholePast, IsRefused}
+use Rattle.object_recovery.specs.Recovery.{IsRecoveredOf, IsNoLonger, AreAllGood, AreNamedWholePast, IsRecoveryRefused}
 use Rattle.object_recovery.proofs.FindLemmas.{same_store, error_of, passed_on, told_so}
 use Rattle.object_recovery.proofs.RefusalLemmas.{HasNoneAmong, IsNewestAmong, newest_refused, newest_told, newest_with_end}
 use Rattle.object_recovery.proofs.OutcomeLemmas.{told_begun}
@@ -34,7 +34,7 @@ returns-in_err-base-clause-refused g c = λ tells.
     c.in_ok-names.ensures.listed in
     let error = c.in_err-base.field-0.0 in
     let volume = expected_of c.args.uuid c.args.geometry in
-    passed_on (λ e. IfSome told (λ objects. IsRefused volume objects e)) c.from_residual-in_err-base.result error
+    passed_on (λ e. IfSome told (λ objects. IsRecoveryRefused volume objects e)) c.from_residual-in_err-base.result error
     c.from_residual-in_err-base.ensures.1
     (newest_refused told c.args.uuid c.args.geometry names error is_uuid lists c.in_err-base.ensures.answer
     (λ same. subst (λ (s : StoreState). IfSome s.objects (HasNoneAmong c.args.geometry names)) listed
@@ -63,12 +63,13 @@ returns-in_err-log-clause-refused g c = λ tells.
     let given = subst (λ list. IfSome told (λ objects. Lists uuid objects list)) (sym c.as_slice-3.ensures)
     c.in_ok-names.ensures.listed in
     let error = c.in_err-log.field-0.0 in
-    let Begun = IsBegun uuid geometry base.number base.end c.as_slice-3.result.now in
-    passed_on (λ e. IfSome told (λ objects. IsRefused volume objects e)) c.from_residual-in_err-log.result error
+    let Begun = IsRecoveryBegun uuid geometry base.number base.end c.as_slice-3.result.now in
+    passed_on (λ e. IfSome told (λ objects. IsRecoveryRefused volume objects e)) c.from_residual-in_err-log.result error
     c.from_residual-in_err-log.ensures.1
-    (told_begun told uuid geometry base.number base.end c.as_slice-3.result.now (λ objects. IsRefused volume objects error)
+    (told_begun told uuid geometry base.number base.end c.as_slice-3.result.now
+    (λ objects. IsRecoveryRefused volume objects error)
     newest given
-    (subst (λ (s : StoreState). IfSome s.objects (λ objects. Begun objects → IsRefused volume objects error)) after
+    (subst (λ (s : StoreState). IfSome s.objects (λ objects. Begun objects → IsRecoveryRefused volume objects error)) after
     (c.in_err-log.ensures.refused tells)))
 
 pub returns-clause-names : goal.returns-clause-names
@@ -129,7 +130,7 @@ recovers g c tells begun =
     c.in_ok-names.ensures.listed in
     told_begun told uuid geometry base.number base.end c.as_slice-3.result.now
     (λ objects. Recovers (expected_of uuid geometry) base.number objects log) begun given_names
-    (subst (λ (s : StoreState). IfSome s.objects (λ objects. IsBegun uuid geometry base.number base.end
+    (subst (λ (s : StoreState). IfSome s.objects (λ objects. IsRecoveryBegun uuid geometry base.number base.end
     c.as_slice-3.result.now objects
     → Recovers (expected_of uuid geometry) base.number objects log)) after (c.in_ok-log.ensures.recovers tells))
 

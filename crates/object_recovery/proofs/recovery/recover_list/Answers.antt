@@ -4,10 +4,10 @@ use Rattle.std.proofs.lemmas.Bool.Decides.{nat_tests}
 use Rattle.lsvd_base.specs.declared.geometry.Geometry.{Geometry}
 use Rattle.lsvd_objstore.specs.Store.{StoreState}
 use Rattle.batcher.specs.State.{BatchState}
-use Rattle.object_recovery.specs.Adoption.{IsBegun, JudgesRest, RefusesRest}
+use Rattle.object_recovery.specs.Adoption.{IsRecoveryBegun, JudgesRest, RefusesRest}
 use Rattle.object_recovery.specs.Checkpoints.{expected_of}
 use Rattle.object_recovery.specs.Places.{HasPlacesInside}
-use Rattle.object_recovery.specs.Recovery.{IsListUpTo, IsRefused}
+use Rattle.object_recovery.specs.Recovery.{IsListUpTo, IsRecoveryRefused}
 use Rattle.object_recovery.proofs.FindLemmas.{same_store}
 use Rattle.object_recovery.proofs.ListLemmas.{own_list}
 use Rattle.object_recovery.proofs.PlaceLemmas.{no_places}
@@ -31,7 +31,7 @@ pub returns-in-Err-clause-refused : goal.returns-in-Err-clause-refused
 returns-in-Err-clause-refused g c = λ tells.
     let told = (g.S.Store.state c.args.store.now).objects in
     let volume = expected_of c.args.uuid c.args.geometry in
-    let Begun = IsBegun c.args.uuid c.args.geometry c.args.base.now.number c.args.base.now.end c.args.names.now in
+    let Begun = IsRecoveryBegun c.args.uuid c.args.geometry c.args.base.now.number c.args.base.now.end c.args.names.now in
     told_failed told volume Begun c.in-Err.error c.in-Err.ensures.answer
 
 pub returns-in-Err-judge_rest-clause-refused : goal.returns-in-Err-judge_rest-clause-refused

@@ -2,20 +2,20 @@ use Rattle.std.proofs.Common.{rules, tests, Result, Ok, Err, IfOk, IfErr, ◌≡
 use Rattle.replay_script.specs.declared.command.Command.{Command}
 use Rattle.std.specs.declared.alloc.AllocError.{AllocError}
 use Rattle.replay_script.specs.declared.error.LineError.{LineError}
-use Rattle.replay_script.specs.Grammar.{Spells, Spell, IsRefusedAs, AreRefusedAs, words_of}
+use Rattle.replay_script.specs.Grammar.{SpellsCommand, Spell, IsLineRefusedAs, AreRefusedAs, words_of}
 use Rattle.std.proofs.lemmas.Iterator.Consumers.{map_from_collect}
 use Rattle.std.proofs.lemmas.Iterator.Splits.{YieldsList-from_slice_split}
 use Rattle.replay_script.proofs.command.command_of.Goals as goal
 
 -- what the words of the line spell, the line spells
 line_found : (line : List ℕ) (words : List (List ℕ)) (read : Result Command LineError) → words ≡ words_of line
-    → IfOk read (Spell words) → IfOk read (Spells line)
+    → IfOk read (Spell words) → IfOk read (SpellsCommand line)
 line_found line words (Ok command) e (spelled, fits) = record { words = sym e ∙ spelled; fits = fits }
 line_found line words (Err error) e none = tt
 
 -- as the words of the line are refused, the line is
 line_refused : (line : List ℕ) (words : List (List ℕ)) (read : Result Command LineError) → words ≡ words_of line
-    → IfErr read (AreRefusedAs words) → IfErr read (IsRefusedAs line)
+    → IfErr read (AreRefusedAs words) → IfErr read (IsLineRefusedAs line)
 line_refused line words (Ok command) e none = tt
 line_refused line words (Err error) e refused = refused line (sym e)
 

@@ -1,7 +1,7 @@
 use Rattle.std.proofs.Common.{subst}
 use Rattle.std.specs.Prelude.{IfSome}
 use Rattle.stopped_volume.specs.Super.{HasNewestEpoch}
-use Rattle.super_recovery.specs.Found.{IsWhyNoEpoch, IsRefused}
+use Rattle.super_recovery.specs.Found.{IsWhyNoEpoch, IsVolumeRefused}
 use Rattle.super_recovery.proofs.Results.{same_objects, passed_on}
 use Rattle.super_recovery.proofs.FindLemmas.{told_found, told_refused, told_why}
 use Rattle.super_recovery.proofs.finding.find_volume.Goals as goal
@@ -10,7 +10,7 @@ pub returns-in_err-volume-clause-refused : goal.returns-in_err-volume-clause-ref
 returns-in_err-volume-clause-refused g c = λ tells.
     let told = (g.S.Store.state c.args.store.now).objects in
     let error = c.in_err-volume.field-0.0 in
-    passed_on (λ e. IfSome told (λ objects. IsRefused c.args.uuid objects e)) c.from_residual.result error
+    passed_on (λ e. IfSome told (λ objects. IsVolumeRefused c.args.uuid objects e)) c.from_residual.result error
     c.from_residual.ensures.1
     (told_refused told c.args.uuid error (c.in_err-volume.ensures.why tells))
 
@@ -20,7 +20,7 @@ returns-in_err-epoch-clause-refused g c = λ tells.
     let same = same_objects (g.S.Store.state c.args.store.now) (g.S.Store.state c.find_super.new.store)
     c.in_ok-volume.ensures.unchanged in
     let error = c.in_err-epoch.field-0.0 in
-    passed_on (λ e. IfSome told (λ objects. IsRefused c.args.uuid objects e)) c.from_residual-in_err-epoch.result error
+    passed_on (λ e. IfSome told (λ objects. IsVolumeRefused c.args.uuid objects e)) c.from_residual-in_err-epoch.result error
     c.from_residual-in_err-epoch.ensures.1
     (told_why told c.args.uuid c.in_ok-volume.volume error (c.in_ok-volume.ensures.says tells)
     (subst (λ held. IfSome held (λ objects. IsWhyNoEpoch c.args.uuid objects error)) same (c.in_err-epoch.ensures.why tells)))

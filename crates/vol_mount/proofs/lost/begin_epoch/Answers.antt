@@ -1,6 +1,6 @@
 use Rattle.std.proofs.Common.{Err, ◌+◌, inl, sym, ap, subst}
 use Rattle.object_recovery.specs.Checkpoints.{expected_of}
-use Rattle.object_recovery.specs.Faults.{TellsBytes}
+use Rattle.stopped_volume.specs.Store.{TellsBytes}
 use Rattle.object_recovery.specs.Recovery.{RemovesAllPast, MayRemovePast}
 use Rattle.object_recovery.proofs.FindLemmas.{passed_on}
 use Rattle.object_recovery.proofs.RemovalLemmas.{becomes_both, becomes_so}

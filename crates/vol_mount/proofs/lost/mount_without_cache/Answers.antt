@@ -4,7 +4,7 @@ use Rattle.lsvd_fault.specs.Faults.{Counts}
 use Rattle.commit_slot.specs.Formatting.{format_cost, format_calls}
 use Rattle.commit_slot.specs.Sequence.{Costs}
 use Rattle.cache_log.specs.Committed.{first_body, IsFormattedLog}
-use Rattle.object_recovery.specs.Faults.{TellsBytes}
+use Rattle.stopped_volume.specs.Store.{TellsBytes}
 use Rattle.vol_mount.specs.Costs.{CostsNewLog, FailsToFormat}
 use Rattle.vol_mount.specs.Mounts.{MakesWithoutCache, LeavesWithoutCache}
 use Rattle.vol_mount.specs.Passing.{PassesStored}

@@ -4,7 +4,7 @@ use Rattle.lsvd_objstore.specs.Store.{Becomes}
 use Rattle.obj_log.specs.State.{ObjLogState}
 use Rattle.vol_core.specs.Shows.{max_number}
 use Rattle.object_recovery.specs.Checkpoints.{expected_of}
-use Rattle.object_recovery.specs.Faults.{TellsBytes}
+use Rattle.stopped_volume.specs.Store.{TellsBytes}
 use Rattle.object_recovery.specs.Removal.{Removes}
 use Rattle.object_recovery.specs.Recovery.{IsPastOf, MayRemovePast}
 use Rattle.object_recovery.proofs.FindLemmas.{passed_on}

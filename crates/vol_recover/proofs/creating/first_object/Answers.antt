@@ -1,6 +1,6 @@
 use Rattle.std.proofs.Common.{◌≡◌, ◌∙◌, None, length, ap, subst, rules}
 use Rattle.object_format.specs.declared.rows.Rows.TheVariants.{Checkpoint}
-use Rattle.object_format.specs.Writing.{header_of, front_bytes}
+use Rattle.object_format.specs.Writing.{object_header_of, front_bytes}
 use Rattle.vol_recover.specs.Creating.{IsFirstObject}
 use Rattle.vol_recover.proofs.CreateLemmas.{first_object_is}
 use Rattle.vol_recover.proofs.Results.{ok_if}
@@ -10,7 +10,7 @@ pub returns : goal.returns
 returns c =
     let size : length c.into_bytes.result ≡ 16 = search rules in
     let uuid : length c.args.uuid ≡ 16 = subst (λ b. length b ≡ 16) c.into_bytes.ensures size in
-    let front = ap (λ uuid. front_bytes (header_of (record {
+    let front = ap (λ uuid. front_bytes (object_header_of (record {
       uuid = uuid;
       number = 1;
       sectors = c.args.geometry.now.sectors;

@@ -4,7 +4,7 @@ use Rattle.lsvd_base.specs.declared.geometry.Geometry.{Geometry}
 use Rattle.lsvd_fault.specs.Faults.{Counts}
 use Rattle.lsvd_objstore.specs.Store.{StoreState}
 use Rattle.commit_slot.specs.Slots.{log_of}
-use Rattle.object_recovery.specs.Faults.{TellsBytes}
+use Rattle.stopped_volume.specs.Store.{TellsBytes}
 use Rattle.object_recovery.proofs.FindLemmas.{same_store}
 use Rattle.vol_mount.specs.Mounts.{MountsWithCache}
 use Rattle.vol_mount.specs.Refusals.{IsUnfitting, IsWhyNotStored, refuses, is_store_fault_of}

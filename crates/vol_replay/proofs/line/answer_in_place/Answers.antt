@@ -1,6 +1,6 @@
 use Rattle.std.proofs.Common.{sym, ap, subst, arith}
 use Rattle.std.specs.Prelude.{Some}
-use Rattle.vol_replay.specs.Lines.{AnswersCommand, lines_of}
+use Rattle.vol_replay.specs.Lines.{AnswersCommand, lines_answered}
 use Rattle.vol_replay.proofs.line.answer_in_place.Goals as goal
 
 pub returns-clause-ok : goal.returns-clause-ok
@@ -11,4 +11,4 @@ returns-clause-ok c =
 
 pub returns-clause-lines : goal.returns-clause-lines
 returns-clause-lines c =
-    omega (arith, ap lines_of c.replace.ensures.after, ap lines_of c.take.ensures.value, c.in_ok-made.ensures.lines)
+    omega (arith, ap lines_answered c.replace.ensures.after, ap lines_answered c.take.ensures.value, c.in_ok-made.ensures.lines)

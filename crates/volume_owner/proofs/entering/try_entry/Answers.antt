@@ -1,7 +1,7 @@
 use Rattle.std.proofs.Common.{sym, ◌∙◌, ap, subst}
 use Rattle.lsvd_fault.specs.Faults.{Counts}
 use Rattle.vol_core.specs.Calls.{event_of}
-use Rattle.vol_core.specs.Step.{HandsBack, Steps}
+use Rattle.vol_core.specs.Step.{HandsBack, CountedStep}
 use Rattle.volume_owner.specs.Acts.{MakesStep}
 use Rattle.volume_owner.specs.Calls.{MakesSteps}
 use Rattle.volume_owner.specs.Helping.{entered_by, attempt_failed, MayTryAgain}
@@ -12,9 +12,9 @@ use Rattle.volume_owner.proofs.entering.try_entry.Goals as goal
 
 -- the step is one of the entry's event
 steps : (g : given.Over) (c : goal.After-attempt_of g)
-    → Steps g.R.Receipt.state (event_of c.args.entry) c.step.result c.args.volume.now c.step.new.self
+    → CountedStep g.R.Receipt.state (event_of c.args.entry) c.step.result c.args.volume.now c.step.new.self
 steps g c =
-    subst (λ e. Steps g.R.Receipt.state e c.step.result c.args.volume.now c.step.new.self) c.event_for.ensures
+    subst (λ e. CountedStep g.R.Receipt.state e c.step.result c.args.volume.now c.step.new.self) c.event_for.ensures
     c.step.ensures
 
 pub returns : goal.returns

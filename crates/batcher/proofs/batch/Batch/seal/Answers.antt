@@ -1,7 +1,7 @@
 use Rattle.std.proofs.Common.{◌<◌, ◌-◌, min, Some, length, sym, ap, subst, ◌∙◌, arith}
 use Rattle.std.specs.VecDeque.{deque_capacity}
 use Rattle.extent_map.specs.Extents.{IsShortest, AllFit}
-use Rattle.batcher.specs.Places.{place_number, place_on}
+use Rattle.batcher.specs.Places.{batch_place_number, place_on}
 use Rattle.batcher.specs.State.{BatchState}
 use Rattle.batcher.specs.Sealing.{IsExpectedOf, IsSealed}
 use Rattle.batcher.proofs.Sealed.{may_be_sealed, is_sealed}
@@ -14,7 +14,7 @@ write_object-requires c =
     may_be_sealed b.geometry b.first b.entries.items b.sectors b.plan c.self.invariant
     (subst (λ s. 0 < length s.entries) (sym c.self.view_is) c.requires.some)
     c.deref.result.now (sym is) (subst (IsShortest place_on) is c.in_ok-extents.ensures.shortest) c.args.expected.now
-    (subst (AllFit place_number) is c.in_ok-extents.ensures.fits)
+    (subst (AllFit batch_place_number) is c.in_ok-extents.ensures.fits)
     (c.requires.expected.sectors ∙ ap (λ s. s.geometry.sectors) (sym c.self.view_is))
     (c.requires.expected.end_before ∙ ap (λ s. Some s.first) (sym c.self.view_is))
 
@@ -39,7 +39,7 @@ returns c =
     c.self.view_is
     (is_sealed batch b.sectors b.plan c.self.invariant (subst (λ s. 0 < length s.entries) (sym c.self.view_is) c.requires.some)
     c.deref.result.now (sym is) (subst (IsShortest place_on) is c.in_ok-extents.ensures.shortest) c.args.expected.now
-    (subst (AllFit place_number) is c.in_ok-extents.ensures.fits)
+    (subst (AllFit batch_place_number) is c.in_ok-extents.ensures.fits)
     (subst (λ s. IsExpectedOf s c.args.expected.now) (sym c.self.view_is)
     (record { sectors = c.requires.expected.sectors; end_before = c.requires.expected.end_before }))
     c.in_ok-written.written c.in_ok-written.ensures c.keep_widths.ensures.uuid c.keep_widths.ensures.number c.in_ok-plan.plan

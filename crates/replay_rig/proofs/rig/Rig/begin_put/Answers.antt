@@ -5,7 +5,7 @@ use Rattle.plain_disk.specs.Step.{plain_after}
 use Rattle.lsvd_objstore.specs.Memory.{told_receipt}
 use Rattle.vol_core.specs.declared.event.Event.TheVariants.{TakeJob}
 use Rattle.vol_core.specs.declared.reply.Reply.TheVariants as told
-use Rattle.vol_core.specs.Step.{Steps}
+use Rattle.vol_core.specs.Step.{CountedStep}
 use Rattle.replay_rig.specs.declared.answer.Answer.TheVariants as answers
 use Rattle.replay_rig.specs.Steps.{AnswersEvent}
 use Rattle.replay_rig.specs.Puts.{with_begun}
@@ -28,7 +28,7 @@ pub invariant_of-self-in_default : goal.invariant_of-self-in_default
 invariant_of-self-in_default c =
     let inside = c.self.inside in
     let old : RigState = rig_of inside.volume inside.store inside.puts.list inside.is_stopping inside.lines in
-    let of : Steps told_receipt TakeJob c.step.result inside.volume c.step.new.self = c.step.ensures in
+    let of : CountedStep told_receipt TakeJob c.step.result inside.volume c.step.new.self = c.step.ensures in
     let known = c.self.invariant in (
       plain_after events.TakeJob known.0,
       ((begun_none old c.step.new.self c.step.result c.reserve.new.self.list c.reserve.ensures.list c.in_default.not-Taken
@@ -40,7 +40,7 @@ pub returns-in_default : goal.returns-in_default
 returns-in_default c =
     let inside = c.self.inside in
     let old : RigState = rig_of inside.volume inside.store inside.puts.list inside.is_stopping inside.lines in
-    let of : Steps told_receipt TakeJob c.step.result inside.volume c.step.new.self = c.step.ensures in
+    let of : CountedStep told_receipt TakeJob c.step.result inside.volume c.step.new.self = c.step.ensures in
     let now : RigState = rig_of c.step.new.self inside.store c.reserve.new.self.list inside.is_stopping (inside.lines + 1) in
     record {
       ok = subst (λ r. AnswersEvent events.TakeJob answers.Nothing r now) c.self.view_is
@@ -53,7 +53,7 @@ pub invariant_of-self-2 : goal.invariant_of-self-2
 invariant_of-self-2 c =
     let inside = c.self.inside in
     let old : RigState = rig_of inside.volume inside.store inside.puts.list inside.is_stopping inside.lines in
-    let of : Steps told_receipt TakeJob (told.Taken c.in-Taken.job) inside.volume c.step.new.self = c.in-Taken.ensures in
+    let of : CountedStep told_receipt TakeJob (told.Taken c.in-Taken.job) inside.volume c.step.new.self = c.in-Taken.ensures in
     let known = c.self.invariant in
     let same = c.begin.ensures ∙ ap (λ puts. with_begun c.in-Taken.job.name.number c.in-Taken.job.bytes puts)
     c.in_ok-reserve.ensures.list in (
@@ -67,7 +67,7 @@ pub returns-clause-ok : goal.returns-clause-ok
 returns-clause-ok c =
     let inside = c.self.inside in
     let old : RigState = rig_of inside.volume inside.store inside.puts.list inside.is_stopping inside.lines in
-    let of : Steps told_receipt TakeJob (told.Taken c.in-Taken.job) inside.volume c.step.new.self = c.in-Taken.ensures in
+    let of : CountedStep told_receipt TakeJob (told.Taken c.in-Taken.job) inside.volume c.step.new.self = c.in-Taken.ensures in
     let now : RigState = rig_of c.step.new.self inside.store c.begin.new.self.list inside.is_stopping (inside.lines + 1) in
     let same = c.begin.ensures ∙ ap (λ puts. with_begun c.in-Taken.job.name.number c.in-Taken.job.bytes puts)
     c.in_ok-reserve.ensures.list in

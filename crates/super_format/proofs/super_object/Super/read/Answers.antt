@@ -2,7 +2,7 @@ use Rattle.std.proofs.Common.{length, sym, ◌∙◌, ap, subst, arith}
 use Rattle.std.proofs.lemmas.List.{take_rest, length-drop}
 use Rattle.clone_chain.specs.Chain.{IsChain}
 use Rattle.super_format.specs.declared.reason.Reason.TheVariants as reasons
-use Rattle.super_format.specs.Tests.{IsReasonOf}
+use Rattle.super_format.specs.Tests.{IsSuperReason}
 use Rattle.super_format.proofs.TestLemmas.{HasRead, refused_as_no_chain, refused_as_own, super_is_read}
 use Rattle.super_format.proofs.super_object.Super.read.Goals.{In_ok-ancestors, In-Some}
 use Rattle.super_format.proofs.super_object.Super.read.Goals as goal
@@ -26,7 +26,7 @@ has_read c = record {
 pub returns-in_default-clause-refused : goal.returns-in_default-clause-refused
 returns-in_default-clause-refused c =
     let has = has_read (goal.at.returns-in_default-clause-refused c).In_ok-ancestors in
-    subst (IsReasonOf c.args.bytes.now c.args.uuid) (sym c.into.ensures)
+    subst (IsSuperReason c.args.bytes.now c.args.uuid) (sym c.into.ensures)
     (refused_as_no_chain c.args.bytes.now c.args.uuid c.read_u32.result c.in_ok-ancestors.ancestors.items has
     c.in_default.ensures.none)
 
@@ -41,7 +41,7 @@ has_chain c = record {
 pub returns-then-is_some-clause-refused : goal.returns-then-is_some-clause-refused
 returns-then-is_some-clause-refused c =
     let has = has_chain (goal.at.returns-then-is_some-clause-refused c).In-Some in
-    subst (IsReasonOf c.args.bytes.now c.args.uuid) (sym c.into-then-is_some.ensures)
+    subst (IsSuperReason c.args.bytes.now c.args.uuid) (sym c.into-then-is_some.ensures)
     (refused_as_own c.args.bytes.now c.args.uuid c.read_u32.result c.in-Some.chain c.level_of.result has c.level_of.ensures.found
     (sym c.is_some.ensures ∙ c.if-is_some.true))
 
