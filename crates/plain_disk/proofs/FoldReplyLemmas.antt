@@ -17,6 +17,7 @@ use Rattle.plain_disk.specs.declared.event.PlainEvent.TheVariants.{Write, Zero, 
 use Rattle.plain_disk.specs.declared.event.PlainEvent.TheVariants.{JobFailed, Status}
 use Rattle.plain_disk.specs.declared.event.PlainReply.{PlainReply}
 use Rattle.plain_disk.specs.declared.event.PlainReply.TheVariants as replies
+use Rattle.plain_disk.specs.declared.event.PlannedRead.{PlannedRead}
 use Rattle.plain_disk.specs.Sectors.{sectors_at}
 use Rattle.plain_disk.specs.Writers.{covers_sector, read_calls}
 use Rattle.plain_disk.specs.Log.{room_in}
@@ -86,10 +87,17 @@ objects_of_fold state number lba sectors h =
     ∙ ap (λ l. objects_by (frontier_of state) lba sectors (owners (stream_in state) (frontier_of state)) l)
     (logged_of_fold state number h)
 
+abbrev planned_by : (lba sectors : ℕ) → (count : ℕ) → Image → List ℕ → PlannedRead
+planned_by lba sectors count image objects = record {
+  history_length = count;
+  «data» = sectors_at lba sectors image;
+  objects = objects;
+}
+
 abbrev look_by : PlainState → (lba sectors : ℕ) → (calls count : ℕ) → Image → List ℕ → PlainReply
 look_by state lba sectors calls count image objects =
     cond (may_transfer state.geometry lba sectors)
-    (cond (passes state.cache.left calls) (replies.Planned count (sectors_at lba sectors image) objects) replies.Fault)
+    (cond (passes state.cache.left calls) (replies.Planned (planned_by lba sectors count image objects)) replies.Fault)
     replies.Range
 
 look_of_fold : (state : PlainState) (number lba sectors : ℕ) → MayFold state number

@@ -6,6 +6,7 @@ use Rattle.lsvd_device.specs.Calls.{passes}
 use Rattle.object_stream.specs.Stream.{owners, is_own}
 use Rattle.plain_disk.specs.declared.event.PlainReply.{PlainReply}
 use Rattle.plain_disk.specs.declared.event.PlainReply.TheVariants.{Planned, Released, Range, Nothing, Fault}
+use Rattle.plain_disk.specs.declared.event.PlannedRead.{PlannedRead}
 use Rattle.plain_disk.specs.Sectors.{sectors_at}
 use Rattle.plain_disk.specs.Writers.{covers_sector, read_calls}
 use Rattle.plain_disk.specs.Cache.{after_reads}
@@ -29,12 +30,19 @@ look_calls state lba sectors = read_calls (logged_entries state) lba sectors
 abbrev pub passes_look : PlainState → (lba sectors : ℕ) → Bool
 passes_look state lba sectors = passes state.cache.left (look_calls state lba sectors)
 
--- what a read answers: a plan that gives the sectors as they are now
+-- what a plan of a read says: it gives the sectors as they are now
+abbrev pub planned_read : PlainState → (lba sectors : ℕ) → PlannedRead
+planned_read state lba sectors = record {
+  history_length = history_length state;
+  «data» = sectors_at lba sectors (image_now state);
+  objects = objects_read state lba sectors;
+}
+
+-- what a read answers
 abbrev pub look_reply : PlainState → (lba sectors : ℕ) → PlainReply
 look_reply state lba sectors =
     if may_transfer state.geometry lba sectors then
-    (if passes_look state lba sectors
-    then Planned (history_length state) (sectors_at lba sectors (image_now state)) (objects_read state lba sectors) else Fault)
+    (if passes_look state lba sectors then Planned (planned_read state lba sectors) else Fault)
     else Range
 
 -- what it leaves: the objects of the plan are pinned

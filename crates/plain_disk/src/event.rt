@@ -28,6 +28,17 @@ pub enum PlainEvent {
     Status,
 }
 
+/// What a plan of a read says.
+#[derive(Drop)]
+pub struct PlannedRead {
+    /// How many entries the history has.
+    pub history_length: u64,
+    /// The data of the sectors of the read, in the image that this history makes.
+    pub data: Body,
+    /// The numbers of the objects that the plan pins, in ascending order.
+    pub objects: ObjectNumbers,
+}
+
 /// What the plain volume answers.
 #[derive(Drop)]
 pub enum PlainReply {
@@ -35,13 +46,8 @@ pub enum PlainReply {
     Entered(u64),
     /// Each entry so far is durable; the history has this length.
     Flushed(u64),
-    /// A plan of a read: how long the history is, the data of its sectors in the image that this history
-    /// makes, and the objects that the plan pins, in ascending order.
-    Planned {
-        front: u64,
-        data: Body,
-        objects: ObjectNumbers,
-    },
+    /// The read was planned.
+    Planned(PlannedRead),
     /// The plan was given back.
     Released,
     /// The object with this number was sealed.

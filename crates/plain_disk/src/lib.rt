@@ -15,7 +15,7 @@ mod numbers;
 mod plain_laws;
 
 pub use cache::PendingWrite;
-pub use event::{PlainEvent, PlainReply};
+pub use event::{PlainEvent, PlainReply, PlannedRead};
 pub use log::{PlainCommit, PlainRecord};
 pub use numbers::ObjectNumbers;
 pub use plain_laws::{

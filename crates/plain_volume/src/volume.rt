@@ -30,7 +30,7 @@ use crate::writers::{last_writers, run_count};
 use log_room::record_sectors;
 use lsvd_base::{Entry, Geometry, in_range};
 use object_stream::{Content, PlainStream, StreamObject};
-use plain_disk::{ObjectNumbers, PendingWrite, PlainEvent, PlainReply};
+use plain_disk::{ObjectNumbers, PendingWrite, PlainEvent, PlainReply, PlannedRead};
 use std::alloc::{AllocError, Global};
 use std::marker::Model;
 use upload_window::OpenObject;
@@ -281,11 +281,11 @@ impl PlainVolume {
             return Ok(PlainReply::Fault);
         }
         self.pins = pins;
-        Ok(PlainReply::Planned {
-            front: self.history_length(),
+        Ok(PlainReply::Planned(PlannedRead {
+            history_length: self.history_length(),
             data,
             objects: ObjectNumbers::new(numbers),
-        })
+        }))
     }
 
     // The calls of a read that may be made: one for each maximal run of its sectors that one same entry past

@@ -20,10 +20,10 @@ use Rattle.plain_disk.specs.declared.event.PlainEvent.{PlainEvent}
 use Rattle.plain_disk.specs.declared.event.PlainEvent.TheVariants as events
 use Rattle.plain_disk.specs.declared.event.PlainReply.{PlainReply}
 use Rattle.plain_disk.specs.declared.event.PlainReply.TheVariants as replies
-use Rattle.plain_disk.specs.Sectors.{sectors_at}
+use Rattle.plain_disk.specs.declared.event.PlannedRead.{PlannedRead}
 use Rattle.plain_disk.specs.Cache.{PlainCache, after_reads}
-use Rattle.plain_disk.specs.State.{PlainState, history_length, image_now}
-use Rattle.plain_disk.specs.Reads.{objects_read, look_calls, passes_look, are_pinned, without_pins}
+use Rattle.plain_disk.specs.State.{PlainState}
+use Rattle.plain_disk.specs.Reads.{objects_read, look_calls, passes_look, planned_read, are_pinned, without_pins}
 use Rattle.plain_disk.specs.Step.{plain_reply, plain_after}
 use Rattle.transcript.specs.Answers.{released_by}
 use Rattle.read_plan.specs.Plan.{PlanState, Gives, GivesNoOther}
@@ -32,7 +32,7 @@ use Rattle.vol_core.specs.declared.reply.Refusal.{Refusal}
 use Rattle.vol_core.specs.declared.reply.Refusal.TheVariants as refusals
 use Rattle.vol_core.specs.declared.reply.Reply.{Reply}
 use Rattle.vol_core.specs.declared.reply.Reply.TheVariants as told
-use Rattle.vol_core.specs.Events.{Tells, TellsRefusal}
+use Rattle.vol_core.specs.Events.{TellsRead, Tells, TellsRefusal}
 use Rattle.vol_core.specs.Volume.{VolumeState, SteppedVolume}
 use Rattle.batcher.specs.declared.full.Full.TheVariants as full
 use Rattle.vol_core.specs.Step.{CountedStep}
@@ -135,52 +135,49 @@ look_shows lba sectors old volume plain reply h of =
 
 -- ---- a look without a plan
 
-refusal_no_plan : (why : Refusal) (front : ℕ) (bytes objects : List ℕ) → TellsRefusal why (replies.Planned front bytes objects)
-    → ⊥
-refusal_no_plan refusals.Range front bytes objects tells = cc
-refusal_no_plan (refusals.Full (full.Sectors sectors)) front bytes objects tells = cc
-refusal_no_plan (refusals.Full (full.Entries count)) front bytes objects tells = cc
-refusal_no_plan (refusals.NoRoom lacking left) front bytes objects tells = cc
-refusal_no_plan refusals.Fault front bytes objects tells = cc
-refusal_no_plan refusals.OutOfMemory front bytes objects tells = tells
+refusal_no_plan : (why : Refusal) (read : PlannedRead) → TellsRefusal why (replies.Planned read) → ⊥
+refusal_no_plan refusals.Range read tells = cc
+refusal_no_plan (refusals.Full (full.Sectors sectors)) read tells = cc
+refusal_no_plan (refusals.Full (full.Entries count)) read tells = cc
+refusal_no_plan (refusals.NoRoom lacking left) read tells = cc
+refusal_no_plan refusals.Fault read tells = cc
+refusal_no_plan refusals.OutOfMemory read tells = tells
 
 -- a reply that is no plan tells none
-no_plan_told : (volume : VolumeState) (reply : Reply Kept) (front : ℕ) (bytes objects : List ℕ)
+no_plan_told : (volume : VolumeState) (reply : Reply Kept) (read : PlannedRead)
     → ((plan : PlanState) → reply ≡ told.Planned plan → ⊥)
-    → Tells told_receipt volume reply (replies.Planned front bytes objects) → ⊥
-no_plan_told volume (told.Entered count) front bytes objects none tells = cc
-no_plan_told volume (told.NotEntered entry why) front bytes objects none tells = refusal_no_plan why front bytes objects tells
-no_plan_told volume (told.Flushed count) front bytes objects none tells = cc
-no_plan_told volume (told.Planned plan) front bytes objects none tells = none plan refl
-no_plan_told volume told.Released front bytes objects none tells = cc
-no_plan_told volume (told.NotReleased plan) front bytes objects none tells = cc
-no_plan_told volume (told.Sealed number) front bytes objects none tells = cc
-no_plan_told volume (told.Taken job) front bytes objects none tells = (let is = tells.0 in cc)
-no_plan_told volume (told.Done frontier) front bytes objects none tells = cc
-no_plan_told volume (told.NotDone job receipt) front bytes objects none tells = cc
-no_plan_told volume told.Returned front bytes objects none tells = cc
-no_plan_told volume (told.NotReturned job) front bytes objects none tells = cc
-no_plan_told volume (told.Told writes sealed frontier checkpoint) front bytes objects none tells = cc
-no_plan_told volume told.Range front bytes objects none tells = cc
-no_plan_told volume told.Nothing front bytes objects none tells = cc
-no_plan_told volume told.Busy front bytes objects none tells = cc
-no_plan_told volume told.Fault front bytes objects none tells = cc
-no_plan_told volume told.OutOfMemory front bytes objects none tells = tells
+    → Tells told_receipt volume reply (replies.Planned read) → ⊥
+no_plan_told volume (told.Entered count) read none tells = cc
+no_plan_told volume (told.NotEntered entry why) read none tells = refusal_no_plan why read tells
+no_plan_told volume (told.Flushed count) read none tells = cc
+no_plan_told volume (told.Planned plan) read none tells = none plan refl
+no_plan_told volume told.Released read none tells = cc
+no_plan_told volume (told.NotReleased plan) read none tells = cc
+no_plan_told volume (told.Sealed number) read none tells = cc
+no_plan_told volume (told.Taken job) read none tells = (let is = tells.0 in cc)
+no_plan_told volume (told.Done frontier) read none tells = cc
+no_plan_told volume (told.NotDone job receipt) read none tells = cc
+no_plan_told volume told.Returned read none tells = cc
+no_plan_told volume (told.NotReturned job) read none tells = cc
+no_plan_told volume (told.Told writes sealed frontier checkpoint) read none tells = cc
+no_plan_told volume told.Range read none tells = cc
+no_plan_told volume told.Nothing read none tells = cc
+no_plan_told volume told.Busy read none tells = cc
+no_plan_told volume told.Fault read none tells = cc
+no_plan_told volume told.OutOfMemory read none tells = tells
 
 -- then the plain volume plans none either, and has nothing to be given back
 record PlansNone (reply : PlainReply) : Type 0 where
   counts : IsCountReply reply
   stays : (plain : PlainState) → released_by reply plain ≡ plain
 
-plans_none : (volume : VolumeState) (reply : Reply Kept) (front : ℕ) (bytes objects : List ℕ) (may passes : Bool)
+plans_none : (volume : VolumeState) (reply : Reply Kept) (read : PlannedRead) (may passes : Bool)
     → ((plan : PlanState) → reply ≡ told.Planned plan → ⊥)
-    → Tells told_receipt volume reply (if may then (if passes then replies.Planned front bytes objects else replies.Fault) else
-    replies.Range)
-    → PlansNone (if may then (if passes then replies.Planned front bytes objects else replies.Fault) else replies.Range)
-plans_none volume reply front bytes objects true true none tells =
-    absurd (no_plan_told volume reply front bytes objects none tells)
-plans_none volume reply front bytes objects true false none tells = record { counts = tt; stays = λ plain. refl }
-plans_none volume reply front bytes objects false passes none tells = record { counts = tt; stays = λ plain. refl }
+    → Tells told_receipt volume reply (if may then (if passes then replies.Planned read else replies.Fault) else replies.Range)
+    → PlansNone (if may then (if passes then replies.Planned read else replies.Fault) else replies.Range)
+plans_none volume reply read true true none tells = absurd (no_plan_told volume reply read none tells)
+plans_none volume reply read true false none tells = record { counts = tt; stays = λ plain. refl }
+plans_none volume reply read false passes none tells = record { counts = tt; stays = λ plain. refl }
 
 pub read_refused : (lba sectors : ℕ) (old : RigState) (volume : SteppedVolume) (reply : Reply Kept)
     (result : Result Answer AllocError)
@@ -197,8 +194,7 @@ read_refused lba sectors old volume reply (Ok answer) none of says = record {
       (no_room_needed old.volume.volume.log.commits.disk.budget h.pending.told) of) [
         | inl s ↦
             let tells = subst (λ e. Tells told_receipt old.volume.volume reply (plain_reply plain e)) s.asks s.tells in
-            let plans = plans_none old.volume.volume reply (history_length plain) (sectors_at lba sectors (image_now plain))
-            (objects_read plain lba sectors)
+            let plans = plans_none old.volume.volume reply (planned_read plain lba sectors)
             (may_transfer plain.geometry lba sectors) (passes_look plain lba sectors) none tells in
             let shown = subst (λ e. ShowsPlain rig (plain_after e plain)) s.asks
             (looked_rig lba sectors old volume plain reply s.asked h of s.asks s.now) in (
@@ -214,9 +210,9 @@ read_refused lba sectors old volume reply (Ok answer) none of says = record {
 -- what the plain volume answers, and the rig after the look
 record IsPlanned (lba sectors : ℕ) (plan : PlanState) (old : RigState) (middle : SteppedVolume) (plain : PlainState) :
     Type 0 where
-  bytes : List ℕ
-  is : plain_reply plain (events.Look lba sectors) ≡ replies.Planned plan.front bytes plan.objects
-  gives : IfSome old.volume.volume.log.entries (λ list. Gives plan bytes)
+  read : PlannedRead
+  is : plain_reply plain (events.Look lba sectors) ≡ replies.Planned read
+  tells : TellsRead old.volume.volume plan read
   now : ShowsPlain (rig_of middle old.objects old.puts old.is_stopping (old.lines + 1))
       (plain_after (events.Look lba sectors) plain)
 
@@ -232,9 +228,9 @@ is_planned lba sectors old middle plain plan h of =
           let tells = subst (λ e. Tells told_receipt old.volume.volume (told.Planned plan) (plain_reply plain e))
           s.asks s.tells in
           record {
-            bytes = tells.0;
+            read = tells.0;
             is = tells.1;
-            gives = tells.2;
+            tells = tells.2;
             now = subst (λ e. ShowsPlain rig (plain_after e plain)) s.asks
                 (looked_rig lba sectors old middle plain (told.Planned plan) s.asked h of s.asks s.now);
           }
@@ -296,12 +292,14 @@ read_planned lba sectors old middle volume plan reply held on_disk of back only 
       let rig : RigState = rig_of volume old.objects old.puts old.is_stopping (old.lines + 1) in
       let event : PlainEvent = events.Look lba sectors in
       let planned = is_planned lba sectors old middle plain plan h of in
-      let bytes : List ℕ = planned.bytes in
+      let bytes : List ℕ = planned.read.data in
+      let looked : PlainState = plain_after event plain in
       let gives = told_here (Gives plan bytes) _ log.rows log.commits.disk.moments log.entries on_disk.entries h.pending.pending
-      planned.gives in (
+      planned.tells.gives in (
         subst (λ r. SaysReply r (answers.Sectors held)) (sym planned.is) (held, refl, sym (only bytes gives)),
-        subst (λ r. ShowsPlain rig (released_by r (plain_after event plain))) (sym planned.is)
-            (given_back lba sectors old middle volume plain plan reply h of back planned.now),
+        subst (λ r. ShowsPlain rig (released_by r looked)) (sym planned.is)
+            (subst (λ objects. ShowsPlain rig (plain_after (events.Release objects) looked)) planned.tells.objects
+            (given_back lba sectors old middle volume plain plan reply h of back planned.now)),
       );
 }
 

@@ -39,7 +39,7 @@ use Rattle.replay_rig.specs.Steps.{is_counted}
 abbrev pub IsCountReply : PlainReply → Type 0
 IsCountReply (replies.Entered count) = Unit {0}
 IsCountReply (replies.Flushed count) = Unit {0}
-IsCountReply (replies.Planned front bytes objects) = ⊥
+IsCountReply (replies.Planned read) = ⊥
 IsCountReply replies.Released = ⊥
 IsCountReply (replies.Sealed number) = Unit {0}
 IsCountReply (replies.Taken number) = ⊥

@@ -17,7 +17,7 @@ use Rattle.replay_rig.specs.declared.answer.Answer.TheVariants.{Busy, Fault}
 abbrev pub SaysReply : PlainReply → Answer → Type 0
 SaysReply (replies.Entered count) answer = answer ≡ Entries count
 SaysReply (replies.Flushed count) answer = answer ≡ Entries count
-SaysReply (replies.Planned front bytes objects) answer = (held : Vec ℕ) × (answer ≡ Sectors held) × (held.items ≡ bytes)
+SaysReply (replies.Planned read) answer = (held : Vec ℕ) × (answer ≡ Sectors held) × (held.items ≡ read.data)
 SaysReply replies.Released answer = ⊥
 SaysReply (replies.Sealed number) answer = answer ≡ Sealed number
 SaysReply (replies.Taken number) answer = answer ≡ Put number

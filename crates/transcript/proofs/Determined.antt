@@ -26,7 +26,7 @@ use Rattle.transcript.specs.Transcript.{IsTranscript}
 one_telling : (reply : PlainReply) (a b : List ℕ) → TellsReply reply a → TellsReply reply b → a ≡ b
 one_telling (Entered count) a b s t = s ∙ sym t
 one_telling (Flushed count) a b s t = s ∙ sym t
-one_telling (Planned front bytes objects) a b s t = one_run_text bytes a b s t
+one_telling (Planned read) a b s t = one_run_text read.data a b s t
 one_telling Released a b s t = absurd s
 one_telling (Sealed number) a b s t = s ∙ sym t
 one_telling (Taken number) a b s t = s ∙ sym t

@@ -30,7 +30,7 @@ along state plain is h = let P : State → Type 0 = λ s. IsPlainState s in subs
 
 -- a plan that is given back leaves a plain volume
 released_keeps : (reply : PlainReply) (plain : PlainState) → IsPlainVolume plain → IsPlainVolume (released_by reply plain)
-released_keeps (Planned front bytes objects) plain h = events_keep plain (events.Release objects) h
+released_keeps (Planned read) plain h = events_keep plain (events.Release read.objects) h
 released_keeps reply plain h = h
 
 -- a command that is answered leaves a plain volume

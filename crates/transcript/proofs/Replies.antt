@@ -31,7 +31,7 @@ use Rattle.transcript.specs.Answers.{TellsReply}
 abbrev pub IsLineReply : PlainReply → Type 0
 IsLineReply (Entered count) = Unit {0}
 IsLineReply (Flushed count) = Unit {0}
-IsLineReply (Planned front bytes objects) = Unit {0}
+IsLineReply (Planned read) = Unit {0}
 IsLineReply Released = ⊥
 IsLineReply (Sealed number) = Unit {0}
 IsLineReply (Taken number) = Unit {0}
@@ -50,7 +50,7 @@ IsLineReply Fault = Unit {0}
 pub some_telling : (reply : PlainReply) → IsLineReply reply → (text : List ℕ) × TellsReply reply text
 some_telling (Entered count) is = (codes "ok " ++ decimal count, refl)
 some_telling (Flushed count) is = (codes "ok " ++ decimal count, refl)
-some_telling (Planned front bytes objects) is = some_run_text bytes
+some_telling (Planned read) is = some_run_text read.data
 some_telling Released is = absurd is
 some_telling (Sealed number) is = (codes "sealed " ++ decimal number, refl)
 some_telling (Taken number) is = (codes "put " ++ decimal number, refl)

@@ -26,7 +26,7 @@ State = Option PlainState
 abbrev pub TellsReply : PlainReply → List ℕ → Type 0
 TellsReply (Entered count) text = text ≡ codes "ok " ++ decimal count
 TellsReply (Flushed count) text = text ≡ codes "ok " ++ decimal count
-TellsReply (Planned front bytes objects) text = IsRunText bytes text
+TellsReply (Planned read) text = IsRunText read.data text
 TellsReply Released text = ⊥
 TellsReply (Sealed number) text = text ≡ codes "sealed " ++ decimal number
 TellsReply (Taken number) text = text ≡ codes "put " ++ decimal number
@@ -48,7 +48,7 @@ AnswersStep plain event text next = TellsReply (plain_reply plain event) text ×
 
 -- a read gives the plan back that it was answered
 abbrev pub released_by : PlainReply → PlainState → PlainState
-released_by (Planned front bytes objects) plain = plain_after (events.Release objects) plain
+released_by (Planned read) plain = plain_after (events.Release read.objects) plain
 released_by reply plain = plain
 
 abbrev pub AnswersLook : PlainState → (lba sectors : ℕ) → List ℕ → State → Type 0

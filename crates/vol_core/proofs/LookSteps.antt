@@ -16,10 +16,9 @@ use Rattle.refine_log.proofs.PendingShown.{still_shows_pending}
 use Rattle.plain_disk.specs.declared.event.PlainEvent.TheVariants as events
 use Rattle.plain_disk.specs.declared.event.PlainReply.{PlainReply}
 use Rattle.plain_disk.specs.declared.event.PlainReply.TheVariants as replies
-use Rattle.plain_disk.specs.Sectors.{sectors_at}
 use Rattle.plain_disk.specs.Cache.{PlainCache}
-use Rattle.plain_disk.specs.State.{PlainState, history_length, image_now}
-use Rattle.plain_disk.specs.Reads.{objects_read, look_calls, look_reply, after_look}
+use Rattle.plain_disk.specs.State.{PlainState}
+use Rattle.plain_disk.specs.Reads.{objects_read, look_calls, planned_read, look_reply, after_look}
 use Rattle.plain_disk.specs.Valid.{IsPlainVolume}
 use Rattle.refine_log.specs.Fuses.{fuse_in}
 use Rattle.refine_log.proofs.Shown.{same_shows_same}
@@ -110,9 +109,7 @@ unlooked_shown old log pins plain shows same pinned =
 -- its answer and its pins after it, where the device passes its calls, or not
 abbrev read_reply : (are_made : Bool) (lba sectors : ℕ) → PlainState → PlainReply
 read_reply are_made lba sectors plain =
-    if are_made then replies.Planned (history_length plain) (sectors_at lba sectors (image_now plain))
-    (objects_read plain lba sectors)
-    else replies.Fault
+    if are_made then replies.Planned (planned_read plain lba sectors) else replies.Fault
 
 abbrev read_pins : (are_made : Bool) (lba sectors : ℕ) → PlainState → List ℕ
 read_pins are_made lba sectors plain = if are_made then plain.pins ++ objects_read plain lba sectors else plain.pins
@@ -187,13 +184,12 @@ module _ {R : Type 0} (state : R → ReceiptState) (old : VolumeState) (lba sect
   planned_step plan log pins is whole pinned reads =
       let shown = read_shown old plain shows ordered lba sectors may in
       let inside = read_ends old plain shows ordered lba sectors may in
-      let bytes = sectors_at lba sectors (image_now plain) in
       let numbers = objects_read plain lba sectors in
       let objects = objects_are_read shows.data_at old.objects old.log plain shown lba sectors inside plan.objects is.objects in
       let front = is.front ∙ (shown_have_counts shows.data_at old.objects plain ordered shows.valid shows.objects).next in
       let gives = plan_gives_read shows.data_at old.objects old.log plain shown lba sectors inside plan is whole in
       read_step (told.Planned plan) log pins true reads
-      (bytes, ap (λ n. replies.Planned n bytes numbers) (sym front) ∙ ap (replies.Planned plan.front bytes) (sym objects), gives)
+      (planned_read plain lba sectors, refl, record { history_length = front; objects = objects; gives = gives })
       (λ number.
       let both = pinned number in
       let before = shows.pins number in

@@ -1,15 +1,16 @@
 -- Contract: what an event asks of the plain volume, and which of its replies a reply tells.
-use Rattle.std.specs.Prelude.{◌≡◌, ℕ, Option, Some, None, IfSome, List}
+use Rattle.std.specs.Prelude.{◌≡◌, ℕ, Option, Some, None, IfSome}
 use Rattle.lsvd_objstore.specs.Store.{ReceiptState}
 use Rattle.object_stream.specs.Replay.{name_of}
 use Rattle.object_uploads.specs.State.{JobState}
 use Rattle.object_uploads.specs.Changes.{IsOut, IsJobOf}
 use Rattle.batcher.specs.declared.full.Full.TheVariants as full
-use Rattle.read_plan.specs.Plan.{Gives}
+use Rattle.read_plan.specs.Plan.{PlanState, Gives}
 use Rattle.plain_disk.specs.declared.event.PlainEvent.{PlainEvent}
 use Rattle.plain_disk.specs.declared.event.PlainEvent.TheVariants as events
 use Rattle.plain_disk.specs.declared.event.PlainReply.{PlainReply}
 use Rattle.plain_disk.specs.declared.event.PlainReply.TheVariants as replies
+use Rattle.plain_disk.specs.declared.event.PlannedRead.{PlannedRead}
 use Rattle.vol_core.specs.declared.event.Event.{Event}
 use Rattle.vol_core.specs.declared.event.Event.TheVariants.{Write, Zero, Flush, Look, Release, Seal, TakeJob, JobDone, JobFailed}
 use Rattle.vol_core.specs.declared.event.Event.TheVariants.{Status}
@@ -60,15 +61,19 @@ TellsRefusal (refusals.NoRoom need free) reply = reply ≡ replies.NoRoom need f
 TellsRefusal refusals.Fault reply = reply ≡ replies.Fault
 TellsRefusal refusals.OutOfMemory reply = ⊥
 
--- A reply tells one of the plain volume. A plan gives the data that the plain volume answers, where the disk tells the entries of
--- the log's list; a job is that of the number.
+-- a plan tells what the plain volume says of a read: it gives the data, where the disk tells the entries of the log's list
+pub record TellsRead (volume : VolumeState) (plan : PlanState) (read : PlannedRead) : Type 0 where
+  pub history_length : plan.front ≡ read.history_length
+  pub objects : plan.objects ≡ read.objects
+  pub gives : IfSome volume.log.entries (λ list. Gives plan read.data)
+
+-- a reply tells one of the plain volume; a job is that of the number
 abbrev pub Tells : {R : Type 0} → (R → ReceiptState) → VolumeState → Reply R → PlainReply → Type 0
 Tells state volume (told.Entered count) reply = reply ≡ replies.Entered count
 Tells state volume (told.NotEntered entry why) reply = TellsRefusal why reply
 Tells state volume (told.Flushed count) reply = reply ≡ replies.Flushed count
 Tells state volume (told.Planned plan) reply =
-    (bytes : List ℕ) × (reply ≡ replies.Planned plan.front bytes plan.objects)
-    × IfSome volume.log.entries (λ list. Gives plan bytes)
+    (read : PlannedRead) × (reply ≡ replies.Planned read) × TellsRead volume plan read
 Tells state volume told.Released reply = reply ≡ replies.Released
 Tells state volume (told.NotReleased plan) reply = reply ≡ replies.Nothing
 Tells state volume (told.Sealed number) reply = reply ≡ replies.Sealed number

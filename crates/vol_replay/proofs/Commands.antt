@@ -37,8 +37,8 @@ tells_reply : (reply : PlainReply) (answer : Answer) (text : List ℕ) → SaysR
     → TellsReply reply text
 tells_reply (replies.Entered count) answer text says tells = subst (λ a. TellsAnswer a text) says tells
 tells_reply (replies.Flushed count) answer text says tells = subst (λ a. TellsAnswer a text) says tells
-tells_reply (replies.Planned front bytes objects) answer text says tells =
-    subst (λ read. IsRunText read text) says.2 (subst (λ a. TellsAnswer a text) says.1 tells)
+tells_reply (replies.Planned read) answer text says tells =
+    subst (λ bytes. IsRunText bytes text) says.2 (subst (λ a. TellsAnswer a text) says.1 tells)
 tells_reply replies.Released answer text says tells = absurd says
 tells_reply (replies.Sealed number) answer text says tells = subst (λ a. TellsAnswer a text) says tells
 tells_reply (replies.Taken number) answer text says tells = subst (λ a. TellsAnswer a text) says tells

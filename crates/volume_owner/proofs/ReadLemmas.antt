@@ -17,8 +17,8 @@ use Rattle.plain_disk.specs.Cache.{passes_commit, after_reads}
 use Rattle.plain_disk.specs.Sectors.{sectors_at}
 use Rattle.plain_disk.specs.State.{PlainState, history_length, image_now}
 use Rattle.plain_disk.specs.Entries.{flush_reply, after_flush}
-use Rattle.plain_disk.specs.Reads.{look_calls, passes_look, objects_read, look_reply, after_look, unpinned, are_pinned}
-use Rattle.plain_disk.specs.Reads.{without_pins}
+use Rattle.plain_disk.specs.Reads.{look_calls, passes_look, objects_read, planned_read, look_reply, after_look, unpinned}
+use Rattle.plain_disk.specs.Reads.{are_pinned, without_pins}
 use Rattle.plain_disk.specs.Step.{plain_reply, plain_after}
 use Rattle.plain_disk.proofs.FlushLemmas.{flush_commits}
 use Rattle.read_plan.specs.Plan.{PlanState, Gives, GivesNoOther}
@@ -27,7 +27,7 @@ use Rattle.vol_core.specs.declared.reply.Reply.{Reply}
 use Rattle.vol_core.specs.declared.reply.Reply.TheVariants as told
 use Rattle.vol_core.specs.Volume.{VolumeState, SteppedVolume}
 use Rattle.vol_core.specs.Shows.{Shows}
-use Rattle.vol_core.specs.Events.{Tells}
+use Rattle.vol_core.specs.Events.{TellsRead, Tells}
 use Rattle.vol_core.specs.Step.{passing, IsStep, IsNoStep, lacks_memory, tells_fault, CountedStep}
 use Rattle.vol_core.proofs.StepLemmas.{passing_keeps}
 use Rattle.volume_owner.specs.Owner.{IsIdle}
@@ -177,31 +177,16 @@ record IsAfterLook {R : Type 0} (state : R → ReceiptState) (reply : Reply R) (
   shows : Shows new (passing now (after_look lba sectors (passing left plain)))
   tells : Tells state old reply (look_reply (passing left plain) lba sectors)
 
--- what a plan has of the plain volume
-pub record IsPlanOf (plan : PlanState) (lba sectors : ℕ) (plain : PlainState) (volume : VolumeState) : Type 0 where
-  pub front : plan.front ≡ history_length plain
-  pub objects : plan.objects ≡ objects_read plain lba sectors
-  pub gives : IfSome volume.log.entries (λ list. Gives plan (sectors_at lba sectors (image_now plain)))
-
+-- a plan tells what the plain volume says of the read
 planned_by : {R : Type 0} (state : R → ReceiptState) (volume : VolumeState) (plan : PlanState) (lba sectors : ℕ)
     (plain : PlainState) (may passed : Bool)
     → Tells {R = R} state volume (told.Planned plan)
-    (if may then (if passed then replies.Planned (history_length plain) (sectors_at lba sectors (image_now plain))
-    (objects_read plain lba sectors) else replies.Fault) else replies.Range)
-    → (may ≡ true) × (passed ≡ true) × IsPlanOf plan lba sectors plain volume
+    (if may then (if passed then replies.Planned (planned_read plain lba sectors) else replies.Fault) else replies.Range)
+    → (may ≡ true) × (passed ≡ true) × TellsRead volume plan (planned_read plain lba sectors)
 planned_by state volume plan lba sectors plain true true tells =
-    let (bytes, is, gives) = tells in
-    let front : plan.front ≡ history_length plain = cc in
-    let objects : plan.objects ≡ objects_read plain lba sectors = cc in
-    let same : bytes ≡ sectors_at lba sectors (image_now plain) = cc in (
-      refl,
-      refl,
-      record {
-        front = front;
-        objects = objects;
-        gives = subst (λ b. IfSome volume.log.entries (λ list. Gives plan b)) same gives;
-      },
-    )
+    let (read, is, told_read) = tells in
+    let same : read ≡ planned_read plain lba sectors = cc in
+    (refl, refl, subst (TellsRead volume plan) same told_read)
 planned_by state volume plan lba sectors plain true false tells = (let is = tells.1 in let bad : ⊥ = cc in absurd bad)
 planned_by state volume plan lba sectors plain false passed tells = (let is = tells.1 in let bad : ⊥ = cc in absurd bad)
 
@@ -239,14 +224,13 @@ module _ {R : Type 0} (state : R → ReceiptState) (reply : Reply R) (lba sector
   looked_idle_by : (plain : PlainState) (left now : Fuse) (may passed : Bool) → IsIdlePlain plain
       → ((plan : PlanState) → reply ≡ told.Planned plan → ⊥)
       → Tells state old.volume reply
-      (if may then (if passed then replies.Planned (history_length plain) (sectors_at lba sectors (image_now plain))
-      (objects_read plain lba sectors) else replies.Fault) else replies.Range)
+      (if may then (if passed then replies.Planned (planned_read plain lba sectors) else replies.Fault) else replies.Range)
       → Shows new.volume (passing now (if may then record (passing left plain) {
         cache = after_reads (look_calls plain lba sectors) (passing left plain).cache;
         pins = if passed then plain.pins ++ objects_read plain lba sectors else plain.pins;
       } else passing left plain)) → IsIdle new.volume
   looked_idle_by plain left now true true was not_planned tells shows =
-      let planned = tells_planned state old.volume reply _ _ _ tells in absurd (not_planned planned.0 planned.1)
+      let planned = tells_planned state old.volume reply _ tells in absurd (not_planned planned.0 planned.1)
   looked_idle_by plain left now true false was not_planned tells shows =
       idle_shown new.volume _ shows (record { puts = was.puts; plans = was.plans })
   looked_idle_by plain left now false passed was not_planned tells shows =
@@ -267,21 +251,20 @@ module _ {R : Type 0} (state : R → ReceiptState) (reply : Reply R) (lba sector
   pub record IsLooked (plan : PlanState) (plain : PlainState) : Type 0 where
     pub after : PlainState
     pub shows : Shows new.volume after
-    pub of_plain : IsPlanOf plan lba sectors plain old.volume
+    pub tells_read : TellsRead old.volume plan (planned_read plain lba sectors)
     pub window : after.window ≡ plain.window
     pub pins : after.pins ≡ plain.pins ++ plan.objects
 
   looked_by : (plan : PlanState) (plain : PlainState) (left now : Fuse) (may passed : Bool)
       → Tells {R = R} state old.volume (told.Planned plan)
-      (if may then (if passed then replies.Planned (history_length plain) (sectors_at lba sectors (image_now plain))
-      (objects_read plain lba sectors) else replies.Fault) else replies.Range)
+      (if may then (if passed then replies.Planned (planned_read plain lba sectors) else replies.Fault) else replies.Range)
       → Shows new.volume (passing now (if may then record (passing left plain) {
         cache = after_reads (look_calls plain lba sectors) (passing left plain).cache;
         pins = if passed then plain.pins ++ objects_read plain lba sectors else plain.pins;
       } else passing left plain)) → IsLooked plan plain
   looked_by plan plain left now true true tells shows =
       let is = (planned_by state old.volume plan lba sectors plain true true tells).2 in
-      record { after = _; shows = shows; of_plain = is; window = refl; pins = ap (λ o. plain.pins ++ o) (sym is.objects) }
+      record { after = _; shows = shows; tells_read = is; window = refl; pins = ap (λ o. plain.pins ++ o) (sym is.objects) }
   looked_by plan plain left now true false tells shows = (let is = tells.1 in let bad : ⊥ = cc in absurd bad)
   looked_by plan plain left now false passed tells shows = (let is = tells.1 in let bad : ⊥ = cc in absurd bad)
 
@@ -348,12 +331,13 @@ module _ {R : Type 0} (state : R → ReceiptState) (reply : Reply R) (lba sector
 
   pub looked_length : (plan : PlanState) (plain : PlainState) → Shows old.volume plain → reply ≡ told.Planned plan
       → IsLengthOf plan.front old.volume
-  looked_length plan plain shows is = length_is plan.front old.volume plain shows (looked plan plain shows is).of_plain.front
+  looked_length plan plain shows is =
+      length_is plan.front old.volume plain shows (looked plan plain shows is).tells_read.history_length
 
   pub looked_sectors : (plan : PlanState) (bytes : List ℕ) → reply ≡ told.Planned plan → length bytes / 512 ≡ sectors
       → (((receipt : R) → IsSome (state receipt).told) → GivesNoOther plan bytes) → HasSectors state old.volume lba bytes
   looked_sectors plan bytes is size gives tells plain shows =
-      let gave = (looked plan plain shows is).of_plain.gives in
+      let gave = (looked plan plain shows is).tells_read.gives in
       let had : Gives plan (sectors_at lba sectors (image_now plain)) = if_some old.volume.log.entries _ tells.log gave in
       sym (gives tells.receipts (sectors_at lba sectors (image_now plain)) had)
       ∙ ap (λ n. sectors_at lba n (image_now plain)) (sym size)

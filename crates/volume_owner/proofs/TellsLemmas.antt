@@ -1,11 +1,12 @@
 -- Which replies of a volume tell a reply of the plain volume.
-use Rattle.std.proofs.Common.{◌≡◌, ℕ, true, false, List, refl, ap}
+use Rattle.std.proofs.Common.{◌≡◌, ℕ, true, false, refl, ap}
 use Rattle.lsvd_objstore.specs.Store.{ReceiptState}
 use Rattle.object_uploads.specs.State.{JobState}
 use Rattle.read_plan.specs.Plan.{PlanState}
 use Rattle.batcher.specs.declared.full.Full.TheVariants as full
 use Rattle.plain_disk.specs.declared.event.PlainReply.{PlainReply}
 use Rattle.plain_disk.specs.declared.event.PlainReply.TheVariants as replies
+use Rattle.plain_disk.specs.declared.event.PlannedRead.{PlannedRead}
 use Rattle.vol_core.specs.declared.reply.Refusal.{Refusal}
 use Rattle.vol_core.specs.declared.reply.Refusal.TheVariants as refusals
 use Rattle.vol_core.specs.declared.reply.Reply.{Reply}
@@ -135,37 +136,34 @@ tells_sealed state volume told.Fault number tells = let bad : ⊥ = cc in absurd
 tells_sealed state volume told.OutOfMemory number tells = absurd tells
 
 -- that a read was planned
-tells_planned_refusal : (why : Refusal) (front : ℕ) (bytes objects : List ℕ)
-    → TellsRefusal why (replies.Planned front bytes objects) → ⊥
-tells_planned_refusal refusals.Range front bytes objects tells = cc
-tells_planned_refusal (refusals.Full (full.Sectors sectors)) front bytes objects tells = cc
-tells_planned_refusal (refusals.Full (full.Entries entries)) front bytes objects tells = cc
-tells_planned_refusal (refusals.NoRoom needed left) front bytes objects tells = cc
-tells_planned_refusal refusals.Fault front bytes objects tells = cc
-tells_planned_refusal refusals.OutOfMemory front bytes objects tells = tells
+tells_planned_refusal : (why : Refusal) (read : PlannedRead) → TellsRefusal why (replies.Planned read) → ⊥
+tells_planned_refusal refusals.Range read tells = cc
+tells_planned_refusal (refusals.Full (full.Sectors sectors)) read tells = cc
+tells_planned_refusal (refusals.Full (full.Entries entries)) read tells = cc
+tells_planned_refusal (refusals.NoRoom needed left) read tells = cc
+tells_planned_refusal refusals.Fault read tells = cc
+tells_planned_refusal refusals.OutOfMemory read tells = tells
 
-pub tells_planned : {R : Type 0} (state : R → ReceiptState) (volume : VolumeState) (reply : Reply R) (front : ℕ)
-    (bytes objects : List ℕ)
-    → Tells state volume reply (replies.Planned front bytes objects) → (plan : PlanState) × (reply ≡ told.Planned plan)
-tells_planned state volume (told.Entered n) front bytes objects tells = let bad : ⊥ = cc in absurd bad
-tells_planned state volume (told.NotEntered entry why) front bytes objects tells =
-    absurd (tells_planned_refusal why front bytes objects tells)
-tells_planned state volume (told.Flushed n) front bytes objects tells = let bad : ⊥ = cc in absurd bad
-tells_planned state volume (told.Planned plan) front bytes objects tells = (plan, refl)
-tells_planned state volume told.Released front bytes objects tells = let bad : ⊥ = cc in absurd bad
-tells_planned state volume (told.NotReleased plan) front bytes objects tells = let bad : ⊥ = cc in absurd bad
-tells_planned state volume (told.Sealed n) front bytes objects tells = let bad : ⊥ = cc in absurd bad
-tells_planned state volume (told.Taken job) front bytes objects tells = let is = tells.0 in let bad : ⊥ = cc in absurd bad
-tells_planned state volume (told.Done n) front bytes objects tells = let bad : ⊥ = cc in absurd bad
-tells_planned state volume (told.NotDone job receipt) front bytes objects tells = let bad : ⊥ = cc in absurd bad
-tells_planned state volume told.Returned front bytes objects tells = let bad : ⊥ = cc in absurd bad
-tells_planned state volume (told.NotReturned job) front bytes objects tells = let bad : ⊥ = cc in absurd bad
-tells_planned state volume (told.Told a b c d) front bytes objects tells = let bad : ⊥ = cc in absurd bad
-tells_planned state volume told.Range front bytes objects tells = let bad : ⊥ = cc in absurd bad
-tells_planned state volume told.Nothing front bytes objects tells = let bad : ⊥ = cc in absurd bad
-tells_planned state volume told.Busy front bytes objects tells = let bad : ⊥ = cc in absurd bad
-tells_planned state volume told.Fault front bytes objects tells = let bad : ⊥ = cc in absurd bad
-tells_planned state volume told.OutOfMemory front bytes objects tells = absurd tells
+pub tells_planned : {R : Type 0} (state : R → ReceiptState) (volume : VolumeState) (reply : Reply R) (read : PlannedRead)
+    → Tells state volume reply (replies.Planned read) → (plan : PlanState) × (reply ≡ told.Planned plan)
+tells_planned state volume (told.Entered n) read tells = let bad : ⊥ = cc in absurd bad
+tells_planned state volume (told.NotEntered entry why) read tells = absurd (tells_planned_refusal why read tells)
+tells_planned state volume (told.Flushed n) read tells = let bad : ⊥ = cc in absurd bad
+tells_planned state volume (told.Planned plan) read tells = (plan, refl)
+tells_planned state volume told.Released read tells = let bad : ⊥ = cc in absurd bad
+tells_planned state volume (told.NotReleased plan) read tells = let bad : ⊥ = cc in absurd bad
+tells_planned state volume (told.Sealed n) read tells = let bad : ⊥ = cc in absurd bad
+tells_planned state volume (told.Taken job) read tells = let is = tells.0 in let bad : ⊥ = cc in absurd bad
+tells_planned state volume (told.Done n) read tells = let bad : ⊥ = cc in absurd bad
+tells_planned state volume (told.NotDone job receipt) read tells = let bad : ⊥ = cc in absurd bad
+tells_planned state volume told.Returned read tells = let bad : ⊥ = cc in absurd bad
+tells_planned state volume (told.NotReturned job) read tells = let bad : ⊥ = cc in absurd bad
+tells_planned state volume (told.Told a b c d) read tells = let bad : ⊥ = cc in absurd bad
+tells_planned state volume told.Range read tells = let bad : ⊥ = cc in absurd bad
+tells_planned state volume told.Nothing read tells = let bad : ⊥ = cc in absurd bad
+tells_planned state volume told.Busy read tells = let bad : ⊥ = cc in absurd bad
+tells_planned state volume told.Fault read tells = let bad : ⊥ = cc in absurd bad
+tells_planned state volume told.OutOfMemory read tells = absurd tells
 
 -- that a call of the device failed
 pub tells_failed : {R : Type 0} (state : R → ReceiptState) (volume : VolumeState) (reply : Reply R)

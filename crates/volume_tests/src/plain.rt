@@ -2,7 +2,7 @@ use crate::answer::{Answer, Objects, Sectors};
 use crate::real::GEOMETRY;
 use crate::step::{Byte, Step};
 use lsvd_base::Body;
-use plain_disk::{ObjectNumbers, PlainEvent, PlainReply};
+use plain_disk::{ObjectNumbers, PlainEvent, PlainReply, PlannedRead};
 use plain_volume::PlainVolume;
 use std::alloc::{AllocError, Global};
 use test_output::TestError;
@@ -38,12 +38,13 @@ impl Plain {
 
     fn look(&mut self, lba: u64, sectors: u64) -> Result<Answer, TestError> {
         match self.volume.step(PlainEvent::Look { lba, sectors })? {
-            PlainReply::Planned {
-                front,
-                data,
-                objects,
-            } => {
-                let planned = Answer::Planned(front, Objects::of(objects.as_slice()));
+            PlainReply::Planned(read) => {
+                let PlannedRead {
+                    history_length,
+                    data,
+                    objects,
+                } = read;
+                let planned = Answer::Planned(history_length, Objects::of(objects.as_slice()));
                 self.data = Some(data);
                 self.objects = Some(objects);
                 Ok(planned)
@@ -138,7 +139,7 @@ fn answer_of(reply: &PlainReply) -> Answer {
     match reply {
         PlainReply::Entered(count) => Answer::Entered(*count),
         PlainReply::Flushed(count) => Answer::Flushed(*count),
-        PlainReply::Planned { data, .. } => Answer::Data(Sectors::of(data.as_bytes())),
+        PlainReply::Planned(read) => Answer::Data(Sectors::of(read.data.as_bytes())),
         PlainReply::Released => Answer::Released,
         PlainReply::Sealed(number) => Answer::Sealed(*number),
         PlainReply::Taken(number) => Answer::Taken(*number),
