@@ -1,6 +1,6 @@
 -- What a flush does, and a look with the release of its plan.
 use Rattle.std.proofs.Common.{◌≡◌, ℕ, ◌/◌, ◌==◌, nat_eq, ◌⊎◌, inl, inr, Bool, true, false, cond, ◌&&◌, ◌||◌, List, [], ◌∷◌, ◌++◌}
-use Rattle.std.proofs.Common.{length, refl, sym, ◌∙◌, ap, subst}
+use Rattle.std.proofs.Common.{length, refl, sym, ◌∙◌, ap, subst, arith}
 use Rattle.std.specs.Prelude.{Option, Some, None, IfSome, IsSome, Ok, Err, if◌then◌else◌}
 use Rattle.std.specs.List.{list_any}
 use Rattle.std.proofs.lemmas.Bool.{eq-eqb}
@@ -110,8 +110,12 @@ module _ {R : Type 0} (state : R → ReceiptState) (reply : Reply R) (old new : 
             let commits = flush_commits ready (history_length plain) (passing_keeps after.left plain shows.valid) replied in
             let durable : done.cache.log.last.head.seq ≡ history_length done = commits.1 in (
               length_is count new.volume done after.shows same,
-              λ other others. committed_is new.volume done other after.shows others ∙ durable
-                  ∙ length_is (history_length done) new.volume done after.shows refl other others,
+              λ plain shown other others.
+                  (let committed : other.cache.log.last.head.seq ≡ history_length done =
+                  committed_is new.volume done other after.shows others ∙ durable in
+                  let whole : history_length done ≡ history_length plain =
+                  length_is (history_length done) new.volume done after.shows refl plain shown in
+                  omega (arith, committed, whole)),
               no_fault,
             )
         | inr fault ↦ (let bad : ⊥ = cc in absurd bad)

@@ -25,9 +25,13 @@ Adds added old new = (plain : PlainState) → Shows old plain → (after : Plain
 abbrev pub IsLengthOf : ℕ → VolumeState → Type 0
 IsLengthOf count volume = (plain : PlainState) → Shows volume plain → count ≡ history_length plain
 
--- each entry of a volume's history is committed
+-- each of the first N entries of a volume's history is committed
+abbrev pub IsDurableTo : (seq : ℕ) → VolumeState → Type 0
+IsDurableTo seq volume = (plain : PlainState) → Shows volume plain → seq ≤ plain.cache.log.last.head.seq
+
+-- each entry of a volume's history is committed: it is durable to its length
 abbrev pub IsDurable : VolumeState → Type 0
-IsDurable volume = (plain : PlainState) → Shows volume plain → plain.cache.log.last.head.seq ≡ history_length plain
+IsDurable volume = (plain : PlainState) → Shows volume plain → IsDurableTo (history_length plain) volume
 
 -- Each entry of a volume's history is in an object, each object is acknowledged, and each entry is committed.
 pub record IsDrained (volume : VolumeState) : Type 0 where
