@@ -133,11 +133,10 @@ empty_again size seq =
     }
 
 pub mounts_lost_again : MountsLostAgain
-mounts_lost_again plain number =
+mounts_lost_again size plain number =
     let end : ℕ = end_of_object number plain in
-    let mounted : PlainState = mounted_without number plain in
+    let mounted : PlainState = mounted_without size number plain in
     let again : ℕ = end_of_object number mounted in
-    let size : ℕ = plain.cache.log.size in
     let same_end : again ≡ end = cut_end plain number in
     let few : ℕ = end - plain.end in
     let entries = cut_entries (max again end - plain.end) few few plain.entries (omega (arith, same_end)) (omega arith) in
@@ -159,13 +158,12 @@ lost_of plain number many most =
     (same_end, cut_entries _ (end - plain.end) many plain.entries (ap (λ n. n - plain.end) same_end) most)
 
 pub loses_again : LosesAgain
-loses_again plain found number =
+loses_again size other plain found number =
     let end : ℕ = end_of_object number plain in
-    let size : ℕ = plain.cache.log.size in
     let objects = cut_objects plain number in
     let kept = lost_of plain number (max end found.head.seq - plain.end) (omega arith) in
     let lost = lost_of plain number (end - plain.end) (omega arith) in
-    let mounted : PlainState = mounted_without number plain in (
+    let mounted : PlainState = mounted_without size number plain in (
       λ i. record mounted { entries = kept.1 i; objects = objects i; cache = cache_with (empty_from size (kept.0 i)) },
       λ i. record mounted { entries = lost.1 i; objects = objects i; cache = cache_with (empty_from size (lost.0 i)) },
     )

@@ -178,4 +178,4 @@ mounted_is_going_on uuid owner plain found number objects left valid has_objects
     ap (λ l. l ++ drop few (take many plain.entries)) (sym (take-take few many plain.entries (omega arith)))
     ∙ take-append-drop few (take many plain.entries)
     ∙ ap (λ c. take (max end c.head.seq - plain.end) plain.entries) has.commit in
-    λ i. record (mounted_without number plain) { entries = entries i; cache = cache_with (log i) }
+    λ i. record (mounted_without plain.geometry.log number plain) { entries = entries i; cache = cache_with (log i) }

@@ -1,66 +1,116 @@
 -- What a mount without the cache makes of a plain volume, and that the list that was recovered shows it.
-use Rattle.std.proofs.Common.{◌≡◌, ℕ, ◌-◌, ◌<◌, ◌≤◌, [], take, refl, sym, ◌∙◌, ap, subst, arith}
+use Rattle.std.proofs.Common.{◌≡◌, ℕ, ◌-◌, ◌<◌, ◌≤◌, true, [], take, refl, sym, ◌∙◌, ap, subst, arith}
+use Rattle.std.specs.Prelude.{IsTrue}
+use Rattle.std.proofs.Math.Path.{subst₂}
 use Rattle.std.proofs.lemmas.List.{take-take}
+use Rattle.std.proofs.lemmas.List.Elements.{All-weaker}
+use Rattle.lsvd_base.specs.declared.entry.Entry.{Entry}
+use Rattle.lsvd_base.specs.declared.entry.Entry.TheVariants.{Write, Zero}
+use Rattle.lsvd_base.specs.declared.geometry.Geometry.{Geometry}
 use Rattle.lsvd_base.specs.Image.{after}
+use Rattle.lsvd_base.specs.Limits.{is_within_limits}
+use Rattle.lsvd_base.specs.Range.{is_in_range}
+use Rattle.log_room.specs.Room.{max_log}
 use Rattle.object_stream.specs.Stream.{end_after, last_number}
 use Rattle.object_uploads.specs.Image.{HasImage}
 use Rattle.plain_disk.specs.Log.{empty_from}
-use Rattle.plain_disk.specs.Cache.{cache_with}
+use Rattle.plain_disk.specs.Cache.{PlainCache, cache_with}
 use Rattle.plain_disk.specs.State.{PlainState, stream_in, history_length, frontier_end}
+use Rattle.plain_disk.specs.Stops.{recovered_end, mounted_lost}
 use Rattle.plain_disk.specs.Valid.{IsPlainVolume, IsPlainLog}
 use Rattle.plain_disk.proofs.EndLemmas.{ends_within}
+use Rattle.plain_disk.proofs.EventLemmas.{log_has_sectors}
 use Rattle.plain_disk.proofs.MountLemmas.{cut_is, cut_count}
 use Rattle.refine_objects.specs.Shows.{settled_image}
-use Rattle.refine_mount.specs.Mounted.{end_of_object, mounted_without}
+use Rattle.refine_mount.specs.Mounted.{end_of_object, cut_to_object, sizes_with, mounted_without}
 use Rattle.refine_mount.specs.Laws.{MountsByNumber, MountedIsAtRest, RecoveredShowsObjects}
 
 -- ---- what a mount is to make
 
 pub mounts_by_number : MountsByNumber
-mounts_by_number plain landed kept = (refl, refl)
+mounts_by_number plain landed kept = (
+  refl,
+  ap (λ size. record (mounted_lost landed plain) { cache = cache_with (empty_from size (recovered_end landed plain)) }),
+)
 
 -- ---- the volume at rest
 
--- a log as long as the volume's, without entries
-emptied_is : (plain : PlainState) (end : ℕ) → IsPlainVolume plain → IsPlainLog end end (empty_from plain.cache.log.size end)
-emptied_is plain end valid =
-    let some : 0 < plain.cache.log.size = omega (arith, valid.log.room.head) in
-    record {
-      counted = omega arith;
-      room = record { limit = valid.log.room.limit; head = some; used = omega arith };
-      last = record { order = omega arith; tail = omega arith; head = omega arith; place = some };
-      unfinished = tt;
-    }
+-- a log of so many sectors, without entries
+emptied_is : (size end : ℕ) → 0 < size → size ≤ max_log → IsPlainLog end end (empty_from size end)
+emptied_is size end some most = record {
+  counted = omega arith;
+  room = record { limit = most; head = some; used = omega arith };
+  last = record { order = omega arith; tail = omega arith; head = omega arith; place = some };
+  unfinished = tt;
+}
+
+-- the entries that a volume takes do not depend on its log
+still_in_range : (log : ℕ) (geometry : Geometry) (entry : Entry) → is_in_range geometry entry ≡ true
+    → is_in_range (sizes_with log geometry) entry ≡ true
+still_in_range log geometry (Write lba body) in_range = in_range
+still_in_range log geometry (Zero lba sectors) in_range = in_range
+
+-- a plain volume has another cache, whose log may be of another length
+moved_is : (log : ℕ) (plain : PlainState) (cache : PlainCache) → IsPlainVolume plain
+    → IsTrue (is_within_limits (sizes_with log plain.geometry)) → cache.log.size ≡ log
+    → IsPlainLog (frontier_end plain) (history_length plain) cache.log
+    → IsPlainVolume (record plain { geometry = sizes_with log plain.geometry; cache = cache })
+moved_is log plain cache valid limits size of_log = record {
+  limits = limits;
+  sectors = valid.sectors;
+  owned = valid.owned;
+  in_range =
+      All-weaker (λ entry. is_in_range plain.geometry entry ≡ true)
+      (λ entry. is_in_range (sizes_with log plain.geometry) entry ≡ true) (still_in_range log plain.geometry) plain.entries
+      valid.in_range;
+  stream = valid.stream;
+  window = valid.window;
+  last = valid.last;
+  opened = valid.opened;
+  numbered = valid.numbered;
+  checkpoint = valid.checkpoint;
+  log = of_log;
+  size = size;
+}
 
 -- an object after which a volume was cut off ends where it did before
-cut_end : (plain : PlainState) (number : ℕ) → frontier_end (mounted_without number plain) ≡ end_of_object number plain
+cut_end : (plain : PlainState) (number : ℕ) → frontier_end (cut_to_object number plain) ≡ end_of_object number plain
 cut_end plain number =
     let count = number - plain.number in
     ap (end_after plain.end) (take-take count count plain.objects (omega arith))
 
 pub mounted_is_at_rest : MountedIsAtRest
-mounted_is_at_rest uuid plain number objects valid has =
-    let end = end_of_object number plain in
+mounted_is_at_rest uuid log plain number objects valid has limits =
+    let end : ℕ = end_of_object number plain in
     let from : plain.number ≤ number = omega (arith, has.stored.stored.base, has.stored.stored.missing.above) in
     let last : number ≤ last_number (stream_in plain) = has.stored.stored.last in
     let within : end ≤ history_length plain = ends_within plain number valid last in
-    let cache = cache_with (empty_from plain.cache.log.size end) in
+    let frontier = cut_end plain number in
+    let history = cut_count plain number end valid (omega arith) within in
+    let same : PlainCache = cache_with (empty_from plain.cache.log.size end) in
+    let old_log = emptied_is plain.cache.log.size end (omega (arith, valid.log.room.head)) valid.log.room.limit in
+    let old = cut_is plain number end same valid from last (omega arith) within valid.size old_log in
+    let sectors = log_has_sectors (sizes_with log plain.geometry) limits in
+    let of_log = subst₂ (λ e c. IsPlainLog e c (empty_from log end)) (sym frontier) (sym history)
+    (emptied_is log end sectors.0 sectors.1) in
     record {
-      valid = cut_is plain number end cache valid from last (omega arith) within valid.size (emptied_is plain end valid);
+      valid =
+          moved_is log (record (cut_to_object number plain) { cache = same }) (cache_with (empty_from log end)) old limits refl
+          of_log;
       geometry_is = refl;
       checkpoint_is = refl;
       none = refl;
-      frontier = cut_end plain number;
-      history = cut_count plain number end valid (omega arith) within;
+      frontier = frontier;
+      history = history;
       pins = refl;
-      cache = ap (λ size. cache_with (empty_from size end)) valid.size;
+      cache = refl;
     }
 
 -- ---- the list
 
 -- all entries that are left are in objects
 cut_image : (plain : PlainState) (number : ℕ)
-    → settled_image (mounted_without number plain) ≡ after plain.opening
+    → settled_image (cut_to_object number plain) ≡ after plain.opening
     (take (end_of_object number plain - plain.end) plain.entries)
 cut_image plain number =
     let count = end_of_object number plain - plain.end in
@@ -68,7 +118,7 @@ cut_image plain number =
     ∙ ap (after plain.opening) (take-take count count plain.entries (omega arith))
 
 pub recovered_shows_objects : RecoveredShowsObjects
-recovered_shows_objects uuid data_at plain number objects log valid has list recovered =
+recovered_shows_objects uuid data_at size plain number objects log valid has list recovered =
     let entries = take (end_of_object number plain - plain.end) plain.entries in
     let image = cut_image plain number ∙ ap (λ opening. after opening entries) has.blank_is in
     record {

@@ -77,8 +77,8 @@ mounted_is_valid uuid owner plain found number objects left valid has_objects ha
     let seqs = records.seqs in
     let tail = has.tail in
     subst IsPlainVolume (mounted_is_going_on uuid owner plain found number objects left valid has_objects has)
-    (mounted_is_plain_volume geometry plain.checkpoint end (mounted_without number plain) body has.rows entries
-    (mounted_is_at_rest uuid plain number objects valid has_objects) may are tail in_range
+    (mounted_is_plain_volume geometry plain.checkpoint end (mounted_without geometry.log number plain) body has.rows entries
+    (mounted_is_at_rest uuid geometry.log plain number objects valid has_objects valid.limits) may are tail in_range
     (omega (arith, long, rest, all, seqs, tail)))
 
 -- ---- its objects

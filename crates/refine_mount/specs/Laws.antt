@@ -36,37 +36,39 @@ use Rattle.refine_log.specs.Pending.{ShowsPending}
 use Rattle.object_recovery.specs.Recovery.{IsListUpTo, HasRecovered}
 use Rattle.object_recovery.specs.Places.{HasPlacesInside}
 use Rattle.refine_mount.specs.Found.{HasObjects}
-use Rattle.refine_mount.specs.Mounted.{end_of_object, mounted_with, mounted_without, log_found, committed_at, going_on, data_in}
-use Rattle.refine_mount.specs.Mounted.{AddsEntries}
+use Rattle.refine_mount.specs.Mounted.{end_of_object, mounted_with, sizes_with, mounted_without, log_found, committed_at}
+use Rattle.refine_mount.specs.Mounted.{going_on, data_in, AddsEntries}
 use Rattle.refine_mount.specs.Stops.{StopKeepsMount}
 use Rattle.refine_mount.specs.Rest.{IsAtRest}
 
 -- ---- what a mount is to make
 
--- what a mount makes of the plain volume depends on what has landed by the number alone that is recovered
+-- What a mount makes of the plain volume depends on what has landed by the number alone that is recovered. One without the cache
+-- on a device of the same length is the case of a log as long as the volume's was.
 abbrev pub MountsByNumber : Type 0
 MountsByNumber =
     (plain : PlainState) (landed : Numbers) (kept : List Bool)
     → (mounted_kept landed kept plain ≡ mounted_with (kept_commit kept plain.cache) (recovered_number landed plain) plain)
-    × (mounted_lost landed plain ≡ mounted_without (recovered_number landed plain) plain)
+    × (plain.cache.log.size ≡ plain.geometry.log
+    → mounted_lost landed plain ≡ mounted_without plain.geometry.log (recovered_number landed plain) plain)
 
 -- ---- the objects
 
--- the volume that a mount without the cache makes is at rest
+-- the volume that a mount without the cache makes is at rest, whatever log its sizes keep their limits with
 abbrev pub MountedIsAtRest : Type 0
 MountedIsAtRest =
-    (uuid : List ℕ) (plain : PlainState) (number : ℕ) (objects : Objects) → IsPlainVolume plain
-    → HasObjects uuid plain number objects
-    → IsAtRest plain.geometry plain.checkpoint (end_of_object number plain) (mounted_without number plain)
+    (uuid : List ℕ) (log : ℕ) (plain : PlainState) (number : ℕ) (objects : Objects) → IsPlainVolume plain
+    → HasObjects uuid plain number objects → IsTrue (is_within_limits (sizes_with log plain.geometry))
+    → IsAtRest (sizes_with log plain.geometry) plain.checkpoint (end_of_object number plain) (mounted_without log number plain)
 
 -- and a list that was recovered of its objects shows it
 abbrev pub RecoveredShowsObjects : Type 0
 RecoveredShowsObjects =
-    (uuid : List ℕ) (data_at : ℕ → ℕ) (plain : PlainState) (number : ℕ) (objects : Objects) (log : ObjLogState)
+    (uuid : List ℕ) (data_at : ℕ → ℕ) (size : ℕ) (plain : PlainState) (number : ℕ) (objects : Objects) (log : ObjLogState)
     → IsPlainVolume plain → HasObjects uuid plain number objects
-    → IsListUpTo uuid plain.geometry log.uploads.window.last log.uploads.queue.end log
+    → IsListUpTo uuid (sizes_with size plain.geometry) log.uploads.window.last log.uploads.queue.end log
     → HasRecovered plain.geometry.sectors (stream_in plain) number log
-    → ShowsObjects data_at log (mounted_without number plain)
+    → ShowsObjects data_at log (mounted_without size number plain)
 
 -- each list that was recovered shows some plain volume that is at rest, also where no bytes are told
 abbrev pub ListShowsSome : Type 0
@@ -147,7 +149,8 @@ MountedIsGoingOn =
     → IsPlainVolume plain → HasObjects uuid plain number objects
     → (has : HasCommit owner plain found (end_of_object number plain) left)
     → going_on (entries_past plain (end_of_object number plain) has.body.head.seq)
-    (committed_at (end_of_object number plain) (log_found plain.geometry.log has.body has.rows)) (mounted_without number plain)
+    (committed_at (end_of_object number plain) (log_found plain.geometry.log has.body has.rows))
+    (mounted_without plain.geometry.log number plain)
     ≡ mounted_with found number plain
 
 -- ---- mounting again
@@ -160,18 +163,18 @@ MountsKeptAgain =
     → mounted_with (mounted_with found number plain).cache.log.last number (mounted_with found number plain)
     ≡ mounted_with found number plain
 
--- so it is of what one without the cache made, and one without it makes the same of both
+-- so it is of what one without the cache made, and one without it makes the same of both, whatever log each has
 abbrev pub MountsLostAgain : Type 0
 MountsLostAgain =
-    (plain : PlainState) (number : ℕ)
-    → mounted_with (mounted_without number plain).cache.log.last number (mounted_without number plain)
-    ≡ mounted_without number plain
+    (log : ℕ) (plain : PlainState) (number : ℕ)
+    → mounted_with (mounted_without log number plain).cache.log.last number (mounted_without log number plain)
+    ≡ mounted_without log number plain
 
 abbrev pub LosesAgain : Type 0
 LosesAgain =
-    (plain : PlainState) (found : PlainCommit) (number : ℕ)
-    → (mounted_without number (mounted_with found number plain) ≡ mounted_without number plain)
-    × (mounted_without number (mounted_without number plain) ≡ mounted_without number plain)
+    (log other : ℕ) (plain : PlainState) (found : PlainCommit) (number : ℕ)
+    → (mounted_without log number (mounted_with found number plain) ≡ mounted_without log number plain)
+    × (mounted_without log number (mounted_without other number plain) ≡ mounted_without log number plain)
 
 -- The volume that is mounted is a plain one, which the same store has. So what a stop leaves of it may be mounted again.
 abbrev pub MountedIsStored : Type 0

@@ -1,6 +1,7 @@
 -- Contract: what a mount makes of a plain volume.
 use Rattle.std.specs.Prelude.{ℕ, ◌+◌, ◌-◌, None, List, [], ◌∷◌, ◌++◌, length, max, slice_index_or}
 use Rattle.lsvd_base.specs.declared.entry.Entry.{Entry}
+use Rattle.lsvd_base.specs.declared.geometry.Geometry.{Geometry}
 use Rattle.object_stream.specs.Stream.{end_at}
 use Rattle.commit_body.specs.declared.body.CommitBody.{CommitBody}
 use Rattle.cache_log.specs.declared.row.Row.{Row}
@@ -33,10 +34,16 @@ mounted_with found number plain =
       cache = cache_with (mounted_log found (end_of_object number plain) plain.cache.log);
     }
 
--- what a mount without it makes, on a new device of the same length
-abbrev pub mounted_without : (number : ℕ) → PlainState → PlainState
-mounted_without number plain = record (cut_to_object number plain)
-    { cache = cache_with (empty_from plain.cache.log.size (end_of_object number plain)) }
+-- the same sizes with a log of this many sectors
+abbrev pub sizes_with : (log : ℕ) → Geometry → Geometry
+sizes_with log geometry = record geometry { log = log }
+
+-- what a mount without it makes, on a new device whose log has this many sectors, whatever the log had before
+abbrev pub mounted_without : (log number : ℕ) → PlainState → PlainState
+mounted_without log number plain = record (cut_to_object number plain) {
+  geometry = sizes_with log plain.geometry;
+  cache = cache_with (empty_from log (end_of_object number plain));
+}
 
 -- ---- how it is made
 

@@ -7,8 +7,8 @@ ghost use Rattle.refine_mount.specs.Laws.{MountsKeptAgain, MountsLostAgain, Lose
 ghost use Rattle.refine_mount.specs.Laws.{MountedIsStored, CommittingKeepsMount, FatesKeepCommit};
 
 /// A law: a list that was recovered shows a plain volume at rest: that which a mount without the cache makes
-/// of a plain volume whose objects the store has, and in each case some. With entries more it shows that with
-/// these entries.
+/// of a plain volume whose objects the store has, on a device whose log may be of another length, and in each
+/// case some. With entries more it shows that with these entries.
 pub fn a_list_shows_a_volume_at_rest()
     ensures rest { MountedIsAtRest }
     ensures recovered { RecoveredShowsObjects }
@@ -35,8 +35,8 @@ pub fn a_mount_goes_on_with_the_entries_found()
 {}
 
 /// A law: a mount of what a mount made, of the same objects and with its own commit, makes the same, also
-/// where one of them is without the cache. The store has what a mount with the cache made as it had what
-/// that found.
+/// where one of them is without the cache; a later one without it does so on a log of any length. The store
+/// has what a mount with the cache made as it had what that found.
 pub fn mounting_again_changes_nothing()
     ensures kept { MountsKeptAgain }
     ensures lost { MountsLostAgain }

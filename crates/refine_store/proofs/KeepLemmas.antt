@@ -165,10 +165,10 @@ cut_keeps volume plain now last number to bytes valid low high opens ends object
     (ap (take held) entries ∙ take-take held (to - plain.end) plain.entries (omega (arith, grown)))
 
 pub mounts_keep_object : MountsKeepObject
-mounts_keep_object volume plain found last number bytes valid low is =
+mounts_keep_object volume plain found log last number bytes valid low is =
     let end = end_of_object last plain in
     let with_cache = mounted_with found last plain in
-    let without = mounted_without last plain in (
+    let without = mounted_without log last plain in (
       cut_keeps volume plain with_cache last number (max end found.head.seq) bytes valid low (omega arith) refl refl refl refl is,
       cut_keeps volume plain without last number end bytes valid low (omega arith) refl refl refl refl is,
     )

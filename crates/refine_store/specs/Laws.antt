@@ -40,9 +40,10 @@ EventsKeepObject =
 -- and over a mount that recovers it
 abbrev pub MountsKeepObject : Type 0
 MountsKeepObject =
-    (volume : Expected) (plain : PlainState) (found : PlainCommit) (last number : ℕ) (bytes : List ℕ) → IsPlainVolume plain
+    (volume : Expected) (plain : PlainState) (found : PlainCommit) (log last number : ℕ) (bytes : List ℕ) → IsPlainVolume plain
     → number ≤ last → IsObjectOf volume plain number bytes
-    → IsObjectOf volume (mounted_with found last plain) number bytes × IsObjectOf volume (mounted_without last plain) number bytes
+    → IsObjectOf volume (mounted_with found last plain) number bytes
+    × IsObjectOf volume (mounted_without log last plain) number bytes
 
 -- ---- stops
 

@@ -37,6 +37,7 @@ use Rattle.refine_log.specs.Shows.{commit_of}
 use Rattle.refine_log.proofs.PendingShown.{synced_shows_pending}
 use Rattle.refine_log.specs.Stops.{HasCommit}
 use Rattle.refine_mount.specs.Mounted.{end_of_object, mounted_with, mounted_without}
+use Rattle.refine_mount.proofs.RestLemmas.{mounts_by_number}
 use Rattle.refine_mount.proofs.LeftLemmas.{fates_keep_commit}
 use Rattle.refine_store.specs.Puts.{IsObjectOf}
 use Rattle.refine_store.proofs.KeepLemmas.{mounts_keep_object}
@@ -71,7 +72,8 @@ stored_left rig plain letters new h lands few =
     let within = left_within plain new h.shows.valid in
     record {
       valid = h.shows.valid;
-      geometry_is = refl;
+      sizes = refl;
+      limits = h.shows.valid.limits;
       low = omega (arith, within, most, few);
       objects_are = (has_left rig plain letters new h lands).0;
     }
@@ -179,6 +181,7 @@ module _ (rig : RigState) (plain : PlainState) (fates : List Fate) (letters : Li
       (Some new) left
   is_left few = record {
     stored = stored_left rig plain letters new h lands few;
+    log_is = refl;
     device =
         subst (HasNow (λ now. HasCommit (owner_at h.epoch) plain commit_left end_left now.bytes)) (sym is.stopped.moments)
         has_commit.0;
@@ -438,7 +441,8 @@ kept_rig rig plain fates letters new after left mounted h on_disk lands is_left_
     mounted_rig rig plain letters new after mounted (max end commit.head.seq) (mounted_log commit end plain.cache.log) h lands
     few h.epoch
     (omega (arith, begun)) (was plain.geometry h.epoch log described) is refl
-    (λ n bytes low object. (mounts_keep_object (expected_of_plain plain) plain commit number n bytes h.shows.valid low object).0)
+    (λ n bytes low object. (mounts_keep_object (expected_of_plain plain) plain commit plain.geometry.log number n bytes
+    h.shows.valid low object).0)
     (next_number rig plain fates letters new left h on_disk lands is_left_by count mounted
     (subst (λ n. NumbersNextCommit n left mounted) (sym log) numbers)) in
     subst (IsMadeBy rig (λ n. mounted_with commit n plain) mounted after) (recovered_same rig plain letters new h lands)
@@ -452,19 +456,22 @@ pub lost_rig : (rig : RigState) (plain : PlainState) (letters : List ℕ) (new a
     → IsMountedRig rig letters plain (mounted_lost (landed_by plain.window letters) plain) mounted after
 lost_rig rig plain letters new after mounted sectors h lands few log was mounts numbers =
     let number : ℕ = number_left new plain in
+    let size : ℕ = plain.geometry.log in
     let end : ℕ = end_of_object number plain in
     let described = described_left rig plain letters new h lands in
     let is = mounts plain.geometry h.epoch log described plain number (stored_left rig plain letters new h lands few) in
     let begun = h.begun in
     let shows =
-    mounted_rig rig plain letters new after mounted end (empty_from plain.cache.log.size end) h lands few (h.epoch + 1)
+    mounted_rig rig plain letters new after mounted end (empty_from size end) h lands few (h.epoch + 1)
     (omega (arith, begun))
     (was plain.geometry h.epoch log described) is refl
-    (λ n bytes low object. (mounts_keep_object (expected_of_plain plain) plain plain.cache.log.last number n bytes h.shows.valid
-    low object).1)
+    (λ n bytes low object. (mounts_keep_object (expected_of_plain plain) plain plain.cache.log.last size number n bytes
+    h.shows.valid low object).1)
     (omega (arith, numbers)) in
-    subst (IsMadeBy rig (λ n. mounted_without n plain) mounted after) (recovered_same rig plain letters new h lands)
-    (told_mount mounted (mounted_without number plain) number is, shows)
+    let same = (mounts_by_number plain (landed_by plain.window letters) []).1 h.shows.valid.size in
+    subst (λ made. IsMountedRig rig letters plain made mounted after) (sym same)
+    (subst (IsMadeBy rig (λ n. mounted_without size n plain) mounted after) (recovered_same rig plain letters new h lands)
+    (told_mount mounted (mounted_without size number plain) number is, shows))
 
 -- ---- a rig that was stopped
 

@@ -27,7 +27,7 @@ use Rattle.stopped_volume.specs.Device.{CacheOwner}
 use Rattle.plain_disk.specs.declared.log.PlainCommit.{PlainCommit}
 use Rattle.plain_disk.specs.State.{PlainState}
 use Rattle.refine_log.specs.Stops.{entries_past, HasCommit}
-use Rattle.refine_mount.specs.Mounted.{end_of_object}
+use Rattle.refine_mount.specs.Mounted.{end_of_object, sizes_with}
 use Rattle.refine_mount.specs.Stops.{StopKeepsMount}
 use Rattle.vol_mount.specs.Mounting.{IsLeft}
 use Rattle.vol_mount.specs.Steps.{IsOpenedOf}
@@ -89,6 +89,13 @@ since_synced P now past moments holds (inr synced) = record { since = after_sync
 
 -- ---- a plain volume that was left
 
+-- its sizes are these, that of its log too
+pub left_sizes : (uuid : List ℕ) (geometry : Geometry) (epoch : ℕ) (plain : PlainState) (found : PlainCommit) (number : ℕ)
+    (told : Option Objects) (old : DiskState) → IsLeft uuid geometry epoch plain found number told old
+    → plain.geometry ≡ geometry
+left_sizes uuid geometry epoch plain found number told old left =
+    ap (λ log. sizes_with log plain.geometry) left.log_is ∙ sym left.stored.sizes
+
 module _ (uuid : List ℕ) (geometry : Geometry) (epoch : ℕ) (plain : PlainState) (found : PlainCommit) (number : ℕ)
     (told : Option Objects) (old : DiskState)
     (size : log_start ≤ old.size) (sectors : geometry.log ≡ log_of old.size) (is_disk : IsDisk old)
@@ -106,15 +113,13 @@ module _ (uuid : List ℕ) (geometry : Geometry) (epoch : ℕ) (plain : PlainSta
   has_commit = newest.holds
 
   pub settled_slots : ReadsSettled geometry.log newest.now.bytes has_commit.body has_commit.number
-  settled_slots = subst (λ (g : Geometry). ReadsSettled g.log newest.now.bytes has_commit.body has_commit.number)
-      left.stored.geometry_is
-      has_commit.slots
+  settled_slots = subst (λ log. ReadsSettled log newest.now.bytes has_commit.body has_commit.number) left.log_is has_commit.slots
 
   pub long : byte_of plain.geometry.log ≤ length newest.now.bytes
   long =
       let media = subst (AllByRecursion (HasSize old.size)) newest.moments_are is_disk.media in
       let bytes = media.0.bytes in
-      let same = ap (λ (g : Geometry). g.log) left.stored.geometry_is in
+      let same = left.log_is in
       omega (arith, bytes, same, sectors, size)
 
   -- a load does but sync it
@@ -175,14 +180,14 @@ module _ (uuid : List ℕ) (geometry : Geometry) (epoch : ℕ) (plain : PlainSta
     -- its rows are those of the plain volume's records
     pub rows_are : has_commit.rows ≡ log.rows
     rows_are =
-        let same = ap (λ (g : Geometry). g.log) left.stored.geometry_is in
+        let same = left.log_is in
         let far = long in
         let may : MayBeRead geometry commits.body newest.now.bytes =
         record { limits = limits; may_stand = opened.up_to.may_stand; long = omega (arith, far, same) } in
         let there : AreRecordsInRange geometry commits.body has_commit.rows newest.now.bytes =
         subst (λ b. AreRecordsInRange geometry b has_commit.rows newest.now.bytes) body_is
-        (subst (λ g. AreRecordsInRange g has_commit.body has_commit.rows newest.now.bytes) left.stored.geometry_is
-        has_commit.records) in
+        (subst (λ g. AreRecordsInRange g has_commit.body has_commit.rows newest.now.bytes)
+        (left_sizes uuid geometry epoch plain found number told old left) has_commit.records) in
         have_one_list geometry commits.body has_commit.rows log.rows newest.now.bytes may there records_are
 
     abbrev pub entries_left : List Entry

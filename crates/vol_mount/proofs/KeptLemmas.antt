@@ -57,8 +57,8 @@ use Rattle.vol_mount.proofs.CostLemmas.{costs_again}
 use Rattle.vol_mount.proofs.ShownLemmas.{shown}
 use Rattle.vol_mount.proofs.AddLemmas.{HasAdded, has_added, entry_in_range, a_row}
 use Rattle.vol_mount.proofs.CompleteLemmas.{first_is, rows_in_range}
-use Rattle.vol_mount.proofs.FoundLemmas.{reads_one, newest, has_commit, long, load_keeps, body_is, after, moments_are, rows_are}
-use Rattle.vol_mount.proofs.FoundLemmas.{entries_left, told_is, left_are}
+use Rattle.vol_mount.proofs.FoundLemmas.{left_sizes, reads_one, newest, has_commit, long, load_keeps, body_is, after}
+use Rattle.vol_mount.proofs.FoundLemmas.{moments_are, rows_are, entries_left, told_is, left_are}
 
 -- ---- entries of rows
 
@@ -108,7 +108,7 @@ module _ (uuid : List ℕ) (geometry : Geometry) (epoch : ℕ) (list : ObjLogSta
       of = list_of uuid geometry plain number told list checkpoint limits is from left.stored
 
       abbrev rest : PlainState
-      rest = mounted_without number plain
+      rest = mounted_without geometry.log number plain
 
       -- its entries past the objects' end
       abbrev entries : List Entry
@@ -120,11 +120,12 @@ module _ (uuid : List ℕ) (geometry : Geometry) (epoch : ℕ) (list : ObjLogSta
           let has = has_commit uuid geometry epoch plain found number told old size sectors is_disk left in
           let count : ℕ = end_of_object number plain in
           let P : List Entry → ℕ → Geometry → CommitBody → List Row → PlainState =
-          λ l n g b r. going_on l (committed_at n (log_found g.log b r)) rest in
+          λ l n g b r. going_on l (committed_at n (log_found g.log b r)) (mounted_without g.log number plain) in
           ap (λ l. P l end geometry body log.rows)
           (left_are uuid geometry epoch plain found number told old size sectors is_disk left end log limits opened of.1.end_is)
           ∙ ap (λ n. P (entries_past plain count has.body.head.seq) n geometry body log.rows) of.1.end_is
-          ∙ ap (λ g. P (entries_past plain count has.body.head.seq) count g body log.rows) (sym left.stored.geometry_is)
+          ∙ ap (λ g. P (entries_past plain count has.body.head.seq) count g body log.rows)
+          (sym (left_sizes uuid geometry epoch plain found number told old left))
           ∙ ap (λ b. P (entries_past plain count has.body.head.seq) count plain.geometry b log.rows)
           (sym (body_is uuid geometry epoch plain found number told old size sectors is_disk left end log limits opened))
           ∙ ap (λ r. P (entries_past plain count has.body.head.seq) count plain.geometry has.body r)
@@ -149,7 +150,8 @@ module _ (uuid : List ℕ) (geometry : Geometry) (epoch : ℕ) (list : ObjLogSta
           (moments_are uuid geometry epoch plain found number told old size sectors is_disk left end log limits opened)
           (sym (body_is uuid geometry epoch plain found number told old size sectors is_disk left end log limits opened))
           opened.up_to.finished
-          (subst (λ g. IsOpenedLog g opened.commits log) (sym left.stored.geometry_is) opened.up_to.opened)
+          (subst (λ g. IsOpenedLog g opened.commits log) (sym (left_sizes uuid geometry epoch plain found number told old left))
+          opened.up_to.opened)
           (sym (rows_are uuid geometry epoch plain found number told old size sectors is_disk left end log limits opened))
           (subst (λ n. IsTrimmed n log trimmed) of.1.end_is trims) new_is_disk leaves.2 in
           let moments : trimmed.commits.disk.moments ≡ log.commits.disk.moments =
@@ -370,7 +372,7 @@ module _ (uuid : List ℕ) (geometry : Geometry) (epoch : ℕ) (list : ObjLogSta
     pub mounts_left : MountsLeft uuid geometry epoch told old (mounted_of objects new checkpoint)
     mounts_left = λ plain found number left.
         let of = (list_of uuid geometry plain number told list checkpoint limits is from left.stored).1 in
-        let rest : PlainState = mounted_without number plain in
+        let rest : PlainState = mounted_without geometry.log number plain in
         let told_entries = done.trims.entries
         ∙ told_is uuid geometry epoch plain found number told old size sectors is_disk left end_is log limits opened in
         let same = told_one done.trimmed.entries _ done.entries told_entries done.told in

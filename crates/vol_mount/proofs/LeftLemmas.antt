@@ -27,7 +27,7 @@ use Rattle.vol_mount.specs.Refusals.{is_store_fault_of}
 use Rattle.vol_mount.specs.Leaving.{MayLeaveDevice, LeavesDevice}
 use Rattle.vol_mount.specs.Steps.{IsRecovered, IsRecoveredFrom}
 use Rattle.vol_mount.proofs.RecoveryLemmas.{list_of, faults_refuse_none}
-use Rattle.vol_mount.proofs.FoundLemmas.{reads_one, at_newest, newest, settled_slots, has_commit, load_keeps}
+use Rattle.vol_mount.proofs.FoundLemmas.{reads_one, at_newest, left_sizes, newest, settled_slots, has_commit, load_keeps}
 
 -- ---- the list was not recovered
 
@@ -156,7 +156,8 @@ module _ (uuid : List ℕ) (geometry : Geometry) (epoch : ℕ) (told : Option Ob
           (settled_slots uuid geometry epoch plain found number told old size sectors is_disk left).reads here.2 in
           here.5 has.rows
           (subst (λ b. AreRecordsInRange geometry b has.rows at.now.bytes) one.1
-          (subst (λ g. AreRecordsInRange g has.body has.rows at.now.bytes) left.stored.geometry_is has.records))
+          (subst (λ g. AreRecordsInRange g has.body has.rows at.now.bytes)
+          (left_sizes uuid geometry epoch plain found number told old left) has.records))
 
       module _ (limits : IsTrue (is_within_limits geometry)) (list : ObjLogState) (checkpoint : ℕ)
           (is : IsRecovered uuid geometry list checkpoint)

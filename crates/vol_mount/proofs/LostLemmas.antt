@@ -129,7 +129,7 @@ module _ (uuid : List ℕ) (geometry : Geometry) (epoch : ℕ) (list : ObjLogSta
       let whole = history_is in
       let history = of.at_rest.history in
       record {
-        shows = lost_shows (mounted_without number plain) of.at_rest of.shows;
+        shows = lost_shows (mounted_without geometry.log number plain) of.at_rest of.shows;
         entries = omega (arith, whole, history);
         number_is = of.number_is;
       }

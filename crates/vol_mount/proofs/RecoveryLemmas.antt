@@ -17,7 +17,7 @@ use Rattle.object_recovery.specs.Recovery.{HasDataUpTo, IsListUpTo, IsNoLonger, 
 use Rattle.object_recovery.specs.Recovery.{IsRefusal, IsRecoveryRefused, AreAllGood}
 use Rattle.object_recovery.proofs.RecoverLemmas.{base_is}
 use Rattle.refine_mount.specs.Found.{HasObjects}
-use Rattle.refine_mount.specs.Mounted.{end_of_object, mounted_without}
+use Rattle.refine_mount.specs.Mounted.{end_of_object, sizes_with, mounted_without}
 use Rattle.refine_mount.specs.Rest.{IsAtRest}
 use Rattle.refine_mount.proofs.RestLemmas.{mounted_is_at_rest, recovered_shows_objects}
 use Rattle.refine_objects.specs.Shows.{ShowsObjects}
@@ -64,11 +64,12 @@ why_of recovery.StoreFault uuid geometry objects refused = tt
 why_of recovery.OutOfMemory uuid geometry objects refused = tt
 
 -- the stream of a plain volume that the store has
-data_of : (uuid : List ℕ) (geometry : Geometry) (plain : PlainState) (number : ℕ) (objects : Objects) → plain.geometry ≡ geometry
+data_of : (uuid : List ℕ) (geometry : Geometry) (plain : PlainState) (number : ℕ) (objects : Objects)
+    → geometry ≡ sizes_with geometry.log plain.geometry
     → (has : HasObjects uuid plain number objects) → HasDataUpTo (expected_of uuid geometry) has.uuid_at objects
     (stream_in plain) number
-data_of uuid geometry plain number objects same has =
-    subst (λ g. HasDataUpTo (expected_of uuid g) has.uuid_at objects (stream_in plain) number) same has.stored
+data_of uuid geometry plain number objects sizes has =
+    subst (λ g. HasDataUpTo (expected_of uuid g) has.uuid_at objects (stream_in plain) number) (sym sizes) has.stored
 
 refuses_none : (error : RecoverError) (uuid : List ℕ) (geometry : Geometry) (objects : Option Objects) → IsRefusal error
     → IfSome objects (λ o. IsRecoveryRefused (expected_of uuid geometry) o error) → (plain : PlainState) (number : ℕ)
@@ -76,7 +77,7 @@ refuses_none : (error : RecoverError) (uuid : List ℕ) (geometry : Geometry) (o
 refuses_none error uuid geometry None refusal refused plain number stored = absurd stored.objects_are
 refuses_none error uuid geometry (Some objects) refusal refused plain number stored =
     let has : HasObjects uuid plain number objects = stored.objects_are in
-    refused.no_stream has.uuid_at (stream_in plain) number (data_of uuid geometry plain number objects stored.geometry_is has)
+    refused.no_stream has.uuid_at (stream_in plain) number (data_of uuid geometry plain number objects stored.sizes has)
     refusal
 
 pub no_refusal_of : (error : RecoverError) (uuid : List ℕ) (geometry : Geometry) (objects : Option Objects)
@@ -113,12 +114,12 @@ wide_is geometry limits = grind (arith, nat_tests, limits)
 -- the newest checkpoint is that of each plain volume that the store has
 checkpoint_is : (uuid : List ℕ) (geometry : Geometry) (plain : PlainState) (number : ℕ) (objects : Objects) (checkpoint end : ℕ)
     → IsTrue (is_within_limits geometry) → IsNewestWithEnd (expected_of uuid geometry) objects checkpoint end
-    → plain.geometry ≡ geometry
+    → geometry ≡ sizes_with geometry.log plain.geometry
     → HasObjects uuid plain number objects → plain.checkpoint ≡ checkpoint
-checkpoint_is uuid geometry plain number objects checkpoint end limits newest same has =
+checkpoint_is uuid geometry plain number objects checkpoint end limits newest sizes has =
     let is = base_is (expected_of uuid geometry) objects checkpoint end (wide_is geometry limits) newest has.uuid_at
     (stream_in plain) number
-    (data_of uuid geometry plain number objects same has) in
+    (data_of uuid geometry plain number objects sizes has) in
     has.opened ∙ sym is
 
 -- no plain volume has the number 0
@@ -128,7 +129,7 @@ pub only_none_refuses : (uuid : List ℕ) (geometry : Geometry) (objects : Optio
     → IsToldNewest uuid geometry objects checkpoint → RefusesNoneStored uuid geometry objects NoCheckpoint
 only_none_refuses uuid geometry None checkpoint limits none newest = λ plain number stored. absurd stored.objects_are
 only_none_refuses uuid geometry (Some objects) checkpoint limits none newest = λ plain number stored.
-    let is = checkpoint_is uuid geometry plain number objects checkpoint newest.0 limits newest.1 stored.geometry_is
+    let is = checkpoint_is uuid geometry plain number objects checkpoint newest.0 limits newest.1 stored.sizes
     stored.objects_are in
     let more = stored.valid.numbered in
     absurd (omega (arith, is, more, none))
@@ -184,8 +185,8 @@ pub record IsListOf (uuid : List ℕ) (geometry : Geometry) (plain : PlainState)
     (log : ObjLogState)
     (checkpoint : ℕ) : Type 0 where
   pub has : HasObjects uuid plain number objects
-  pub at_rest : IsAtRest geometry checkpoint log.uploads.queue.end (mounted_without number plain)
-  pub shows : (data_at : ℕ → ℕ) → ShowsObjects data_at log (mounted_without number plain)
+  pub at_rest : IsAtRest geometry checkpoint log.uploads.queue.end (mounted_without geometry.log number plain)
+  pub shows : (data_at : ℕ → ℕ) → ShowsObjects data_at log (mounted_without geometry.log number plain)
   pub end_is : log.uploads.queue.end ≡ end_of_object number plain
   pub number_is : log.uploads.window.last ≡ number
 
@@ -196,25 +197,26 @@ list_of_told : (uuid : List ℕ) (geometry : Geometry) (plain : PlainState) (num
     → IsStored uuid geometry plain number (Some objects) → IsListOf uuid geometry plain number objects log checkpoint
 list_of_told uuid geometry plain number objects log checkpoint limits is from stored =
     let has : HasObjects uuid plain number objects = stored.objects_are in
-    let same = stored.geometry_is in
-    let of_data = data_of uuid geometry plain number objects same has in
+    let sizes = stored.sizes in
+    let of_data = data_of uuid geometry plain number objects sizes has in
     let short = from.no_longer has.uuid_at (stream_in plain) number of_data in
     let low = stored.low in
     let recovered : HasRecovered geometry.sectors (stream_in plain) number log =
     (from.recovered (omega (arith, short, low))).streams has.uuid_at (stream_in plain) number of_data in
-    let first = checkpoint_is uuid geometry plain number objects checkpoint from.checkpoint_end limits from.newest same has in
-    let rest = mounted_is_at_rest uuid plain number objects stored.valid has in
-    let R : Geometry → ℕ → ℕ → Type 0 = λ g c e. IsAtRest g c e (mounted_without number plain) in
+    let first = checkpoint_is uuid geometry plain number objects checkpoint from.checkpoint_end limits from.newest sizes has in
+    let fits = subst (λ g. IsTrue (is_within_limits g)) sizes limits in
+    let rest = mounted_is_at_rest uuid geometry.log plain number objects stored.valid has fits in
+    let R : Geometry → ℕ → ℕ → Type 0 = λ g c e. IsAtRest g c e (mounted_without geometry.log number plain) in
     record {
       has = has;
       at_rest =
           subst (λ e. R geometry checkpoint e) (sym recovered.end_is)
           (subst (λ c. R geometry c (end_of_object number plain)) first
-          (subst (λ g. R g plain.checkpoint (end_of_object number plain)) same rest));
+          (subst (λ g. R g plain.checkpoint (end_of_object number plain)) (sym sizes) rest));
       shows = λ data_at.
-          recovered_shows_objects uuid data_at plain number objects log stored.valid has
-          (subst (λ g. IsListUpTo uuid g log.uploads.window.last log.uploads.queue.end log) (sym same) is.list)
-          (subst (λ (g : Geometry). HasRecovered g.sectors (stream_in plain) number log) (sym same) recovered);
+          recovered_shows_objects uuid data_at geometry.log plain number objects log stored.valid has
+          (subst (λ g. IsListUpTo uuid g log.uploads.window.last log.uploads.queue.end log) sizes is.list)
+          (subst (λ (g : Geometry). HasRecovered g.sectors (stream_in plain) number log) sizes recovered);
       end_is = recovered.end_is;
       number_is = recovered.number_is;
     }

@@ -1,6 +1,7 @@
 -- Contract: what a mount makes of a plain volume that device and store have, and what a stop leaves meanwhile.
-use Rattle.std.specs.Prelude.{◌≡◌, ℕ, ◌^◌, ◌<◌, false, Option, IsSomeAnd, List}
+use Rattle.std.specs.Prelude.{◌≡◌, ℕ, ◌^◌, ◌<◌, false, IsTrue, Option, IsSomeAnd, List}
 use Rattle.lsvd_base.specs.declared.geometry.Geometry.{Geometry}
+use Rattle.lsvd_base.specs.Limits.{is_within_limits}
 use Rattle.lsvd_device.specs.Device.{DiskState, HoldsNow, HoldsSince}
 use Rattle.lsvd_device.specs.Memory.{IsSynced}
 use Rattle.lsvd_device.specs.Stop.{HasNow}
@@ -10,7 +11,7 @@ use Rattle.plain_disk.specs.State.{PlainState}
 use Rattle.plain_disk.specs.Valid.{IsPlainVolume}
 use Rattle.refine_log.specs.Stops.{HasCommit}
 use Rattle.refine_mount.specs.Found.{HasObjects}
-use Rattle.refine_mount.specs.Mounted.{end_of_object, mounted_with, mounted_without}
+use Rattle.refine_mount.specs.Mounted.{end_of_object, mounted_with, sizes_with, mounted_without}
 use Rattle.refine_mount.specs.Stops.{StopKeepsMount}
 use Rattle.vol_mount.specs.declared.error.MountError.{MountError}
 use Rattle.vol_mount.specs.Mounted.{MountedState, IsMountOf}
@@ -19,28 +20,30 @@ use Rattle.vol_mount.specs.Refusals.{refuses}
 -- ---- without the cache
 
 -- A store has a plain volume, with its objects up to a number: that before the first missing one. It is below 2^63: a volume is
--- worn out long before.
+-- worn out long before. It has these sizes but for the log: that of the device may have any length that the limits allow.
 pub record IsStored (uuid : List ℕ) (geometry : Geometry) (plain : PlainState) (number : ℕ) (objects : Option Objects) :
     Type 0 where
   pub valid : IsPlainVolume plain
-  pub geometry_is : plain.geometry ≡ geometry
+  pub sizes : geometry ≡ sizes_with geometry.log plain.geometry
+  pub limits : IsTrue (is_within_limits geometry)
   pub objects_are : IsSomeAnd objects (HasObjects uuid plain number)
   pub low : number < 2 ^ 63
 
--- whichever plain volume the store has, the mount makes of it what one without the cache is to make
+-- whichever plain volume the store has, the mount makes of it what one without the cache is to make on the device's log
 abbrev pub MountsStored : (uuid : List ℕ) → Geometry → Option Objects → MountedState → Type 0
 MountsStored uuid geometry objects mounted =
     (plain : PlainState) (number : ℕ) → IsStored uuid geometry plain number objects
-    → IsMountOf (mounted_without number plain) number mounted
+    → IsMountOf (mounted_without geometry.log number plain) number mounted
 
 -- ---- with the cache
 
--- Device and store have a plain volume in an epoch: the store its objects up to a number, and the device reads as this commit of
--- its log.
+-- Device and store have a plain volume in an epoch: the store its objects up to a number, and the device, whose log is as long as
+-- the volume's, reads as this commit of that log.
 pub record IsLeft (uuid : List ℕ) (geometry : Geometry) (epoch : ℕ) (plain : PlainState) (found : PlainCommit) (number : ℕ)
     (objects : Option Objects)
     (disk : DiskState) : Type 0 where
   pub stored : IsStored uuid geometry plain number objects
+  pub log_is : plain.geometry.log ≡ geometry.log
   pub device : HasNow (λ now. HasCommit (record { uuid = uuid; epoch = epoch }) plain found (end_of_object number plain)
       now.bytes) disk.moments
 

@@ -30,9 +30,10 @@ use uuid::Uuid;
 ///
 /// The store has the volume with these sizes, and this is its newest epoch. The geometry is within the
 /// limits, its log has just the sectors of the device past byte 4,096, and the device is a disk (conditions).
-/// A volume is mounted only where the store passes all tests. Of each plain volume that it has it makes what
-/// such a mount is to make. An error comes with the device, which is a disk still. What is tested comes in
-/// this order, and each error says that the tests before it were passed:
+/// The log may be of another length than the volume's was. A volume is mounted only where the store passes
+/// all tests. Of each plain volume that it has it makes what such a mount is to make. An error comes with
+/// the device, which is a disk still. What is tested comes in this order, and each error says that the tests
+/// before it were passed:
 ///
 /// - `NoCheckpoint`, `BadObject`, `NotData`: the objects are refused.
 /// - `Worn`: the epoch, the greatest number of an object, or the count of entries is 2^60 or more.

@@ -223,8 +223,7 @@ not_both b is_false is_true = cc
 fits_none : (uuid : List ℕ) (geometry : Geometry) (objects : Option Objects) (error : MountError)
     → is_within_limits geometry ≡ false → RefusesNoneStored uuid geometry objects error
 fits_none uuid geometry objects error unfit plain number stored =
-    absurd (not_both (is_within_limits geometry) unfit
-    (subst (λ g. IsTrue (is_within_limits g)) stored.geometry_is stored.valid.limits))
+    absurd (not_both (is_within_limits geometry) unfit stored.limits)
 
 module _ {D : Type 0} (state : D → DiskState) (Tells : Type 0) (uuid : List ℕ) (disk : DiskState) (old new : StoreState) where
   abbrev log : ℕ

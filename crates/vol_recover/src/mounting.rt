@@ -62,10 +62,10 @@ pub fn mount_kept<D: Disk, S: Store>(
 /// store, recovers the list of its objects, removes the objects past the first missing number, puts the next
 /// epoch, and formats the device in that. The history has the entries of the objects.
 ///
-/// The device is a disk (a condition). The volume that the store has is mounted only where its objects pass
-/// all tests. Of each plain volume that it has it makes what such a mount is to make. An error comes with the
-/// device, which is a disk still. What is tested comes in this order, and each error says that the tests
-/// before it were passed:
+/// The device is a disk (a condition), whose log may be of another length than the volume's was. The volume
+/// that the store has is mounted only where its objects pass all tests. Of each plain volume that it has it
+/// makes what such a mount is to make. An error comes with the device, which is a disk still. What is tested
+/// comes in this order, and each error says that the tests before it were passed:
 ///
 /// - `NoVolume`, `BadSuper`, `HasAncestors`: the volume as a whole is refused.
 /// - `NoCheckpoint`, `BadObject`, `NotData`: its objects are refused.
