@@ -11,7 +11,7 @@ use Rattle.lsvd_device.specs.declared.fate.Fate.TheVariants.{Kept}
 use Rattle.plain_disk.specs.declared.cache.PendingWrite.{PendingWrite}
 use Rattle.plain_disk.specs.declared.cache.PendingWrite.TheVariants.{Pad, Record, Body, ClosedGate, OpenedGate}
 use Rattle.plain_disk.specs.declared.log.PlainCommit.{PlainCommit}
-use Rattle.plain_disk.specs.Log.{PlainLog, room_in, with_record, commit_from, with_commit}
+use Rattle.plain_disk.specs.Log.{PlainLog, next_seq, room_in, with_record, commit_from, with_commit}
 
 -- The cache: its log, the calls that its device still passes where it was told to stop, and the writes since the last sync, in
 -- their order.
@@ -45,9 +45,11 @@ after_sync_of writes cache =
 
 -- ---- an entry
 
--- the writes of an entry: that of its record, and that of a pad before it where one is needed
+-- the writes of an entry, which have the next seq: that of its record, and that of a pad before it where one is needed
 abbrev pub writes_of : PlainLog → Entry → List PendingWrite
-writes_of log entry = if pad_before (room_in log) (record_sectors entry) == 0 then Record ∷ [] else Pad ∷ Record ∷ []
+writes_of log entry =
+    if pad_before (room_in log) (record_sectors entry) == 0 then Record (next_seq log) ∷ []
+    else Pad (next_seq log) ∷ Record (next_seq log) ∷ []
 
 -- the device passes them
 abbrev pub passes_entry : PlainCache → Entry → Bool

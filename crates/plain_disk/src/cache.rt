@@ -1,10 +1,10 @@
 /// A write of the cache device that no sync has made durable.
 #[derive(Clone, Copy, PartialEq, Eq)]
 pub enum PendingWrite {
-    /// The header of a pad.
-    Pad,
-    /// The record of an entry.
-    Record,
+    /// The header of the pad before an entry's record, which has the entry's seq.
+    Pad(u64),
+    /// The record of the entry with this seq.
+    Record(u64),
     /// The body of a commit.
     Body,
     /// The gate of the next commit's slot, which is closed.

@@ -14,8 +14,8 @@ no_choice = []
 -- no write is kept where nothing is said of one
 none_kept : (writes : List PendingWrite) → keeps_opened_gate writes [] ≡ false
 none_kept [] = refl
-none_kept (Pad ∷ writes) = refl
-none_kept (Record ∷ writes) = refl
+none_kept (Pad seq ∷ writes) = refl
+none_kept (Record seq ∷ writes) = refl
 none_kept (Body ∷ writes) = refl
 none_kept (ClosedGate ∷ writes) = refl
 none_kept (OpenedGate ∷ writes) = refl
@@ -24,8 +24,8 @@ none_kept (OpenedGate ∷ writes) = refl
 first_kept : (write : PendingWrite) (writes : List PendingWrite) (is_kept : Bool) (kept : List Bool)
     → keeps_opened_gate (write ∷ writes) (is_kept ∷ kept) ≡ cond (is_opened_gate write && is_kept) true
     (keeps_opened_gate writes kept)
-first_kept Pad writes is_kept kept = refl
-first_kept Record writes is_kept kept = refl
+first_kept (Pad seq) writes is_kept kept = refl
+first_kept (Record seq) writes is_kept kept = refl
 first_kept Body writes is_kept kept = refl
 first_kept ClosedGate writes is_kept kept = refl
 first_kept OpenedGate writes true kept = refl

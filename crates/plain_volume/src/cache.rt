@@ -147,6 +147,19 @@ impl CacheDevice {
         Ok(true)
     }
 
+    // Makes the writes of an entry: whether they all pass.
+    fn write_entry(&mut self, entry: &Entry) -> Result<bool, AllocError>
+        ensures passed { IfOk result (λ are_passed. are_passed ≡ passes_entry self.old entry.now) }
+        ensures device { OnOk result (self.new ≡ after_writes (writes_of self.old.log entry.now) self.old) }
+    {
+        let seq = self.log.next_seq();
+        if self.log.room().pad_before(record_sectors(entry)) == 0 {
+            self.write(&[PendingWrite::Record(seq)])
+        } else {
+            self.write(&[PendingWrite::Pad(seq), PendingWrite::Record(seq)])
+        }
+    }
+
     /// Whether the log has room for the entry's record.
     pub(crate) fn has_room_for(&self, entry: &Entry) -> bool
         ensures { result ≡ has_room_for self.now entry.now }
@@ -162,8 +175,7 @@ impl CacheDevice {
         ensures passed { IfOk result (λ are_passed. are_passed ≡ passes_entry self.old entry.now) }
         ensures device { OnOk result (self.new ≡ cache_after_entry entry.now self.old) }
     {
-        let writes = writes_of(&self.log, entry);
-        let passed = self.write(writes)?;
+        let passed = self.write_entry(entry)?;
         if passed {
             self.log.enter(entry)?;
         }
@@ -253,17 +265,6 @@ impl CacheDevice {
     {
         let alloc = *self.pending.allocator();
         *self = CacheDevice::empty_from(alloc, self.log.size(), seq);
-    }
-}
-
-// The writes of an entry.
-fn writes_of(log: &RecordLog, entry: &Entry) -> &'static [PendingWrite]
-    ensures { result.now ≡ writes_of log.now entry.now }
-{
-    if log.room().pad_before(record_sectors(entry)) == 0 {
-        &[PendingWrite::Record]
-    } else {
-        &[PendingWrite::Pad, PendingWrite::Record]
     }
 }
 

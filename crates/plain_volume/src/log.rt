@@ -113,8 +113,8 @@ impl RecordLog {
         self.unfinished
     }
 
-    // The seq of the next entry.
-    fn next_seq(&self) -> u64
+    /// The seq of the next entry.
+    pub(crate) fn next_seq(&self) -> u64
         ensures { result ≡ next_seq self.now }
     {
         self.last.tail.seq + self.records.len() as u64

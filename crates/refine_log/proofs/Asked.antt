@@ -1,9 +1,9 @@
--- What calls within the room of a disk leave of it, and how many writes are pending on it then.
+-- What calls within the room of a disk leave of it, and which writes are pending on it then.
 use Rattle.std.proofs.Common.{◌≡◌, ℕ, ◌+◌, ◌≤◌, Bool, true, false, zero, suc, List, [], ◌∷◌, ◌++◌, length, take, refl, sym, ◌∙◌}
-use Rattle.std.proofs.Common.{ap, subst, inl, inr, arith, length-append}
+use Rattle.std.proofs.Common.{ap, subst, inl, inr, arith, length-append, reverse}
 use Rattle.std.specs.Prelude.{Option, Some, None, is_some, IfSome, IsTrue}
 use Rattle.std.proofs.lemmas.Bool.{cases_Bool}
-use Rattle.std.proofs.lemmas.List.{take_all, take-append-le, length-take-le}
+use Rattle.std.proofs.lemmas.List.{take_all, take-append-le, append_assoc, reverse-append, length-reverse}
 use Rattle.std.proofs.Math.Seq.{take-append-add}
 use Rattle.lsvd_device.specs.Medium.{Medium, after_write}
 use Rattle.lsvd_device.specs.Calls.{Fuse, Budget, Cost, passes, fuse_after, Takes}
@@ -12,7 +12,11 @@ use Rattle.lsvd_device.specs.Sequence.{Call, Write, Sync, moments_with, moments_
 use Rattle.lsvd_device.specs.Memory.{HasRoom}
 use Rattle.lsvd_device.specs.Stop.{HasNow}
 use Rattle.commit_slot.specs.Sequence.{Costs}
+use Rattle.cache_log.specs.Log.{LogState}
+use Rattle.plain_disk.specs.declared.cache.PendingWrite.{PendingWrite}
+use Rattle.plain_disk.specs.Cache.{PlainCache}
 use Rattle.refine_log.specs.Fuses.{fuse_in}
+use Rattle.refine_log.specs.Pending.{AreBytesOf, ArePendingOn, ShowsPending}
 
 -- ---- fuses
 
@@ -137,43 +141,86 @@ asked cost calls are_made old new covered room costs =
 abbrev pub HasPending : (count : ℕ) → List Medium → Type 0
 HasPending count moments = HasNow (λ now. length now.pending ≡ count) moments
 
--- writes alone are all pending
-abbrev pub AreWrites : List Call → Type 0
-AreWrites [] = Unit {0}
-AreWrites (Write at piece ∷ calls) = AreWrites calls
-AreWrites (Sync ∷ calls) = ⊥
+-- as many are as were made
+count_writes : (writes : List PendingWrite) (moments : List Medium) → ArePendingOn writes moments
+    → HasPending (length writes) moments
+count_writes [] [] are = absurd are
+count_writes [] (now ∷ past) are = ap length are
+count_writes (write ∷ earlier) [] are = absurd are
+count_writes (write ∷ earlier) (now ∷ []) are = absurd are.0
+count_writes (write ∷ earlier) (now ∷ before ∷ past) are =
+    let made = are.0 in
+    let rest : length before.pending ≡ length earlier = count_writes earlier (before ∷ past) are.1 in
+    let one : length (after_write made.at made.piece before).pending ≡ 1 + length before.pending = omega arith in
+    let long : length (write ∷ earlier) ≡ 1 + length earlier = omega arith in
+    ap (λ (m : Medium). length m.pending) made.is_written ∙ omega (arith, one, rest, long)
 
-some_are : (calls : List Call) (n : ℕ) → AreWrites calls → AreWrites (take n calls)
-some_are [] zero are = tt
-some_are [] (suc n) are = tt
-some_are (Write at piece ∷ calls) zero are = tt
-some_are (Write at piece ∷ calls) (suc n) are = some_are calls n are
-some_are (Sync ∷ calls) n are = absurd are
+pub pending_count : (log : LogState) (cache : PlainCache) → ShowsPending log cache
+    → HasPending (length cache.pending) log.commits.disk.moments
+pending_count log cache shows =
+    subst (λ n. HasPending n log.commits.disk.moments) (length-reverse cache.pending)
+    (count_writes (reverse cache.pending) log.commits.disk.moments shows.pending)
 
-pub writes_pend : (calls : List Call) (moments : List Medium) (count total : ℕ) → AreWrites calls → total ≡ count + length calls
-    → HasPending count moments → HasPending total (moments_with_all calls moments)
-writes_pend [] moments count total are sum has =
-    let same : count ≡ total = omega (arith, sum) in
-    subst (λ n. HasPending n moments) same has
-writes_pend (Write at piece ∷ calls) [] count total are sum has = absurd has
-writes_pend (Write at piece ∷ calls) (now ∷ past) count total are sum has =
-    let long : length (Write at piece ∷ calls) ≡ 1 + length calls = omega arith in
-    let one : length (after_write at piece now).pending ≡ 1 + length now.pending = omega arith in
-    writes_pend calls (after_write at piece now ∷ now ∷ past) (1 + count) total are (omega (arith, sum, long))
-    (omega (arith, has, one))
-writes_pend (Sync ∷ calls) moments count total are sum has = absurd are
+-- calls are these writes
+abbrev pub AreWrites : List Call → List PendingWrite → Type 0
+AreWrites [] [] = Unit {0}
+AreWrites [] (write ∷ writes) = ⊥
+AreWrites (Write at piece ∷ calls) [] = ⊥
+AreWrites (Write at piece ∷ calls) (write ∷ writes) = AreBytesOf write piece × AreWrites calls writes
+AreWrites (Sync ∷ calls) writes = ⊥
 
-pub passed_pend : (fuse : Fuse) (calls : List Call) (moments : List Medium) (count : ℕ) → AreWrites calls
-    → HasPending count moments
-    → HasPending (count + passed_of fuse (length calls)) (moments_passed fuse calls moments)
-passed_pend fuse calls moments count are has =
+pub writes_count : (calls : List Call) (writes : List PendingWrite) → AreWrites calls writes → length calls ≡ length writes
+writes_count [] [] are = refl
+writes_count [] (write ∷ writes) are = absurd are
+writes_count (Write at piece ∷ calls) [] are = absurd are
+writes_count (Write at piece ∷ calls) (write ∷ writes) are = (let rest = writes_count calls writes are.1 in omega (arith, rest))
+writes_count (Sync ∷ calls) writes are = absurd are
+
+some_are : (calls : List Call) (writes : List PendingWrite) (n : ℕ) → AreWrites calls writes
+    → AreWrites (take n calls) (take n writes)
+some_are [] [] zero are = tt
+some_are [] [] (suc n) are = tt
+some_are [] (write ∷ writes) n are = absurd are
+some_are (Write at piece ∷ calls) [] n are = absurd are
+some_are (Write at piece ∷ calls) (write ∷ writes) zero are = tt
+some_are (Write at piece ∷ calls) (write ∷ writes) (suc n) are = (are.0, some_are calls writes n are.1)
+some_are (Sync ∷ calls) writes n are = absurd are
+
+-- they are the newest ones then
+newest_writes : (calls : List Call) (writes earlier : List PendingWrite) (moments : List Medium) → AreWrites calls writes
+    → ArePendingOn earlier moments → ArePendingOn (reverse writes ++ earlier) (moments_with_all calls moments)
+newest_writes [] [] earlier moments are has = has
+newest_writes [] (write ∷ writes) earlier moments are has = absurd are
+newest_writes (Write at piece ∷ calls) [] earlier moments are has = absurd are
+newest_writes (Write at piece ∷ calls) (write ∷ writes) [] [] are has = absurd has
+newest_writes (Write at piece ∷ calls) (write ∷ writes) (last ∷ earlier) [] are has = absurd has
+newest_writes (Write at piece ∷ calls) (write ∷ writes) earlier (now ∷ past) are has =
+    let order : reverse (write ∷ writes) ++ earlier ≡ reverse writes ++ write ∷ earlier =
+    ap (λ list. list ++ earlier) (reverse-append (write ∷ []) writes) ∙ append_assoc (reverse writes) (write ∷ []) earlier in
+    let all : List Medium = after_write at piece now ∷ now ∷ past in
+    subst (λ list. ArePendingOn list (moments_with_all calls all)) (sym order)
+    (newest_writes calls writes (write ∷ earlier) all are.1
+    (record { at = at; piece = piece; bytes = are.0; is_written = refl }, has))
+newest_writes (Sync ∷ calls) writes earlier moments are has = absurd are
+
+pub writes_pend : (calls : List Call) (writes pending : List PendingWrite) (moments : List Medium) → AreWrites calls writes
+    → ArePendingOn (reverse pending) moments → ArePendingOn (reverse (pending ++ writes)) (moments_with_all calls moments)
+writes_pend calls writes pending moments are has =
+    subst (λ list. ArePendingOn list (moments_with_all calls moments)) (sym (reverse-append pending writes))
+    (newest_writes calls writes (reverse pending) moments are has)
+
+pub passed_pend : (fuse : Fuse) (calls : List Call) (writes pending : List PendingWrite) (moments : List Medium)
+    → AreWrites calls writes → ArePendingOn (reverse pending) moments
+    → ArePendingOn (reverse (pending ++ take (passed_of fuse (length calls)) writes)) (moments_passed fuse calls moments)
+passed_pend fuse calls writes pending moments are has =
     let k : ℕ = passed_of fuse (length calls) in
-    let size : length (take k calls) ≡ k = length-take-le k calls (passed_most fuse (length calls)) in
-    writes_pend (take k calls) moments count (count + k) (some_are calls k are) (omega (arith, size)) has
+    writes_pend (take k calls) (take k writes) pending moments (some_are calls writes k are) has
 
-pub sync_clears : (moments : List Medium) (count : ℕ) → HasPending count moments → HasPending 0 (moments_with Sync moments)
-sync_clears [] count has = absurd has
-sync_clears (now ∷ past) count has = refl
+pub sync_clears : (moments : List Medium) (writes : List PendingWrite) → ArePendingOn writes moments
+    → ArePendingOn [] (moments_with Sync moments)
+sync_clears [] [] are = absurd are
+sync_clears [] (write ∷ earlier) are = absurd are
+sync_clears (now ∷ past) writes are = refl
 
 -- calls leave a newest moment where there was one
 pub has_now : (calls : List Call) (moments : List Medium) → HasNow (λ now. Unit {0}) moments

@@ -14,7 +14,7 @@ use Rattle.commit_slot.specs.Commits.{finished_number, finished_body, FailsIn}
 use Rattle.cache_log.specs.Log.{LogState, append_cost}
 use Rattle.cache_log.specs.Committed.{body_of}
 use Rattle.plain_disk.specs.declared.cache.PendingWrite.TheVariants.{Pad, Record}
-use Rattle.plain_disk.specs.Log.{PlainLog, room_in}
+use Rattle.plain_disk.specs.Log.{PlainLog, next_seq, room_in}
 use Rattle.plain_disk.specs.Cache.{writes_of}
 use Rattle.refine_log.specs.Fuses.{fuse_in, calls_to_finish, LetsCommit}
 use Rattle.refine_log.specs.Laws.{IsToldFuse, MadeCommitHasFuse, FailedCommitHasFuse, EntryHasFuse}
@@ -201,19 +201,19 @@ failed_commit_has_fuse old new costs fails =
 -- ---- an entry
 
 -- the writes are counted, of which there is one at least
-count_in : (has_none : Bool) (pad bytes : ℕ)
-    → (length (cond has_none (Record ∷ []) (Pad ∷ Record ∷ []))
+count_in : (has_none : Bool) (seq pad bytes : ℕ)
+    → (length (cond has_none (Record seq ∷ []) (Pad seq ∷ Record seq ∷ []))
     ≡ (cond has_none (write_cost bytes) (together (write_cost pad) (write_cost bytes))).calls)
-    × (1 ≤ length (cond has_none (Record ∷ []) (Pad ∷ Record ∷ [])))
-count_in true pad bytes = (refl, omega arith)
-count_in false pad bytes = (refl, omega arith)
+    × (1 ≤ length (cond has_none (Record seq ∷ []) (Pad seq ∷ Record seq ∷ [])))
+count_in true seq pad bytes = (refl, omega arith)
+count_in false seq pad bytes = (refl, omega arith)
 
 entry_count : (old : LogState) (plain : PlainLog) (entry : Entry) → room_in plain ≡ old.room
     → (length (writes_of plain entry) ≡ (append_cost old.room (record_sectors entry)).calls)
     × (1 ≤ length (writes_of plain entry))
 entry_count old plain entry same =
     let sectors : ℕ = record_sectors entry in
-    let count = count_in (pad_before (room_in plain) sectors == 0) sector_bytes (sector_bytes * sectors) in
+    let count = count_in (pad_before (room_in plain) sectors == 0) (next_seq plain) sector_bytes (sector_bytes * sectors) in
     (count.0 ∙ ap (λ r. (append_cost r sectors).calls) same, count.1)
 
 -- a fuse where the disk tells none

@@ -1,15 +1,18 @@
 -- What each call of the log leaves pending.
-use Rattle.std.proofs.Common.{◌≡◌, ◌≢◌, ℕ, ◌+◌, ◌*◌, ◌%◌, ◌≤◌, ◌⊎◌, ◌==◌, Bool, true, false, List, [], ◌∷◌, ◌++◌, length, refl}
-use Rattle.std.proofs.Common.{sym, ◌∙◌, ap, subst, inl, inr, arith, if◌then◌else◌}
+use Rattle.std.proofs.Common.{◌≡◌, ◌≢◌, ℕ, zero, suc, ◌+◌, ◌-◌, ◌*◌, ◌%◌, ◌<◌, ◌≤◌, ◌⊎◌, ◌==◌, Bool, true, false, List, []}
+use Rattle.std.proofs.Common.{◌∷◌, ◌++◌, reverse, length, refl, sym, ◌∙◌, ap, subst, inl, inr, arith, if◌then◌else◌}
+use Rattle.std.proofs.Common.{length-append}
 use Rattle.std.specs.Prelude.{Option, Some, None, IfSome, IfNone, slice_index, option_map}
 use Rattle.std.specs.List.{AllByRecursion}
 use Rattle.std.proofs.Math.Path.{subst₂}
+use Rattle.lsvd_base.specs.declared.entry.Entry.{Entry}
 use Rattle.lsvd_device.specs.Medium.{Medium}
 use Rattle.lsvd_device.specs.Calls.{Fuse, passes, write_cost, together}
 use Rattle.lsvd_device.specs.Device.{DiskState, HasSize, HoldsNow}
 use Rattle.lsvd_device.specs.Memory.{IsSynced}
 use Rattle.lsvd_device.specs.Sequence.{Call, Write}
 use Rattle.lsvd_device.specs.Stop.{HasNow}
+use Rattle.log_record.specs.Grammar.{IsRecordOf}
 use Rattle.commit_body.specs.declared.body.CommitBody.{CommitBody}
 use Rattle.commit_body.specs.Body.{body_bytes}
 use Rattle.commit_body.proofs.BodyLemmas.{is_one_sector}
@@ -20,21 +23,22 @@ use Rattle.commit_slot.specs.Committing.{FailsToCommit}
 use Rattle.commit_slot.specs.OnDisk.{AreOnDisk}
 use Rattle.commit_slot.specs.Sequence.{commit_calls}
 use Rattle.cache_log.specs.Rows.{byte_of}
-use Rattle.cache_log.specs.Log.{LogState, append_cost, append_writes}
+use Rattle.cache_log.specs.Log.{LogState, all_rows, next_seq, append_cost, append_writes}
 use Rattle.cache_log.specs.Committed.{body_of}
 use Rattle.plain_disk.specs.declared.cache.PendingWrite.{PendingWrite}
 use Rattle.plain_disk.specs.declared.cache.PendingWrite.TheVariants.{Pad, Record, OpenedGate}
-use Rattle.plain_disk.specs.Log.{with_record}
+use Rattle.plain_disk.specs.Log.{PlainLog, next_seq as next_plain_seq, with_record}
 use Rattle.plain_disk.specs.Cache.{PlainCache, writes_of, after_writes, passes_entry, cache_after_commit}
 use Rattle.refine_log.specs.Fuses.{fuse_in, calls_to_finish}
 use Rattle.refine_log.specs.Shows.{commit_of, ShowsLog}
 use Rattle.refine_log.specs.Laws.{CostsCommit}
+use Rattle.refine_log.proofs.Following.{records_count}
 use Rattle.refine_log.proofs.Shown.{some_as}
 use Rattle.refine_log.proofs.FuseLemmas.{failed_commit_has_fuse}
-use Rattle.refine_log.specs.Pending.{HasGateClosed, HasGateOpened, IsBrokenOff, ShowsPending}
+use Rattle.refine_log.specs.Pending.{AreBytesOf, ArePendingOn, HasGateClosed, HasGateOpened, IsBrokenOff, ShowsPending}
 use Rattle.refine_log.specs.PendingLaws.{CanTake, SyncedShowsPending, StillShowsPending, EntryShowsPending, CommitShowsPending}
 use Rattle.refine_log.specs.PendingLaws.{FailedCommitShowsPending}
-use Rattle.refine_log.proofs.Asked.{spent_after, moments_passed, none_made, AreCovered, IsAsked, asked, HasPending}
+use Rattle.refine_log.proofs.Asked.{spent_after, moments_passed, none_made, AreCovered, IsAsked, asked, pending_count}
 use Rattle.refine_log.proofs.Asked.{AreWrites, newest_of}
 use Rattle.refine_log.proofs.Cached.{PendsAs, writes_as, log_as, commit_as}
 use Rattle.refine_log.proofs.Bodies.{now_is, last_uuid}
@@ -87,9 +91,9 @@ none_broken commits pending none =
 -- ---- no call
 
 none_pend : (moments : List Medium) (pending : List PendingWrite) → HasNow IsSynced moments → pending ≡ []
-    → HasPending (length pending) moments
-none_pend [] pending synced none = synced
-none_pend (now ∷ past) pending synced none = ap length synced.pending ∙ sym (ap length none)
+    → ArePendingOn (reverse pending) moments
+none_pend [] pending synced none = absurd synced
+none_pend (now ∷ past) pending synced none = subst (λ list. ArePendingOn (reverse list) (now ∷ past)) (sym none) synced.pending
 
 pub synced_shows_pending : SyncedShowsPending
 synced_shows_pending log cache told synced finished none = record {
@@ -101,7 +105,7 @@ synced_shows_pending log cache told synced finished none = record {
 pub still_shows_pending : StillShowsPending
 still_shows_pending old new cache after shows commits moments told fuse same = record {
   told = told;
-  pending = subst₂ (λ m w. HasPending (length w) m) (sym moments) (sym same) shows.pending;
+  pending = subst₂ (λ m w. ArePendingOn (reverse w) m) (sym moments) (sym same) shows.pending;
   broken =
       still_broken old.commits new.commits cache.pending after.pending commits
       (λ is. record { fuse = fuse is; moments = moments; pending = same }) shows.broken;
@@ -117,10 +121,10 @@ record AreAsked (calls : List Call) (old new : LogState) (cache after : PlainCac
   pends : PendsAs calls cache after
 
 pending_after : (calls : List Call) (old new : LogState) (cache after : PlainCache) → AreAsked calls old new cache after
-    → HasPending (length after.pending) new.commits.disk.moments
+    → ArePendingOn (reverse after.pending) new.commits.disk.moments
 pending_after calls old new cache after is =
-    let P : Fuse → Type 0 = λ f. HasPending (length after.pending) (moments_passed f calls old.commits.disk.moments) in
-    subst (HasPending (length after.pending)) (sym is.asked.moments)
+    let P : Fuse → Type 0 = λ f. ArePendingOn (reverse after.pending) (moments_passed f calls old.commits.disk.moments) in
+    subst (ArePendingOn (reverse after.pending)) (sym is.asked.moments)
     (subst P is.left (is.pends.pends old.commits.disk.moments is.shows.pending))
 
 -- as before, where the fuse is spent
@@ -149,39 +153,53 @@ same_after calls old new cache after is same =
 
 -- ---- an entry
 
+-- the next entry has the same seq
+next_seq_shown : (log : LogState) (plain : PlainLog) → ShowsLog log plain → next_plain_seq plain ≡ next_seq log
+next_seq_shown log plain is =
+    let counted = is.counted in
+    let long = length-append log.held log.rows in
+    let count : length plain.records ≡ length (all_rows log) = ap length is.records
+    ∙ records_count (all_rows log) log.room.log log.commits.body.tail.position in
+    let last : plain.last.tail.seq ≡ log.commits.body.tail.seq = ap (λ c. c.tail.seq) is.last in
+    omega (arith, counted, long, count, last)
+
+some_pad : (sectors : ℕ) → (sectors == 0) ≡ false → 0 < sectors
+some_pad zero some = cc
+some_pad (suc sectors) some = omega arith
+
 -- the writes of an entry, by whether it needs no pad
-record AreWritesOf (has_none : Bool) (at head sectors : ℕ) (pad bytes : List ℕ) : Type 0 where
+record AreWritesOf (has_none : Bool) (seq at head sectors : ℕ) (pad bytes : List ℕ) : Type 0 where
   covered : AreCovered ((if has_none then [] else Write head pad ∷ []) ++ Write at bytes ∷ [])
       (if has_none then write_cost (sector_bytes * sectors) else together (write_cost sector_bytes)
       (write_cost (sector_bytes * sectors)))
   writes : AreWrites ((if has_none then [] else Write head pad ∷ []) ++ Write at bytes ∷ [])
-  count : length ((if has_none then [] else Write head pad ∷ []) ++ Write at bytes ∷ [])
-      ≡ length (if has_none then Record ∷ [] else Pad ∷ Record ∷ [])
+      (if has_none then Record seq ∷ [] else Pad seq ∷ Record seq ∷ [])
 
-are_writes_of : (has_none : Bool) (at head sectors : ℕ) (pad bytes : List ℕ) → length pad ≤ sector_bytes
-    → length bytes ≡ sector_bytes * sectors
-    → AreWritesOf has_none at head sectors pad bytes
-are_writes_of true at head sectors pad bytes short whole = record {
+are_writes_of : (has_none : Bool) (entry : Entry) (seq at head sectors : ℕ) (pad bytes : List ℕ) → length pad ≤ sector_bytes
+    → length bytes ≡ sector_bytes * sectors → IsRecordOf entry seq bytes → (has_none ≡ false → AreBytesOf (Pad seq) pad)
+    → AreWritesOf has_none seq at head sectors pad bytes
+are_writes_of true entry seq at head sectors pad bytes short whole is_record is_pad = record {
   covered = record { count = refl; changes = omega arith; bytes = omega (arith, whole) };
-  writes = tt;
-  count = refl;
+  writes = ((entry, is_record), tt);
 }
-are_writes_of false at head sectors pad bytes short whole = record {
+are_writes_of false entry seq at head sectors pad bytes short whole is_record is_pad = record {
   covered = record { count = refl; changes = omega arith; bytes = omega (arith, short, whole) };
-  writes = tt;
-  count = refl;
+  writes = (is_pad refl, ((entry, is_record), tt));
 }
 
 pub entry_shows_pending : EntryShowsPending
 entry_shows_pending old new cache entry are_made shows log same can costs =
     let sectors : ℕ = record_sectors entry in
+    let seq : ℕ = next_seq old in
+    let needed : ℕ = pad_before old.room sectors in
     let calls : List Call = append_writes old.room sectors costs.pad costs.bytes in
     let written : PlainCache = after_writes (writes_of cache.log entry) cache in
-    let of = are_writes_of (pad_before old.room sectors == 0) (byte_of (position old.room sectors))
-    (byte_of old.room.head) sectors
-    costs.pad costs.bytes costs.pad_size costs.size in
-    let count : length calls ≡ length (writes_of cache.log entry) =
-    of.count ∙ sym (ap (λ r. length (if pad_before r sectors == 0 then Record ∷ [] else Pad ∷ Record ∷ [])) log.room) in
+    let of = are_writes_of (needed == 0) entry seq (byte_of (position old.room sectors)) (byte_of old.room.head) sectors
+    costs.pad costs.bytes costs.pad_size costs.size costs.is_record
+    (λ some. (needed - 1, costs.is_pad (some_pad needed some))) in
+    let writes : AreWrites calls (writes_of cache.log entry) =
+    subst₂ (λ r n. AreWrites calls (if pad_before r sectors == 0 then Record n ∷ [] else Pad n ∷ Record n ∷ []))
+    (sym log.room) (sym (next_seq_shown old cache.log log)) of.writes in
     let after : PlainCache = if passes_entry cache entry then record written { log = with_record cache.log entry } else written in
     let both : AreAsked calls old new cache after =
     record {
@@ -191,7 +209,7 @@ entry_shows_pending old new cache entry are_made shows log same can costs =
           costs.costs;
       pends =
           log_as calls (passes_entry cache entry) cache written (with_record cache.log entry)
-          (writes_as calls (writes_of cache.log entry) cache of.writes count);
+          (writes_as calls (writes_of cache.log entry) cache writes);
     } in
     shows_after calls old new cache after both (same_after calls old new cache after both same)
 
@@ -212,7 +230,7 @@ calls_of log = commit_calls log.commits.number log.commits.unfinished (body_of l
 
 uuid_of : (log : LogState) (cache : PlainCache) → ShowsPending log cache → AreOnDisk log.commits → length (body_of log).uuid ≡ 16
 uuid_of log cache shows on_disk =
-    let newest = newest_of log.commits.disk.moments (length cache.pending) shows.pending in
+    let newest = newest_of log.commits.disk.moments (length cache.pending) (pending_count log cache shows) in
     last_uuid log.commits cache.pending newest.now newest.past newest.is on_disk shows.broken
 
 commit_asked : (seq : ℕ) (is_made : Bool) (old new : LogState) (cache : PlainCache) → ShowsPending old cache
@@ -257,7 +275,7 @@ begun_off : (seq : ℕ) (old new : LogState) (cache : PlainCache)
     → IsBrokenOff (gate_at ((old.commits.number + 1) % 3)) new.commits.disk (cache_after_commit seq cache).pending
 begun_off seq old new cache both on_disk none finished begun stopped =
     let commits : CommitsState = old.commits in
-    let newest = newest_of commits.disk.moments (length cache.pending) both.shows.pending in
+    let newest = newest_of commits.disk.moments (length cache.pending) (pending_count old cache both.shows) in
     let gate : ℕ = gate_at ((commits.number + 1) % 3) in
     let P : Option CommitBody → Type 0 = λ u. IfNone u (HoldsNow (λ m. slice_index m.bytes gate ≢ 1) commits.disk.moments) in
     let size : HasSize commits.disk.size newest.now =

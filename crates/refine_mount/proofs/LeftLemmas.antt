@@ -21,7 +21,7 @@ use Rattle.refine_log.proofs.Sizes.{left_size}
 use Rattle.refine_log.proofs.StopLemmas.{IsLastOrUnfinished, one_of, HasCommitUpTo, log_fits, one_own, now_size, leaves_now}
 use Rattle.refine_log.proofs.StopLemmas.{has_commit}
 use Rattle.refine_log.specs.Pending.{IsBrokenOff, ShowsPending}
-use Rattle.refine_log.proofs.Asked.{newest_of}
+use Rattle.refine_log.proofs.Asked.{pending_count, newest_of}
 use Rattle.refine_mount.specs.Laws.{FatesKeepCommit}
 use Rattle.refine_mount.proofs.GateLemmas.{IsOpenBy, gate_left}
 
@@ -139,6 +139,7 @@ module _ (owner : CacheOwner) (data_at : ℕ → ℕ) (log : LogState) (plain : 
 
 pub fates_keep_commit : FatesKeepCommit
 fates_keep_commit owner data_at log plain fates end shows pending count may from to =
-    let newest = newest_of log.commits.disk.moments (length plain.cache.pending) pending.pending in
+    let newest = newest_of log.commits.disk.moments (length plain.cache.pending)
+    (pending_count log plain.cache pending) in
     fates_have owner data_at log plain shows newest.now newest.past newest.is fates pending count
     (subst (HoldsNow (λ now. MayLeave now (left_in_order fates log.commits.disk.moments))) newest.is may) end from

@@ -15,6 +15,7 @@ use Rattle.plain_disk.specs.State.{PlainState}
 use Rattle.plain_disk.specs.Stops.{stopping_after_calls}
 use Rattle.refine_log.specs.Fuses.{fuse_in}
 use Rattle.refine_log.specs.Pending.{ShowsPending}
+use Rattle.refine_log.proofs.Asked.{pending_count}
 use Rattle.refine_log.proofs.PendingShown.{still_shows_pending}
 use Rattle.refine_store.specs.Puts.{IsObjectOf}
 use Rattle.transcript.specs.Letters.{under_way}
@@ -43,7 +44,8 @@ pub count_pending : (rig : RigState) (plain : PlainState) (disk : DiskState) (n 
     → HoldsNow (λ now. n ≡ length now.pending) disk.moments → n ≡ length plain.cache.pending
 count_pending rig plain disk n h is holds =
     pending_at n (length plain.cache.pending) rig.volume.volume.log.commits.disk.moments
-    (subst (λ (d : DiskState). HoldsNow (λ now. n ≡ length now.pending) d.moments) is holds) h.pending.pending
+    (subst (λ (d : DiskState). HoldsNow (λ now. n ≡ length now.pending) d.moments) is holds)
+    (pending_count rig.volume.volume.log plain.cache h.pending)
 
 -- as many fates as writes
 fates_at : (count fates : ℕ) (moments : List Medium) → fates ≡ count → HasNow (λ now. length now.pending ≡ count) moments
@@ -56,7 +58,8 @@ pub fates_pending : (rig : RigState) (plain : PlainState) (disk : DiskState) (fa
     → fates ≡ length plain.cache.pending → HoldsNow (λ now. fates ≡ length now.pending) disk.moments
 fates_pending rig plain disk fates h is count =
     subst (λ (d : DiskState). HoldsNow (λ now. fates ≡ length now.pending) d.moments) (sym is)
-    (fates_at (length plain.cache.pending) fates rig.volume.volume.log.commits.disk.moments count h.pending.pending)
+    (fates_at (length plain.cache.pending) fates rig.volume.volume.log.commits.disk.moments count
+    (pending_count rig.volume.volume.log plain.cache h.pending))
 
 -- ---- a device that is told to stop
 

@@ -25,6 +25,7 @@ use Rattle.plain_disk.specs.Cache.{PlainCache, after_reads}
 use Rattle.plain_disk.specs.State.{PlainState}
 use Rattle.plain_disk.specs.Reads.{objects_read, look_calls, passes_look, planned_read, are_pinned, without_pins}
 use Rattle.plain_disk.specs.Step.{plain_reply, plain_after}
+use Rattle.refine_log.proofs.Asked.{pending_count}
 use Rattle.transcript.specs.Answers.{released_by}
 use Rattle.read_plan.specs.Plan.{PlanState, Gives, GivesNoOther}
 use Rattle.vol_core.specs.declared.event.Event.TheVariants.{Look, Release}
@@ -294,8 +295,8 @@ read_planned lba sectors old middle volume plan reply held on_disk of back only 
       let planned = is_planned lba sectors old middle plain plan h of in
       let bytes : List ℕ = planned.read.data in
       let looked : PlainState = plain_after event plain in
-      let gives = told_here (Gives plan bytes) _ log.rows log.commits.disk.moments log.entries on_disk.entries h.pending.pending
-      planned.tells.gives in (
+      let gives = told_here (Gives plan bytes) _ log.rows log.commits.disk.moments log.entries on_disk.entries
+      (pending_count log plain.cache h.pending) planned.tells.gives in (
         subst (λ r. SaysReply r (answers.Sectors held)) (sym planned.is) (held, refl, sym (only bytes gives)),
         subst (λ r. ShowsPlain rig (released_by r looked)) (sym planned.is)
             (subst (λ objects. ShowsPlain rig (plain_after (events.Release objects) looked)) planned.tells.objects

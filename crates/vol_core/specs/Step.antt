@@ -103,8 +103,8 @@ passing left plain = record plain { cache = record plain.cache { left = left } }
 
 -- A step is one of the plain volume that the volume shows, whose device passes some calls: those that the volume's device tells
 -- that it passes, where it has room for the step's; and else as many as it did, as if a fuse had failed the others. The reply
--- tells the plain volume's, and the volume shows what that becomes. Where the device has room for the step's calls, and as many
--- writes were pending on it as on the plain volume's cache, so they are then.
+-- tells the plain volume's, and the volume shows what that becomes. Where the device has room for the step's calls, and the
+-- writes that were pending on it were those on the plain volume's cache, so they are then.
 pub record IsStep {R : Type 0} (state : R → ReceiptState) (event : Event R) (reply : Reply R) (plain : PlainState)
     (old new : VolumeState) : Type 0 where
   pub left : Fuse
