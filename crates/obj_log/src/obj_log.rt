@@ -5,7 +5,7 @@ ghost use Rattle.lsvd_base.specs.Limits.{is_within_limits};
 ghost use Rattle.lsvd_base.specs.Range.{is_in_range};
 ghost use Rattle.lsvd_base.specs.Laws.{sector_count};
 ghost use Rattle.extent_map.specs.Extents.{place_at, place_in_range, IsShortest, AllFit};
-ghost use Rattle.object_stream.specs.Replay.{name_of};
+ghost use Rattle.object_stream.specs.Replay.{object_name};
 ghost use Rattle.upload_window.specs.Window.{lowest_ready, IsFrontier};
 ghost use Rattle.volume_maps.specs.Places.{volume_on, volume_number};
 ghost use Rattle.volume_maps.specs.Maps.{volume_place_at};
@@ -16,7 +16,7 @@ ghost use Rattle.object_uploads.specs.Changes.{with_job, IsJobOf, IsOut, IsPutDo
 ghost use Rattle.obj_log.specs.declared.error.SealError.TheVariants as errors;
 ghost use Rattle.obj_log.specs.State.{ObjLogState};
 ghost use Rattle.obj_log.specs.Changes.{HasRoomToAdd, IsSame, IsAdded, HasSealedObject, HasAdoptedObject};
-ghost use Rattle.obj_log.specs.Changes.{next_of};
+ghost use Rattle.obj_log.specs.Changes.{expected_of_volume, next_of};
 
 use crate::error::SealError;
 use batcher::Batch;
@@ -177,9 +177,9 @@ impl<R: Receipt> ObjLog<R> {
     /// receipt names another object; then nothing changes. It takes no memory.
     pub fn job_done(&mut self, job: &Job, receipt: R) -> Result<u64, R>
         ensures nothing { IsErr result ↔ (IsOut self.old.uploads job.now.name.number job.now.bytes
-            × ((R.state receipt).name ≡ name_of self.old.uploads.uuid job.now.name.number) → ⊥) }
+            × ((R.state receipt).name ≡ object_name (expected_of_volume self.old) job.now.name.number) → ⊥) }
         ensures out { OnOk result (IsOut self.old.uploads job.now.name.number job.now.bytes) }
-        ensures named { OnOk result ((R.state receipt).name ≡ name_of self.old.uploads.uuid
+        ensures named { OnOk result ((R.state receipt).name ≡ object_name (expected_of_volume self.old)
             job.now.name.number) }
         ensures done { OnOk result (IsPutDone job.now.name.number (R.state receipt) self.old.uploads
             self.new.uploads) }

@@ -20,7 +20,7 @@ use Rattle.object_format.specs.Header.{most_rows}
 use Rattle.object_format.specs.Rows.{AreObjectRows}
 use Rattle.object_format.specs.Object.{IsObject}
 use Rattle.object_format.specs.Tests.{IsObjectRefusedAs}
-use Rattle.object_stream.specs.Replay.{name_of}
+use Rattle.object_stream.specs.Replay.{object_name}
 use Rattle.volume_maps.proofs.FitLemmas.{rows_fit}
 use Rattle.object_uploads.specs.Queue.{front_of, FitObject}
 use Rattle.obj_log.specs.State.{ObjLogState}
@@ -67,7 +67,7 @@ data_fits receipt expected rows end low is =
 -- ---- where the store tells its objects
 
 pub stored_as : (told : Option Objects) (expected : Expected) (receipt : ReceiptState) (rows : List DataRow) (end : ℕ)
-    → Finds (name_of expected.uuid expected.number) told (Some receipt) → IsSome receipt.told
+    → Finds (object_name expected expected.number) told (Some receipt) → IsSome receipt.told
     → IsReadAsData receipt expected rows end
     → IfSome told (λ objects. IsStoredAs objects expected rows end receipt)
 stored_as None expected receipt rows end finds some is = tt
@@ -79,19 +79,19 @@ stored_as (Some objects) expected receipt rows end finds some is = record {
   items = is.items;
   is_object =
       of_told (λ bytes size. IsObject bytes size expected is.header (Data is.list))
-      (name_of expected.uuid expected.number) finds.0 receipt finds.2 some is.read.told;
+      (object_name expected expected.number) finds.0 receipt finds.2 some is.read.told;
   end_is = is.end_is;
   receipt_is = record { size = finds.2.size; told = finds.2.told };
 }
 
 pub left_at : (told : Option Objects) (expected : Expected) (receipt : ReceiptState) (reached : Reached)
-    → Finds (name_of expected.uuid expected.number) told (Some receipt) → IsSome receipt.told
+    → Finds (object_name expected expected.number) told (Some receipt) → IsSome receipt.told
     → IfSome receipt.told (λ bytes. IsNotAdopted bytes receipt.size expected reached)
     → IfSome told (λ objects. IsLeftAt objects expected reached)
 left_at None expected receipt reached finds some is = tt
 left_at (Some objects) expected receipt reached finds some is = record {
   bytes = finds.0;
   present = finds.1;
-  left = of_told (λ bytes size. IsNotAdopted bytes size expected reached) (name_of expected.uuid expected.number) finds.0 receipt
+  left = of_told (λ bytes size. IsNotAdopted bytes size expected reached) (object_name expected expected.number) finds.0 receipt
       finds.2 some is;
 }

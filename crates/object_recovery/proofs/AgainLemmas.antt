@@ -11,7 +11,7 @@ use Rattle.object_format.specs.declared.rows.Rows.TheVariants as rows_of
 use Rattle.object_stream.specs.declared.object.Content.{Content}
 use Rattle.object_stream.specs.declared.object.Content.TheVariants as content
 use Rattle.object_stream.specs.declared.object.StreamObject.{StreamObject}
-use Rattle.object_stream.specs.Replay.{name_of}
+use Rattle.object_stream.specs.Replay.{object_name}
 use Rattle.object_stream.specs.Stored.{HasContent, AreStored}
 use Rattle.object_stream.specs.Stream.{Owners, Stream, objects_to}
 use Rattle.object_stream.specs.Value.{StandsForSector}
@@ -36,10 +36,10 @@ content_kept old new uuid_at kind entries rows_of.Checkpoint payload is has =
 module _ (volume : Expected) (uuid_at : ℕ → Option (List ℕ)) (old new : Objects) (number : ℕ)
     (removes : Removes (IsPastOf volume.uuid number) old new) where
   -- up to the number each object is as before
-  kept_at : (at : ℕ) → at ≤ number → found new (name_of volume.uuid at) ≡ found old (name_of volume.uuid at)
-  kept_at at to = removes.others (name_of volume.uuid at) (λ past. absurd (omega (arith, past.1.1, to)))
+  kept_at : (at : ℕ) → at ≤ number → found new (object_name volume at) ≡ found old (object_name volume at)
+  kept_at at to = removes.others (object_name volume at) (λ past. absurd (omega (arith, past.1.1, to)))
 
-  landed_at : (at : ℕ) → at ≤ number → landed_in new volume.uuid at ≡ landed_in old volume.uuid at
+  landed_at : (at : ℕ) → at ≤ number → landed_in new volume at ≡ landed_in old volume at
   landed_at at to = ap is_some (kept_at at to)
 
   checkpoint_kept : (at end : ℕ) (owned : Owners) → at ≤ number → IsCheckpointOf volume old at end owned
@@ -59,7 +59,7 @@ module _ (volume : Expected) (uuid_at : ℕ → Option (List ℕ)) (old new : Ob
   checkpoint_was at end owned is = record {
     bytes = is.bytes;
     present =
-        elim (removes.removed (name_of volume.uuid at)) [
+        elim (removes.removed (object_name volume at)) [
           | inl same ↦ sym same ∙ is.present
           | inr gone ↦ absurd (let present = is.present in cc)
         ];
@@ -118,7 +118,7 @@ module _ (volume : Expected) (uuid_at : ℕ → Option (List ℕ)) (old new : Ob
             };
             above = missing.above;
             absent =
-                elim (removes.removed (name_of volume.uuid (number + 1))) [
+                elim (removes.removed (object_name volume (number + 1))) [
                   | inl same ↦ ap is_some same ∙ missing.absent
                   | inr gone ↦ ap is_some gone
                 ];
@@ -134,7 +134,7 @@ module _ (volume : Expected) (uuid_at : ℕ → Option (List ℕ)) (old new : Ob
           stored = stored_kept stream.number stream.end stream.entries (objects_to stream number) size has.hold_data
               stored.stored;
           past = λ other bytes past there.
-              elim (removes.removed (name_of volume.uuid other)) [
+              elim (removes.removed (object_name volume other)) [
                 | inl same ↦ stored.past other bytes past (sym same ∙ there)
                 | inr gone ↦ absurd cc
               ];

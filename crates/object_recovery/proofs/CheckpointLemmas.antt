@@ -17,6 +17,7 @@ use Rattle.lsvd_base.specs.declared.geometry.Geometry.{Geometry}
 use Rattle.lsvd_names.specs.Spelling.{IsUuid}
 use Rattle.lsvd_names.specs.declared.name.Kind.TheVariants.{Object}
 use Rattle.lsvd_names.specs.declared.name.ObjName.{ObjName}
+use Rattle.lsvd_names.specs.Names.{numbered_name}
 use Rattle.lsvd_objstore.specs.Objects.{Objects, name_cmp, found, Lists}
 use Rattle.lsvd_objstore.specs.Store.{ReceiptState, Finds}
 use Rattle.object_format.specs.declared.expected.Expected.{Expected}
@@ -28,8 +29,8 @@ use Rattle.object_format.specs.Layout.{front_sectors}
 use Rattle.object_format.specs.Object.{IsObject}
 use Rattle.object_format.specs.Tests.{IsObjectRefusedAs}
 use Rattle.object_format.proofs.ObjectLemmas.{same_header}
-use Rattle.object_stream.specs.Replay.{name_of}
 use Rattle.object_stream.specs.Stream.{Owners}
+use Rattle.object_stream.specs.Replay.{object_name}
 use Rattle.stopped_volume.specs.Objects.{expected_alone, IsCheckpointOf}
 use Rattle.object_recovery.specs.declared.error.RecoverError.{RecoverError}
 use Rattle.object_recovery.specs.declared.error.RecoverError.TheVariants as errors
@@ -70,7 +71,7 @@ bad_checkpoint receipt expected error number reason is why = told_so receipt.tol
 
 -- what the bytes of an object say is so of the store that has it
 end_in_store : (geometry : Geometry) (objects : Objects) (name : ObjName) (bytes : List ℕ) (end : Option ℕ) → name.kind ≡ Object
-    → found objects (name_of name.uuid name.number) ≡ Some bytes
+    → found objects (object_name (expected_of name.uuid geometry) name.number) ≡ Some bytes
     → IsEndOfCheckpoint bytes (length bytes) (expected_alone (expected_of name.uuid geometry) name.number) end
     → IsCheckpointNamed geometry objects name end
 end_in_store geometry objects name bytes None kind there is = λ same_kind end owned checkpoint.
@@ -107,7 +108,8 @@ pub checkpoint_absent : (told : Option Objects) (name : ObjName) (geometry : Geo
     → IfSome told (λ objects. IsCheckpointNamed geometry objects name None)
 checkpoint_absent None name geometry finds = tt
 checkpoint_absent (Some objects) name geometry finds = λ kind end owned checkpoint.
-    let absent : found objects (name_of name.uuid name.number) ≡ None = ap (found objects) (sym (numbered name kind)) ∙ finds in
+    let absent : found objects (object_name (expected_of name.uuid geometry) name.number) ≡ None =
+    ap (found objects) (sym (numbered name kind)) ∙ finds in
     let present = checkpoint.present in
     cc
 
@@ -125,7 +127,7 @@ same_uuid : (uuid : List ℕ) → slice_cmp nat_cmp uuid uuid ≡ Equal
 same_uuid uuid = self_reversed (slice_cmp nat_cmp uuid uuid) (nat_list_cmp_total.antisymm uuid uuid)
 
 -- numbered names of a volume are in the order of their numbers
-pub name_order : (uuid : List ℕ) (a b : ℕ) → name_cmp (name_of uuid a) (name_of uuid b) ≡ Less → a < b
+pub name_order : (uuid : List ℕ) (a b : ℕ) → name_cmp (numbered_name uuid a) (numbered_name uuid b) ≡ Less → a < b
 name_order uuid a b less = number_order a b (sym (ap (λ order. ordering_then order (nat_cmp a b)) (same_uuid uuid)) ∙ less)
 
 module _ (uuid : List ℕ) (geometry : Geometry) (objects : Objects) (names : List ObjName) (is_uuid : IsUuid uuid)
@@ -135,22 +137,24 @@ module _ (uuid : List ℕ) (geometry : Geometry) (objects : Objects) (names : Li
 
   -- a checkpoint of the store is among the names of its objects
   is_listed : (number end : ℕ) (owned : Owners) → IsCheckpointOf volume objects number end owned
-      → Contains names (name_of uuid number)
+      → Contains names (object_name volume number)
   is_listed number end owned checkpoint =
       let head = checkpoint.parts.is_object.head in
       let fits : number < 2 ^ 64 = omega (arith, head.number, head.widths.number) in
-      let there : IsSome (found objects (name_of uuid number)) = subst (λ o. IsSome o) (sym checkpoint.present) (search rules) in
-      listed.complete (name_of uuid number) (record { uuid = is_uuid; number = tt; fits = fits }) refl there
+      let there : IsSome (found objects (object_name volume number)) =
+      subst (λ o. IsSome o) (sym checkpoint.present) (search rules) in
+      listed.complete (object_name volume number) (record { uuid = is_uuid; number = tt; fits = fits }) refl there
 
   -- and, where those from an index on have none, before that
   before_index : (index : ℕ) → HasNoneFrom geometry objects names index → (number end : ℕ) (owned : Owners)
       → IsCheckpointOf volume objects number end owned
-      → (k : ℕ) × (k < index) × (k < length names) × (slice_index_or names k (name_of uuid number) ≡ name_of uuid number)
+      → (k : ℕ) × (k < index) × (k < length names)
+      × (slice_index_or names k (object_name volume number) ≡ object_name volume number)
   before_index index none number end owned checkpoint =
       let at = is_listed number end owned checkpoint in
       elim (cases_lt at.0 index) [
         | inl low ↦ (at.0, low, at.1, at.2)
-        | inr from ↦ absurd (none at.0 (name_of uuid number) from at.1 at.2 refl end owned checkpoint)
+        | inr from ↦ absurd (none at.0 (object_name volume number) from at.1 at.2 refl end owned checkpoint)
       ]
 
   -- so the checkpoint before them is the newest
@@ -163,21 +167,21 @@ module _ (uuid : List ℕ) (geometry : Geometry) (objects : Objects) (names : Li
     is = is;
     newest = λ other other_end owned checkpoint.
         let place = before_index (index + 1) none other other_end owned checkpoint in
-        let here : name ≡ name_of uuid name.number = numbered name kind ∙ ap (λ u. name_of u name.number) of_volume in
+        let here : name ≡ object_name volume name.number = numbered name kind ∙ ap (λ u. numbered_name u name.number) of_volume in
         elim (cases_lt place.0 index) [
           | inl low ↦
               let less = Less-from_sorted name_cmp names place.0 index name listed.ascending low inside in
-              let first : slice_index_or names place.0 name ≡ name_of uuid other =
-              get_or_default names place.0 name (name_of uuid other) place.2 ∙ place.3 in
-              let order : name_cmp (name_of uuid other) (name_of uuid name.number) ≡ Less =
-              ap (λ a. name_cmp a (name_of uuid name.number)) (sym first)
+              let first : slice_index_or names place.0 name ≡ object_name volume other =
+              get_or_default names place.0 name (object_name volume other) place.2 ∙ place.3 in
+              let order : name_cmp (object_name volume other) (object_name volume name.number) ≡ Less =
+              ap (λ a. name_cmp a (object_name volume name.number)) (sym first)
               ∙ ap (name_cmp (slice_index_or names place.0 name)) (sym (at ∙ here)) ∙ less in
               omega (arith, name_order uuid other name.number order)
           | inr from ↦
               let same : place.0 ≡ index = omega (arith, place.1, from) in
-              let one : name_of uuid other ≡ name =
-              sym place.3 ∙ ap (λ k. slice_index_or names k (name_of uuid other)) same
-              ∙ get_or_default names index (name_of uuid other) name inside
+              let one : object_name volume other ≡ name =
+              sym place.3 ∙ ap (λ k. slice_index_or names k (object_name volume other)) same
+              ∙ get_or_default names index (object_name volume other) name inside
               ∙ at in
               omega (arith, ap (λ (n : ObjName). n.number) one)
         ];

@@ -16,7 +16,6 @@ use Rattle.object_format.specs.Object.{IsObject}
 use Rattle.object_format.specs.Tests.{PassesObjectTest, IsObjectRefusedAs}
 use Rattle.object_format.proofs.ObjectLemmas.{same_header}
 use Rattle.object_format.proofs.TestLemmas.{header_in-IsHeader, header_passes}
-use Rattle.object_stream.specs.Replay.{name_of}
 use Rattle.stopped_volume.specs.Objects.{expected_alone}
 use Rattle.object_recovery.specs.Judging.{IsEndOf, HasEnd, IsEndBefore, IsGoodObject, IsBadObject}
 use Rattle.object_recovery.specs.declared.error.RecoverError.TheVariants as errors

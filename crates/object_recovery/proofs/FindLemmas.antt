@@ -5,9 +5,9 @@ use Rattle.std.specs.Option.{IsSome}
 use Rattle.lsvd_names.specs.declared.name.Kind.{Kind}
 use Rattle.lsvd_names.specs.declared.name.Kind.TheVariants.{Object}
 use Rattle.lsvd_names.specs.declared.name.ObjName.{ObjName}
+use Rattle.lsvd_names.specs.Names.{numbered_name}
 use Rattle.lsvd_objstore.specs.Objects.{Objects}
 use Rattle.lsvd_objstore.specs.Store.{StoreState, ReceiptState, IsReceiptOf, OnlyCounts}
-use Rattle.object_stream.specs.Replay.{name_of}
 
 -- what is told is the object's bytes
 told_bytes : (told : Option (List ℕ)) (bytes : List ℕ) → IsSome told → IfSome told (λ t. t ≡ bytes) → told ≡ Some bytes
@@ -30,7 +30,7 @@ told_so P Q None so is = tt
 told_so P Q (Some objects) so is = so objects is
 
 -- the name of a numbered object
-pub numbered : (name : ObjName) → name.kind ≡ Object → name ≡ name_of name.uuid name.number
+pub numbered : (name : ObjName) → name.kind ≡ Object → name ≡ numbered_name name.uuid name.number
 numbered name kind = ap (λ (k : Kind). let other : ObjName = record { uuid = name.uuid; kind = k; number = name.number } in
     other) kind
 

@@ -10,7 +10,7 @@ use Rattle.object_format.specs.declared.expected.Expected.{Expected}
 use Rattle.object_format.specs.declared.reason.BadObject.{BadObject}
 use Rattle.object_format.specs.Object.{IsObject}
 use Rattle.object_format.specs.Tests.{IsObjectRefusedAs}
-use Rattle.object_stream.specs.Replay.{name_of}
+use Rattle.object_stream.specs.Replay.{object_name}
 use Rattle.stopped_volume.specs.Objects.{landed_in, expected_alone, IsWhole}
 use Rattle.object_recovery.specs.declared.judging.Reached.{Reached}
 use Rattle.object_recovery.specs.declared.judging.Refusal.{Refusal}
@@ -32,11 +32,11 @@ use Rattle.object_recovery.proofs.FindLemmas.{of_told}
 
 pub told_judged : (told : Option Objects) (expected : Expected) (receipt : ReceiptState) (object : ReadObject) (judged : Judged)
     → judged ≡ judged_by object
-    → Finds (name_of expected.uuid expected.number) told (Some receipt) → IsSome receipt.told → IsReadOf receipt expected object
+    → Finds (object_name expected expected.number) told (Some receipt) → IsSome receipt.told → IsReadOf receipt expected object
     → IfSome told (λ objects. IsJudged objects expected judged)
 told_judged None expected receipt object judged is finds some held = tt
 told_judged (Some objects) expected receipt (read.Whole rows end) judged is finds some held =
-    let name = name_of expected.uuid expected.number in
+    let name = object_name expected expected.number in
     let bytes = finds.0 in
     let is_object =
     of_told (λ bytes size. IsObject bytes size expected held.0 rows) name bytes receipt finds.2 some held.1.told in
@@ -49,7 +49,7 @@ told_judged (Some objects) expected receipt (read.Whole rows end) judged is find
       is_bad = (held.0, rows, is_object);
     })
 told_judged (Some objects) expected receipt (read.Bad reason end) judged is finds some held =
-    let name = name_of expected.uuid expected.number in
+    let name = object_name expected expected.number in
     let bytes = finds.0 in
     subst (IsJudged objects expected) (sym is) (record {
       bytes = bytes;
@@ -62,7 +62,7 @@ module _ (volume : Expected) (objects : Objects) where
   -- ---- verdicts
 
   module _ (last : ℕ) (Such More : ℕ → Type 0) where
-    good_wider : ((number : ℕ) (bytes : List ℕ) → More number → number < 2 ^ 64 → found objects (name_of volume.uuid number)
+    good_wider : ((number : ℕ) (bytes : List ℕ) → More number → number < 2 ^ 64 → found objects (object_name volume number)
         ≡ Some bytes
         → Such number ⊎ IsGoodObject volume objects last number)
         → AreGood volume objects last Such → AreGood volume objects last More
@@ -71,7 +71,7 @@ module _ (volume : Expected) (objects : Objects) where
 
     -- where the further objects are good, a verdict stands
     pub verdict_wider : (refused : Option Refusal) → ((number : ℕ) → Such number → More number)
-        → ((number : ℕ) (bytes : List ℕ) → More number → number < 2 ^ 64 → found objects (name_of volume.uuid number) ≡ Some bytes
+        → ((number : ℕ) (bytes : List ℕ) → More number → number < 2 ^ 64 → found objects (object_name volume number) ≡ Some bytes
         → Such number ⊎ IsGoodObject volume objects last number)
         → IsVerdict volume objects last Such refused → IsVerdict volume objects last More refused
     verdict_wider None kept cover is = good_wider cover is
@@ -93,7 +93,7 @@ module _ (volume : Expected) (objects : Objects) where
       (more, bad, λ number bytes such fits there. let to = most number such.0 in absurd (omega (arith, to, such.1)))
 
   module _ (last : ℕ) (Such More : ℕ → Type 0) (at : ℕ) (bytes : List ℕ) (end : Option ℕ) (named : at < 2 ^ 64)
-      (there : found objects (name_of volume.uuid at) ≡ Some bytes) (is_before : IsEndBefore volume objects last at end)
+      (there : found objects (object_name volume at) ≡ Some bytes) (is_before : IsEndBefore volume objects last at end)
       (more : More at)
       (kept : (number : ℕ) → Such number → More number) (cover : (number : ℕ) → More number → Such number ⊎ (number ≡ at))
       (most : (number : ℕ) → More number → number ≤ at) where
@@ -119,16 +119,16 @@ module _ (volume : Expected) (objects : Objects) where
 
   module _ (base : ℕ) (reached : Reached) (is : IsReached volume objects base reached) (bytes : List ℕ)
       (named : reached.number + 1 < 2 ^ 64)
-      (there : found objects (name_of volume.uuid (reached.number + 1)) ≡ Some bytes) where
+      (there : found objects (object_name volume (reached.number + 1)) ≡ Some bytes) where
     abbrev at : ℕ
     at = reached.number + 1
 
-    landed : HaveLanded objects volume.uuid base at
+    landed : HaveLanded objects volume base at
     landed number past to =
         elim (cases_lt reached.number number) [
           | inl last ↦
               let same : at ≡ number = omega (arith, to, last) in
-              subst (λ n. IsTrue (landed_in objects volume.uuid n)) same (ap is_some there)
+              subst (λ n. IsTrue (landed_in objects volume n)) same (ap is_some there)
           | inr low ↦ is.landed number past low
         ]
 
@@ -210,7 +210,7 @@ module _ (volume : Expected) (objects : Objects) where
           let same : at ≡ left.number = sym is_left.number in
           record {
             from = omega (arith, is.from, same);
-            landed = subst (HaveLanded objects volume.uuid base) same landed;
+            landed = subst (HaveLanded objects volume base) same landed;
             has_end = subst (λ n. HasEnd volume objects n left.end) same (has_end left.end is_left.is_end);
             verdict = λ last to.
                 subst (λ n. IsVerdict volume objects last (UpTo base n) left.refused) same

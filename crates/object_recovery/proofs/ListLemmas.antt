@@ -9,7 +9,7 @@ use Rattle.lsvd_objstore.specs.Store.{ReceiptState}
 use Rattle.object_format.specs.declared.data_row.DataRow.{DataRow}
 use Rattle.object_format.specs.declared.expected.Expected.{Expected}
 use Rattle.object_format.specs.declared.rows.Rows.TheVariants.{Data}
-use Rattle.object_stream.specs.Replay.{name_of, expected_at}
+use Rattle.object_stream.specs.Replay.{object_name, expected_at}
 use Rattle.upload_window.specs.Window.{WindowState}
 use Rattle.volume_maps.specs.Maps.{logged_by}
 use Rattle.obj_log.specs.State.{ObjLogState}
@@ -91,8 +91,8 @@ adopted_keeps volume objects Tells uuid geometry before old new wide same_volume
     let there = adopts.stored tells in
     let at = old.uploads.window.last in
     let last : new.uploads.window.last ≡ at + 1 = ap (λ (w : WindowState). w.last) adopts.adopted.uploads.window in
-    let present : found objects (name_of volume.uuid (at + 1)) ≡ Some there.bytes =
-    ap (λ (v : Expected). found objects (name_of v.uuid (at + 1))) (sym same_volume) ∙ there.present in
+    let present : found objects (object_name volume (at + 1)) ≡ Some there.bytes =
+    ap (λ (v : Expected). found objects (object_name v (at + 1))) (sym same_volume) ∙ there.present in
     let below = missing_at volume uuid_at objects stream number wide has at there.bytes to present in
     let more = one_more volume uuid_at objects stream number wide has at from below old new adopts.rows adopts.end adopts.receipt
     same_volume refl is.sealed is.entries

@@ -7,7 +7,7 @@ use Rattle.lsvd_names.specs.declared.name.ObjName.{ObjName}
 use Rattle.lsvd_objstore.specs.Objects.{Objects, found, Lists}
 use Rattle.object_format.specs.declared.expected.Expected.{Expected}
 use Rattle.object_format.specs.declared.rows.Rows.TheVariants.{Checkpoint}
-use Rattle.object_stream.specs.Replay.{name_of}
+use Rattle.object_stream.specs.Replay.{object_name}
 use Rattle.stopped_volume.specs.Objects.{expected_alone, IsWhole}
 use Rattle.upload_window.specs.Window.{WindowState}
 use Rattle.obj_log.specs.State.{ObjLogState}
@@ -74,7 +74,7 @@ module _ (volume : Expected) (objects : Objects) (base base_end : ℕ) (newest :
     gap_reached None gap ended reaches =
         let missing : IsGap volume objects (reached_by log) =
         subst (λ (v : Expected). log.uploads.window.last + 1 < 2 ^ 64
-        → found objects (name_of v.uuid (log.uploads.window.last + 1)) ≡ None) same_volume ended in
+        → found objects (object_name v (log.uploads.window.last + 1)) ≡ None) same_volume ended in
         (subst (IsReached volume objects base) (sym reaches) reached, subst (IsGap volume objects) (sym reaches) missing)
     gap_reached (Some left) gap ended reaches = (
       reaches.reached base (left_good volume log uuid geometry same_volume list objects base left ended reached),
@@ -95,9 +95,9 @@ module _ (volume : Expected) (objects : Objects) (base base_end : ℕ) (newest :
 
     -- where none is refused, the list ends before the first missing number, or before the greatest number of all
     pub none_next : (left : Option Reached) → HasEndedAt objects log left → JudgesRest objects log names left None
-        → log.uploads.window.last + 1 < 2 ^ 64 - 1 → found objects (name_of volume.uuid (log.uploads.window.last + 1)) ≡ None
+        → log.uploads.window.last + 1 < 2 ^ 64 - 1 → found objects (object_name volume (log.uploads.window.last + 1)) ≡ None
     none_next None ended rest low =
-        subst (λ (v : Expected). found objects (name_of v.uuid (log.uploads.window.last + 1)) ≡ None) same_volume
+        subst (λ (v : Expected). found objects (object_name v (log.uploads.window.last + 1)) ≡ None) same_volume
         (ended (omega (arith, low)))
     none_next (Some left) ended rest low =
         let none : left.refused ≡ None = rest.reaches.stays (rest.stays refl) in

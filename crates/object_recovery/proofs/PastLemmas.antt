@@ -9,10 +9,11 @@ use Rattle.std.proofs.lemmas.Map.Keys.{Less-from_sorted}
 use Rattle.std.specs.declared.cmp.Ordering.TheVariants.{Less}
 use Rattle.lsvd_names.specs.Spelling.{IsUuid}
 use Rattle.lsvd_names.specs.declared.name.ObjName.{ObjName}
+use Rattle.lsvd_names.specs.Names.{numbered_name}
 use Rattle.lsvd_objstore.specs.Objects.{Objects, name_cmp, found, Lists}
 use Rattle.object_format.specs.declared.expected.Expected.{Expected}
 use Rattle.object_format.specs.declared.reason.BadObject.{BadObject}
-use Rattle.object_stream.specs.Replay.{name_of}
+use Rattle.object_stream.specs.Replay.{object_name}
 use Rattle.stopped_volume.specs.Objects.{expected_alone}
 use Rattle.object_recovery.specs.declared.judging.Reached.{Reached}
 use Rattle.object_recovery.specs.declared.judging.Refusal.{Refusal}
@@ -25,12 +26,12 @@ use Rattle.object_recovery.proofs.FindLemmas.{numbered}
 use Rattle.object_recovery.proofs.JudgeLemmas.{verdict_wider, verdict_more}
 
 -- the numbers that are judged by the first names: those up to the gap, and those of these names
-abbrev pub JudgedBy : (uuid : List ℕ) → List ObjName → (base gap count : ℕ) → ℕ → Type 0
-JudgedBy uuid names base gap count number = (base < number) × ((number ≤ gap) ⊎ IsAmong uuid names count number)
+abbrev pub JudgedBy : Expected → List ObjName → (base gap count : ℕ) → ℕ → Type 0
+JudgedBy volume names base gap count number = (base < number) × ((number ≤ gap) ⊎ IsAmong volume names count number)
 
 module _ (volume : Expected) (objects : Objects) (names : List ObjName) (base : ℕ) (gap : Reached) where
   abbrev By : ℕ → ℕ → Type 0
-  By count = JudgedBy volume.uuid names base gap.number count
+  By count = JudgedBy volume names base gap.number count
 
   -- before the first name
   past_begin : IsReached volume objects base gap → IsVerdict volume objects gap.number (By 0) gap.refused
@@ -48,8 +49,8 @@ module _ (volume : Expected) (objects : Objects) (names : List ObjName) (base : 
         verdict_wider volume objects gap.number (By (length names)) (λ number. base < number) refused
         (λ number such. such.0)
         (λ number bytes past fits there.
-        let some : IsSome (found objects (name_of volume.uuid number)) = subst (λ o. IsSome o) (sym there) (search rules) in
-        let at = listed.complete (name_of volume.uuid number) (record { uuid = is_uuid; number = tt; fits = fits }) refl some in
+        let some : IsSome (found objects (object_name volume number)) = subst (λ o. IsSome o) (sym there) (search rules) in
+        let at = listed.complete (object_name volume number) (record { uuid = is_uuid; number = tt; fits = fits }) refl some in
         inl (past, inr (at.0, at.1, at.1, at.2))) is
 
     module _ (k : ℕ) (name : ObjName) (inside : k < length names) (at : slice_index_or names k name ≡ name) where
@@ -57,14 +58,14 @@ module _ (volume : Expected) (objects : Objects) (names : List ObjName) (base : 
       of_volume = (listed.present name (k, inside, at)).1
 
       -- one more name
-      last_among : (number : ℕ) → IsAmong volume.uuid names (k + 1) number → IsAmong volume.uuid names k number
-          ⊎ (name_of volume.uuid number ≡ name)
+      last_among : (number : ℕ) → IsAmong volume names (k + 1) number → IsAmong volume names k number
+          ⊎ (object_name volume number ≡ name)
       last_among number among =
           elim (cases_lt among.0 k) [
             | inl low ↦ inl (among.0, low, among.2, among.3)
             | inr from ↦
                 let same : among.0 ≡ k = omega (arith, among.1, from) in
-                let other = name_of volume.uuid number in
+                let other = object_name volume number in
                 inr (sym among.3 ∙ ap (λ i. slice_index_or names i other) same ∙ get_or_default names k other name inside ∙ at)
           ]
 
@@ -92,10 +93,10 @@ module _ (volume : Expected) (objects : Objects) (names : List ObjName) (base : 
           ]) is
 
       module _ (past : IsPast gap.number name) (from : base ≤ gap.number) where
-        here : name ≡ name_of volume.uuid name.number
-        here = numbered name past.0 ∙ ap (λ u. name_of u name.number) of_volume
+        here : name ≡ object_name volume name.number
+        here = numbered name past.0 ∙ ap (λ u. numbered_name u name.number) of_volume
 
-        number_of : (number : ℕ) → name_of volume.uuid number ≡ name → number ≡ name.number
+        number_of : (number : ℕ) → object_name volume number ≡ name → number ≡ name.number
         number_of number same = ap (λ (n : ObjName). n.number) same
 
         -- it is past all before it
@@ -107,10 +108,10 @@ module _ (volume : Expected) (objects : Objects) (names : List ObjName) (base : 
                   elim (last_among number among) [
                     | inl before ↦
                         let less = Less-from_sorted name_cmp names before.0 k name listed.ascending before.1 inside in
-                        let first : slice_index_or names before.0 name ≡ name_of volume.uuid number =
-                        get_or_default names before.0 name (name_of volume.uuid number) before.2 ∙ before.3 in
-                        let order : name_cmp (name_of volume.uuid number) (name_of volume.uuid name.number) ≡ Less =
-                        ap (λ a. name_cmp a (name_of volume.uuid name.number)) (sym first)
+                        let first : slice_index_or names before.0 name ≡ object_name volume number =
+                        get_or_default names before.0 name (object_name volume number) before.2 ∙ before.3 in
+                        let order : name_cmp (object_name volume number) (object_name volume name.number) ≡ Less =
+                        ap (λ a. name_cmp a (object_name volume name.number)) (sym first)
                         ∙ ap (name_cmp (slice_index_or names before.0 name)) (sym (at ∙ here)) ∙ less in
                         omega (arith, name_order volume.uuid number name.number order)
                     | inr same ↦ omega (arith, number_of number same)
@@ -119,7 +120,7 @@ module _ (volume : Expected) (objects : Objects) (names : List ObjName) (base : 
 
         among_more : By (k + 1) name.number
         among_more =
-            let default = get_or_default names k (name_of volume.uuid name.number) name inside in
+            let default = get_or_default names k (object_name volume name.number) name inside in
             (omega (arith, from, past.1), inr (k, omega arith, inside, default ∙ at ∙ here))
 
         cover : (number : ℕ) → By (k + 1) number → By k number ⊎ (number ≡ name.number)
@@ -142,8 +143,8 @@ module _ (volume : Expected) (objects : Objects) (names : List ObjName) (base : 
                   (λ number bytes more fits there.
                   elim (cover number more) [
                     | inl such ↦ inl such
-                    | inr same ↦ absurd (let absent : found objects (name_of volume.uuid number) ≡ None =
-                        ap (λ n. found objects (name_of volume.uuid n)) same ∙ none.0 in cc)
+                    | inr same ↦ absurd (let absent : found objects (object_name volume number) ≡ None =
+                        ap (λ n. found objects (object_name volume n)) same ∙ none.0 in cc)
                   ]) is)
               | inr some ↦
                   subst (IsVerdict volume objects gap.number (By (k + 1))) (sym some.5)
@@ -158,7 +159,7 @@ module _ (volume : Expected) (objects : Objects) (names : List ObjName) (base : 
 abbrev pub IsJudgedBy : Expected → List ObjName → Reached → (count : ℕ) → Option Refusal → Objects → Type 0
 IsJudgedBy volume names gap count refused objects =
     (base : ℕ) → Lists volume.uuid objects names → IsReached volume objects base gap
-    → IsVerdict volume objects gap.number (JudgedBy volume.uuid names base gap.number count) refused
+    → IsVerdict volume objects gap.number (JudgedBy volume names base gap.number count) refused
 
 pub told_begin : (told : Option Objects) (volume : Expected) (names : List ObjName) (gap : Reached)
     → IfSome told (IsJudgedBy volume names gap 0 gap.refused)

@@ -8,7 +8,7 @@ use Rattle.lsvd_objstore.specs.Objects.{Objects, found}
 use Rattle.object_format.specs.declared.expected.Expected.{Expected}
 use Rattle.object_format.specs.declared.header.Header.{Header}
 use Rattle.object_stream.specs.declared.object.StreamObject.{StreamObject}
-use Rattle.object_stream.specs.Replay.{name_of}
+use Rattle.object_stream.specs.Replay.{object_name}
 use Rattle.object_stream.specs.Stream.{Owners, Stream, objects_to, end_after, end_at}
 use Rattle.object_stream.proofs.OneLemmas.{same_parts}
 use Rattle.stopped_volume.specs.Objects.{landed_in, IsCheckpointOf}
@@ -123,7 +123,7 @@ one_end volume objects number end other owned others wide a b =
 
 module _ (volume : Expected) (objects : Objects) (base base_end : ℕ) (wide : volume.sectors < 2 ^ 64)
     (newest : IsNewestWithEnd volume objects base base_end) where
-  base_landed : IsTrue (landed_in objects volume.uuid base)
+  base_landed : IsTrue (landed_in objects volume base)
   base_landed = ap is_some newest.is.present
 
   module _ (uuid_at : ℕ → Option (List ℕ)) (stream : Stream) (number : ℕ) (has : HasDataUpTo volume uuid_at objects stream number)
@@ -171,7 +171,7 @@ module _ (volume : Expected) (objects : Objects) (base base_end : ℕ) (wide : v
       recovered : (uuid : List ℕ) (geometry : Geometry) (begun log : ObjLogState) → IsNewList uuid geometry base base_end begun
           → KeepsStreams volume objects begun log
           → IsListUpTo uuid geometry log.uploads.window.last log.uploads.queue.end log
-          → found objects (name_of volume.uuid (log.uploads.window.last + 1)) ≡ None
+          → found objects (object_name volume (log.uploads.window.last + 1)) ≡ None
           → HasRecovered volume.sectors stream number log
       recovered uuid geometry begun log new keeps list absent =
           let now = stream_to uuid geometry begun log new keeps in
@@ -185,8 +185,8 @@ module _ (volume : Expected) (objects : Objects) (base base_end : ℕ) (wide : v
           }
 
   -- and it is the last before the first missing number
-  last_landed : (last : ℕ) → base ≤ last → HaveLanded objects volume.uuid base last
-      → found objects (name_of volume.uuid (last + 1)) ≡ None
+  last_landed : (last : ℕ) → base ≤ last → HaveLanded objects volume base last
+      → found objects (object_name volume (last + 1)) ≡ None
       → IsLastLanded volume objects last
   last_landed last from landed absent checkpoint are = record {
     base = base;
@@ -203,8 +203,8 @@ module _ (volume : Expected) (objects : Objects) (base base_end : ℕ) (wide : v
   pub is_recovered : (uuid : List ℕ) (geometry : Geometry) (begun log : ObjLogState) → IsNewList uuid geometry base base_end begun
       → KeepsStreams volume objects begun log
       → IsListUpTo uuid geometry log.uploads.window.last log.uploads.queue.end log → base ≤ log.uploads.window.last
-      → HaveLanded objects volume.uuid base log.uploads.window.last
-      → found objects (name_of volume.uuid (log.uploads.window.last + 1)) ≡ None → IsRecoveredOf volume objects log
+      → HaveLanded objects volume base log.uploads.window.last
+      → found objects (object_name volume (log.uploads.window.last + 1)) ≡ None → IsRecoveredOf volume objects log
   is_recovered uuid geometry begun log new keeps list from landed absent = record {
     streams = λ uuid_at stream number has. recovered uuid_at stream number has uuid geometry begun log new keeps list absent;
     last = last_landed log.uploads.window.last from landed absent;

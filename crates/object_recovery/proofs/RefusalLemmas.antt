@@ -20,7 +20,7 @@ use Rattle.object_format.specs.Tests.{IsObjectRefusedAs}
 use Rattle.object_format.specs.Layout.{front_sectors}
 use Rattle.object_stream.specs.declared.object.Content.{Content}
 use Rattle.object_stream.specs.declared.object.Content.TheVariants as content
-use Rattle.object_stream.specs.Replay.{name_of, HasParts, expected_at}
+use Rattle.object_stream.specs.Replay.{object_name, HasParts, expected_at}
 use Rattle.object_stream.specs.Stored.{HasContent}
 use Rattle.object_stream.specs.Stream.{Stream, end_at}
 use Rattle.object_stream.proofs.OneLemmas.{same_parts}
@@ -132,7 +132,7 @@ module _ (volume : Expected) (objects : Objects) (wide : volume.sectors < 2 ^ 64
         let head = stored.parts.is_object.head in
         let fits : last + 1 < 2 ^ 64 = omega (arith, head.number, head.widths.number) in
         let absent = run.missing fits in
-        let present : found objects (name_of volume.uuid (last + 1)) ≡ Some stored.bytes = stored.present in
+        let present : found objects (object_name volume (last + 1)) ≡ Some stored.bytes = stored.present in
         absurd cc
 
     no_longer : number < last → ⊥

@@ -25,7 +25,7 @@ use Rattle.object_stream.specs.declared.object.Content.{Content}
 use Rattle.object_stream.specs.declared.object.Content.TheVariants as content
 use Rattle.object_stream.specs.declared.object.StreamObject.{StreamObject}
 use Rattle.object_stream.specs.Changes.{change_at, change_in}
-use Rattle.object_stream.specs.Replay.{name_of, HasParts, expected_at}
+use Rattle.object_stream.specs.Replay.{object_name, HasParts, expected_at}
 use Rattle.object_stream.specs.Stored.{HasContent, IsObjectStored, AreStored}
 use Rattle.object_stream.specs.Stream.{Stream, end_after, end_at, GoesTo, EndsFollow}
 use Rattle.object_stream.proofs.OneLemmas.{AreSameParts, same_parts}
@@ -130,7 +130,7 @@ module _ (volume : Expected) (uuid_at : ℕ → Option (List ℕ)) (objects : Ob
   enough = has.stored.last
 
   -- the first missing number is that past the last object
-  pub missing_at : (at : ℕ) (bytes : List ℕ) → at ≤ number → found objects (name_of volume.uuid (at + 1)) ≡ Some bytes
+  pub missing_at : (at : ℕ) (bytes : List ℕ) → at ≤ number → found objects (object_name volume (at + 1)) ≡ Some bytes
       → at < number
   missing_at at bytes to there =
       elim (cases_lt at number) [
@@ -138,17 +138,17 @@ module _ (volume : Expected) (uuid_at : ℕ → Option (List ℕ)) (objects : Ob
         | inr from ↦
             let same : at ≡ number = omega arith in
             let absent = has.stored.missing.absent in
-            let present : found objects (name_of volume.uuid (number + 1)) ≡ Some bytes =
-            subst (λ n. found objects (name_of volume.uuid (n + 1)) ≡ Some bytes) same there in
+            let present : found objects (object_name volume (number + 1)) ≡ Some bytes =
+            subst (λ n. found objects (object_name volume (n + 1)) ≡ Some bytes) same there in
             absurd (let e = ap is_some present in cc)
       ]
 
-  pub reached : (at : ℕ) → stream.number ≤ at → at ≤ number → found objects (name_of volume.uuid (at + 1)) ≡ None → at ≡ number
+  pub reached : (at : ℕ) → stream.number ≤ at → at ≤ number → found objects (object_name volume (at + 1)) ≡ None → at ≡ number
   reached at from to absent =
       elim (cases_lt at number) [
         | inl low ↦
             let landed = has.stored.missing.least (at + 1) (omega (arith, has.stored.base)) (omega arith) in
-            absurd (let e = ap is_some absent in let f : is_some (found objects (name_of volume.uuid (at + 1))) ≡ true =
+            absurd (let e = ap is_some absent in let f : is_some (found objects (object_name volume (at + 1))) ≡ true =
             landed in cc)
         | inr past ↦ omega arith
       ]

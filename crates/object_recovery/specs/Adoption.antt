@@ -13,7 +13,7 @@ use Rattle.object_format.specs.declared.rows.Rows.{Rows}
 use Rattle.object_format.specs.declared.rows.Rows.TheVariants as rows_of
 use Rattle.object_format.specs.Object.{IsObject}
 use Rattle.object_format.specs.Tests.{IsObjectRefusedAs}
-use Rattle.object_stream.specs.Replay.{name_of}
+use Rattle.object_stream.specs.Replay.{object_name}
 use Rattle.object_uploads.specs.Image.{IsReceiptFor}
 use Rattle.object_uploads.specs.Order.{IsUploads}
 use Rattle.obj_log.specs.State.{ObjLogState}
@@ -73,7 +73,7 @@ IsNextRead receipt expected (next_object.Left reached) =
 pub record IsStoredAs (objects : Objects) (expected : Expected) (rows : List DataRow) (end : ℕ) (receipt : ReceiptState) :
     Type 0 where
   pub bytes : List ℕ
-  pub present : found objects (name_of expected.uuid expected.number) ≡ Some bytes
+  pub present : found objects (object_name expected expected.number) ≡ Some bytes
   pub header : Header
   pub list : Vec DataRow
   pub items : list.items ≡ rows
@@ -84,13 +84,13 @@ pub record IsStoredAs (objects : Objects) (expected : Expected) (rows : List Dat
 -- the store has the expected object, which is not adopted
 pub record IsLeftAt (objects : Objects) (expected : Expected) (reached : Reached) : Type 0 where
   pub bytes : List ℕ
-  pub present : found objects (name_of expected.uuid expected.number) ≡ Some bytes
+  pub present : found objects (object_name expected expected.number) ≡ Some bytes
   pub left : IsNotAdopted bytes (length bytes) expected reached
 
 -- the store has none of the next number, or it is past all numbers
 abbrev pub HasNoNext : Objects → ObjLogState → Type 0
 HasNoNext objects log = log.uploads.window.last + 1 < 2 ^ 64
-    → found objects (name_of log.uploads.uuid (log.uploads.window.last + 1)) ≡ None
+    → found objects (object_name (expected_of_volume log) (log.uploads.window.last + 1)) ≡ None
 
 -- the object of the next number was read and adopted; where receipts tell, it is the one that the store has
 pub record AdoptsNext (Tells : Type 0) (objects : Option Objects) (old new : ObjLogState) : Type 0 where
@@ -156,6 +156,6 @@ pub record IsRecoveryBegun (uuid : List ℕ) (geometry : Geometry) (base end : �
 pub record Recovers (volume : Expected) (base : ℕ) (objects : Objects) (log : ObjLogState) : Type 0 where
   pub recovered : log.uploads.window.last + 1 < 2 ^ 64 - 1 → IsRecoveredOf volume objects log
   pub no_longer : IsNoLonger volume objects log.uploads.window.last
-  pub landed : HaveLanded objects volume.uuid base log.uploads.window.last
+  pub landed : HaveLanded objects volume base log.uploads.window.last
   pub good : AreAllGood volume objects base
   pub past : AreNamedWholePast volume objects log.uploads.window.last

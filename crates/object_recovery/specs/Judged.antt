@@ -5,7 +5,7 @@ use Rattle.lsvd_objstore.specs.Objects.{Objects, found, Lists}
 use Rattle.object_format.specs.declared.expected.Expected.{Expected}
 use Rattle.object_format.specs.declared.reason.BadObject.{BadObject}
 use Rattle.object_format.specs.Tests.{IsObjectRefusedAs}
-use Rattle.object_stream.specs.Replay.{name_of}
+use Rattle.object_stream.specs.Replay.{object_name}
 use Rattle.stopped_volume.specs.Objects.{expected_alone, IsWhole}
 use Rattle.object_recovery.specs.declared.reading.ReadObject.{ReadObject}
 use Rattle.object_recovery.specs.declared.reading.ReadObject.TheVariants as read
@@ -25,7 +25,7 @@ IsBadFor expected bytes (Some reason) = IsObjectRefusedAs bytes (length bytes) e
 -- the store has the expected object, and it was judged so
 pub record IsJudged (objects : Objects) (expected : Expected) (judged : Judged) : Type 0 where
   pub bytes : List ℕ
-  pub present : found objects (name_of expected.uuid expected.number) ≡ Some bytes
+  pub present : found objects (object_name expected expected.number) ≡ Some bytes
   pub is_end : IsEndOf bytes (length bytes) expected judged.end
   pub is_bad : IsBadFor expected bytes judged.bad
 
@@ -35,7 +35,7 @@ judged_by (read.Whole rows end) = record { end = Some end; bad = None }
 judged_by (read.Bad reason end) = record { end = end; bad = Some reason }
 
 abbrev pub IsJudgement : Objects → Expected → Option Judged → Type 0
-IsJudgement objects expected None = found objects (name_of expected.uuid expected.number) ≡ None
+IsJudgement objects expected None = found objects (object_name expected expected.number) ≡ None
 IsJudgement objects expected (Some judged) = IsJudged objects expected judged
 
 -- ---- some objects
@@ -62,18 +62,18 @@ IsVerdict volume objects last Such (Some (refusals.NotData number)) =
 -- Those past a number were judged, up to one that was reached, wherever the first missing number is after that.
 pub record IsReached (volume : Expected) (objects : Objects) (base : ℕ) (reached : Reached) : Type 0 where
   pub from : base ≤ reached.number
-  pub landed : HaveLanded objects volume.uuid base reached.number
+  pub landed : HaveLanded objects volume base reached.number
   pub has_end : HasEnd volume objects reached.number reached.end
   pub verdict : (last : ℕ) → reached.number ≤ last
       → IsVerdict volume objects last (λ number. (base < number) × (number ≤ reached.number)) reached.refused
 
 -- none is after that one
 abbrev pub IsGap : Expected → Objects → Reached → Type 0
-IsGap volume objects reached = reached.number + 1 < 2 ^ 64 → found objects (name_of volume.uuid (reached.number + 1)) ≡ None
+IsGap volume objects reached = reached.number + 1 < 2 ^ 64 → found objects (object_name volume (reached.number + 1)) ≡ None
 
 -- the next one was judged too, or there is none
 abbrev pub IsJudgedNext : Expected → Objects → Reached → Option Reached → Type 0
-IsJudgedNext volume objects reached None = found objects (name_of volume.uuid (reached.number + 1)) ≡ None
+IsJudgedNext volume objects reached None = found objects (object_name volume (reached.number + 1)) ≡ None
 IsJudgedNext volume objects reached (Some next) = (base : ℕ) → IsReached volume objects base reached
     → IsReached volume objects base next
 
@@ -88,14 +88,15 @@ pub record GoesToGap (volume : Expected) (objects : Objects) (from gap : Reached
 -- one is judged by itself
 abbrev pub IsJudgedAlone : Expected → Objects → (number : ℕ) → (old new : Option Refusal) → Type 0
 IsJudgedAlone volume objects number old new =
-    ((found objects (name_of volume.uuid number) ≡ None) × (new ≡ old))
-    ⊎ ((bytes : List ℕ) × (bad : Option BadObject) × (number < 2 ^ 64) × (found objects (name_of volume.uuid number) ≡ Some bytes)
+    ((found objects (object_name volume number) ≡ None) × (new ≡ old))
+    ⊎ ((bytes : List ℕ) × (bad : Option BadObject) × (number < 2 ^ 64) × (found objects (object_name volume number) ≡ Some bytes)
     × IsBadFor (expected_alone volume number) bytes bad × (new ≡ refused_with number bad old))
 
 -- a number is that of one of the first so many names
-abbrev pub IsAmong : (uuid : List ℕ) → List ObjName → (count number : ℕ) → Type 0
-IsAmong uuid names count number =
-    (k : ℕ) × (k < count) × (k < length names) × (slice_index_or names k (name_of uuid number) ≡ name_of uuid number)
+abbrev pub IsAmong : Expected → List ObjName → (count number : ℕ) → Type 0
+IsAmong volume names count number =
+    (k : ℕ) × (k < count) × (k < length names)
+    × (slice_index_or names k (object_name volume number) ≡ object_name volume number)
 
 -- all are judged, by the names of the objects that there are
 abbrev pub JudgesPast : Expected → Objects → List ObjName → (gap : Reached) → Option Refusal → Type 0

@@ -8,7 +8,7 @@ use Rattle.object_format.specs.declared.reason.BadObject.{BadObject}
 use Rattle.object_format.specs.declared.rows.Rows.{Rows}
 use Rattle.object_format.specs.Object.{IsObject}
 use Rattle.object_format.specs.Tests.{IsObjectRefusedAs}
-use Rattle.object_stream.specs.Replay.{name_of}
+use Rattle.object_stream.specs.Replay.{object_name}
 use Rattle.stopped_volume.specs.Objects.{landed_in, expected_alone, IsWhole}
 use Rattle.object_recovery.specs.Checkpoints.{IsNewestWithEnd}
 
@@ -26,7 +26,7 @@ IsEndOf bytes size expected (Some end) =
 -- the store has an object of this number, and that is the end of its bytes
 pub record HasEnd (volume : Expected) (objects : Objects) (number : ℕ) (end : Option ℕ) : Type 0 where
   pub bytes : List ℕ
-  pub present : found objects (name_of volume.uuid number) ≡ Some bytes
+  pub present : found objects (object_name volume number) ≡ Some bytes
   pub is_end : IsEndOf bytes (length bytes) (expected_alone volume number) end
 
 -- The end before an object, by the last one before the first missing number: up to that one, the end of the object before it;
@@ -45,7 +45,7 @@ expected_after volume number end_before = record volume { number = number; end_b
 pub record HasObject (volume : Expected) (objects : Objects) (last number : ℕ) (Holds : Expected → List ℕ → Type 0) : Type 0 where
   pub named : number < 2 ^ 64
   pub bytes : List ℕ
-  pub present : found objects (name_of volume.uuid number) ≡ Some bytes
+  pub present : found objects (object_name volume number) ≡ Some bytes
   pub end_before : Option ℕ
   pub is_before : IsEndBefore volume objects last number end_before
   pub holds : Holds (expected_after volume number end_before) bytes
@@ -61,7 +61,7 @@ IsBadObject volume objects last number reason =
 -- each object of the store with such a number is good
 abbrev pub AreGood : Expected → Objects → (last : ℕ) → (Such : ℕ → Type 0) → Type 0
 AreGood volume objects last Such =
-    (number : ℕ) (bytes : List ℕ) → Such number → number < 2 ^ 64 → found objects (name_of volume.uuid number) ≡ Some bytes
+    (number : ℕ) (bytes : List ℕ) → Such number → number < 2 ^ 64 → found objects (object_name volume number) ≡ Some bytes
     → IsGoodObject volume objects last number
 
 -- the object of this number, past another, is bad, and each that is greater is good
@@ -74,7 +74,7 @@ pub record IsGreatestBad (volume : Expected) (objects : Objects) (last past numb
 pub record IsNotData (volume : Expected) (objects : Objects) (last number : ℕ) : Type 0 where
   pub before : number ≤ last
   pub bytes : List ℕ
-  pub present : found objects (name_of volume.uuid number) ≡ Some bytes
+  pub present : found objects (object_name volume number) ≡ Some bytes
   pub end_before : Option ℕ
   pub header : Header
   pub rows : Rows
@@ -84,8 +84,8 @@ pub record IsNotData (volume : Expected) (objects : Objects) (last number : ℕ)
 -- ---- which are judged
 
 -- the objects of these numbers have landed: past one, up to another
-abbrev pub HaveLanded : Objects → (uuid : List ℕ) → (past to : ℕ) → Type 0
-HaveLanded objects uuid past to = (number : ℕ) → past < number → number ≤ to → IsTrue (landed_in objects uuid number)
+abbrev pub HaveLanded : Objects → Expected → (past to : ℕ) → Type 0
+HaveLanded objects volume past to = (number : ℕ) → past < number → number ≤ to → IsTrue (landed_in objects volume number)
 
 -- this is the newest checkpoint of a store, and this the last object before the first missing number; names have numbers below
 -- 2^64
@@ -93,5 +93,5 @@ pub record IsRun (volume : Expected) (objects : Objects) (base last : ℕ) : Typ
   pub end : ℕ
   pub newest : IsNewestWithEnd volume objects base end
   pub from : base ≤ last
-  pub landed : HaveLanded objects volume.uuid base last
-  pub missing : last + 1 < 2 ^ 64 → found objects (name_of volume.uuid (last + 1)) ≡ None
+  pub landed : HaveLanded objects volume base last
+  pub missing : last + 1 < 2 ^ 64 → found objects (object_name volume (last + 1)) ≡ None

@@ -12,7 +12,7 @@ use Rattle.object_format.specs.declared.reason.BadObject.{BadObject}
 use Rattle.object_stream.specs.declared.object.Content.TheVariants.{Data}
 use Rattle.object_stream.specs.declared.object.StreamObject.{StreamObject}
 use Rattle.object_stream.specs.Landed.{Numbers, IsFirstMissing}
-use Rattle.object_stream.specs.Replay.{name_of}
+use Rattle.object_stream.specs.Replay.{object_name}
 use Rattle.object_stream.specs.Stream.{Stream, objects_to, end_at, IsStream}
 use Rattle.stopped_volume.specs.Objects.{landed_in, expected_alone, AreCheckpoints, IsWhole}
 use Rattle.stopped_volume.specs.Laws.{HasStreamUpTo}
@@ -83,7 +83,7 @@ KeepsStreams volume objects old new =
 -- the object of this number is that before the first missing one, whatever the checkpoints of the store are
 abbrev pub IsLastLanded : (volume : Expected) → Objects → (number : ℕ) → Type 0
 IsLastLanded volume objects number =
-    (checkpoint : Numbers) → AreCheckpoints volume objects checkpoint → IsFirstMissing checkpoint (landed_in objects volume.uuid)
+    (checkpoint : Numbers) → AreCheckpoints volume objects checkpoint → IsFirstMissing checkpoint (landed_in objects volume)
     (number + 1)
 
 -- whichever stream the store has, the list is that of it up to the object before the first missing number
@@ -131,7 +131,7 @@ AreAllGood volume objects base = (last : ℕ) × IsRun volume objects base last
 -- each object past one of a number is of the grammar, wherever it begins; names have numbers below 2^64
 abbrev pub AreNamedWholePast : (volume : Expected) → Objects → (number : ℕ) → Type 0
 AreNamedWholePast volume objects number =
-    (other : ℕ) (bytes : List ℕ) → number < other → other < 2 ^ 64 → found objects (name_of volume.uuid other) ≡ Some bytes
+    (other : ℕ) (bytes : List ℕ) → number < other → other < 2 ^ 64 → found objects (object_name volume other) ≡ Some bytes
     → IsWhole (expected_alone volume other) bytes
 
 -- this one is bad, and none that is greater

@@ -12,7 +12,7 @@ ghost use Rattle.object_recovery.specs.Adoption.{IsNextRead, ComesNext, KeepsGoo
 
 use crate::error::RecoverError;
 use crate::judging::{Reached, Refusal};
-use crate::naming::name_of;
+use crate::naming::object_name;
 use crate::reading::{ReadObject, read_object};
 use lsvd_objstore::{Receipt, Store};
 use obj_log::ObjLog;
@@ -103,7 +103,7 @@ fn adopt_next<S: Store>(
         return Ok(Next::Missing);
     }
     let expected = expected_next(log);
-    let Some(receipt) = store.find(alloc, &name_of(expected.uuid, expected.number))? else {
+    let Some(receipt) = store.find(alloc, &object_name(&expected))? else {
         return Ok(Next::Missing);
     };
     match read_next(alloc, store, &receipt, &expected)? {

@@ -8,13 +8,14 @@ ghost use Rattle.object_recovery.specs.Judged.{IsJudgedAlone};
 ghost use Rattle.object_recovery.specs.Judged.{IsJudgedNext, GoesToGap, JudgesPast};
 
 use crate::error::RecoverError;
-use crate::naming::{is_uuid, name_of};
+use crate::naming::object_name;
 use crate::reading::{ReadObject, read_object};
 use crate::removal::is_past;
-use lsvd_names::ObjName;
+use lsvd_names::{ObjName, a_uuid_has_sixteen_bytes};
 use lsvd_objstore::Store;
 use object_format::{BadObject, Expected};
 use std::alloc::Global;
+use uuid::Uuid;
 
 /// Why the objects of a volume are refused.
 #[derive(Clone, Copy, Drop)]
@@ -88,7 +89,7 @@ pub(crate) fn judge_past<S: Store>(
     ensures unchanged { OnlyCounts (S.state store.old) (S.state store.new) }
     ensures faults { Counts (ends_by_fault result) (S.state store.old).faults (S.state store.new).faults }
 {
-    is_uuid(volume.uuid.as_slice());
+    a_uuid_has_sixteen_bytes(Uuid::from_bytes(volume.uuid));
     let mut refused = gap.refused;
     for name in names {
         if is_past(name, gap.number) {
@@ -183,7 +184,7 @@ fn judge<S: Store>(
     ensures unchanged { OnlyCounts (S.state store.old) (S.state store.new) }
     ensures faults { Counts (ends_by_fault result) (S.state store.old).faults (S.state store.new).faults }
 {
-    let Some(receipt) = store.find(alloc, &name_of(expected.uuid, expected.number))? else {
+    let Some(receipt) = store.find(alloc, &object_name(expected))? else {
         return Ok(None);
     };
     let read = read_object(alloc, store, &receipt, expected);

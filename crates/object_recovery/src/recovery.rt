@@ -20,10 +20,9 @@ use crate::adoption::adopt_all;
 use crate::checkpoint::{NewestCheckpoint, newest_checkpoint};
 use crate::error::RecoverError;
 use crate::judging::{Reached, judge_past, judge_to_gap};
-use crate::naming::is_uuid;
 use crate::recovered::Recovered;
 use lsvd_base::Geometry;
-use lsvd_names::ObjName;
+use lsvd_names::{ObjName, a_uuid_has_sixteen_bytes};
 use lsvd_objstore::{Receipt, Store};
 use obj_log::ObjLog;
 use object_format::Expected;
@@ -71,7 +70,8 @@ pub fn recover<S: Store>(
         IsNoLonger (expected_of uuid geometry) objects recovered.log.uploads.window.last)) }
     ensures landed { TellsBytes S.Receipt.state
         → IfOk result (λ recovered. IfSome (S.state store.old).objects (λ objects.
-        HaveLanded objects uuid recovered.checkpoint recovered.log.uploads.window.last)) }
+        HaveLanded objects (expected_of uuid geometry) recovered.checkpoint
+        recovered.log.uploads.window.last)) }
     ensures good { TellsBytes S.Receipt.state
         → IfOk result (λ recovered. IfSome (S.state store.old).objects (λ objects.
         AreAllGood (expected_of uuid geometry) objects recovered.checkpoint)) }
@@ -85,7 +85,7 @@ pub fn recover<S: Store>(
     ensures faults { Counts (ends_by_fault result) (S.state store.old).faults (S.state store.new).faults }
 {
     let names = store.list(alloc, uuid)?;
-    is_uuid(uuid.into_bytes().as_slice());
+    a_uuid_has_sixteen_bytes(uuid);
     let base = newest_checkpoint(alloc, store, &geometry, names.as_slice())?;
     let log = recover_list(alloc, store, uuid, geometry, &base, names.as_slice())?;
     Ok(Recovered {

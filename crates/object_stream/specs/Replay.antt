@@ -1,7 +1,7 @@
 -- Contract: the replay of objects by what their bytes in a store say.
 use Rattle.std.specs.Prelude.{◌≡◌, ℕ, zero, suc, ◌+◌, ◌*◌, Option, Some, None, List, [], ◌∷◌, length, drop, if◌then◌else◌}
 use Rattle.lsvd_names.specs.declared.name.ObjName.{ObjName}
-use Rattle.lsvd_names.specs.declared.name.Kind.TheVariants.{Object}
+use Rattle.lsvd_names.specs.Names.{numbered_name}
 use Rattle.lsvd_objstore.specs.Objects.{Objects, found}
 use Rattle.extent_map.specs.Extents.{is_within}
 use Rattle.object_format.specs.declared.header.Header.{Header}
@@ -14,9 +14,9 @@ use Rattle.object_format.specs.Object.{IsObject}
 use Rattle.object_stream.specs.Changes.{change_in}
 use Rattle.object_stream.specs.Stream.{Owners, owner_by_change, owner_by_copy}
 
--- the name of a volume's object of this number
-abbrev pub name_of : (uuid : List ℕ) → ℕ → ObjName
-name_of uuid number = record { uuid = uuid; kind = Object; number = number }
+-- the name of the object of this number of the volume that is expected
+abbrev pub object_name : Expected → (number : ℕ) → ObjName
+object_name volume number = numbered_name volume.uuid number
 
 -- bytes that are a whole object of the grammar under the expected number, with its header, its rows and its payload
 pub record HasParts (expected : Expected) (bytes : List ℕ) (header : Header) (rows : Rows) (payload : List ℕ) : Type 0 where
@@ -44,6 +44,6 @@ abbrev pub Replays : Objects → Expected → (number end : ℕ) → Owners → 
 Replays objects volume number end before zero last_end after = (last_end ≡ end) × ((k : ℕ) → after k ≡ before k)
 Replays objects volume number end before (suc count) last_end after =
     (bytes : List ℕ) × (header : Header) × (rows : Rows) × (payload : List ℕ)
-    × (found objects (name_of volume.uuid (number + 1)) ≡ Some bytes)
+    × (found objects (object_name volume (number + 1)) ≡ Some bytes)
     × HasParts (expected_at volume (number + 1) end) bytes header rows payload
     × Replays objects volume (number + 1) header.end_seq (after_rows (number + 1) rows payload before) count last_end after

@@ -11,7 +11,7 @@ use Rattle.object_stream.specs.declared.object.Content.TheVariants.{Data, Copy, 
 use Rattle.object_stream.specs.declared.object.StreamObject.{StreamObject}
 use Rattle.object_stream.specs.Changes.{change_at, change_in}
 use Rattle.object_stream.specs.Stream.{source_in}
-use Rattle.object_stream.specs.Replay.{name_of, HasParts, expected_at, source_at}
+use Rattle.object_stream.specs.Replay.{object_name, HasParts, expected_at, source_at}
 use Rattle.object_stream.specs.Value.{copied_in, HasSector}
 
 -- what a copy with these sources has of each sector: just the sector that its source has there
@@ -37,7 +37,7 @@ pub record IsObjectStored (objects : Objects) (uuid_at : ℕ → Option (List �
   pub header : Header
   pub rows_of : Rows
   pub payload : List ℕ
-  pub present : found objects (name_of expected.uuid expected.number) ≡ Some bytes
+  pub present : found objects (object_name expected expected.number) ≡ Some bytes
   pub parts : HasParts expected bytes header rows_of payload
   pub ends : header.end_seq ≡ object.end
   pub content : HasContent objects uuid_at object.content entries rows_of payload

@@ -14,7 +14,7 @@ use Rattle.object_stream.specs.declared.change.Change.TheVariants.{Put, Clear}
 use Rattle.object_stream.specs.declared.owner.Owner.{Owner}
 use Rattle.object_stream.specs.Changes.{sector_of, change_in}
 use Rattle.object_stream.specs.Stream.{Owners}
-use Rattle.object_stream.specs.Replay.{name_of, HasParts}
+use Rattle.object_stream.specs.Replay.{object_name, HasParts}
 
 -- ---- what an object has at a sector
 
@@ -44,7 +44,7 @@ pub record HasSector (objects : Objects) (uuid_at : ℕ → Option (List ℕ)) (
   pub level : uuid_at owner.level ≡ Some expected.uuid
   pub number : owner.number ≡ expected.number
   pub bytes : List ℕ
-  pub present : found objects (name_of expected.uuid owner.number) ≡ Some bytes
+  pub present : found objects (object_name expected owner.number) ≡ Some bytes
   pub header : Header
   pub rows : Rows
   pub payload : List ℕ

@@ -20,7 +20,7 @@ use Rattle.object_stream.specs.declared.owner.Owner.{Owner}
 use Rattle.object_stream.specs.Changes.{change_at, change_in}
 use Rattle.object_stream.specs.Stream.{Stream, owners, end_at, end_after, after_objects}
 use Rattle.object_stream.specs.Landed.{Numbers, IsFirstMissing}
-use Rattle.object_stream.specs.Replay.{name_of, expected_at, Replays}
+use Rattle.object_stream.specs.Replay.{object_name, expected_at, Replays}
 use Rattle.object_stream.specs.Stored.{HasContent, IsObjectStored, AreStored}
 use Rattle.object_stream.specs.Laws.{from_object}
 use Rattle.object_stream.proofs.StreamLemmas.{keeps_owners, owns_by_number}
@@ -121,7 +121,7 @@ content_of objects uuid_at content entries rows.Checkpoint items payload is are 
 module _ (objects : Objects) (uuid_at : ℕ → Option (List ℕ)) (volume : Expected) where
   -- the sealed bytes of the object at an index past a number are in the store
   abbrev IsThere : (number index : ℕ) → List SealedState → Type 0
-  IsThere number index list = (bytes : List ℕ) × (found objects (name_of volume.uuid (number + 1 + index)) ≡ Some bytes)
+  IsThere number index list = (bytes : List ℕ) × (found objects (object_name volume (number + 1 + index)) ≡ Some bytes)
       × HasBytesAt index list bytes
 
   stored_one : (number end : ℕ) (entries : List Entry) (object : StreamObject) (sealed : SealedState) (more : List SealedState)
@@ -134,7 +134,7 @@ module _ (objects : Objects) (uuid_at : ℕ → Option (List ℕ)) (volume : Exp
         header = is.header;
         rows_of = is.rows_of;
         payload = is.payload;
-        present = ap (λ n. found objects (name_of volume.uuid n)) (sym same) ∙ (there.1 ∙ ap Some there.2);
+        present = ap (λ n. found objects (object_name volume n)) (sym same) ∙ (there.1 ∙ ap Some there.2);
         parts = is.parts;
         ends = is.ends;
         content = content_of objects uuid_at object.content entries is.rows_of sealed.rows is.payload is.content is.rows_are
@@ -145,7 +145,7 @@ module _ (objects : Objects) (uuid_at : ℕ → Option (List ℕ)) (volume : Exp
       → IsThere (number + 1) index more
   next_there number index sealed more there =
       let same : number + 1 + suc index ≡ number + 1 + 1 + index = omega arith in
-      (there.0, ap (λ n. found objects (name_of volume.uuid n)) (sym same) ∙ there.1, there.2)
+      (there.0, ap (λ n. found objects (object_name volume n)) (sym same) ∙ there.1, there.2)
 
   stored_first : (count number end : ℕ) (entries : List Entry) (list : List StreamObject) (sealed : List SealedState)
       → AreSealedOf volume number end entries list sealed → ((index : ℕ) → index < count → IsThere number index sealed)
@@ -173,9 +173,9 @@ same_count volume number end entries (object ∷ list) (first ∷ sealed) are =
 -- ---- the recovery
 
 at_index : (volume : Expected) (uploads : UploadsState) (objects : Objects) (index : ℕ)
-    → (bytes : List ℕ) × (found objects (name_of volume.uuid (uploads.queue.frontier + 1 + index)) ≡ Some bytes)
+    → (bytes : List ℕ) × (found objects (object_name volume (uploads.queue.frontier + 1 + index)) ≡ Some bytes)
     × HasBytesAt (index_of uploads (uploads.queue.frontier + 1 + index)) uploads.queue.sealed bytes
-    → (bytes : List ℕ) × (found objects (name_of volume.uuid (uploads.queue.frontier + 1 + index)) ≡ Some bytes)
+    → (bytes : List ℕ) × (found objects (object_name volume (uploads.queue.frontier + 1 + index)) ≡ Some bytes)
     × HasBytesAt index uploads.queue.sealed bytes
 at_index volume uploads objects index has =
     let same : uploads.queue.frontier + 1 + index - (uploads.queue.frontier + 1) ≡ index = omega arith in

@@ -1,8 +1,8 @@
 -- Contract: what the calls do to the objects of a volume on their way to the store.
 use Rattle.std.specs.Prelude.{◌≡◌, ℕ, ◌+◌, ◌-◌, true, false, not, Bool, List, [], ◌∷◌, ◌++◌}
+use Rattle.lsvd_names.specs.Names.{numbered_name}
 use Rattle.lsvd_objstore.specs.Store.{ReceiptState}
 use Rattle.object_format.specs.declared.data_row.DataRow.{DataRow}
-use Rattle.object_stream.specs.Replay.{name_of}
 use Rattle.upload_window.specs.Window.{entered, marked, acknowledged, is_started}
 use Rattle.object_uploads.specs.State.{JobState, QueueState, UploadsState}
 use Rattle.object_uploads.specs.Queue.{with_at, just_sealed, with_spare, with_receipt, HasBytesAt, HasSamePlaces, IsSettledBy}
@@ -46,7 +46,7 @@ with_job number started uploads = record uploads {
 
 -- the put of an object's bytes that began
 pub record IsJobOf (uploads : UploadsState) (number : ℕ) (job : JobState) : Type 0 where
-  pub named : job.name ≡ name_of uploads.uuid number
+  pub named : job.name ≡ numbered_name uploads.uuid number
   pub bytes : HasBytesAt (index_of uploads number) uploads.queue.sealed job.bytes
 
 -- a put is out: it was begun, and these are its object's bytes

@@ -11,7 +11,7 @@ use Rattle.object_stream.specs.declared.object.Content.TheVariants.{Data}
 use Rattle.object_stream.specs.declared.owner.Owner.{Owner}
 use Rattle.object_stream.specs.Stream.{Stream, owners, end_at, last_number, unsealed}
 use Rattle.object_stream.specs.Landed.{Numbers, MayHaveLanded, IsFirstMissing}
-use Rattle.object_stream.specs.Replay.{name_of, expected_at, Replays}
+use Rattle.object_stream.specs.Replay.{object_name, expected_at, Replays}
 use Rattle.upload_window.specs.Window.{WindowState, has_number, was_started}
 use Rattle.object_uploads.specs.State.{UploadsState}
 use Rattle.object_uploads.specs.Queue.{HasBytesAt, IsEntered, just_sealed}
@@ -34,7 +34,7 @@ pub record IsLeftOfUploads (volume : Expected) (uploads : UploadsState) (objects
   pub choice : MayHaveLanded (acknowledged_in uploads.window) (started_in uploads.window) landed
   pub checkpoints : (number : ℕ) → IsTrue (checkpoint number) → number ≤ uploads.queue.frontier
   pub present : (number : ℕ) → uploads.queue.frontier < number → IsTrue (landed number)
-      → (bytes : List ℕ) × (found objects (name_of volume.uuid number) ≡ Some bytes)
+      → (bytes : List ℕ) × (found objects (object_name volume number) ≡ Some bytes)
       × HasBytesAt (index_of uploads number) uploads.queue.sealed bytes
 
 -- a recovery that gets to this number finds the stream up to there

@@ -1,4 +1,5 @@
 ghost use Rattle.std.specs.Prelude.{◌≡◌};
+ghost use Rattle.lsvd_names.specs.Spelling.{IsName};
 
 use lsvd_base::ObjectBytes;
 use lsvd_names::ObjName;
@@ -12,16 +13,20 @@ pub struct Job {
 }
 
 impl Model for Job {
+    ghost use Rattle.lsvd_names.specs.Spelling.{IsName};
     ghost use Rattle.object_uploads.specs.State.{JobState};
 
     ghost Value = { JobState };
 
     ghost view = { λ j. record { name = j.name; bytes = j.object } };
+
+    ghost invariant = { λ j. IsName j.name };
 }
 
 impl Job {
-    // The put of an object under its name.
+    // The put of an object under its name, which is one (a condition).
     pub(crate) fn new(name: ObjName, object: ObjectBytes) -> Job
+        requires { IsName name }
         ensures { result ≡ record { name = name; bytes = object } }
     {
         Job { name, object }
@@ -29,7 +34,8 @@ impl Job {
 
     /// The name of the object.
     pub fn name(&self) -> &ObjName
-        ensures { result.now ≡ self.now.name }
+        ensures is { result.now ≡ self.now.name }
+        ensures named { IsName result.now }
     {
         &self.name
     }

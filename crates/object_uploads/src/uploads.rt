@@ -1,8 +1,8 @@
 ghost use Rattle.std.specs.Prelude.{◌≡◌, ◌+◌, ◌-◌, ◌<◌, ◌≤◌, ◌^◌, ℕ, ◌↔◌, [], length, option_map, IsTrue};
 ghost use Rattle.std.specs.Prelude.{IsErr, IfOk, IfErr, IfSome, IfNone, OnOk, OnErr, true, false};
 ghost use Rattle.lsvd_base.specs.Laws.{first_sector, sector_count};
+ghost use Rattle.lsvd_names.specs.Names.{numbered_name};
 ghost use Rattle.extent_map.specs.Extents.{place_at, place_in_range, IsShortest, AllFit};
-ghost use Rattle.object_stream.specs.Replay.{name_of};
 ghost use Rattle.upload_window.specs.Window.{lowest_ready, IsFrontier};
 ghost use Rattle.volume_maps.specs.Places.{volume_on, volume_number, log_number, row_left_by};
 ghost use Rattle.volume_maps.specs.Maps.{volume_place_at};
@@ -16,7 +16,7 @@ use crate::job::Job;
 use crate::queue::Queue;
 use extent_map::Extent;
 use lsvd_base::{Entry, ObjectBytes};
-use lsvd_names::{Kind, ObjName};
+use lsvd_names::ObjName;
 use lsvd_objstore::Receipt;
 use object_format::DataRow;
 use std::alloc::{AllocError, Global};
@@ -120,7 +120,7 @@ impl<R: Receipt> Uploads<R> {
         ensures same { IfNone result (self.new ≡ self.old) }
     {
         let (number, index) = self.next_job()?;
-        let name = self.name_of(number);
+        let name = ObjName::object(self.uuid, number);
         let object = self.queue.take_spare(index);
         self.window.take();
         Some(Job::new(name, object))
@@ -131,9 +131,10 @@ impl<R: Receipt> Uploads<R> {
     /// receipt names another object; then nothing changes. It takes no memory.
     pub fn job_done(&mut self, job: &Job, receipt: R) -> Result<u64, R>
         ensures nothing { IsErr result ↔ (IsOut self.old job.now.name.number job.now.bytes
-            × ((R.state receipt).name ≡ name_of self.old.uuid job.now.name.number) → ⊥) }
+            × ((R.state receipt).name ≡ numbered_name self.old.uuid job.now.name.number) → ⊥) }
         ensures out { OnOk result (IsOut self.old job.now.name.number job.now.bytes) }
-        ensures named { OnOk result ((R.state receipt).name ≡ name_of self.old.uuid job.now.name.number) }
+        ensures named { OnOk result ((R.state receipt).name ≡ numbered_name self.old.uuid
+            job.now.name.number) }
         ensures done { OnOk result (IsPutDone job.now.name.number (R.state receipt) self.old self.new) }
         ensures frontier { IfOk result (λ frontier. frontier ≡ self.new.queue.frontier) }
         ensures back { IfErr result (λ back. back ≡ receipt) }
@@ -143,7 +144,7 @@ impl<R: Receipt> Uploads<R> {
         let Some(index) = self.index_out(number, job.object()) else {
             return Err(receipt);
         };
-        if receipt.name() != self.name_of(number) {
+        if receipt.name() != ObjName::object(self.uuid, number) {
             return Err(receipt);
         }
         self.window.ack(number);
@@ -254,17 +255,6 @@ impl<R: Receipt> Uploads<R> {
         ensures { IsUploads self.now.queue self.now.window }
     {
         let _uuid = self.uuid;
-    }
-
-    // The name of the object of a number.
-    fn name_of(&self, number: u64) -> ObjName
-        ensures { result ≡ name_of self.now.uuid number }
-    {
-        ObjName {
-            uuid: self.uuid,
-            kind: Kind::Object,
-            number,
-        }
     }
 
     // The lowest ready number, and where its object stands.

@@ -20,7 +20,7 @@ use Rattle.object_stream.specs.declared.object.Content.{Content}
 use Rattle.object_stream.specs.declared.object.Content.TheVariants.{Data}
 use Rattle.object_stream.specs.declared.object.StreamObject.{StreamObject}
 use Rattle.object_stream.specs.Landed.{Numbers, IsFirstMissing}
-use Rattle.object_stream.specs.Replay.{name_of, HasParts, expected_at}
+use Rattle.object_stream.specs.Replay.{object_name, HasParts, expected_at}
 use Rattle.object_stream.specs.Stored.{HasContent, IsObjectStored, AreStored}
 use Rattle.object_stream.specs.Stream.{Owners, Stream, objects_to, end_after, end_at, EndsFollow}
 use Rattle.object_stream.specs.Value.{StandsForSector, IsValue}
@@ -81,7 +81,7 @@ acknowledged_put window number is =
 -- a checkpoint is no data object
 no_data : (volume : Expected) (plain : PlainState) (objects : Objects) (number end : ℕ) (owned : Owners) (bytes : List ℕ)
     → volume.sectors < 2 ^ 64
-    → IsCheckpointOf volume objects number end owned → found objects (name_of volume.uuid number) ≡ Some bytes
+    → IsCheckpointOf volume objects number end owned → found objects (object_name volume number) ≡ Some bytes
     → IsObjectOf volume plain number bytes → ⊥
 no_data volume plain objects number end owned bytes wide is there data_is =
     let same : is.bytes ≡ bytes = let e = is.present in cc in
@@ -149,14 +149,14 @@ module _ (uuid : List ℕ) (epoch : ℕ) (plain : PlainState) (puts : ℕ → Op
   stream = stream_in plain
 
   abbrev landed : Numbers
-  landed = landed_in objects uuid
+  landed = landed_in objects volume
 
   wide : plain.geometry.sectors < 2 ^ 64
   wide = omega (arith, sectors_limit plain.geometry valid.limits)
 
   -- an object past the checkpoint that has landed is the plain volume's
   landed_object : (number : ℕ) → plain.number < number → IsTrue (landed number)
-      → (bytes : List ℕ) × (found objects (name_of uuid number) ≡ Some bytes) × IsObjectOf volume plain number bytes
+      → (bytes : List ℕ) × (found objects (object_name volume number) ≡ Some bytes) × IsObjectOf volume plain number bytes
   landed_object number past there =
       elim (cases_lt plain.window.last number) [
         | inl over ↦
@@ -166,7 +166,8 @@ module _ (uuid : List ℕ) (epoch : ℕ) (plain : PlainState) (puts : ℕ → Op
             let known = are.known number past within in
             let state = state_of_put plain.window number in
             let held = left.held.puts_are number state known.0 past known.1 in
-            let is = object_of_put volume plain number state known.0 (found objects (name_of uuid number)) held known.2 there in
+            let there_is = found objects (object_name volume number) in
+            let is = object_of_put volume plain number state known.0 there_is held known.2 there in
             (known.0, is.0, is.1)
       ]
 
@@ -175,8 +176,8 @@ module _ (uuid : List ℕ) (epoch : ℕ) (plain : PlainState) (puts : ℕ → Op
   acknowledged_landed number past is =
       let known = are.known number past is.was_entered in
       let state = acknowledged_put plain.window number is in
-      let held : MayHoldPut Acknowledged known.0 (found objects (name_of uuid number)) =
-      subst (λ s. MayHoldPut s known.0 (found objects (name_of uuid number))) state
+      let held : MayHoldPut Acknowledged known.0 (found objects (object_name volume number)) =
+      subst (λ s. MayHoldPut s known.0 (found objects (object_name volume number))) state
       (left.held.puts_are number (state_of_put plain.window number) known.0 past known.1) in
       ap is_some held
 
@@ -250,7 +251,7 @@ module _ (uuid : List ℕ) (epoch : ℕ) (plain : PlainState) (puts : ℕ → Op
     abbrev n : ℕ
     n = plain.number + 1 + i
 
-    there : (bytes : List ℕ) × (found objects (name_of uuid n) ≡ Some bytes) × IsObjectOf volume plain n bytes
+    there : (bytes : List ℕ) × (found objects (object_name volume n) ≡ Some bytes) × IsObjectOf volume plain n bytes
     there = landed_object n (omega arith) (missing.least n (omega (arith, base_is)) (omega arith))
 
     is_object : IsObjectOf volume plain n there.0

@@ -53,4 +53,5 @@ LeftHasObjects =
     (uuid : List ℕ) (epoch : ℕ) (plain : PlainState) (puts : ℕ → Option (PutState × List ℕ)) (objects : Objects)
     → IsPlainVolume plain
     → ArePuts (expected_of uuid plain.geometry) plain puts → MayBeLeft uuid epoch plain puts objects
-    → HasObjects uuid plain (recovered_number (landed_in objects uuid) plain) objects × MayLand plain (landed_in objects uuid)
+    → HasObjects uuid plain (recovered_number (landed_in objects (expected_of uuid plain.geometry)) plain) objects
+    × MayLand plain (landed_in objects (expected_of uuid plain.geometry))

@@ -12,7 +12,7 @@ use Rattle.object_format.specs.declared.rows.Rows.TheVariants as rows_of
 use Rattle.object_stream.specs.declared.object.Content.TheVariants.{Data}
 use Rattle.object_stream.specs.Changes.{change_at, change_in}
 use Rattle.object_stream.specs.Stream.{Stream, end_at}
-use Rattle.object_stream.specs.Replay.{name_of, HasParts, expected_at}
+use Rattle.object_stream.specs.Replay.{object_name, HasParts, expected_at}
 use Rattle.upload_window.specs.Window.{WindowState, has_number, was_started}
 use Rattle.stopped_volume.specs.Objects.{IsCheckpointOf}
 use Rattle.stopped_volume.specs.Super.{HasVolume}
@@ -74,5 +74,6 @@ pub record MayBeLeft (uuid : List ℕ) (epoch : ℕ) (plain : PlainState) (puts 
   pub opened_first : plain.number ≡ 1
   pub blank_is : plain.opening ≡ blank plain.geometry.sectors
   pub first : IsCheckpointOf (expected_of uuid plain.geometry) objects plain.number plain.end (stream_in plain).opening
-  pub none_lower : (number : ℕ) → number < plain.number → found objects (name_of uuid number) ≡ None
-  pub held : MayHoldPuts uuid puts plain.number objects
+  pub none_lower : (number : ℕ) → number < plain.number
+      → found objects (object_name (expected_of uuid plain.geometry) number) ≡ None
+  pub held : MayHoldPuts (expected_of uuid plain.geometry) puts plain.number objects

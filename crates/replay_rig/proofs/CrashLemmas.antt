@@ -9,6 +9,7 @@ use Rattle.std.proofs.lemmas.List.{length-take-le, length_push, take_more}
 use Rattle.lsvd_base.specs.declared.geometry.Geometry.{Geometry}
 use Rattle.lsvd_fault.specs.Faults.{Counts, CountsOne}
 use Rattle.lsvd_names.specs.declared.name.ObjName.{ObjName}
+use Rattle.lsvd_names.specs.Names.{super_name, epoch_name, numbered_name}
 use Rattle.lsvd_device.specs.Medium.{Medium}
 use Rattle.lsvd_device.specs.Calls.{Fuse, Budget, Cost, Takes, fuse_of, passes, fuse_after}
 use Rattle.lsvd_device.specs.Device.{DiskState, HoldsNow, MakesCalls}
@@ -19,9 +20,8 @@ use Rattle.lsvd_device.specs.declared.fate.Fate.{Fate}
 use Rattle.lsvd_objstore.specs.Memory.{Kept}
 use Rattle.lsvd_objstore.specs.Objects.{Objects, found, IsPut}
 use Rattle.lsvd_objstore.specs.Store.{Becomes}
-use Rattle.object_stream.specs.Replay.{name_of}
 use Rattle.stopped_volume.specs.Objects.{IsCheckpointOf}
-use Rattle.stopped_volume.specs.Super.{super_name, epoch_name, HasVolume}
+use Rattle.stopped_volume.specs.Super.{HasVolume}
 use Rattle.super_recovery.proofs.LawLemmas.{says_the_same, next_epoch_is_begun}
 use Rattle.object_recovery.specs.Checkpoints.{expected_of}
 use Rattle.commit_slot.specs.Slots.{log_of}
@@ -119,7 +119,7 @@ no_fault one = elim one.risen [ inl less ↦ omega (arith, less) | inr most ↦ 
 blank_now : (len : ℕ) (disk : DiskState) → IsBlankDisk len disk → HasNow (λ now. Unit {0}) disk.moments
 blank_now len disk blank = subst (HasNow (λ now. Unit {0})) (sym blank.moments) tt
 
-other_name : (uuid : List ℕ) (number : ℕ) → (number ≡ 1 → ⊥) → name_of uuid number ≡ name_of uuid 1 → ⊥
+other_name : (uuid : List ℕ) (number : ℕ) → (number ≡ 1 → ⊥) → numbered_name uuid number ≡ numbered_name uuid 1 → ⊥
 other_name uuid number other same = other (ap (λ (name : ObjName). name.number) same)
 
 -- an empty store has nothing of a volume
@@ -128,19 +128,19 @@ empty_is_new objects empty = λ name own there. absurd (there (ap (λ (os : Obje
 
 -- no other numbered object was put
 no_other : (geometry : Geometry) (old new : Objects) (number : ℕ) → (number ≡ 1 → ⊥) → PutsVolume script_uuid geometry old new
-    → found new (name_of script_uuid number) ≡ found old (name_of script_uuid number)
+    → found new (numbered_name script_uuid number) ≡ found old (numbered_name script_uuid number)
 no_other geometry old new number other puts =
     let (middle, (first, put, epoch), whole) = puts in
-    whole.others (name_of script_uuid number) (λ same. (let e = ap (λ (name : ObjName). name.kind) same in cc))
-    ∙ epoch.others (name_of script_uuid number) (λ same. (let e = ap (λ (name : ObjName). name.kind) same in cc))
-    ∙ put.1.others (name_of script_uuid number) (other_name script_uuid number other)
+    whole.others (numbered_name script_uuid number) (λ same. (let e = ap (λ (name : ObjName). name.kind) same in cc))
+    ∙ epoch.others (numbered_name script_uuid number) (λ same. (let e = ap (λ (name : ObjName). name.kind) same in cc))
+    ∙ put.1.others (numbered_name script_uuid number) (other_name script_uuid number other)
 
 -- the first object stands
 first_there : (geometry : Geometry) (old new : Objects) → PutsVolume script_uuid geometry old new
     → IsCheckpointOf (expected_of script_uuid geometry) new 1 0 (λ k. None)
 first_there geometry old new puts =
     let (middle, (first, put, epoch), whole) = puts in
-    let name : ObjName = name_of script_uuid 1 in
+    let name : ObjName = numbered_name script_uuid 1 in
     let there : found new name ≡ found first name =
     whole.others name (λ same. (let e = ap (λ (n : ObjName). n.kind) same in cc))
     ∙ epoch.others name (λ same. (let e = ap (λ (n : ObjName). n.kind) same in cc)) in
@@ -171,7 +171,7 @@ new_volume geometry disk volume old new fails blank empty created becomes stands
       described = (stands (empty_is_new old empty)).0;
       first = first_there geometry old new puts;
       none_else = λ number other. no_other geometry old new number other puts
-          ∙ ap (λ (objects : Objects). found objects (name_of script_uuid number)) empty;
+          ∙ ap (λ (objects : Objects). found objects (numbered_name script_uuid number)) empty;
     }
 
 -- what ends a creation is want of memory alone
@@ -259,10 +259,12 @@ script_is_uuid = record { count = refl; bytes = All-from_recursion (λ b. b < 25
 -- what the removal of the objects past a number leaves of those with numbers
 removes_numbers : (number : ℕ) (old new : Objects) → RemovesAllPast script_uuid number old new → RemovesNumbers number old new
 removes_numbers number old new removed = record {
-  stay = λ n low. removed.removes.others (name_of script_uuid n) (λ past. (let above = past.1.1 in omega (arith, above, low)));
+  stay = λ n low.
+      removed.removes.others (numbered_name script_uuid n) (λ past. (let above = past.1.1 in omega (arith, above, low)));
   gone = λ n past fits.
-      removed.gone (name_of script_uuid n) (record { uuid = script_is_uuid; number = tt; fits = fits }) (refl, (refl, past));
-  none = λ n none. elim (removed.removes.removed (name_of script_uuid n)) [
+      removed.gone (numbered_name script_uuid n) (record { uuid = script_is_uuid; number = tt; fits = fits })
+      (refl, (refl, past));
+  none = λ n none. elim (removed.removes.removed (numbered_name script_uuid n)) [
     | inl same ↦ same ∙ none
     | inr gone ↦ gone
   ];
@@ -315,7 +317,8 @@ begun_numbers : (number epoch : ℕ) (old new : Objects) → BeginsEpoch script_
 begun_numbers number epoch old new begun =
     let (middle, removed, put) = begun in
     let before = removes_numbers number old middle removed in
-    let same = λ (n : ℕ). put.others (name_of script_uuid n) (λ same. (let e = ap (λ (name : ObjName). name.kind) same in cc)) in
+    let same = λ (n : ℕ).
+    put.others (numbered_name script_uuid n) (λ same. (let e = ap (λ (name : ObjName). name.kind) same in cc)) in
     record {
       stay = λ n low. same n ∙ before.stay n low;
       gone = λ n past fits. same n ∙ before.gone n past fits;
@@ -440,8 +443,8 @@ lands_all (put ∷ puts) (letter ∷ letters) (suc count) old new is lands =
 
 -- the object of a put that is out was put into the store, if there was memory
 pub put_as : (n : ℕ) (bytes : List ℕ) (puts : List PutView) (old new : Objects) (result : Result Kept AllocError)
-    → IsPutOut n bytes puts → OnOk result (IsPut (name_of script_uuid n) bytes old new)
-    → IfOk result (λ receipt. (receipt.name ≡ name_of script_uuid n) × (receipt.bytes ≡ bytes))
+    → IsPutOut n bytes puts → OnOk result (IsPut (numbered_name script_uuid n) bytes old new)
+    → IfOk result (λ receipt. (receipt.name ≡ numbered_name script_uuid n) × (receipt.bytes ≡ bytes))
     → IfOk result (IsPutAs n puts old new)
 put_as n bytes puts old new (Err error) out put named = tt
 put_as n bytes puts old new (Ok receipt) out put named = record {

@@ -6,10 +6,10 @@ use Rattle.std.specs.Prelude.{Option, Some, None, is_some, option_map, unwrap_or
 use Rattle.std.specs.List.{AllByRecursion, list_any}
 use Rattle.std.proofs.Math.Bool.{or-true}
 use Rattle.std.proofs.lemmas.Bool.{cases_eq, cases_lt, eq-eqb, ne_eqb, le-leb, lt-leb, leb-true}
+use Rattle.lsvd_names.specs.Names.{numbered_name}
 use Rattle.lsvd_objstore.specs.Objects.{Objects, found}
 use Rattle.lsvd_names.specs.declared.name.ObjName.{ObjName}
 use Rattle.object_stream.specs.Landed.{Numbers}
-use Rattle.object_stream.specs.Replay.{name_of}
 use Rattle.object_stream.specs.declared.owner.Owner.{Owner}
 use Rattle.object_stream.specs.Stream.{last_number}
 use Rattle.stopped_volume.specs.Objects.{landed_in, IsCheckpointOf}
@@ -140,14 +140,14 @@ pub record IsLandedAt (P : PutView → Type 0) (n : ℕ) (new : Objects) : Type 
   pub put : PutView
   pub number : put.number ≡ n
   pub has : P put
-  pub there : found new (name_of script_uuid n) ≡ Some put.bytes
+  pub there : found new (numbered_name script_uuid n) ≡ Some put.bytes
 
 -- the object of a number has landed, or stands as it did
 abbrev pub LandedOr : (P : PutView → Type 0) → (n : ℕ) → (landed : Bool) → (old new : Objects) → Type 0
 LandedOr P n true old new = IsLandedAt P n new
-LandedOr P n false old new = found new (name_of script_uuid n) ≡ found old (name_of script_uuid n)
+LandedOr P n false old new = found new (numbered_name script_uuid n) ≡ found old (numbered_name script_uuid n)
 
-other_number : (n m : ℕ) → (m ≡ n → ⊥) → name_of script_uuid n ≡ name_of script_uuid m → ⊥
+other_number : (n m : ℕ) → (m ≡ n → ⊥) → numbered_name script_uuid n ≡ numbered_name script_uuid m → ⊥
 other_number n m other same = other (ap (λ (name : ObjName). name.number) (sym same))
 
 -- one object more
@@ -165,24 +165,24 @@ lands_first P n put false true old middle new has as_ later =
             put = put;
             number = is;
             has = has;
-            there = later ∙ ap (λ k. found middle (name_of script_uuid k)) (sym is)
+            there = later ∙ ap (λ k. found middle (numbered_name script_uuid k)) (sym is)
                 ∙ as_.put;
           })
       | inr other ↦
           let not_here : (put.number == n) ≡ false = ne_eqb put.number n other in
           subst (λ b. LandedOr P n ((b && true) || false) old new) (sym not_here)
-          (later ∙ as_.others (name_of script_uuid n) (other_number n put.number other))
+          (later ∙ as_.others (numbered_name script_uuid n) (other_number n put.number other))
     ]
 lands_first P n put false false old middle new has as_ later =
     elim (put.number == n) as (λ b. LandedOr P n ((b && false) || false) old new) [
-      | true ↦ later ∙ ap (λ os. found os (name_of script_uuid n)) as_
-      | false ↦ later ∙ ap (λ os. found os (name_of script_uuid n)) as_
+      | true ↦ later ∙ ap (λ os. found os (numbered_name script_uuid n)) as_
+      | false ↦ later ∙ ap (λ os. found os (numbered_name script_uuid n)) as_
     ]
 
 pub lands_at : (P : PutView → Type 0) (n : ℕ) (puts : List PutView) (letters : List ℕ) (old new : Objects) → AllByRecursion P puts
     → Lands puts letters old new → LandedOr P n (has_landed (map (λ put. put.number) puts) letters n) old new
-lands_at P n [] letters old new all lands = ap (λ os. found os (name_of script_uuid n)) lands
-lands_at P n (put ∷ puts) [] old new all lands = ap (λ os. found os (name_of script_uuid n)) lands
+lands_at P n [] letters old new all lands = ap (λ os. found os (numbered_name script_uuid n)) lands
+lands_at P n (put ∷ puts) [] old new all lands = ap (λ os. found os (numbered_name script_uuid n)) lands
 lands_at P n (put ∷ puts) (letter ∷ letters) old new all lands =
     let (middle, as_, more) = lands in
     lands_first P n put (has_landed (map (λ p. p.number) puts) letters n) (letter == 121) old middle new all.0 as_
@@ -197,7 +197,8 @@ IsPutOf plain put = HasBytesOfObject plain put × (was_started put.number plain.
 -- the bytes of an object: those that the store has, or those of the put
 abbrev pub bytes_now : Objects → List PutView → ℕ → List ℕ
 bytes_now objects puts n =
-    unwrap_or (found objects (name_of script_uuid n)) (unwrap_or (option_map (λ (put : PutView). put.bytes) (put_with n puts)) [])
+    unwrap_or (found objects (numbered_name script_uuid n))
+    (unwrap_or (option_map (λ (put : PutView). put.bytes) (put_with n puts)) [])
 
 -- what a stop may leave of an object of a number
 abbrev pub IsHeldAs : PlainState → PutState → (n : ℕ) → (bytes : List ℕ) → Option (List ℕ) → Type 0
@@ -214,7 +215,7 @@ acked_is plain n is =
     rw (low, closed) refl
 
 unacked : (rig : RigState) (plain : PlainState) (n : ℕ) → ShowsPlain rig plain → is_acked plain n ≡ false
-    → found rig.objects (name_of script_uuid n) ≡ None
+    → found rig.objects (numbered_name script_uuid n) ≡ None
 unacked rig plain n h not_ = h.stored.none_else n (λ positive is. (let e : false ≡ true = sym not_ ∙ acked_is plain n is in cc))
 
 and_parts : (a b : Bool) → (a && not b) ≡ true → (a ≡ true) × (b ≡ false)
@@ -258,7 +259,7 @@ landed_or rig plain letters new n h lands =
 -- which objects have landed
 landed_by_case : (rig : RigState) (plain : PlainState) (new : Objects) (n : ℕ) (a b : Bool) → ShowsPlain rig plain → 1 < n
     → is_acked plain n ≡ a
-    → LandedOr (IsPutOf plain) n b rig.objects new → landed_in new script_uuid n ≡ (a || b)
+    → LandedOr (IsPutOf plain) n b rig.objects new → landed_in new (expected_of_plain plain) n ≡ (a || b)
 landed_by_case rig plain new n a true h past is at = ap is_some at.there ∙ sym (or-true a)
 landed_by_case rig plain new n true false h past is at =
     let had = h.stored.acknowledged n past (acked plain n is) in
@@ -266,7 +267,8 @@ landed_by_case rig plain new n true false h past is at =
 landed_by_case rig plain new n false false h past is at = ap is_some (at ∙ unacked rig plain n h is)
 
 pub landed_same : (rig : RigState) (plain : PlainState) (letters : List ℕ) (new : Objects) (n : ℕ) → ShowsPlain rig plain
-    → Lands rig.puts letters rig.objects new → 1 < n → landed_in new script_uuid n ≡ landed_by plain.window letters n
+    → Lands rig.puts letters rig.objects new → 1 < n
+    → landed_in new (expected_of_plain plain) n ≡ landed_by plain.window letters n
 landed_same rig plain letters new n h lands past =
     landed_by_case rig plain new n (is_acked plain n) (letter_of plain letters n) h past refl
     (landed_or rig plain letters new n h lands)
@@ -319,35 +321,36 @@ done_state window n closed =
 held_case : (rig : RigState) (plain : PlainState) (new : Objects) (n : ℕ) (a b s : Bool) → ShowsPlain rig plain → 1 < n
     → n ≤ plain.window.last
     → is_acked plain n ≡ a → was_started n plain.window.objects ≡ s → LandedOr (IsPutOf plain) n b rig.objects new
-    → IsHeldAs plain (state_of_put plain.window n) n (bytes_now new rig.puts n) (found new (name_of script_uuid n))
+    → IsHeldAs plain (state_of_put plain.window n) n (bytes_now new rig.puts n) (found new (numbered_name script_uuid n))
 held_case rig plain new n a true s h past low is was at =
     let started : was_started n plain.window.objects ≡ true = subst (λ k. was_started k plain.window.objects ≡ true) at.number
     at.has.1 in
-    subst (λ state. IsHeldAs plain state n (bytes_now new rig.puts n) (found new (name_of script_uuid n)))
+    subst (λ state. IsHeldAs plain state n (bytes_now new rig.puts n) (found new (numbered_name script_uuid n)))
     (sym (begun_state plain.window n started))
-    (held_begun plain n (found new (name_of script_uuid n)) at.put.bytes _ at.there (object_of plain n at.put at.number at.has.0))
+    (held_begun plain n (found new (numbered_name script_uuid n)) at.put.bytes _ at.there
+    (object_of plain n at.put at.number at.has.0))
 held_case rig plain new n true false s h past low is was at =
     let had = h.stored.acknowledged n past (acked plain n is) in
-    subst (λ state. IsHeldAs plain state n (bytes_now new rig.puts n) (found new (name_of script_uuid n)))
+    subst (λ state. IsHeldAs plain state n (bytes_now new rig.puts n) (found new (numbered_name script_uuid n)))
     (sym (done_state plain.window n (acked plain n is).not_open))
-    (held_acked plain n (found new (name_of script_uuid n)) had.0 _ (at ∙ had.1) had.2)
+    (held_acked plain n (found new (numbered_name script_uuid n)) had.0 _ (at ∙ had.1) had.2)
 held_case rig plain new n false false true h past low is was at =
     let put = under_way_with (IsPutOf plain) n plain.window.objects rig.puts h.puts (puts_of rig plain h) was in
     let rest : unwrap_or (option_map (λ (p : PutView). p.bytes) (put_with n rig.puts)) [] ≡ put.put.bytes =
     ap (λ p. unwrap_or (option_map (λ (q : PutView). q.bytes) p) []) put.is in
-    subst (λ state. IsHeldAs plain state n (bytes_now new rig.puts n) (found new (name_of script_uuid n)))
+    subst (λ state. IsHeldAs plain state n (bytes_now new rig.puts n) (found new (numbered_name script_uuid n)))
     (sym (begun_state plain.window n was))
-    (held_not_yet plain n (found new (name_of script_uuid n)) _ (at ∙ unacked rig plain n h is)
+    (held_not_yet plain n (found new (numbered_name script_uuid n)) _ (at ∙ unacked rig plain n h is)
     (subst (IsObjectOf (expected_of_plain plain) plain n) (sym rest) (object_of plain n put.put put.number put.has.0)))
 held_case rig plain new n false false false h past low is was at =
-    subst (λ state. IsHeldAs plain state n (bytes_now new rig.puts n) (found new (name_of script_uuid n)))
+    subst (λ state. IsHeldAs plain state n (bytes_now new rig.puts n) (found new (numbered_name script_uuid n)))
     (sym (waiting_state plain.window n was (open_else plain n low is)))
     (tt, at ∙ unacked rig plain n h is)
 
 held_as : (rig : RigState) (plain : PlainState) (letters : List ℕ) (new : Objects) (n : ℕ) → ShowsPlain rig plain
     → Lands rig.puts letters rig.objects new
     → 1 < n → n ≤ plain.window.last
-    → IsHeldAs plain (state_of_put plain.window n) n (bytes_now new rig.puts n) (found new (name_of script_uuid n))
+    → IsHeldAs plain (state_of_put plain.window n) n (bytes_now new rig.puts n) (found new (numbered_name script_uuid n))
 held_as rig plain letters new n h lands past low =
     held_case rig plain new n (is_acked plain n) (letter_of plain letters n) (was_started n plain.window.objects) h past
     low refl refl
@@ -373,25 +376,26 @@ landed_within rig plain n new h at =
 -- a number at which none has landed is as it was
 unlanded_case : (rig : RigState) (plain : PlainState) (n : ℕ) (new : Objects) (b : Bool) → ShowsPlain rig plain
     → LandedOr (IsPutOf plain) n b rig.objects new
-    → ((1 < n) × (n ≤ plain.window.last) → ⊥) → found new (name_of script_uuid n) ≡ found rig.objects (name_of script_uuid n)
+    → ((1 < n) × (n ≤ plain.window.last) → ⊥)
+    → found new (numbered_name script_uuid n) ≡ found rig.objects (numbered_name script_uuid n)
 unlanded_case rig plain n new true h at out = absurd (out (landed_within rig plain n new h at))
 unlanded_case rig plain n new false h at out = at
 
 pub unlanded : (rig : RigState) (plain : PlainState) (letters : List ℕ) (new : Objects) (n : ℕ) → ShowsPlain rig plain
     → Lands rig.puts letters rig.objects new → ((1 < n) × (n ≤ plain.window.last) → ⊥)
-    → found new (name_of script_uuid n) ≡ found rig.objects (name_of script_uuid n)
+    → found new (numbered_name script_uuid n) ≡ found rig.objects (numbered_name script_uuid n)
 unlanded rig plain letters new n h lands out =
     unlanded_case rig plain n new (letter_of plain letters n) h (landed_or rig plain letters new n h lands) out
 
 -- nothing is past the last, nor at 0
 pub none_past : (rig : RigState) (plain : PlainState) (letters : List ℕ) (new : Objects) (n : ℕ) → ShowsPlain rig plain
-    → Lands rig.puts letters rig.objects new → plain.window.last < n → found new (name_of script_uuid n) ≡ None
+    → Lands rig.puts letters rig.objects new → plain.window.last < n → found new (numbered_name script_uuid n) ≡ None
 none_past rig plain letters new n h lands past =
     unlanded rig plain letters new n h lands (λ within. absurd (omega (arith, within.1, past)))
     ∙ h.stored.none_else n (λ positive is. (let most = is.was_entered in absurd (omega (arith, most, past))))
 
 pub none_first : (rig : RigState) (plain : PlainState) (letters : List ℕ) (new : Objects) → ShowsPlain rig plain
-    → Lands rig.puts letters rig.objects new → found new (name_of script_uuid 0) ≡ None
+    → Lands rig.puts letters rig.objects new → found new (numbered_name script_uuid 0) ≡ None
 none_first rig plain letters new h lands =
     unlanded rig plain letters new 0 h lands (λ within. absurd (omega (arith, within.0)))
     ∙ h.stored.none_else 0 (λ positive is. absurd (omega (arith, positive)))
@@ -467,7 +471,7 @@ may_be_left rig plain letters new h lands =
           });
       none_lower = λ n lower.
           let e : n ≡ 0 = omega (arith, lower, first) in
-          ap (λ k. found new (name_of script_uuid k)) e ∙ none_first rig plain letters new h lands;
+          ap (λ k. found new (numbered_name script_uuid k)) e ∙ none_first rig plain letters new h lands;
       held = record {
         puts_are = λ n state bytes past is. elim (cases_lt plain.window.last n) [
           | inl late ↦
@@ -476,7 +480,7 @@ may_be_left rig plain letters new h lands =
           | inr low ↦
               let within : n ≤ plain.window.last = omega (arith, low) in
               may_hold plain (state_of_put plain.window n) state (bytes_now new rig.puts n) bytes
-              (found new (name_of script_uuid n))
+              (found new (numbered_name script_uuid n))
               (sym (puts_within plain rig.puts new n within) ∙ is)
               (held_as rig plain letters new n h lands (omega (arith, past, first)) within).1
         ];
@@ -502,10 +506,10 @@ landed_as landed other number (suc count) same =
 
 pub recovered_same : (rig : RigState) (plain : PlainState) (letters : List ℕ) (new : Objects) → ShowsPlain rig plain
     → Lands rig.puts letters rig.objects new
-    → recovered_number (landed_in new script_uuid) plain ≡ recovered_number (landed_by plain.window letters) plain
+    → recovered_number (landed_in new (expected_of_plain plain)) plain ≡ recovered_number (landed_by plain.window letters) plain
 recovered_same rig plain letters new h lands =
     let first = h.opens.checkpoint in
-    landed_as (landed_in new script_uuid) (landed_by plain.window letters) plain.checkpoint
+    landed_as (landed_in new (expected_of_plain plain)) (landed_by plain.window letters) plain.checkpoint
     (last_number (stream_in plain) - plain.checkpoint)
     (λ n past. landed_same rig plain letters new n h lands (omega (arith, past, first)))
 
@@ -528,13 +532,14 @@ object_held plain NotBegun n told bytes held is has =
 
 pub left_object : (rig : RigState) (plain : PlainState) (letters : List ℕ) (new : Objects) (n : ℕ) (bytes : List ℕ)
     → ShowsPlain rig plain
-    → Lands rig.puts letters rig.objects new → 1 < n → found new (name_of script_uuid n) ≡ Some bytes
+    → Lands rig.puts letters rig.objects new → 1 < n → found new (numbered_name script_uuid n) ≡ Some bytes
     → IsObjectOf (expected_of_plain plain) plain n bytes
 left_object rig plain letters new n bytes h lands past there = elim (cases_lt plain.window.last n) [
   | inl late ↦
       absurd (let e : ◌≡◌ {A = Option (List ℕ)} None (Some bytes) = sym (none_past rig plain letters new n h lands late)
       ∙ there in cc)
   | inr low ↦
-      object_held plain (state_of_put plain.window n) n (bytes_now new rig.puts n) bytes (found new (name_of script_uuid n)) there
+      object_held plain (state_of_put plain.window n) n (bytes_now new rig.puts n) bytes
+      (found new (numbered_name script_uuid n)) there
       (held_as rig plain letters new n h lands past (omega (arith, low)))
 ]

@@ -1,8 +1,8 @@
 -- The objects of a volume are put, and what the store says of the volume as a whole stays.
 use Rattle.std.proofs.Common.{ℕ, Bool, true, false, List, [], ◌∷◌, ◌==◌, sym, subst, inl, inr}
 use Rattle.lsvd_base.specs.declared.geometry.Geometry.{Geometry}
+use Rattle.lsvd_names.specs.Names.{numbered_name}
 use Rattle.lsvd_objstore.specs.Objects.{Objects, IsPut}
-use Rattle.object_stream.specs.Replay.{name_of}
 use Rattle.stopped_volume.specs.Super.{HasVolume}
 use Rattle.super_recovery.specs.Laws.{KeepsVolume}
 use Rattle.super_recovery.proofs.LawLemmas.{says_the_same, others_keep_volume}
@@ -11,11 +11,11 @@ use Rattle.replay_rig.specs.Rig.{script_uuid, LandsAs, Lands}
 
 -- an object was put
 pub put_keeps_volume : (n : ℕ) (bytes : List ℕ) (old new : Objects) (geometry : Geometry) (epoch : ℕ)
-    → IsPut (name_of script_uuid n) bytes old new
+    → IsPut (numbered_name script_uuid n) bytes old new
     → HasVolume script_uuid geometry epoch old → HasVolume script_uuid geometry epoch new
 put_keeps_volume n bytes old new geometry epoch put has =
     let keeps : KeepsVolume script_uuid old new =
-    others_keep_volume script_uuid (name_of script_uuid n) old new (inl tt) (inr (inl (bytes, inr put))) in
+    others_keep_volume script_uuid (numbered_name script_uuid n) old new (inl tt) (inr (inl (bytes, inr put))) in
     (says_the_same script_uuid old new keeps).has geometry epoch has
 
 as_keeps_volume : (has_landed : Bool) (put : PutView) (old new : Objects) (geometry : Geometry) (epoch : ℕ)

@@ -8,13 +8,13 @@ use Rattle.std.specs.Option.{option_map}
 use Rattle.std.proofs.lemmas.Bool.{cases_lt}
 use Rattle.std.proofs.lemmas.List.{length-take}
 use Rattle.lsvd_base.specs.declared.geometry.Geometry.{Geometry}
+use Rattle.lsvd_names.specs.Names.{numbered_name}
 use Rattle.lsvd_device.specs.Calls.{Fuse, Budget, fuse_of}
 use Rattle.lsvd_device.specs.Device.{DiskState, HoldsNow}
 use Rattle.lsvd_device.specs.Stop.{left_in_order, HasNow}
 use Rattle.lsvd_device.specs.declared.fate.Fate.{Fate}
 use Rattle.lsvd_objstore.specs.Objects.{Objects, found}
 use Rattle.object_stream.specs.Landed.{Numbers}
-use Rattle.object_stream.specs.Replay.{name_of}
 use Rattle.commit_body.specs.declared.body.CommitBody.{CommitBody}
 use Rattle.commit_body.proofs.BodyLemmas.{determines_body}
 use Rattle.commit_slot.specs.Slots.{log_of, Reads, IsOpenSlot}
@@ -102,7 +102,7 @@ low_left rig plain letters new greatest end h lands few extent =
     let has = (has_left rig plain letters new h lands).0 in
     let most = h.young.objects in
     let low : greatest < 2 ^ 60 = elim (cases_lt plain.window.last greatest) [
-      | inl late ↦ absurd (some_is (found new (name_of script_uuid greatest))
+      | inl late ↦ absurd (some_is (found new (numbered_name script_uuid greatest))
           (none_past rig plain letters new greatest h lands late) extent.present)
       | inr low ↦ omega (arith, low, most, few)
     ] in
@@ -167,7 +167,7 @@ module _ (rig : RigState) (plain : PlainState) (fates : List Fate) (letters : Li
       × (has.number ≤ rig.volume.volume.log.commits.number + 1)
   has_commit =
       let valid = h.shows.valid in
-      let landed : Numbers = landed_in new script_uuid in
+      let landed : Numbers = landed_in new (expected_of_plain plain) in
       let may = (has_left rig plain letters new h lands).1 in
       let sealed = recovers_sealed plain landed valid in
       let last = valid.last in
@@ -298,7 +298,8 @@ module _ (rig : RigState) (plain : PlainState) (letters : List ℕ) (new after :
   first_low : 1 ≤ number
   first_low =
       let valid = h.shows.valid in
-      let from = recovers_frontier plain (landed_in new script_uuid) valid (has_left rig plain letters new h lands).1 in
+      let may = (has_left rig plain letters new h lands).1 in
+      let from = recovers_frontier plain (landed_in new (expected_of_plain plain)) valid may in
       let opened = valid.opened in
       let first = h.opens.number in
       omega (arith, from, opened, first)
@@ -322,16 +323,17 @@ module _ (rig : RigState) (plain : PlainState) (letters : List ℕ) (new after :
       }
 
   recovered_there : (n : ℕ) → 1 < n → n ≤ number
-      → (bytes : List ℕ) × (found after (name_of script_uuid n) ≡ Some bytes) × IsObjectOf (expected_of_plain made) made n bytes
+      → (bytes : List ℕ) × (found after (numbered_name script_uuid n) ≡ Some bytes)
+      × IsObjectOf (expected_of_plain made) made n bytes
   recovered_there n past low =
       let stream = (has_left rig plain letters new h lands).0.stored.stored in
       let base = stream.base in
       let first = h.opens.number in
       let there = stream.missing.least n (omega (arith, base, first, past)) (omega (arith, low)) in
-      let had = some_bytes (found new (name_of script_uuid n)) there in
+      let had = some_bytes (found new (numbered_name script_uuid n)) there in
       (had.0, removed.stay n low ∙ had.1, keeps n had.0 low (left_object rig plain letters new n had.0 h lands past had.1))
 
-  none_there : (n : ℕ) → (0 < n → IsAcknowledged made.window n → ⊥) → found after (name_of script_uuid n) ≡ None
+  none_there : (n : ℕ) → (0 < n → IsAcknowledged made.window n → ⊥) → found after (numbered_name script_uuid n) ≡ None
   none_there n not_ = elim (cases_lt plain.window.last n) [
     | inl late ↦ removed.none n (none_past rig plain letters new n h lands late)
     | inr low ↦ elim (cases_lt number n) [
@@ -341,7 +343,7 @@ module _ (rig : RigState) (plain : PlainState) (letters : List ℕ) (new after :
         | inr none ↦
             let e : n ≡ 0 = omega (arith, none) in
             removed.none n
-            (ap (λ k. found new (name_of script_uuid k)) e ∙ none_first rig plain letters new h lands)
+            (ap (λ k. found new (numbered_name script_uuid k)) e ∙ none_first rig plain letters new h lands)
       ]
     ]
   ]

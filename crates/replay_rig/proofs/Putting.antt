@@ -7,6 +7,7 @@ use Rattle.std.specs.List.{AllByRecursion, list_any}
 use Rattle.std.specs.declared.alloc.AllocError.{AllocError}
 use Rattle.std.proofs.lemmas.Bool.{cases_eq, ne_eqb}
 use Rattle.lsvd_base.specs.declared.geometry.Geometry.{Geometry}
+use Rattle.lsvd_names.specs.Names.{numbered_name}
 use Rattle.lsvd_device.specs.Calls.{Budget}
 use Rattle.lsvd_device.specs.Memory.{HasRoom}
 use Rattle.lsvd_names.specs.declared.name.ObjName.{ObjName}
@@ -14,7 +15,6 @@ use Rattle.lsvd_objstore.specs.Memory.{Kept, told_receipt}
 use Rattle.lsvd_objstore.specs.Store.{ReceiptState}
 use Rattle.lsvd_objstore.specs.Objects.{Objects, found, IsPut}
 use Rattle.object_format.specs.declared.expected.Expected.{Expected}
-use Rattle.object_stream.specs.Replay.{name_of}
 use Rattle.object_recovery.specs.Checkpoints.{expected_of}
 use Rattle.object_uploads.specs.State.{JobState}
 use Rattle.object_uploads.specs.Order.{IsUploads}
@@ -403,8 +403,8 @@ pub record IsMadePut (n : ℕ) (old : RigState) (store : Objects) (job : JobStat
   pub out : (plain : PlainState) → ShowsPlain old plain → IsTrue (is_started n plain.window.objects)
   pub bytes : List ℕ
   pub bytes_out : IsPutOut n bytes old.puts
-  pub put : IsPut (name_of script_uuid n) bytes old.objects store
-  pub named : receipt.name ≡ name_of script_uuid n
+  pub put : IsPut (numbered_name script_uuid n) bytes old.objects store
+  pub named : receipt.name ≡ numbered_name script_uuid n
   pub number : job.name.number ≡ n
   pub job_out : IsPutOut n job.bytes old.puts
 
@@ -432,11 +432,11 @@ receipt_for_job n puts old new job receipt made taken =
 
 put_done : (volume : VolumeState) (job : JobState) (receipt : ReceiptState) (n : ℕ) (put : Option ℕ)
     → IsOfDonePut volume job receipt put
-    → job.name.number ≡ n → volume.objects.uploads.uuid ≡ script_uuid → receipt.name ≡ name_of script_uuid n
+    → job.name.number ≡ n → volume.objects.uploads.uuid ≡ script_uuid → receipt.name ≡ numbered_name script_uuid n
     → IsOut volume.objects.uploads n job.bytes → put ≡ Some n
 put_done volume job receipt n None of number uuid named out =
-    let same : name_of script_uuid n ≡ name_of volume.objects.uploads.uuid job.name.number =
-    ap (λ u. name_of u n) (sym uuid) ∙ ap (name_of volume.objects.uploads.uuid) (sym number) in
+    let same : numbered_name script_uuid n ≡ numbered_name volume.objects.uploads.uuid job.name.number =
+    ap (λ u. numbered_name u n) (sym uuid) ∙ ap (numbered_name volume.objects.uploads.uuid) (sym number) in
     absurd (of (subst (λ k. IsOut volume.objects.uploads k job.bytes) (sym number) out, named ∙ same))
 put_done volume job receipt n (Some other) of number uuid named out = ap Some (of.0 ∙ number)
 
@@ -459,19 +459,19 @@ module _ (n : ℕ) (window : WindowState) (order : Ascends 0 window.objects wind
   done_itself : n ≤ window.last → IsAcknowledged (acknowledged n window) n
   done_itself most = record { was_entered = most; not_open = without_own n 0 window.objects window.last order }
 
-other_name : (number n : ℕ) → (number ≡ n → ⊥) → name_of script_uuid number ≡ name_of script_uuid n → ⊥
+other_name : (number n : ℕ) → (number ≡ n → ⊥) → numbered_name script_uuid number ≡ numbered_name script_uuid n → ⊥
 other_name number n other same = other (ap (λ (name : ObjName). name.number) same)
 
 -- the first object is not the one that was put
 first_stays : (volume : Expected) (n : ℕ) (bytes : List ℕ) (old new : Objects) → volume.uuid ≡ script_uuid → 1 < n
-    → IsPut (name_of script_uuid n) bytes old new → IsCheckpointOf volume old 1 0 (λ k. None)
+    → IsPut (numbered_name script_uuid n) bytes old new → IsCheckpointOf volume old 1 0 (λ k. None)
     → IsCheckpointOf volume new 1 0 (λ k. None)
 first_stays volume n bytes old new uuid past put first =
-    let other : found new (name_of script_uuid 1) ≡ found old (name_of script_uuid 1) =
-    put.others (name_of script_uuid 1) (other_name 1 n (λ same. omega (arith, same, past))) in
+    let other : found new (numbered_name script_uuid 1) ≡ found old (numbered_name script_uuid 1) =
+    put.others (numbered_name script_uuid 1) (other_name 1 n (λ same. omega (arith, same, past))) in
     record {
       bytes = first.bytes;
-      present = subst (λ u. found new (name_of u 1) ≡ found old (name_of u 1)) (sym uuid) other ∙ first.present;
+      present = subst (λ u. found new (numbered_name u 1) ≡ found old (numbered_name u 1)) (sym uuid) other ∙ first.present;
       header = first.header;
       payload = first.payload;
       parts = first.parts;
@@ -481,7 +481,7 @@ first_stays volume n bytes old new uuid past put first =
 
 stored_done : (n : ℕ) (bytes : List ℕ) (plain next : PlainState) (old new : Objects) → GrowsByOne plain next
     → next.window ≡ acknowledged n plain.window → Ascends 0 plain.window.objects plain.window.last → 1 < n → n ≤ plain.window.last
-    → IsPut (name_of script_uuid n) bytes old new → IsObjectOf (expected_of_plain plain) plain n bytes
+    → IsPut (numbered_name script_uuid n) bytes old new → IsObjectOf (expected_of_plain plain) plain n bytes
     → ((number : ℕ) (more : List ℕ) → IsObjectOf (expected_of_plain plain) plain number more
     → IsObjectOf (expected_of_plain plain) next number more)
     → HasStored plain old → HasStored next new
@@ -495,14 +495,15 @@ stored_done n bytes plain next old new grows window order past most put object k
       acknowledged = λ number later is. elim (cases_eq number n) [
         | inl itself ↦ (
           bytes,
-          ap (λ k. found new (name_of script_uuid k)) itself ∙ put.put,
+          ap (λ k. found new (numbered_name script_uuid k)) itself ∙ put.put,
           subst (λ k. IsObjectOf (expected_of_plain next) next k bytes) (sym itself) (object_next n bytes object),
         )
         | inr other ↦
             let was = done_back n plain.window order number other (subst (λ (w : WindowState). IsAcknowledged w number)
             window is) in
             let had = stored.acknowledged number later was in
-            (had.0, put.others (name_of script_uuid number) (other_name number n other) ∙ had.1, object_next number had.0 had.2)
+            let stays = put.others (numbered_name script_uuid number) (other_name number n other) in
+            (had.0, stays ∙ had.1, object_next number had.0 had.2)
       ];
       none_else = λ number not_. elim (cases_eq number n) [
         | inl itself ↦
@@ -510,7 +511,7 @@ stored_done n bytes plain next old new grows window order past most put object k
             (subst (λ k. IsAcknowledged next.window k) (sym itself)
             (subst (λ (w : WindowState). IsAcknowledged w n) (sym window) (done_itself n plain.window order most))))
         | inr other ↦
-            put.others (name_of script_uuid number) (other_name number n other)
+            put.others (numbered_name script_uuid number) (other_name number n other)
             ∙ stored.none_else number (λ positive is. not_ positive
             (subst (λ (w : WindowState). IsAcknowledged w number) (sym window) (done_forth n plain.window order number other is)))
       ];
@@ -519,7 +520,8 @@ stored_done n bytes plain next old new grows window order past most put object k
 job_done : (n : ℕ) (bytes : List ℕ) (old : RigState) (volume : SteppedVolume) (store : Objects) (job : JobState) (receipt : Kept)
     (reply : Reply Kept)
     (plain : PlainState)
-    → is_started n plain.window.objects ≡ true → IsPutOut n bytes old.puts → IsPut (name_of script_uuid n) bytes old.objects store
+    → is_started n plain.window.objects ≡ true → IsPutOut n bytes old.puts
+    → IsPut (numbered_name script_uuid n) bytes old.objects store
     → CountedStep told_receipt (JobDone job receipt) reply old.volume volume → (h : ShowsPlain old plain)
     → ShowsVolume h.epoch volume.volume (plain_after (events.JobDone (Some n)) plain)
     → ShowsPlain (rig_after old volume store (without_put n old.puts)) (plain_after (events.JobDone (Some n)) plain)

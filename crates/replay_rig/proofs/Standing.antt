@@ -20,7 +20,7 @@ use Rattle.refine_mount.specs.Found.{HasObjects}
 use Rattle.refine_mount.specs.Mounted.{end_of_object}
 use Rattle.refine_store.proofs.LeftLemmas.{left_has_objects}
 use Rattle.vol_core.specs.Volume.{VolumeState}
-use Rattle.replay_rig.specs.Rig.{RigState, script_uuid, ShowsPlain, Lands, IsKeptByRig}
+use Rattle.replay_rig.specs.Rig.{RigState, script_uuid, expected_of_plain, ShowsPlain, Lands, IsKeptByRig}
 use Rattle.replay_rig.proofs.Crashing.{puts_now, are_puts, may_be_left}
 
 -- ---- stops of the device
@@ -58,11 +58,11 @@ ends_past plain number valid from to =
 
 -- the number that a mount recovers
 abbrev pub number_left : Objects → PlainState → ℕ
-number_left new plain = recovered_number (landed_in new script_uuid) plain
+number_left new plain = recovered_number (landed_in new (expected_of_plain plain)) plain
 
 pub has_left : (rig : RigState) (plain : PlainState) (letters : List ℕ) (new : Objects) → ShowsPlain rig plain
     → Lands rig.puts letters rig.objects new
-    → HasObjects script_uuid plain (number_left new plain) new × MayLand plain (landed_in new script_uuid)
+    → HasObjects script_uuid plain (number_left new plain) new × MayLand plain (landed_in new (expected_of_plain plain))
 has_left rig plain letters new h lands =
     left_has_objects script_uuid h.epoch plain (puts_now plain rig.puts new) new h.shows.valid
     (are_puts rig plain letters new h lands)
@@ -71,7 +71,7 @@ has_left rig plain letters new h lands =
 -- it is at most that of the last object
 pub left_within : (plain : PlainState) (new : Objects) → IsPlainVolume plain → number_left new plain ≤ plain.window.last
 left_within plain new valid =
-    let sealed = recovers_sealed plain (landed_in new script_uuid) valid in
+    let sealed = recovers_sealed plain (landed_in new (expected_of_plain plain)) valid in
     let last = valid.last in
     omega (arith, sealed, last)
 
@@ -101,7 +101,8 @@ kept_by_rig rig plain h on_disk =
           (now_keeps owner h.shows.data_at rig.volume.volume.log plain (rig_stops rig plain h on_disk));
       store = λ letters objects lands.
           let has = has_left rig plain letters objects h lands in
-          (has.0, recovers_frontier plain (landed_in objects script_uuid) valid has.1, left_within plain objects valid);
+          let from = recovers_frontier plain (landed_in objects (expected_of_plain plain)) valid has.1 in
+          (has.0, from, left_within plain objects valid);
     }
 
 -- and so of the same rig

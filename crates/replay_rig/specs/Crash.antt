@@ -1,6 +1,7 @@
 -- For this crate's own clauses: disks before a format and after a stop, and what is mounted on them.
 use Rattle.std.specs.Prelude.{◌≡◌, ℕ, ◌^◌, ◌<◌, ◌≤◌, Some, None, List, [], ◌∷◌, replicate}
 use Rattle.lsvd_base.specs.declared.geometry.Geometry.{Geometry}
+use Rattle.lsvd_names.specs.Names.{numbered_name}
 use Rattle.lsvd_device.specs.Calls.{Cost, fuse_of}
 use Rattle.lsvd_device.specs.Device.{DiskState, IsDisk, HoldsNow}
 use Rattle.lsvd_device.specs.Medium.{MayLeave, durable}
@@ -8,7 +9,6 @@ use Rattle.lsvd_device.specs.Memory.{HasRoom, IsSynced}
 use Rattle.lsvd_device.specs.Stop.{left_in_order, IsStopped, HasNow}
 use Rattle.lsvd_device.specs.declared.fate.Fate.{Fate}
 use Rattle.lsvd_objstore.specs.Objects.{Objects, found, IsPut}
-use Rattle.object_stream.specs.Replay.{name_of}
 use Rattle.commit_slot.specs.Slots.{log_of}
 use Rattle.stopped_volume.specs.Objects.{IsCheckpointOf}
 use Rattle.stopped_volume.specs.Super.{HasVolume}
@@ -51,8 +51,8 @@ pub record IsLeftBy (fates : List Fate) (before left : DiskState) : Type 0 where
 pub record IsPutAs (number : ℕ) (puts : List PutView) (old new : Objects) (receipt : Kept) : Type 0 where
   pub bytes : List ℕ
   pub out : IsPutOut number bytes puts
-  pub put : IsPut (name_of script_uuid number) bytes old new
-  pub named : receipt.name ≡ name_of script_uuid number
+  pub put : IsPut (numbered_name script_uuid number) bytes old new
+  pub named : receipt.name ≡ numbered_name script_uuid number
   pub told : receipt.bytes ≡ bytes
 
 -- ---- volumes
@@ -65,7 +65,7 @@ pub record IsNewVolume (geometry : Geometry) (volume : SteppedVolume) (objects :
   pub commits : volume.volume.log.commits.number ≡ 0
   pub described : HasVolume script_uuid geometry 0 objects
   pub first : IsCheckpointOf (expected_of script_uuid geometry) objects 1 0 (λ k. None)
-  pub none_else : (number : ℕ) → (number ≡ 1 → ⊥) → found objects (name_of script_uuid number) ≡ None
+  pub none_else : (number : ℕ) → (number ≡ 1 → ⊥) → found objects (numbered_name script_uuid number) ≡ None
 
 -- a store may be mounted: it has a plain volume in an epoch, and no number of it is too great
 pub record MayMountStored (geometry : Geometry) (objects : Objects) : Type 0 where
@@ -92,9 +92,9 @@ pub record MayMountLeft (geometry : Geometry) (objects : Objects) (disk : DiskSt
 
 -- the numbered objects past a number were removed, and the others stay
 pub record RemovesNumbers (number : ℕ) (old new : Objects) : Type 0 where
-  pub stay : (n : ℕ) → n ≤ number → found new (name_of script_uuid n) ≡ found old (name_of script_uuid n)
-  pub gone : (n : ℕ) → number < n → n < 2 ^ 64 → found new (name_of script_uuid n) ≡ None
-  pub none : (n : ℕ) → found old (name_of script_uuid n) ≡ None → found new (name_of script_uuid n) ≡ None
+  pub stay : (n : ℕ) → n ≤ number → found new (numbered_name script_uuid n) ≡ found old (numbered_name script_uuid n)
+  pub gone : (n : ℕ) → number < n → n < 2 ^ 64 → found new (numbered_name script_uuid n) ≡ None
+  pub none : (n : ℕ) → found old (numbered_name script_uuid n) ≡ None → found new (numbered_name script_uuid n) ≡ None
 
 -- a volume of a script was mounted in an epoch, on a device that fails no call and has nothing pending, and the objects past the
 -- first missing number were removed

@@ -2,11 +2,12 @@
 use Rattle.std.specs.Prelude.{◌≡◌, ◌==◌, ℕ, ◌+◌, ◌*◌, ◌<◌, ◌≤◌, Bool, true, false, is_some, Some, None, List, [], ◌∷◌}
 use Rattle.std.specs.List.{AllByRecursion}
 use Rattle.lsvd_base.specs.Image.{blank}
+use Rattle.lsvd_names.specs.Names.{numbered_name}
 use Rattle.lsvd_device.specs.Device.{HoldsNow}
 use Rattle.lsvd_device.specs.Medium.{MayLeave}
 use Rattle.lsvd_objstore.specs.Objects.{Objects, found, IsPut}
 use Rattle.object_format.specs.declared.expected.Expected.{Expected}
-use Rattle.object_stream.specs.Replay.{name_of}
+use Rattle.object_stream.specs.Replay.{object_name}
 use Rattle.stopped_volume.specs.Objects.{landed_in, IsCheckpointOf}
 use Rattle.stopped_volume.specs.Super.{HasVolume}
 use Rattle.upload_window.specs.declared.object.OpenObject.{OpenObject}
@@ -79,10 +80,10 @@ HasBytesOfObject plain put = IsObjectOf (expected_of_plain plain) plain put.numb
 pub record HasStored (plain : PlainState) (objects : Objects) : Type 0 where
   pub first : IsCheckpointOf (expected_of_plain plain) objects 1 0 (λ k. None)
   pub acknowledged : (number : ℕ) → 1 < number → IsAcknowledged plain.window number
-      → (bytes : List ℕ) × (found objects (name_of script_uuid number) ≡ Some bytes)
+      → (bytes : List ℕ) × (found objects (object_name (expected_of_plain plain) number) ≡ Some bytes)
       × IsObjectOf (expected_of_plain plain) plain number bytes
   pub none_else : (number : ℕ) → (0 < number → IsAcknowledged plain.window number → ⊥)
-      → found objects (name_of script_uuid number) ≡ None
+      → found objects (object_name (expected_of_plain plain) number) ≡ None
 
 -- the numbers of a volume that has answered so many lines: each adds an entry and an object at most, and makes two steps and four
 -- commits at most
@@ -115,7 +116,7 @@ pub record ShowsPlain (rig : RigState) (plain : PlainState) : Type 0 where
 
 -- an object has landed: it was put; or it has not
 abbrev pub LandsAs : (has_landed : Bool) → PutView → (old new : Objects) → Type 0
-LandsAs true put old new = IsPut (name_of script_uuid put.number) put.bytes old new
+LandsAs true put old new = IsPut (numbered_name script_uuid put.number) put.bytes old new
 LandsAs false put old new = new ≡ old
 
 -- those of the objects under way that have the letter of one that has landed were put
@@ -135,6 +136,6 @@ pub record IsKeptByRig (epoch : ℕ) (rig : RigState) (plain : PlainState) : Typ
       → HasCommit (record { uuid = script_uuid; epoch = epoch }) plain found (end_of_object number plain) left))
       rig.volume.volume.log.commits.disk.moments
   pub store : (letters : List ℕ) (objects : Objects) → Lands rig.puts letters rig.objects objects
-      → HasObjects script_uuid plain (recovered_number (landed_in objects script_uuid) plain) objects
-      × (frontier_of plain ≤ recovered_number (landed_in objects script_uuid) plain)
-      × (recovered_number (landed_in objects script_uuid) plain ≤ plain.window.last)
+      → HasObjects script_uuid plain (recovered_number (landed_in objects (expected_of_plain plain)) plain) objects
+      × (frontier_of plain ≤ recovered_number (landed_in objects (expected_of_plain plain)) plain)
+      × (recovered_number (landed_in objects (expected_of_plain plain)) plain ≤ plain.window.last)

@@ -1,8 +1,8 @@
 ghost use Rattle.std.specs.Prelude.{◌≡◌, ◌+◌, ◌==◌, [], IsTrue, IfOk, OnOk, OnErr, Some, length};
 ghost use Rattle.lsvd_base.specs.Limits.{is_within_limits};
+ghost use Rattle.lsvd_names.specs.Names.{numbered_name};
 ghost use Rattle.lsvd_device.specs.Device.{IsDisk, HoldsNow};
 ghost use Rattle.lsvd_objstore.specs.Objects.{IsPut};
-ghost use Rattle.object_stream.specs.Replay.{name_of};
 ghost use Rattle.commit_slot.specs.Slots.{log_of};
 ghost use Rattle.commit_slot.specs.Formatting.{format_cost};
 ghost use Rattle.vol_mount.specs.Costs.{mount_cost};
@@ -16,7 +16,7 @@ ghost use Rattle.replay_rig.specs.Rig.{script_uuid, LandsAs, Lands};
 use crate::puts::Put;
 use lsvd_base::{Geometry, ObjectBytes};
 use lsvd_device::{Disk, Fate, FuseDisk, MemDisk, StoppedDisk};
-use lsvd_names::{Kind, ObjName};
+use lsvd_names::ObjName;
 use lsvd_objstore::{MemReceipt, MemStore, Store, StoreError};
 use std::alloc::{AllocError, Global};
 use uuid::Uuid;
@@ -207,16 +207,12 @@ pub(crate) fn put_object(
     number: u64,
     object: &ObjectBytes,
 ) -> Result<MemReceipt, AllocError>
-    ensures put { OnOk result (IsPut (name_of script_uuid number) object.now store.old store.new) }
-    ensures receipt { IfOk result (λ receipt. (receipt.name ≡ name_of script_uuid number)
+    ensures put { OnOk result (IsPut (numbered_name script_uuid number) object.now store.old store.new) }
+    ensures receipt { IfOk result (λ receipt. (receipt.name ≡ numbered_name script_uuid number)
         × (receipt.bytes ≡ object.now)) }
     ensures err { OnErr result (store.new ≡ store.old) }
 {
-    let name = ObjName {
-        uuid: Uuid::from_bytes(UUID),
-        kind: Kind::Object,
-        number,
-    };
+    let name = ObjName::object(Uuid::from_bytes(UUID), number);
     match store.put(alloc, &name, object) {
         Ok(receipt) => Ok(receipt),
         Err(error) => {

@@ -28,7 +28,7 @@ pub record HasStreamUpTo (volume : Expected) (uuid_at : ℕ → Option (List ℕ
     (number : ℕ) : Type 0 where
   pub checkpoint : Numbers
   pub checkpoints : AreCheckpoints volume objects checkpoint
-  pub missing : IsFirstMissing checkpoint (landed_in objects volume.uuid) (number + 1)
+  pub missing : IsFirstMissing checkpoint (landed_in objects volume) (number + 1)
   pub base : missing.base ≡ stream.number
   pub based : IsCheckpointOf volume objects stream.number stream.end stream.opening
   pub value : IsValue objects uuid_at stream.opening opening

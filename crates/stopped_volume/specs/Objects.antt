@@ -10,12 +10,12 @@ use Rattle.object_format.specs.declared.rows.Rows.TheVariants.{Checkpoint}
 use Rattle.object_format.specs.Object.{IsObject}
 use Rattle.object_stream.specs.Stream.{Owners}
 use Rattle.object_stream.specs.Landed.{Numbers, IsFirstMissing}
-use Rattle.object_stream.specs.Replay.{name_of, HasParts, Replays}
+use Rattle.object_stream.specs.Replay.{object_name, HasParts, Replays}
 use Rattle.object_stream.specs.Value.{IsValue}
 
 -- the numbers of a volume's objects that a store has
-abbrev pub landed_in : Objects → (uuid : List ℕ) → Numbers
-landed_in objects uuid number = is_some (found objects (name_of uuid number))
+abbrev pub landed_in : Objects → Expected → Numbers
+landed_in objects volume number = is_some (found objects (object_name volume number))
 
 -- What is expected of a volume's object of this number, where the end before it is not known; the rest is the volume's.
 abbrev pub expected_alone : Expected → (number : ℕ) → Expected
@@ -25,7 +25,7 @@ expected_alone volume number = record volume { number = number; end_before = Non
 -- checkpoint has no rows yet, so that none is owned.
 pub record IsCheckpointOf (volume : Expected) (objects : Objects) (number end : ℕ) (owned : Owners) : Type 0 where
   pub bytes : List ℕ
-  pub present : found objects (name_of volume.uuid number) ≡ Option.Some bytes
+  pub present : found objects (object_name volume number) ≡ Option.Some bytes
   pub header : Header
   pub payload : List ℕ
   pub parts : HasParts (expected_alone volume number) bytes header Checkpoint payload
@@ -44,7 +44,7 @@ IsWhole expected bytes = (header : Header) × (rows : Rows) × IsObject bytes (l
 -- each object of a volume past one of a number is of the grammar, wherever it begins
 abbrev pub AreWholePast : Expected → Objects → (number : ℕ) → Type 0
 AreWholePast volume objects number =
-    (other : ℕ) (bytes : List ℕ) → number < other → found objects (name_of volume.uuid other) ≡ Option.Some bytes
+    (other : ℕ) (bytes : List ℕ) → number < other → found objects (object_name volume other) ≡ Option.Some bytes
     → IsWhole (expected_alone volume other) bytes
 
 -- The objects of a store stand for an image, the number of the object before the first missing one, and that object's end: from
@@ -55,7 +55,7 @@ pub record ObjectsStandFor (volume : Expected) (uuid_at : ℕ → Option (List �
     (number end : ℕ) : Type 0 where
   pub checkpoint : Numbers
   pub checkpoints : AreCheckpoints volume objects checkpoint
-  pub missing : IsFirstMissing checkpoint (landed_in objects volume.uuid) (number + 1)
+  pub missing : IsFirstMissing checkpoint (landed_in objects volume) (number + 1)
   pub base_end : ℕ
   pub owned : Owners
   pub based : IsCheckpointOf volume objects missing.base base_end owned

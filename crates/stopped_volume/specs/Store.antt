@@ -3,7 +3,8 @@
 use Rattle.std.specs.Prelude.{◌≡◌, ℕ, ◌<◌, ◌⊎◌, Option, Some, None, IsSome, List}
 use Rattle.lsvd_objstore.specs.Objects.{Objects, found}
 use Rattle.lsvd_objstore.specs.Store.{ReceiptState}
-use Rattle.object_stream.specs.Replay.{name_of}
+use Rattle.object_format.specs.declared.expected.Expected.{Expected}
+use Rattle.object_stream.specs.Replay.{object_name}
 
 -- the puts of a volume: the object of each number, as far as it was sealed, and how far its put has come
 pub data PutState : Type 0 where
@@ -21,10 +22,10 @@ MayHoldPut Begun bytes held = (held ≡ None) ⊎ (held ≡ Some bytes)
 MayHoldPut NotBegun bytes held = held ≡ None
 
 -- What a store may hold of a volume's objects after one of a number, of which these are the puts: nothing past the last of them.
-pub record MayHoldPuts (uuid : List ℕ) (puts : ℕ → Option (PutState × List ℕ)) (after : ℕ) (objects : Objects) : Type 0 where
+pub record MayHoldPuts (volume : Expected) (puts : ℕ → Option (PutState × List ℕ)) (after : ℕ) (objects : Objects) : Type 0 where
   pub puts_are : (number : ℕ) (state : PutState) (bytes : List ℕ) → after < number → puts number ≡ Some (state, bytes)
-      → MayHoldPut state bytes (found objects (name_of uuid number))
-  pub none_else : (number : ℕ) → after < number → puts number ≡ None → found objects (name_of uuid number) ≡ None
+      → MayHoldPut state bytes (found objects (object_name volume number))
+  pub none_else : (number : ℕ) → after < number → puts number ≡ None → found objects (object_name volume number) ≡ None
 
 -- receipts tell the bytes that they stand for
 abbrev pub TellsBytes : {R : Type 0} → (R → ReceiptState) → Type 0

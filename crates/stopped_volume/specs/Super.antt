@@ -1,24 +1,12 @@
 -- Contract: what a store says of a volume as a whole: its super object and its epochs.
 use Rattle.std.specs.Prelude.{◌≡◌, ℕ, ◌^◌, ◌<◌, Some, None, is_some, IsTrue, List, []}
 use Rattle.lsvd_base.specs.declared.geometry.Geometry.{Geometry}
-use Rattle.lsvd_names.specs.declared.name.ObjName.{ObjName}
-use Rattle.lsvd_names.specs.declared.name.Kind.TheVariants as kinds
+use Rattle.lsvd_names.specs.Names.{super_name, epoch_name}
 use Rattle.lsvd_objstore.specs.Objects.{Objects, found}
 use Rattle.super_format.specs.declared.epoch.Epoch.{Epoch}
 use Rattle.super_format.specs.declared.super_object.Super.{Super}
 use Rattle.super_format.specs.Super.{IsSuper, geometry_with}
 use Rattle.super_format.specs.Epoch.{IsEpoch}
-
--- ---- names
-
--- the name of the super object of a volume, and those of its epochs
-abbrev pub super_name : (uuid : List ℕ) → ObjName
-super_name uuid = record { uuid = uuid; kind = kinds.Super; number = 0 }
-
-abbrev pub epoch_name : (uuid : List ℕ) → (number : ℕ) → ObjName
-epoch_name uuid number = record { uuid = uuid; kind = kinds.Epoch; number = number }
-
--- ---- objects
 
 -- the store has the super object of a volume, which says this
 pub record HasSuper (uuid : List ℕ) (volume : Super) (objects : Objects) : Type 0 where

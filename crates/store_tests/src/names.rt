@@ -1,7 +1,7 @@
 ghost use Rattle.std.specs.Prelude.{IfOk};
 ghost use Rattle.lsvd_names.specs.Spelling.{IsName};
 
-use lsvd_names::{Kind, ObjName};
+use lsvd_names::ObjName;
 use test_output::TestError;
 
 pub const SUPER: &str = "00000000-0000-4000-8000-000000000001.super";
@@ -36,9 +36,5 @@ pub fn name(text: &str) -> Result<ObjName, TestError>
 pub fn numbered(number: u64) -> Result<ObjName, TestError>
     ensures { IfOk result IsName }
 {
-    Ok(ObjName {
-        uuid: name(OBJECT)?.uuid,
-        kind: Kind::Object,
-        number,
-    })
+    Ok(ObjName::object(name(OBJECT)?.uuid, number))
 }

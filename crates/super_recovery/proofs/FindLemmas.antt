@@ -10,10 +10,11 @@ use Rattle.lsvd_names.specs.declared.name.Kind.{Kind}
 use Rattle.lsvd_names.specs.declared.name.Kind.TheVariants as kinds
 use Rattle.lsvd_names.specs.declared.name.ObjName.{ObjName}
 use Rattle.lsvd_names.specs.Spelling.{IsUuid, IsName}
+use Rattle.lsvd_names.specs.Names.{super_name, epoch_name}
 use Rattle.lsvd_objstore.specs.Objects.{Objects, found, Lists}
 use Rattle.super_format.specs.declared.super_object.Super.{Super}
 use Rattle.super_format.specs.Super.{IsSuper}
-use Rattle.stopped_volume.specs.Super.{super_name, epoch_name, HasSuper, HasNewestEpoch, HasVolume}
+use Rattle.stopped_volume.specs.Super.{HasSuper, HasNewestEpoch, HasVolume}
 use Rattle.super_recovery.specs.declared.error.BadSuper.TheVariants as reasons
 use Rattle.super_recovery.specs.declared.error.SuperError.{SuperError}
 use Rattle.super_recovery.specs.declared.error.SuperError.TheVariants as errors

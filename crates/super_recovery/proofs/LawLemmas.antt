@@ -3,13 +3,14 @@ use Rattle.std.proofs.Common.{◌≡◌, ℕ, ◌+◌, ◌^◌, ◌<◌, inl, in
 use Rattle.std.proofs.lemmas.Bool.{cases_eq, cases_order}
 use Rattle.lsvd_base.specs.declared.geometry.Geometry.{Geometry}
 use Rattle.lsvd_names.specs.declared.name.ObjName.{ObjName}
+use Rattle.lsvd_names.specs.Names.{super_name, epoch_name}
 use Rattle.lsvd_objstore.specs.Objects.{Objects, found, KeepsOthers}
 use Rattle.super_format.specs.declared.epoch.Epoch.{Epoch}
 use Rattle.super_format.specs.declared.super_object.Super.{Super}
 use Rattle.super_format.specs.Epoch.{IsEpoch}
 use Rattle.super_format.specs.Super.{geometry_with}
 use Rattle.super_format.proofs.LawLemmas.{supers_have_one_spelling}
-use Rattle.stopped_volume.specs.Super.{super_name, epoch_name, HasSuper, HasNewestEpoch, HasVolume}
+use Rattle.stopped_volume.specs.Super.{HasSuper, HasNewestEpoch, HasVolume}
 use Rattle.super_recovery.specs.Found.{HasEpoch}
 use Rattle.super_recovery.specs.Laws.{KeepsVolume, SaysTheSame, IsOtherKind, IsOtherName, ChangesOnly, OthersKeepVolume}
 use Rattle.super_recovery.specs.Laws.{HasOneSuper}

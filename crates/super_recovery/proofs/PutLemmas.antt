@@ -2,6 +2,7 @@
 use Rattle.std.proofs.Common.{◌≡◌, ℕ, inl, inr, Option, Some, None, Ok, Err, List, refl, sym, subst}
 use Rattle.std.specs.Prelude.{Result, IsErrAnd, IsErrOf}
 use Rattle.lsvd_names.specs.declared.name.ObjName.{ObjName}
+use Rattle.lsvd_names.specs.Names.{super_name, epoch_name}
 use Rattle.lsvd_objstore.specs.Objects.{Objects, IsPut, MayBePut}
 use Rattle.lsvd_objstore.specs.Store.{Becomes}
 use Rattle.lsvd_objstore.specs.declared.error.StoreError.{StoreError}
@@ -10,7 +11,6 @@ use Rattle.super_format.specs.declared.epoch.Epoch.{Epoch}
 use Rattle.super_format.specs.declared.super_object.Super.{Super}
 use Rattle.super_format.specs.Epoch.{IsEpoch}
 use Rattle.super_format.specs.Super.{IsSuper}
-use Rattle.stopped_volume.specs.Super.{super_name, epoch_name}
 use Rattle.super_recovery.specs.declared.error.SuperError.{SuperError}
 use Rattle.super_recovery.specs.declared.error.SuperError.TheVariants as errors
 use Rattle.super_recovery.specs.Faults.{of_store}

@@ -5,6 +5,7 @@ use Rattle.std.specs.Global.{Vec}
 use Rattle.lsvd_base.specs.declared.geometry.Geometry.{Geometry}
 use Rattle.lsvd_names.specs.declared.name.Kind.TheVariants as kinds
 use Rattle.lsvd_names.specs.declared.name.ObjName.{ObjName}
+use Rattle.lsvd_names.specs.Names.{super_name, epoch_name}
 use Rattle.lsvd_objstore.specs.Objects.{Objects, found}
 use Rattle.super_format.specs.declared.epoch.Epoch.{Epoch}
 use Rattle.super_format.specs.declared.super_object.Super.{Super}
@@ -12,7 +13,7 @@ use Rattle.super_format.specs.Epoch.{IsEpoch}
 use Rattle.super_format.specs.Super.{geometry_with}
 use Rattle.super_format.specs.Tests as super_tests
 use Rattle.super_format.specs.Tests.{IsSuperRefusedAs}
-use Rattle.stopped_volume.specs.Super.{super_name, epoch_name, HasSuper, HasNewestEpoch, HasVolume}
+use Rattle.stopped_volume.specs.Super.{HasSuper, HasNewestEpoch, HasVolume}
 use Rattle.super_recovery.specs.declared.error.BadSuper.{BadSuper}
 use Rattle.super_recovery.specs.declared.error.BadSuper.TheVariants as reasons
 use Rattle.super_recovery.specs.declared.error.SuperError.{SuperError}

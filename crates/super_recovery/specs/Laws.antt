@@ -4,10 +4,11 @@ use Rattle.lsvd_base.specs.declared.geometry.Geometry.{Geometry}
 use Rattle.lsvd_names.specs.declared.name.Kind.{Kind}
 use Rattle.lsvd_names.specs.declared.name.Kind.TheVariants.{Super, Epoch, Object, Hold}
 use Rattle.lsvd_names.specs.declared.name.ObjName.{ObjName}
+use Rattle.lsvd_names.specs.Names.{super_name, epoch_name}
 use Rattle.lsvd_objstore.specs.Objects.{Objects, found, KeepsOthers, MayBePut, MayBeRemoved}
 use Rattle.super_format.specs.declared.super_object.Super as supers
 use Rattle.super_format.specs.Super.{geometry_with}
-use Rattle.stopped_volume.specs.Super.{super_name, epoch_name, HasSuper, HasNewestEpoch, HasVolume}
+use Rattle.stopped_volume.specs.Super.{HasSuper, HasNewestEpoch, HasVolume}
 use Rattle.super_recovery.specs.Found.{HasEpoch}
 use Rattle.super_recovery.specs.Put.{PutsEpoch}
 

@@ -1,8 +1,9 @@
 -- Contract: what a put of a super object or of an epoch leaves of a store.
 use Rattle.std.specs.Prelude.{◌≡◌, ℕ, ◌⊎◌, List}
+use Rattle.lsvd_names.specs.Names.{super_name, epoch_name}
 use Rattle.lsvd_objstore.specs.Objects.{Objects, KeepsOthers}
 use Rattle.super_format.specs.declared.super_object.Super.{Super}
-use Rattle.stopped_volume.specs.Super.{super_name, epoch_name, HasSuper}
+use Rattle.stopped_volume.specs.Super.{HasSuper}
 use Rattle.super_recovery.specs.Found.{HasEpoch}
 
 -- the store has the super object of this volume now, and nothing else changed

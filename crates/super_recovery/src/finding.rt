@@ -1,19 +1,19 @@
 ghost use Rattle.std.specs.Prelude.{◌≡◌, ◌↔◌, IsTrue, IsSome, IfOk, IfErr, IfSome, List, [], ◌∷◌, ◌++◌};
 ghost use Rattle.lsvd_fault.specs.Faults.{Counts};
 ghost use Rattle.lsvd_names.specs.declared.name.ObjName.{ObjName};
+ghost use Rattle.lsvd_names.specs.Names.{super_name};
 ghost use Rattle.lsvd_objstore.specs.Objects.{found};
 ghost use Rattle.lsvd_objstore.specs.Store.{StoreState, ReceiptState, OnlyCounts, has_failed};
 ghost use Rattle.super_format.specs.Super.{MayBeSuper};
-ghost use Rattle.stopped_volume.specs.Super.{super_name, HasSuper, HasNewestEpoch};
+ghost use Rattle.stopped_volume.specs.Super.{HasSuper, HasNewestEpoch};
 ghost use Rattle.stopped_volume.specs.Store.{TellsBytes};
 ghost use Rattle.super_recovery.specs.Faults.{ends_by_fault, IsNoAnswer};
 ghost use Rattle.super_recovery.specs.Found.{HasEpoch, IsGreatestIn, IsFound, IsVolumeRefused, IsWhyNoEpoch};
 ghost use Rattle.super_recovery.specs.Found.{IsWhyVolumeRefused};
 
 use crate::error::{BadSuper, SuperError};
-use crate::naming::{epoch_name, is_uuid, super_name};
 use crate::reading::read_whole;
-use lsvd_names::{Kind, ObjName};
+use lsvd_names::{Kind, ObjName, a_uuid_has_sixteen_bytes};
 use lsvd_objstore::{Receipt, Store, StoreError};
 use std::alloc::Global;
 use super_format::{Epoch, Super};
@@ -71,7 +71,7 @@ pub fn has_super<S: Store>(alloc: Global, store: &mut S, uuid: Uuid) -> Result<b
     ensures unchanged { OnlyCounts (S.state store.old) (S.state store.new) }
     ensures faults { Counts (ends_by_fault result) (S.state store.old).faults (S.state store.new).faults }
 {
-    let receipt = store.find(alloc, &super_name(uuid))?;
+    let receipt = store.find(alloc, &ObjName::super_of(uuid))?;
     Ok(receipt.is_some())
 }
 
@@ -87,7 +87,7 @@ fn find_super<S: Store>(alloc: Global, store: &mut S, uuid: Uuid) -> Result<Supe
     ensures unchanged { OnlyCounts (S.state store.old) (S.state store.new) }
     ensures faults { Counts (ends_by_fault result) (S.state store.old).faults (S.state store.new).faults }
 {
-    let Some(bytes) = read_whole(alloc, store, &super_name(uuid))? else {
+    let Some(bytes) = read_whole(alloc, store, &ObjName::super_of(uuid))? else {
         return Err(SuperError::NoVolume);
     };
     let volume = Super::read(alloc, bytes.as_slice(), uuid)?;
@@ -104,7 +104,7 @@ fn newest_epoch<S: Store>(alloc: Global, store: &mut S, uuid: Uuid) -> Result<u6
     ensures unchanged { OnlyCounts (S.state store.old) (S.state store.new) }
     ensures faults { Counts (ends_by_fault result) (S.state store.old).faults (S.state store.new).faults }
 {
-    is_uuid(uuid);
+    a_uuid_has_sixteen_bytes(uuid);
     let names = store.list(alloc, uuid)?;
     let Some(number) = greatest_epoch(names.as_slice()) else {
         return Err(SuperError::BadSuper {
@@ -158,7 +158,7 @@ fn has_epoch<S: Store>(
     ensures unchanged { OnlyCounts (S.state store.old) (S.state store.new) }
     ensures faults { Counts (has_failed result) (S.state store.old).faults (S.state store.new).faults }
 {
-    let Some(bytes) = read_whole(alloc, store, &epoch_name(uuid, number))? else {
+    let Some(bytes) = read_whole(alloc, store, &ObjName::epoch(uuid, number))? else {
         return Ok(false);
     };
     Ok(Epoch::read(bytes.as_slice(), uuid, number).is_ok())

@@ -10,7 +10,6 @@
 mod error;
 mod finding;
 mod laws;
-mod naming;
 mod putting;
 mod reading;
 

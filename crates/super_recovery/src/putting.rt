@@ -6,7 +6,7 @@ ghost use Rattle.super_recovery.specs.Faults.{ends_by_fault, IsNoAnswer};
 ghost use Rattle.super_recovery.specs.Put.{PutsSuper, PutsEpoch, MayBecome};
 
 use crate::error::SuperError;
-use crate::naming::{epoch_name, super_name};
+use lsvd_names::ObjName;
 use lsvd_objstore::Store;
 use std::alloc::Global;
 use super_format::{Epoch, Super};
@@ -29,7 +29,7 @@ pub fn put_super<S: Store>(alloc: Global, store: &mut S, volume: &Super) -> Resu
     ensures faults { Counts (ends_by_fault result) (S.state store.old).faults (S.state store.new).faults }
 {
     let bytes = volume.write(alloc)?;
-    store.put(alloc, &super_name(volume.uuid), &bytes)?;
+    store.put(alloc, &ObjName::super_of(volume.uuid), &bytes)?;
     Ok(())
 }
 
@@ -54,6 +54,6 @@ pub fn put_epoch<S: Store>(
     ensures faults { Counts (ends_by_fault result) (S.state store.old).faults (S.state store.new).faults }
 {
     let bytes = Epoch { uuid, number }.write(alloc)?;
-    store.put(alloc, &epoch_name(uuid, number), &bytes)?;
+    store.put(alloc, &ObjName::epoch(uuid, number), &bytes)?;
     Ok(())
 }

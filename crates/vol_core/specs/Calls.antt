@@ -13,10 +13,10 @@ use Rattle.cache_log.specs.declared.error.AppendError.TheVariants.{NoRoom, Devic
 use Rattle.cache_log.specs.Log.{LogState, next_seq, IsTrimmed, IsAppended, FailsToAppend}
 use Rattle.cache_log.specs.Committed.{body_of, KeepsCommits, HasSameList, IsReleased, IsCommittedLog, LeavesEntriesSince}
 use Rattle.cache_log.specs.Committed.{IsOnDisk}
+use Rattle.object_stream.specs.Replay.{object_name}
 use Rattle.obj_log.specs.State.{ObjLogState}
-use Rattle.obj_log.specs.Changes.{IsSame, IsAdded, HasSealedObject}
+use Rattle.obj_log.specs.Changes.{IsSame, IsAdded, HasSealedObject, expected_of_volume}
 use Rattle.lsvd_objstore.specs.Store.{ReceiptState}
-use Rattle.object_stream.specs.Replay.{name_of}
 use Rattle.upload_window.specs.Window.{lowest_ready}
 use Rattle.object_uploads.specs.State.{JobState}
 use Rattle.object_uploads.specs.Changes.{with_job, IsJobOf, IsOut, IsPutDone}
@@ -164,7 +164,7 @@ TakesLowestReady reply old new = ⊥
 -- a put is out, and the receipt names its object
 abbrev pub IsDone : JobState → ReceiptState → ObjLogState → Type 0
 IsDone job receipt objects = IsOut objects.uploads job.name.number job.bytes
-    × (receipt.name ≡ name_of objects.uploads.uuid job.name.number)
+    × (receipt.name ≡ object_name (expected_of_volume objects) job.name.number)
 
 -- a put that is done was told
 abbrev pub Finishes : {R : Type 0} → (R → ReceiptState) → JobState → R → Reply R → (old new : ObjLogState) → Type 0

@@ -1,9 +1,10 @@
 -- Contract: what an event asks of the plain volume, and which of its replies a reply tells.
 use Rattle.std.specs.Prelude.{◌≡◌, ℕ, Option, Some, None, IfSome}
 use Rattle.lsvd_objstore.specs.Store.{ReceiptState}
-use Rattle.object_stream.specs.Replay.{name_of}
+use Rattle.object_stream.specs.Replay.{object_name}
 use Rattle.object_uploads.specs.State.{JobState}
 use Rattle.object_uploads.specs.Changes.{IsOut, IsJobOf}
+use Rattle.obj_log.specs.Changes.{expected_of_volume}
 use Rattle.batcher.specs.declared.full.Full.TheVariants as full
 use Rattle.read_plan.specs.Plan.{PlanState, Gives}
 use Rattle.plain_disk.specs.declared.event.PlainEvent.{PlainEvent}
@@ -30,11 +31,11 @@ IsOfPut volume job (Some number) = (number ≡ job.name.number) × IsOut volume.
 -- the same of a put that is done, for whose object the store gave a receipt
 abbrev pub IsOfDonePut : VolumeState → JobState → ReceiptState → Option ℕ → Type 0
 IsOfDonePut volume job receipt None =
-    IsOut volume.objects.uploads job.name.number job.bytes × (receipt.name ≡ name_of volume.objects.uploads.uuid job.name.number)
-    → ⊥
+    IsOut volume.objects.uploads job.name.number job.bytes
+    × (receipt.name ≡ object_name (expected_of_volume volume.objects) job.name.number) → ⊥
 IsOfDonePut volume job receipt (Some number) =
     (number ≡ job.name.number) × IsOut volume.objects.uploads number job.bytes
-    × (receipt.name ≡ name_of volume.objects.uploads.uuid number)
+    × (receipt.name ≡ object_name (expected_of_volume volume.objects) number)
 
 -- an event of a volume asks for that of the plain volume
 abbrev pub Asks : {R : Type 0} → (R → ReceiptState) → VolumeState → Event R → PlainEvent → Type 0

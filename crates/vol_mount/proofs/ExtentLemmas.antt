@@ -8,10 +8,11 @@ use Rattle.lsvd_base.specs.declared.geometry.Geometry.{Geometry}
 use Rattle.lsvd_names.specs.declared.name.Kind.{Kind}
 use Rattle.lsvd_names.specs.declared.name.Kind.TheVariants.{Object}
 use Rattle.lsvd_names.specs.declared.name.ObjName.{ObjName}
+use Rattle.lsvd_names.specs.Names.{numbered_name}
 use Rattle.lsvd_objstore.specs.Objects.{Objects, found, Lists}
-use Rattle.object_stream.specs.Replay.{name_of}
 use Rattle.obj_log.specs.State.{ObjLogState}
 use Rattle.stopped_volume.specs.Objects.{landed_in}
+use Rattle.object_recovery.specs.Checkpoints.{expected_of}
 use Rattle.object_recovery.specs.State.{RecoveredState, HasAllNames, IsGreatestNumber}
 use Rattle.vol_mount.specs.Refusals.{IsExtent, HasExtent}
 use Rattle.vol_mount.specs.Steps.{IsRecovered, IsRecoveredFrom}
@@ -21,24 +22,24 @@ none_unless None not = refl
 none_unless (Some bytes) not = absurd (not refl)
 
 named_so : (uuid : List ℕ) (name : ObjName) (number : ℕ) → name.uuid ≡ uuid → name.kind ≡ Object → name.number ≡ number
-    → name ≡ name_of uuid number
+    → name ≡ numbered_name uuid number
 named_so uuid name number same kind is =
     ap (λ (u : List ℕ). let other : ObjName = record { uuid = u; kind = name.kind; number = name.number } in other) same
     ∙ ap (λ (k : Kind). let other : ObjName = record { uuid = uuid; kind = k; number = name.number } in other) kind
-    ∙ ap (λ (n : ℕ). name_of uuid n) is
+    ∙ ap (λ (n : ℕ). numbered_name uuid n) is
 
 module _ (uuid : List ℕ) (geometry : Geometry) (objects : Objects) (list : ObjLogState) (checkpoint : ℕ) (names : List ObjName)
     (greatest : ℕ)
     (from_checkpoint : checkpoint ≤ list.uploads.window.last)
     (from : IsRecoveredFrom uuid geometry objects list checkpoint) (lists : Lists uuid objects names)
     (is : IsGreatestNumber names list.uploads.window.last greatest) where
-  last_present : IsTrue (landed_in objects uuid list.uploads.window.last)
+  last_present : IsTrue (landed_in objects (expected_of uuid geometry) list.uploads.window.last)
   last_present =
       elim (cases_lt checkpoint list.uploads.window.last) [
         | inl past ↦ from.landed list.uploads.window.last past (omega arith)
         | inr none ↦
             (let same : checkpoint ≡ list.uploads.window.last = omega (arith, none, from_checkpoint) in
-            subst (λ n. IsTrue (landed_in objects uuid n)) same (ap is_some from.newest.is.present))
+            subst (λ n. IsTrue (landed_in objects (expected_of uuid geometry) n)) same (ap is_some from.newest.is.present))
       ]
 
   extent_told : IsExtent uuid geometry objects greatest list.uploads.queue.end
@@ -49,7 +50,7 @@ module _ (uuid : List ℕ) (geometry : Geometry) (objects : Objects) (list : Obj
         let high = past.1.1 in
         absurd (omega (arith, low, high)));
     present = elim is.is [
-      | inl same ↦ subst (λ n. IsTrue (landed_in objects uuid n)) (sym same) last_present
+      | inl same ↦ subst (λ n. IsTrue (landed_in objects (expected_of uuid geometry) n)) (sym same) last_present
       | inr it ↦
           (let listed = lists.present it.0 it.1 in
           subst (λ (name : ObjName). IsTrue (is_some (found objects name)))

@@ -137,7 +137,8 @@ only_none_refuses uuid geometry (Some objects) checkpoint limits none newest = �
 -- ---- the list
 
 pub recovered_from : (uuid : List ℕ) (geometry : Geometry) (objects : Option Objects) (log : ObjLogState) (checkpoint : ℕ)
-    → IsToldNewest uuid geometry objects checkpoint → IfSome objects (λ o. HaveLanded o uuid checkpoint log.uploads.window.last)
+    → IsToldNewest uuid geometry objects checkpoint
+    → IfSome objects (λ o. HaveLanded o (expected_of uuid geometry) checkpoint log.uploads.window.last)
     → IfSome objects (λ o. IsNoLonger (expected_of uuid geometry) o log.uploads.window.last)
     → IfSome objects (λ o. AreAllGood (expected_of uuid geometry) o checkpoint)
     → IfSome objects (λ o. log.uploads.window.last + 1 < 2 ^ 64 - 1 → IsRecoveredOf (expected_of uuid geometry) o log)

@@ -19,7 +19,7 @@ pub record AreGoodUpTo (uuid : List ℕ) (geometry : Geometry) (number : ℕ) (o
   pub numbered : 0 < base
   pub from : base ≤ number
   pub good : AreAllGood (expected_of uuid geometry) objects base
-  pub landed : HaveLanded objects uuid base number
+  pub landed : HaveLanded objects (expected_of uuid geometry) base number
   pub last : IsLastLanded (expected_of uuid geometry) objects number
 
 -- none of these is so great that a volume is worn out

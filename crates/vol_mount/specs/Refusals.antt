@@ -104,7 +104,7 @@ IsFirstGreat (number ∷ numbers) value = ((2 ^ 60 ≤ number) × (value ≡ num
 -- first missing one, if the store has a stream of the volume.
 pub record IsExtent (uuid : List ℕ) (geometry : Geometry) (objects : Objects) (greatest end : ℕ) : Type 0 where
   pub none_greater : (name : ObjName) → IsName name → IsPastOf uuid greatest name → found objects name ≡ None
-  pub present : IsTrue (landed_in objects uuid greatest)
+  pub present : IsTrue (landed_in objects (expected_of uuid geometry) greatest)
   pub end_is : greatest < 2 ^ 60 → (uuid_at : ℕ → Option (List ℕ)) (stream : Stream) (number : ℕ)
       → HasDataUpTo (expected_of uuid geometry) uuid_at objects stream number → end ≡ end_at stream number
 

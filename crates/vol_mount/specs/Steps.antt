@@ -69,7 +69,7 @@ pub record IsRecoveredFrom (uuid : List ℕ) (geometry : Geometry) (objects : Ob
     Type 0 where
   pub checkpoint_end : ℕ
   pub newest : IsNewestWithEnd (expected_of uuid geometry) objects checkpoint checkpoint_end
-  pub landed : HaveLanded objects uuid checkpoint log.uploads.window.last
+  pub landed : HaveLanded objects (expected_of uuid geometry) checkpoint log.uploads.window.last
   pub no_longer : IsNoLonger (expected_of uuid geometry) objects log.uploads.window.last
   pub good : AreAllGood (expected_of uuid geometry) objects checkpoint
   pub recovered : log.uploads.window.last + 1 < 2 ^ 64 - 1 → IsRecoveredOf (expected_of uuid geometry) objects log

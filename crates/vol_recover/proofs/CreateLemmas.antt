@@ -3,6 +3,7 @@ use Rattle.std.proofs.Common.{◌≡◌, ℕ, List, [], length, refl, sym, subst
 use Rattle.std.specs.Prelude.{Option}
 use Rattle.std.proofs.lemmas.List.{append-nil}
 use Rattle.lsvd_base.specs.declared.geometry.Geometry.{Geometry}
+use Rattle.lsvd_names.specs.Names.{numbered_name}
 use Rattle.lsvd_objstore.specs.declared.error.StoreError.{StoreError}
 use Rattle.lsvd_objstore.specs.declared.error.StoreError.TheVariants as store_errors
 use Rattle.lsvd_objstore.specs.Objects.{Objects, IsPut, MayBePut}
@@ -14,7 +15,6 @@ use Rattle.object_format.specs.Header.{HasWidths}
 use Rattle.object_format.specs.Laws.{WritesObjects}
 use Rattle.object_format.specs.Object.{IsObject}
 use Rattle.object_format.specs.Writing.{object_header_of, MayBeWritten, front_bytes}
-use Rattle.object_stream.specs.Replay.{name_of}
 use Rattle.stopped_volume.specs.Objects.{expected_alone}
 use Rattle.object_recovery.specs.Checkpoints.{expected_of}
 use Rattle.super_recovery.specs.declared.error.SuperError.{SuperError}
@@ -69,7 +69,7 @@ first_object_is uuid geometry bytes law size is =
 -- ---- its put
 
 put_first_is : (uuid : List ℕ) (geometry : Geometry) (bytes : List ℕ) → IsFirstObject uuid geometry bytes → (old new : Objects)
-    → IsPut (name_of uuid 1) bytes old new → PutsFirst uuid geometry old new
+    → IsPut (numbered_name uuid 1) bytes old new → PutsFirst uuid geometry old new
 put_first_is uuid geometry bytes first old new put = (
   bytes,
   put,
@@ -86,12 +86,12 @@ put_first_is uuid geometry bytes first old new put = (
 
 pub puts_first : (uuid : List ℕ) (geometry : Geometry) (bytes : List ℕ) (old new : Option Objects)
     → IsFirstObject uuid geometry bytes
-    → Becomes (IsPut (name_of uuid 1) bytes) old new → Becomes (PutsFirst uuid geometry) old new
+    → Becomes (IsPut (numbered_name uuid 1) bytes) old new → Becomes (PutsFirst uuid geometry) old new
 puts_first uuid geometry bytes old new first put =
-    becomes_so (IsPut (name_of uuid 1) bytes) (PutsFirst uuid geometry) old new (put_first_is uuid geometry bytes first) put
+    becomes_so (IsPut (numbered_name uuid 1) bytes) (PutsFirst uuid geometry) old new (put_first_is uuid geometry bytes first) put
 
 may_put_first : (uuid : List ℕ) (geometry : Geometry) (bytes : List ℕ) → IsFirstObject uuid geometry bytes → (old new : Objects)
-    → MayBePut (name_of uuid 1) bytes old new → MayBecome (PutsFirst uuid geometry) old new
+    → MayBePut (numbered_name uuid 1) bytes old new → MayBecome (PutsFirst uuid geometry) old new
 may_put_first uuid geometry bytes first old new (inl same) = inl same
 may_put_first uuid geometry bytes first old new (inr put) = inr (put_first_is uuid geometry bytes first old new put)
 
@@ -100,10 +100,10 @@ may_put_first uuid geometry bytes first old new (inr put) = inr (put_first_is uu
 -- what an error of the put of the first object leaves
 pub after_error : (uuid : List ℕ) (geometry : Geometry) (bytes : List ℕ) (error : StoreError) (old new : StoreState)
     → IsFirstObject uuid geometry bytes
-    → (error ≡ store_errors.Failed → Becomes (MayBePut (name_of uuid 1) bytes) old.objects new.objects)
+    → (error ≡ store_errors.Failed → Becomes (MayBePut (numbered_name uuid 1) bytes) old.objects new.objects)
     → (error ≡ store_errors.OutOfMemory → new ≡ old) → Becomes (MayBecome (PutsFirst uuid geometry)) old.objects new.objects
 after_error uuid geometry bytes store_errors.Failed old new first failed lacks =
-    becomes_so (MayBePut (name_of uuid 1) bytes) (MayBecome (PutsFirst uuid geometry)) old.objects new.objects
+    becomes_so (MayBePut (numbered_name uuid 1) bytes) (MayBecome (PutsFirst uuid geometry)) old.objects new.objects
     (may_put_first uuid geometry bytes first) (failed refl)
 after_error uuid geometry bytes store_errors.OutOfMemory old new first failed lacks =
     none_changed (MayBecome (PutsFirst uuid geometry)) old.objects new.objects (λ objects. inl refl)

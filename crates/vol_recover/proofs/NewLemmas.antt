@@ -4,12 +4,12 @@ use Rattle.std.specs.Prelude.{◌≢◌, Option, Some, None, IfSome, IsTrue}
 use Rattle.lsvd_base.specs.declared.geometry.Geometry.{Geometry}
 use Rattle.lsvd_base.specs.Limits.{is_within_limits}
 use Rattle.lsvd_names.specs.declared.name.ObjName.{ObjName}
+use Rattle.lsvd_names.specs.Names.{super_name, epoch_name, numbered_name}
 use Rattle.lsvd_objstore.specs.Objects.{Objects, found}
 use Rattle.lsvd_objstore.specs.Store.{Becomes}
-use Rattle.object_stream.specs.Replay.{name_of}
 use Rattle.stopped_volume.specs.Objects.{IsCheckpointOf}
 use Rattle.stopped_volume.specs.Store.{PutState, MayHoldPuts}
-use Rattle.stopped_volume.specs.Super.{super_name, epoch_name, HasVolume}
+use Rattle.stopped_volume.specs.Super.{HasVolume}
 use Rattle.plain_disk.specs.State.{created_volume, stream_in}
 use Rattle.plain_disk.proofs.EventLemmas.{created_is}
 use Rattle.object_recovery.specs.Checkpoints.{expected_of}
@@ -23,7 +23,7 @@ use Rattle.vol_recover.specs.Creating.{super_of}
 
 -- ---- names
 
-first_is_no_super : (uuid : List ℕ) → super_name uuid ≡ name_of uuid 1 → ⊥
+first_is_no_super : (uuid : List ℕ) → super_name uuid ≡ numbered_name uuid 1 → ⊥
 first_is_no_super uuid same = let kind = ap (λ (n : ObjName). n.kind) same in cc
 
 epoch_is_no_super : (uuid : List ℕ) (number : ℕ) → super_name uuid ≡ epoch_name uuid number → ⊥
@@ -32,20 +32,20 @@ epoch_is_no_super uuid number same = let kind = ap (λ (n : ObjName). n.kind) sa
 super_is_no_epoch : (uuid : List ℕ) (number : ℕ) → epoch_name uuid number ≡ super_name uuid → ⊥
 super_is_no_epoch uuid number same = let kind = ap (λ (n : ObjName). n.kind) same in cc
 
-first_is_no_epoch : (uuid : List ℕ) (number : ℕ) → epoch_name uuid number ≡ name_of uuid 1 → ⊥
+first_is_no_epoch : (uuid : List ℕ) (number : ℕ) → epoch_name uuid number ≡ numbered_name uuid 1 → ⊥
 first_is_no_epoch uuid number same = let kind = ap (λ (n : ObjName). n.kind) same in cc
 
 other_epoch : (uuid : List ℕ) (number : ℕ) → 0 < number → epoch_name uuid number ≡ epoch_name uuid 0 → ⊥
 other_epoch uuid number past same = let number_is : number ≡ 0 = ap (λ (n : ObjName). n.number) same in
     omega (arith, number_is, past)
 
-epoch_is_no_object : (uuid : List ℕ) (number epoch : ℕ) → name_of uuid number ≡ epoch_name uuid epoch → ⊥
+epoch_is_no_object : (uuid : List ℕ) (number epoch : ℕ) → numbered_name uuid number ≡ epoch_name uuid epoch → ⊥
 epoch_is_no_object uuid number epoch same = let kind = ap (λ (n : ObjName). n.kind) same in cc
 
-super_is_no_object : (uuid : List ℕ) (number : ℕ) → name_of uuid number ≡ super_name uuid → ⊥
+super_is_no_object : (uuid : List ℕ) (number : ℕ) → numbered_name uuid number ≡ super_name uuid → ⊥
 super_is_no_object uuid number same = let kind = ap (λ (n : ObjName). n.kind) same in cc
 
-other_object : (uuid : List ℕ) (number : ℕ) → (number ≡ 1 → ⊥) → name_of uuid number ≡ name_of uuid 1 → ⊥
+other_object : (uuid : List ℕ) (number : ℕ) → (number ≡ 1 → ⊥) → numbered_name uuid number ≡ numbered_name uuid 1 → ⊥
 other_object uuid number apart same = apart (ap (λ (n : ObjName). n.number) same)
 
 -- ---- what a new store lacks
@@ -55,7 +55,7 @@ not_some None never = refl
 not_some (Some bytes) never = absurd (never (λ (same : Some bytes ≡ None). cc))
 
 lacks : (uuid : List ℕ) (objects : Objects) (name : ObjName) → IsNewTo uuid objects → name.uuid ≡ uuid
-    → (name ≡ name_of uuid 1 → ⊥)
+    → (name ≡ numbered_name uuid 1 → ⊥)
     → (name ≡ epoch_name uuid 0 → ⊥) → found objects name ≡ None
 lacks uuid objects name new of_uuid no_first no_epoch =
     not_some (found objects name) (λ there. elim (new name of_uuid there) [
@@ -95,7 +95,7 @@ module _ (uuid : List ℕ) (geometry : Geometry) (old : Objects) (new_to : IsNew
         → found new name ≡ found first name
     same_as_first name no_epoch no_super = puts_super.others name no_super ∙ puts_epoch.others name no_epoch
 
-    still_lacks : (name : ObjName) → name.uuid ≡ uuid → (name ≡ name_of uuid 1 → ⊥) → (name ≡ epoch_name uuid 0 → ⊥)
+    still_lacks : (name : ObjName) → name.uuid ≡ uuid → (name ≡ numbered_name uuid 1 → ⊥) → (name ≡ epoch_name uuid 0 → ⊥)
         → (name ≡ super_name uuid → ⊥) → found new name ≡ None
     still_lacks name of_uuid no_first no_epoch no_super =
         same_as_first name no_epoch no_super ∙ puts_first.1.others name no_first
@@ -116,9 +116,9 @@ module _ (uuid : List ℕ) (geometry : Geometry) (old : Objects) (new_to : IsNew
         still_lacks (epoch_name uuid number) refl (first_is_no_epoch uuid number) (other_epoch uuid number past)
         (super_is_no_epoch uuid number))
 
-    lacks_object : (number : ℕ) → (number ≡ 1 → ⊥) → found new (name_of uuid number) ≡ None
+    lacks_object : (number : ℕ) → (number ≡ 1 → ⊥) → found new (numbered_name uuid number) ≡ None
     lacks_object number apart =
-        still_lacks (name_of uuid number) refl (other_object uuid number apart) (epoch_is_no_object uuid number 0)
+        still_lacks (numbered_name uuid number) refl (other_object uuid number apart) (epoch_is_no_object uuid number 0)
         (super_is_no_object uuid number)
 
     has_first : IsCheckpointOf (expected_of uuid geometry) new 1 0 (stream_in (created_volume geometry)).opening
@@ -126,7 +126,7 @@ module _ (uuid : List ℕ) (geometry : Geometry) (old : Objects) (new_to : IsNew
         let is = puts_first.2 in
         record {
           bytes = is.bytes;
-          present = same_as_first (name_of uuid 1) (epoch_is_no_object uuid 1 0) (super_is_no_object uuid 1) ∙ is.present;
+          present = same_as_first (numbered_name uuid 1) (epoch_is_no_object uuid 1 0) (super_is_no_object uuid 1) ∙ is.present;
           header = is.header;
           payload = is.payload;
           parts = is.parts;
@@ -134,7 +134,7 @@ module _ (uuid : List ℕ) (geometry : Geometry) (old : Objects) (new_to : IsNew
           none = λ k. refl;
         }
 
-    holds_no_puts : MayHoldPuts uuid no_puts 1 new
+    holds_no_puts : MayHoldPuts (expected_of uuid geometry) no_puts 1 new
     holds_no_puts = record {
       puts_are = λ number state bytes past some. absurd (none_is_some (state, bytes) some);
       none_else = λ number past none. lacks_object number (λ same. omega arith);

@@ -1,6 +1,7 @@
 -- Contract: what a volume is that was created with its store.
 use Rattle.std.specs.Prelude.{◌≡◌, ◌≢◌, ℕ, ◌⊎◌, None, Bool, true, false, Result, Ok, Err, List, []}
 use Rattle.lsvd_base.specs.declared.geometry.Geometry.{Geometry}
+use Rattle.lsvd_names.specs.Names.{super_name, epoch_name, numbered_name}
 use Rattle.lsvd_device.specs.Device.{DiskState}
 use Rattle.lsvd_names.specs.declared.name.ObjName.{ObjName}
 use Rattle.lsvd_objstore.specs.Objects.{Objects, found, IsPut}
@@ -8,10 +9,10 @@ use Rattle.lsvd_objstore.specs.declared.error.StoreError.{StoreError}
 use Rattle.lsvd_objstore.specs.declared.error.StoreError.TheVariants as store_errors
 use Rattle.object_format.specs.declared.header.Header.{Header}
 use Rattle.object_format.specs.declared.rows.Rows.TheVariants.{Checkpoint}
-use Rattle.object_stream.specs.Replay.{name_of, HasParts}
+use Rattle.object_stream.specs.Replay.{object_name, HasParts}
 use Rattle.super_format.specs.declared.super_object.Super.{Super}
 use Rattle.stopped_volume.specs.Objects.{expected_alone, IsCheckpointOf}
-use Rattle.stopped_volume.specs.Super.{super_name, epoch_name, HasVolume}
+use Rattle.stopped_volume.specs.Super.{HasVolume}
 use Rattle.plain_disk.specs.State.{created_volume}
 use Rattle.object_recovery.specs.Checkpoints.{expected_of}
 use Rattle.super_recovery.specs.declared.error.SuperError.{SuperError}
@@ -46,7 +47,8 @@ pub record IsFirstObject (uuid : List ℕ) (geometry : Geometry) (bytes : List �
 -- the first object of a volume was put into a store
 abbrev pub PutsFirst : (uuid : List ℕ) → Geometry → (old new : Objects) → Type 0
 PutsFirst uuid geometry old new =
-    (bytes : List ℕ) × IsPut (name_of uuid 1) bytes old new × IsCheckpointOf (expected_of uuid geometry) new 1 0 (λ k. None)
+    (bytes : List ℕ) × IsPut (object_name (expected_of uuid geometry) 1) bytes old new
+    × IsCheckpointOf (expected_of uuid geometry) new 1 0 (λ k. None)
 
 -- and then its first epoch
 abbrev pub PutsEpochToo : (uuid : List ℕ) → Geometry → (old new : Objects) → Type 0
@@ -83,7 +85,7 @@ MayPut uuid geometry OutOfMemory old new = PutsSome uuid geometry old new
 -- a store has no more of a volume than its first object and its first epoch, as a creation may leave it that was stopped
 abbrev pub IsNewTo : (uuid : List ℕ) → Objects → Type 0
 IsNewTo uuid objects =
-    (name : ObjName) → name.uuid ≡ uuid → found objects name ≢ None → (name ≡ name_of uuid 1) ⊎ (name ≡ epoch_name uuid 0)
+    (name : ObjName) → name.uuid ≡ uuid → found objects name ≢ None → (name ≡ numbered_name uuid 1) ⊎ (name ≡ epoch_name uuid 0)
 
 -- the store has the volume, with no entries
 abbrev pub HasNewVolume : (uuid : List ℕ) → Geometry → Objects → Type 0

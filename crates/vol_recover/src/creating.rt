@@ -1,13 +1,11 @@
 ghost use Rattle.std.specs.Prelude.{◌≡◌, true, None, IsTrue, IsSome, IfSome, IfOk, IfErr, OnOk, OnErr};
-ghost use Rattle.std.specs.Prelude.{length};
 ghost use Rattle.lsvd_base.specs.Limits.{is_within_limits};
 ghost use Rattle.lsvd_fault.specs.Faults.{Counts};
+ghost use Rattle.lsvd_names.specs.Names.{super_name, numbered_name};
 ghost use Rattle.lsvd_device.specs.Device.{IsDisk};
-ghost use Rattle.lsvd_names.specs.Spelling.{IsUuid, IsName};
+ghost use Rattle.lsvd_names.specs.Spelling.{IsName};
 ghost use Rattle.lsvd_objstore.specs.Objects.{found};
 ghost use Rattle.lsvd_objstore.specs.Store.{Becomes};
-ghost use Rattle.object_stream.specs.Replay.{name_of};
-ghost use Rattle.stopped_volume.specs.Super.{super_name};
 ghost use Rattle.commit_slot.specs.Slots.{log_of};
 ghost use Rattle.plain_disk.specs.State.{created_volume};
 ghost use Rattle.refine_log.specs.Pending.{ShowsPending};
@@ -23,7 +21,7 @@ use clone_chain::Chain;
 use lsvd_base::{Geometry, ObjectBytes};
 use lsvd_device::Disk;
 use lsvd_fault::Failed;
-use lsvd_names::{Kind, ObjName};
+use lsvd_names::ObjName;
 use lsvd_objstore::{Store, StoreError};
 use object_format::{Expected, ObjectWriter, Rows, what_is_written_is_an_object};
 use refine_store::a_stopped_store_has_the_objects;
@@ -226,28 +224,17 @@ fn put_first<S: Store>(
     ensures faults { Counts (ends_by_put result) (S.state store.old).faults (S.state store.new).faults }
 {
     let object = first_object(alloc, uuid, geometry)?;
-    store.put(alloc, &first_name(uuid.into_bytes()), &object)?;
+    store.put(alloc, &first_name(uuid), &object)?;
     Ok(())
 }
 
 // The name of the first object of a volume.
-fn first_name(uuid: [u8; 16]) -> ObjName
-    ensures is { result ≡ name_of uuid 1 }
+fn first_name(uuid: Uuid) -> ObjName
+    ensures is { result ≡ numbered_name uuid 1 }
     ensures named { IsName result }
 {
-    is_uuid(uuid.as_slice());
-    ObjName {
-        uuid: Uuid::from_bytes(uuid),
-        kind: Kind::Object,
-        number: FIRST,
-    }
+    ObjName::object(uuid, FIRST)
 }
-
-// A fact for the proof of the caller: 16 bytes are those of a uuid. Nothing is done.
-fn is_uuid(bytes: &[u8])
-    requires { length bytes.now ≡ 16 }
-    ensures { IsUuid bytes.now }
-{}
 
 // The number of the first object.
 const FIRST: u64 = 1;

@@ -2,9 +2,9 @@
 use Rattle.std.proofs.Common.{◌≡◌, ◌∙◌, ℕ, List, Bool, true, ap, refl, subst, sym}
 use Rattle.std.specs.Prelude.{◌↔◌, IfSome, IsSome, IsTrue, None, Option, Some}
 use Rattle.lsvd_base.specs.declared.geometry.Geometry.{Geometry}
+use Rattle.lsvd_names.specs.Names.{super_name}
 use Rattle.lsvd_objstore.specs.Objects.{Objects, found}
 use Rattle.lsvd_objstore.specs.Store.{Becomes}
-use Rattle.stopped_volume.specs.Super.{super_name}
 use Rattle.vol_core.specs.Creating.{IsCreated}
 use Rattle.vol_core.specs.Volume.{SteppedVolume}
 use Rattle.super_recovery.specs.declared.error.SuperError.{SuperError}

@@ -5,8 +5,8 @@ use Rattle.uuid.specs.Parts.{variant_of}
 use Rattle.uuid.specs.Uuid.{version_num}
 use Rattle.uuid.specs.declared.Variant.TheVariants.{RFC4122}
 use Rattle.uuid.specs.Text.{hyphenated_text, lower}
+use Rattle.lsvd_names.specs.Names.{super_name}
 use Rattle.lsvd_objstore.specs.Objects.{Objects, found}
-use Rattle.stopped_volume.specs.Super.{super_name}
 use Rattle.command_line.specs.Create.{sizes_of}
 use Rattle.command_line.specs.declared.create.CreateRequest.{CreateRequest}
 use Rattle.super_recovery.specs.declared.error.SuperError.{SuperError}

@@ -7,11 +7,11 @@ use Rattle.lsvd_base.specs.declared.entry.Entry.{Entry}
 use Rattle.lsvd_base.specs.declared.entry.Entry.TheVariants as entries
 use Rattle.lsvd_fault.specs.Faults.{Counts}
 use Rattle.lsvd_names.specs.declared.name.ObjName.{ObjName}
+use Rattle.lsvd_names.specs.Names.{numbered_name}
 use Rattle.lsvd_objstore.specs.declared.error.StoreError.{StoreError}
 use Rattle.lsvd_objstore.specs.declared.error.StoreError.TheVariants as store_errors
 use Rattle.lsvd_objstore.specs.Objects.{Objects, found, IsPut, MayBePut}
 use Rattle.lsvd_objstore.specs.Store.{StoreState, ReceiptState, Put, IsAskedOnce, Becomes, OnlyCounts}
-use Rattle.object_stream.specs.Replay.{name_of}
 use Rattle.object_uploads.specs.State.{JobState}
 use Rattle.vol_core.specs.declared.event.Event.{Event}
 use Rattle.vol_core.specs.declared.event.Event.TheVariants as asks
@@ -195,7 +195,7 @@ module _ {R : Type 0} (state : R → ReceiptState) (job : JobState) (name : ObjN
       made_then state [] [] (moment_of old first) (moment_of old second) (moment_of new second)
       (the_put false put asked counts)
       (step_act state (asks.JobDone job receipt) reply [] old new second of
-      (has_put job.name (name_of old.volume.objects.uploads.uuid job.name.number) job.bytes taken.named first.objects
+      (has_put job.name (numbered_name old.volume.objects.uploads.uuid job.name.number) job.bytes taken.named first.objects
       second.objects (left_of_job false put)) tt refl)
 
   -- it failed

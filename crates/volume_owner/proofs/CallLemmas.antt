@@ -4,11 +4,11 @@ use Rattle.std.specs.Prelude.{Option, Some, None, Result, Ok, Err, IsOkUnless, I
 use Rattle.lsvd_base.specs.declared.entry.Entry.{Entry}
 use Rattle.lsvd_fault.specs.Faults.{Counts}
 use Rattle.lsvd_names.specs.declared.name.ObjName.{ObjName}
+use Rattle.lsvd_names.specs.Names.{numbered_name}
 use Rattle.lsvd_objstore.specs.declared.error.StoreError.{StoreError}
 use Rattle.lsvd_objstore.specs.declared.error.StoreError.TheVariants as store_errors
 use Rattle.lsvd_objstore.specs.Objects.{Objects, found, IsPut, MayBePut}
 use Rattle.lsvd_objstore.specs.Store.{StoreState, ReceiptState, OnlyCounts, Becomes, has_failed}
-use Rattle.object_stream.specs.Replay.{name_of}
 use Rattle.vol_core.specs.Volume.{SteppedVolume}
 use Rattle.volume_owner.specs.Acts.{moment_of, IsMadeOfActs}
 use Rattle.volume_owner.specs.Calls.{KeepsOtherNames, CountsEitherFault, MakesSteps, IsCall, added_by}
@@ -39,11 +39,12 @@ becomes_then uuid (Some old) mid new first second =
     (next.0, next.1, λ name other. next.2 name other ∙ first.2 name other)
 
 -- a put of a numbered object of a volume
-pub put_keeps : (uuid : List ℕ) (number : ℕ) (name : ObjName) (bytes : List ℕ) → name ≡ name_of uuid number → (old new : Objects)
+pub put_keeps : (uuid : List ℕ) (number : ℕ) (name : ObjName) (bytes : List ℕ) → name ≡ numbered_name uuid number
+    → (old new : Objects)
     → IsPut name bytes old new → KeepsOtherNames uuid old new
 put_keeps uuid number name bytes is old new put other not_own = put.others other (λ same. not_own number (same ∙ is))
 
-may_keep : (uuid : List ℕ) (number : ℕ) (name : ObjName) (bytes : List ℕ) → name ≡ name_of uuid number → (old new : Objects)
+may_keep : (uuid : List ℕ) (number : ℕ) (name : ObjName) (bytes : List ℕ) → name ≡ numbered_name uuid number → (old new : Objects)
     → MayBePut name bytes old new → KeepsOtherNames uuid old new
 may_keep uuid number name bytes is old new (inl same) other not_own = ap (λ o. found o other) same
 may_keep uuid number name bytes is old new (inr put) other not_own = put_keeps uuid number name bytes is old new put other not_own
@@ -124,17 +125,10 @@ call_fewer state m n added failed old new first second less call = record {
 
 -- ---- a put
 
--- the name of a job, made of the volume's uuid and the job's number
-pub job_name : (name job : ObjName) (uuid told : List ℕ) (number : ℕ) → name ≡ name_of told number → told ≡ uuid
-    → number ≡ job.number
-    → name ≡ name_of uuid job.number
-job_name name job uuid told number is same_uuid same_number =
-    is ∙ ap (λ u. name_of u number) same_uuid ∙ ap (name_of uuid) same_number
-
 pub put_call : {R : Type 0} (state : R → ReceiptState) (uuid : List ℕ) (number : ℕ) (name : ObjName) (bytes : List ℕ)
     (old new : SteppedVolume) (first second : StoreState)
     → IsMadeOfActs state [] (moment_of old first) (moment_of new second)
-    → old.volume.objects.uploads.uuid ≡ uuid → name ≡ name_of uuid number
+    → old.volume.objects.uploads.uuid ≡ uuid → name ≡ numbered_name uuid number
     → Becomes (IsPut name bytes) first.objects second.objects
     → second.faults ≡ first.faults → MakesSteps 1 [] old new
     → new.volume.log.commits.disk.faults ≡ old.volume.log.commits.disk.faults
@@ -152,7 +146,7 @@ pub failed_put_call : {R : Type 0} (state : R → ReceiptState) (T : Type 0) (er
     (name : ObjName) (bytes : List ℕ) (old new : SteppedVolume) (first second : StoreState)
     → (error ≡ store_errors.Failed → IsMadeOfActs state [] (moment_of old first) (moment_of new second))
     → IsMadeOfActs state [] (moment_of old first) (moment_of new first)
-    → old.volume.objects.uploads.uuid ≡ uuid → name ≡ name_of uuid number
+    → old.volume.objects.uploads.uuid ≡ uuid → name ≡ numbered_name uuid number
     → (error ≡ store_errors.Failed → Becomes (MayBePut name bytes) first.objects second.objects)
     → (error ≡ store_errors.OutOfMemory → second ≡ first) → Counts (has_failed {T = T} (Err error)) first.faults second.faults
     → MakesSteps 1 [] old new → new.volume.log.commits.disk.faults ≡ old.volume.log.commits.disk.faults

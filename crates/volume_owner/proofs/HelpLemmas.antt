@@ -7,12 +7,12 @@ use Rattle.std.proofs.lemmas.Bool.Decides.{nat_tests}
 use Rattle.std.proofs.lemmas.List.{take_all}
 use Rattle.lsvd_base.specs.declared.entry.Entry.{Entry}
 use Rattle.lsvd_fault.specs.Faults.{Counts}
+use Rattle.lsvd_names.specs.Names.{numbered_name}
 use Rattle.lsvd_device.specs.Calls.{Fuse}
 use Rattle.lsvd_objstore.specs.Store.{ReceiptState}
 use Rattle.object_stream.specs.declared.object.Content.TheVariants.{Data}
 use Rattle.object_stream.specs.declared.object.StreamObject.{StreamObject}
 use Rattle.object_stream.specs.Stream.{end_after, end_at, last_number, GoesTo, EndsFollow}
-use Rattle.object_stream.specs.Replay.{name_of}
 use Rattle.object_stream.proofs.StreamLemmas.{end_in_parts}
 use Rattle.upload_window.specs.declared.object.OpenObject.{OpenObject}
 use Rattle.upload_window.specs.Window.{WindowState, has_number, lowest_ready, is_started, with_started, marked, acknowledged}
@@ -204,7 +204,7 @@ module _ {R : Type 0} (state : R → ReceiptState) (reply : Reply R) (old new : 
             started = ap (is_started n) now ∙ started_once n objects open_;
             sealed = of.step.bytes n job.bytes old_open number.1.bytes new_open;
           };
-          named = number.1.named ∙ ap (λ u. name_of u n) (sym of.step.sizes.uuid);
+          named = number.1.named ∙ ap (λ u. numbered_name u n) (sym of.step.sizes.uuid);
           alone = ap (λ (o : List OpenObject). any_started (with_started n false o)) now ∙ begun_alone n objects was.puts;
           plans = plans_shown new.volume after.after after.shows (after.pins ∙ was.plans);
         },

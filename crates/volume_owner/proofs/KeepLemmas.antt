@@ -8,10 +8,10 @@ use Rattle.std.proofs.lemmas.List.{take-append-le}
 use Rattle.lsvd_base.specs.declared.entry.Entry.{Entry}
 use Rattle.lsvd_base.specs.Image.{blank}
 use Rattle.lsvd_base.specs.declared.geometry.Geometry.{Geometry}
+use Rattle.lsvd_names.specs.Names.{numbered_name}
 use Rattle.lsvd_objstore.specs.Objects.{Objects, found}
 use Rattle.object_format.specs.declared.expected.Expected.{Expected}
 use Rattle.object_recovery.specs.Checkpoints.{expected_of}
-use Rattle.object_stream.specs.Replay.{name_of}
 use Rattle.object_stream.specs.Stream.{end_at}
 use Rattle.object_uploads.specs.Changes.{index_of}
 use Rattle.plain_disk.specs.State.{PlainState, stream_in}
@@ -66,7 +66,7 @@ pub data IsWindowStep (uuid : List ℕ) (old : VolumeState) (objects : Objects) 
   ends : (n : ℕ) (bytes : List ℕ) → window ≡ acknowledged n plain.window
       → list_any (has_number n) plain.window.objects ≡ true → state_of_put plain.window n ≡ Begun
       → HasBytesOf old n bytes
-      → found objects (name_of uuid n) ≡ Some bytes → IsWindowStep uuid old objects plain window
+      → found objects (numbered_name uuid n) ≡ Some bytes → IsWindowStep uuid old objects plain window
   fails : (n : ℕ) → window ≡ marked n false plain.window → IsWindowStep uuid old objects plain window
 
 -- ---- the puts with one changed
@@ -152,7 +152,7 @@ module _ (uuid : List ℕ) (epoch : ℕ) (added : List Entry) (plain after : Pla
         bytes = had.bytes;
         put_is = had.put_is ∙ ap (λ s. Some (s, had.bytes)) back;
         known = subst (λ s. AreBytesOfPut s v after n had.bytes) back (known_stays was n had.bytes had.known);
-        held = subst (λ s. MayHoldPut s had.bytes (found objects (name_of uuid n))) back had.held;
+        held = subst (λ s. MayHoldPut s had.bytes (found objects (numbered_name uuid n))) back had.held;
         sealed = subst (λ s. IsSealedIfBegun s new.objects.uploads n had.bytes) back
             (sealed_stays was n had.bytes refl same had.sealed);
       }
@@ -229,9 +229,9 @@ module _ (uuid : List ℕ) (epoch : ℕ) (added : List Entry) (plain after : Pla
           bytes = bytes;
           put_is = ap (λ s. Some (s, bytes)) back;
           known = subst (λ s. AreBytesOfPut s v after n bytes) back (object_stays n bytes object);
-          held = subst (λ s. MayHoldPut s bytes (found objects (name_of uuid n))) back
-              (may_hold (state_of_put plain.window n) had.bytes (found objects (name_of uuid n)) (open_waits plain.window n open_)
-              had.sealed had.held);
+          held = subst (λ s. MayHoldPut s bytes (found objects (numbered_name uuid n))) back
+              (may_hold (state_of_put plain.window n) had.bytes (found objects (numbered_name uuid n))
+              (open_waits plain.window n open_) had.sealed had.held);
           sealed = subst (λ s. IsSealedIfBegun s new.objects.uploads n bytes) back
               (bytes_stay n bytes (old_open n open_) out (new_open n (begun_open after.window n now)));
         }
@@ -239,7 +239,7 @@ module _ (uuid : List ℕ) (epoch : ℕ) (added : List Entry) (plain after : Pla
     -- ---- a put is done
 
     done_put : after.window ≡ acknowledged n plain.window → list_any (has_number n) plain.window.objects ≡ true
-        → state_of_put plain.window n ≡ Begun → found objects (name_of uuid n) ≡ Some bytes
+        → state_of_put plain.window n ≡ Begun → found objects (numbered_name uuid n) ≡ Some bytes
         → PutStands uuid after new.objects.uploads objects n (Some (Acknowledged, bytes))
     done_put is open_ was there =
         let within = within_window n open_ in
@@ -258,7 +258,7 @@ module _ (uuid : List ℕ) (epoch : ℕ) (added : List Entry) (plain after : Pla
           put_is = ap (λ s. Some (s, bytes)) back;
           known = subst (λ s. AreBytesOfPut s v after n bytes) back
               (object_stays n bytes (subst (λ b. IsObjectOf (expected_of uuid plain.geometry) plain n b) same object));
-          held = subst (λ s. MayHoldPut s bytes (found objects (name_of uuid n))) back there;
+          held = subst (λ s. MayHoldPut s bytes (found objects (numbered_name uuid n))) back there;
           sealed = subst (λ s. IsSealedIfBegun s new.objects.uploads n bytes) back tt;
         }
 
@@ -278,7 +278,7 @@ module _ (uuid : List ℕ) (epoch : ℕ) (added : List Entry) (plain after : Pla
         bytes = [];
         put_is = ap (λ s. Some (s, [])) back;
         known = subst (λ s. AreBytesOfPut s v after n []) back tt;
-        held = subst (λ s. MayHoldPut s [] (found objects (name_of uuid n))) back none.1;
+        held = subst (λ s. MayHoldPut s [] (found objects (numbered_name uuid n))) back none.1;
         sealed = subst (λ s. IsSealedIfBegun s new.objects.uploads n []) back tt;
       }
 

@@ -7,9 +7,9 @@ use Rattle.lsvd_base.specs.Image.{blank}
 use Rattle.lsvd_base.specs.declared.geometry.Geometry.{Geometry}
 use Rattle.lsvd_names.specs.declared.name.ObjName.{ObjName}
 use Rattle.lsvd_names.specs.declared.name.Kind.{Kind}
+use Rattle.lsvd_names.specs.Names.{super_name, epoch_name, numbered_name}
 use Rattle.lsvd_objstore.specs.Objects.{Objects, found, IsPut, KeepsOthers}
 use Rattle.object_recovery.specs.Checkpoints.{expected_of}
-use Rattle.object_stream.specs.Replay.{name_of}
 use Rattle.object_uploads.specs.State.{SealedState, UploadsState}
 use Rattle.object_uploads.specs.Queue.{HasBytesAt}
 use Rattle.object_uploads.specs.Changes.{index_of}
@@ -17,7 +17,7 @@ use Rattle.plain_disk.specs.State.{PlainState, stream_in}
 use Rattle.stopped_volume.specs.Objects.{IsCheckpointOf}
 use Rattle.stopped_volume.specs.Store.{PutState, MayHoldPut}
 use Rattle.stopped_volume.specs.Store.PutState.{Acknowledged, Begun, NotBegun}
-use Rattle.stopped_volume.specs.Super.{HasVolume, super_name, epoch_name}
+use Rattle.stopped_volume.specs.Super.{HasVolume}
 use Rattle.refine_store.specs.Puts.{state_of_put, AreBytesOfPut, MayBeLeft}
 use Rattle.refine_store.specs.Stored.{StoreStands}
 
@@ -30,7 +30,7 @@ pub record IsOpened (uuid : List ℕ) (epoch : ℕ) (plain : PlainState) (object
   pub opened_first : plain.number ≡ 1
   pub blank_is : plain.opening ≡ blank plain.geometry.sectors
   pub first : IsCheckpointOf (expected_of uuid plain.geometry) objects plain.number plain.end (stream_in plain).opening
-  pub none_lower : (number : ℕ) → number < plain.number → found objects (name_of uuid number) ≡ None
+  pub none_lower : (number : ℕ) → number < plain.number → found objects (numbered_name uuid number) ≡ None
 
 pub opened_in : (uuid : List ℕ) (epoch : ℕ) (plain : PlainState) (puts : ℕ → Option (PutState × List ℕ)) (objects : Objects)
     → MayBeLeft uuid epoch plain puts objects → IsOpened uuid epoch plain objects
@@ -57,7 +57,7 @@ pub record PutStands (uuid : List ℕ) (plain : PlainState) (uploads : UploadsSt
   pub bytes : List ℕ
   pub put_is : put ≡ Some (state_of_put plain.window number, bytes)
   pub known : AreBytesOfPut (state_of_put plain.window number) (expected_of uuid plain.geometry) plain number bytes
-  pub held : MayHoldPut (state_of_put plain.window number) bytes (found objects (name_of uuid number))
+  pub held : MayHoldPut (state_of_put plain.window number) bytes (found objects (numbered_name uuid number))
   pub sealed : IsSealedIfBegun (state_of_put plain.window number) uploads number bytes
 
 abbrev state_in : Option (PutState × List ℕ) → PutState
@@ -105,7 +105,7 @@ module _ (uuid : List ℕ) (epoch : ℕ) (plain : PlainState) (uploads : Uploads
         }
 
     pub none_past_last : (number : ℕ) → plain.number < number → plain.window.last < number
-        → (stands.puts number ≡ None) × (found objects (name_of uuid number) ≡ None)
+        → (stands.puts number ≡ None) × (found objects (numbered_name uuid number) ≡ None)
     none_past_last number past over =
         let none = stands.are.none_else number over in
         (none, stands.left.held.none_else number past none)
@@ -116,9 +116,9 @@ module _ (uuid : List ℕ) (epoch : ℕ) (plain : PlainState) (uploads : Uploads
       (each : (number : ℕ) → plain.number < number → number ≤ plain.window.last
       → PutStands uuid plain uploads objects number (puts number))
       (none : (number : ℕ) → plain.window.last < number
-      → (puts number ≡ None) × (found objects (name_of uuid number) ≡ None)) where
+      → (puts number ≡ None) × (found objects (numbered_name uuid number) ≡ None)) where
     held_put : (number : ℕ) (state : PutState) (bytes : List ℕ) → plain.number < number → puts number ≡ Some (state, bytes)
-        → MayHoldPut state bytes (found objects (name_of uuid number)) × IsSealedIfBegun state uploads number bytes
+        → MayHoldPut state bytes (found objects (numbered_name uuid number)) × IsSealedIfBegun state uploads number bytes
     held_put number state bytes past is =
         elim (cases_lt plain.window.last number) [
           | inl over ↦ absurd (some_not_none (state, bytes) (sym is ∙ (none number over).0))
@@ -128,14 +128,14 @@ module _ (uuid : List ℕ) (epoch : ℕ) (plain : PlainState) (uploads : Uploads
               let both : put_of now put.bytes ≡ put_of state bytes = sym put.put_is ∙ is in
               let state_is = same_state now state put.bytes bytes both in
               let bytes_are = same_bytes now state put.bytes bytes both in
-              let there = found objects (name_of uuid number) in (
+              let there = found objects (numbered_name uuid number) in (
                 subst (λ s. MayHoldPut s bytes there) state_is (subst (λ b. MayHoldPut now b there) bytes_are put.held),
                 subst (λ s. IsSealedIfBegun s uploads number bytes) state_is
                     (subst (λ b. IsSealedIfBegun now uploads number b) bytes_are put.sealed),
               )
         ]
 
-    held_none : (number : ℕ) → plain.number < number → puts number ≡ None → found objects (name_of uuid number) ≡ None
+    held_none : (number : ℕ) → plain.number < number → puts number ≡ None → found objects (numbered_name uuid number) ≡ None
     held_none number past is =
         elim (cases_lt plain.window.last number) [
           | inl over ↦ (none number over).1
@@ -183,20 +183,20 @@ number_in name = name.number
 abbrev kind_in : ObjName → Kind
 kind_in name = name.kind
 
-other_number : (uuid : List ℕ) (a b : ℕ) → (a ≡ b → ⊥) → name_of uuid a ≡ name_of uuid b → ⊥
+other_number : (uuid : List ℕ) (a b : ℕ) → (a ≡ b → ⊥) → numbered_name uuid a ≡ numbered_name uuid b → ⊥
 other_number uuid a b other same = other (ap number_in same)
 
-super_is_other : (uuid : List ℕ) (number : ℕ) → super_name uuid ≡ name_of uuid number → ⊥
+super_is_other : (uuid : List ℕ) (number : ℕ) → super_name uuid ≡ numbered_name uuid number → ⊥
 super_is_other uuid number same = (let kind = ap kind_in same in let bad : ⊥ = cc in bad)
 
-epoch_is_other : (uuid : List ℕ) (epoch number : ℕ) → epoch_name uuid epoch ≡ name_of uuid number → ⊥
+epoch_is_other : (uuid : List ℕ) (epoch number : ℕ) → epoch_name uuid epoch ≡ numbered_name uuid number → ⊥
 epoch_is_other uuid epoch number same = (let kind = ap kind_in same in let bad : ⊥ = cc in bad)
 
 -- ---- a put
 
-module _ (uuid : List ℕ) (n : ℕ) (bytes : List ℕ) (old new : Objects) (others : KeepsOthers (name_of uuid n) old new) where
-  other_object : (number : ℕ) → (number ≡ n → ⊥) → found new (name_of uuid number) ≡ found old (name_of uuid number)
-  other_object number other = others (name_of uuid number) (other_number uuid number n other)
+module _ (uuid : List ℕ) (n : ℕ) (bytes : List ℕ) (old new : Objects) (others : KeepsOthers (numbered_name uuid n) old new) where
+  other_object : (number : ℕ) → (number ≡ n → ⊥) → found new (numbered_name uuid number) ≡ found old (numbered_name uuid number)
+  other_object number other = others (numbered_name uuid number) (other_number uuid number n other)
 
   -- it leaves what the store says of the volume
   pub put_keeps_volume : (geometry : Geometry) (epoch : ℕ) → HasVolume uuid geometry epoch old
@@ -261,7 +261,8 @@ pub put_stands_still : (uuid : List ℕ) (epoch n : ℕ) (bytes : List ℕ) (pla
     (old new : Objects)
     → plain.number < n → n ≤ plain.window.last → state_of_put plain.window n ≡ Begun
     → HasBytesAt (index_of uploads n) uploads.queue.sealed bytes
-    → IsPut (name_of uuid n) bytes old new → StoreStands uuid epoch plain uploads old → StoreStands uuid epoch plain uploads new
+    → IsPut (numbered_name uuid n) bytes old new → StoreStands uuid epoch plain uploads old
+    → StoreStands uuid epoch plain uploads new
 put_stands_still uuid epoch n bytes plain uploads old new past within begun out put stands =
     stands_by_each uuid epoch plain uploads new stands.puts
     (put_keeps_opened uuid n bytes old new put.others epoch plain past
@@ -278,17 +279,18 @@ put_stands_still uuid epoch n bytes plain uploads old new past within begun out 
               let is : state ≡ Begun = ap (state_of_put plain.window) same ∙ begun in
               let out_here : HasBytesAt (index_of uploads number) uploads.queue.sealed bytes =
               subst (λ k. HasBytesAt (index_of uploads k) uploads.queue.sealed bytes) (sym same) out in
-              let there : found new (name_of uuid number) ≡ Some bytes = ap (λ k. found new (name_of uuid k)) same ∙ put.put in
+              let there : found new (numbered_name uuid number) ≡ Some bytes =
+              ap (λ k. found new (numbered_name uuid k)) same ∙ put.put in
               record {
                 bytes = had.bytes;
                 put_is = had.put_is;
                 known = had.known;
-                held = held_by state had.bytes bytes (found new (name_of uuid number)) is there
+                held = held_by state had.bytes bytes (found new (numbered_name uuid number)) is there
                     (sealed_bytes state uploads number had.bytes bytes is had.sealed out_here);
                 sealed = had.sealed;
               }
           | inr other ↦
-              let stays = put.others (name_of uuid number) (other_number uuid number n other) in
+              let stays = put.others (numbered_name uuid number) (other_number uuid number n other) in
               record {
                 bytes = had.bytes;
                 put_is = had.put_is;
@@ -299,8 +301,8 @@ put_stands_still uuid epoch n bytes plain uploads old new past within begun out 
         ]
 
     none : (number : ℕ) → plain.window.last < number
-        → (stands.puts number ≡ None) × (found new (name_of uuid number) ≡ None)
+        → (stands.puts number ≡ None) × (found new (numbered_name uuid number) ≡ None)
     none number over =
         let had = none_past_last uuid epoch plain uploads old stands number (omega (arith, over, past, within)) over in
         let other : number ≡ n → ⊥ = λ same. omega (arith, same, over, within) in
-        (had.0, put.others (name_of uuid number) (other_number uuid number n other) ∙ had.1)
+        (had.0, put.others (numbered_name uuid number) (other_number uuid number n other) ∙ had.1)

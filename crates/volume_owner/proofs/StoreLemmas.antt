@@ -6,13 +6,13 @@ use Rattle.std.specs.Prelude.{Option, Some, None, IfSome}
 use Rattle.lsvd_base.specs.declared.entry.Entry.{Entry}
 use Rattle.lsvd_base.specs.declared.entry.Entry.TheVariants as entries
 use Rattle.lsvd_base.specs.Limits.{may_transfer}
+use Rattle.lsvd_names.specs.Names.{numbered_name}
 use Rattle.lsvd_device.specs.Calls.{Fuse}
 use Rattle.lsvd_names.specs.declared.name.ObjName.{ObjName}
 use Rattle.lsvd_objstore.specs.Objects.{Objects, found, IsPut, MayBePut}
 use Rattle.lsvd_objstore.specs.Store.{StoreState, ReceiptState, Becomes}
 use Rattle.refine_log.specs.Fuses.{fuse_in}
 use Rattle.object_recovery.specs.Checkpoints.{expected_of}
-use Rattle.object_stream.specs.Replay.{name_of}
 use Rattle.object_stream.specs.declared.object.Content.TheVariants.{Data}
 use Rattle.object_stream.specs.declared.object.StreamObject.{StreamObject}
 use Rattle.object_uploads.specs.Order.{IsUploads}
@@ -235,14 +235,14 @@ module _ {R : Type 0} (state : R → ReceiptState) (reply : Reply R) (old new : 
 
   done_window : (objects : Objects) (job : JobState) (receipt : ReceiptState) (put : Option ℕ)
       → IsOfDonePut old job receipt put
-      → found objects (name_of uuid job.name.number) ≡ Some job.bytes
+      → found objects (numbered_name uuid job.name.number) ≡ Some job.bytes
       → IsWindowStep uuid old objects plain (window_after_done put plain.window)
   done_window objects job receipt None of there = stays refl
   done_window objects job receipt (Some n) of there =
       let begun = begun_put_is old plain n job.bytes shows of.1 in
       ends n job.bytes (ap (λ b. cond b (acknowledged n plain.window) plain.window) begun.1)
       (started_open n plain.window.objects begun.1) begun.0.begun of.1.sealed
-      (ap (λ k. found objects (name_of uuid k)) of.0 ∙ there)
+      (ap (λ k. found objects (numbered_name uuid k)) of.0 ∙ there)
 
   failed_window : (objects : Objects) (job : JobState) (put : Option ℕ) → IsOfPut old job put
       → IsWindowStep uuid old objects plain (window_after_failed put plain.window)
@@ -282,7 +282,7 @@ module _ {R : Type 0} (state : R → ReceiptState) (reply : Reply R) (old new : 
   step_by (asks.JobDone job receipt) object order (inl s) =
       window_keeps (asks.JobDone job receipt) (events.JobDone s.asks.0) s s.asks.1 refl
       (λ objects there. done_window objects job (state receipt) s.asks.0 s.asks.2
-      (its_object (name_of uuid job.name.number) job.bytes store.objects objects object there))
+      (its_object (numbered_name uuid job.name.number) job.bytes store.objects objects object there))
   step_by (asks.JobDone job receipt) object order (inr n) = none_keeps n.shows
   step_by (asks.JobFailed job) object order (inl s) =
       window_keeps (asks.JobFailed job) (events.JobFailed s.asks.0) s s.asks.1 refl
@@ -310,7 +310,7 @@ some_then Change P follows (Some old) b is has = subst (λ o. IfSome o P) (sym i
 -- the put of an object that is out, whole or not
 put_at : (epoch : ℕ) (volume : VolumeState) (plain : PlainState) (job : JobState) → Shows volume plain
     → IsOut volume.objects.uploads job.name.number job.bytes
-    → job.name ≡ name_of volume.objects.uploads.uuid job.name.number
+    → job.name ≡ numbered_name volume.objects.uploads.uuid job.name.number
     → (old new : Objects) → IsPut job.name job.bytes old new
     → StoreStands volume.objects.uploads.uuid epoch plain volume.objects.uploads old
     → StoreStands volume.objects.uploads.uuid epoch plain volume.objects.uploads new
@@ -322,7 +322,7 @@ put_at epoch volume plain job shows out named old new put stands =
 
 pub may_put_at : (epoch : ℕ) (volume : VolumeState) (plain : PlainState) (job : JobState) → Shows volume plain
     → IsOut volume.objects.uploads job.name.number job.bytes
-    → job.name ≡ name_of volume.objects.uploads.uuid job.name.number
+    → job.name ≡ numbered_name volume.objects.uploads.uuid job.name.number
     → (old new : Objects) → MayBePut job.name job.bytes old new
     → StoreStands volume.objects.uploads.uuid epoch plain volume.objects.uploads old
     → StoreStands volume.objects.uploads.uuid epoch plain volume.objects.uploads new
@@ -333,7 +333,7 @@ may_put_at epoch volume plain job shows out named old new (inr put) stands =
 
 put_leaves_at : (failed : Bool) (epoch : ℕ) (volume : VolumeState) (plain : PlainState) (job : JobState) → Shows volume plain
     → IsOut volume.objects.uploads job.name.number job.bytes
-    → job.name ≡ name_of volume.objects.uploads.uuid job.name.number
+    → job.name ≡ numbered_name volume.objects.uploads.uuid job.name.number
     → (old new : Objects) → PutLeaves failed job.name job.bytes old new
     → StoreStands volume.objects.uploads.uuid epoch plain volume.objects.uploads old
     → StoreStands volume.objects.uploads.uuid epoch plain volume.objects.uploads new

@@ -6,10 +6,11 @@ use Rattle.lsvd_fault.specs.Faults.{Counts}
 use Rattle.lsvd_names.specs.declared.name.ObjName.{ObjName}
 use Rattle.lsvd_objstore.specs.Objects.{Objects, found, IsPut, MayBePut}
 use Rattle.lsvd_objstore.specs.Store.{StoreState, ReceiptState, Put, IsAskedOnce, Becomes, OnlyCounts}
-use Rattle.object_stream.specs.Replay.{name_of}
+use Rattle.object_stream.specs.Replay.{object_name}
 use Rattle.object_uploads.specs.State.{JobState}
 use Rattle.object_uploads.specs.Order.{IsUploads}
 use Rattle.object_uploads.specs.Changes.{IsOut}
+use Rattle.obj_log.specs.Changes.{expected_of_volume}
 use Rattle.vol_core.specs.declared.event.Event.{Event}
 use Rattle.vol_core.specs.declared.event.Event.TheVariants as events
 use Rattle.vol_core.specs.declared.reply.Reply.{Reply}
@@ -57,7 +58,8 @@ entered_by_act (Gets failed) = []
 -- the volume is told that a put is done only where the store has the object, where it tells what it has
 abbrev pub HasItsObject : {R : Type 0} → Event R → VolumeState → StoreState → Type 0
 HasItsObject (events.JobDone job receipt) volume store =
-    IfSome store.objects (λ objects. found objects (name_of volume.objects.uploads.uuid job.name.number) ≡ Some job.bytes)
+    IfSome store.objects (λ objects.
+    found objects (object_name (expected_of_volume volume.objects) job.name.number) ≡ Some job.bytes)
 HasItsObject event volume store = Unit {0}
 
 -- a put begins where the objects on their way are in order
@@ -81,7 +83,7 @@ PutLeaves true name bytes old new = MayBePut name bytes old new
 pub record IsPutAct (job : JobState) (failed : Bool) (old new : Moment) : Type 0 where
   pub volume : new.volume ≡ old.volume
   pub out : IsOut old.volume.volume.objects.uploads job.name.number job.bytes
-  pub named : job.name ≡ name_of old.volume.volume.objects.uploads.uuid job.name.number
+  pub named : job.name ≡ object_name (expected_of_volume old.volume.volume.objects) job.name.number
   pub objects : Becomes (PutLeaves failed job.name job.bytes) old.store.objects new.store.objects
   pub asked : IsAskedOnce (Put job.name job.bytes) old.store.asked new.store.asked
   pub faults : Counts failed old.store.faults new.store.faults

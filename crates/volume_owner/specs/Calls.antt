@@ -3,9 +3,9 @@ use Rattle.std.specs.Prelude.{◌≡◌, ℕ, ◌+◌, ◌/◌, ◌≤◌, ◌�
 use Rattle.lsvd_base.specs.declared.entry.Entry.{Entry}
 use Rattle.lsvd_fault.specs.Faults.{CountsOne}
 use Rattle.lsvd_names.specs.declared.name.ObjName.{ObjName}
+use Rattle.lsvd_names.specs.Names.{numbered_name}
 use Rattle.lsvd_objstore.specs.Objects.{Objects, found}
 use Rattle.lsvd_objstore.specs.Store.{StoreState, ReceiptState, Becomes}
-use Rattle.object_stream.specs.Replay.{name_of}
 use Rattle.plain_disk.specs.Sectors.{sectors_at}
 use Rattle.plain_disk.specs.State.{PlainState, history_length, image_now}
 use Rattle.vol_core.specs.Volume.{VolumeState, SteppedVolume}
@@ -64,7 +64,7 @@ CountsEitherFault true old_disk new_disk old_store new_store =
 
 -- under each name but those of a volume's numbered objects stands what stood there
 abbrev pub KeepsOtherNames : (uuid : List ℕ) → Objects → Objects → Type 0
-KeepsOtherNames uuid old new = (name : ObjName) → ((number : ℕ) → name ≡ name_of uuid number → ⊥)
+KeepsOtherNames uuid old new = (name : ObjName) → ((number : ℕ) → name ≡ numbered_name uuid number → ⊥)
     → found new name ≡ found old name
 
 -- ---- a call

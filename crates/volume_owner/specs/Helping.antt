@@ -2,10 +2,11 @@
 use Rattle.std.specs.Prelude.{◌≡◌, ℕ, ◌+◌, ◌*◌, ◌<◌, Bool, true, false, List, [], ◌∷◌, length}
 use Rattle.std.specs.List.{list_any}
 use Rattle.lsvd_base.specs.declared.entry.Entry.{Entry}
-use Rattle.object_stream.specs.Replay.{name_of}
+use Rattle.object_stream.specs.Replay.{object_name}
 use Rattle.upload_window.specs.Window.{with_started}
 use Rattle.object_uploads.specs.State.{JobState}
 use Rattle.object_uploads.specs.Changes.{IsOut}
+use Rattle.obj_log.specs.Changes.{expected_of_volume}
 use Rattle.vol_core.specs.Volume.{VolumeState}
 use Rattle.volume_owner.specs.declared.replies.Attempt.{Attempt}
 use Rattle.volume_owner.specs.declared.replies.Attempt.TheVariants.{Entered, Again, Failed}
@@ -23,7 +24,7 @@ HasHelped false old new = (work_of old ≡ 0) × (work_of new ≡ 0)
 -- a put is out, which this is the job of, and no other is
 pub record IsTaken (job : JobState) (volume : VolumeState) : Type 0 where
   pub out : IsOut volume.objects.uploads job.name.number job.bytes
-  pub named : job.name ≡ name_of volume.objects.uploads.uuid job.name.number
+  pub named : job.name ≡ object_name (expected_of_volume volume.objects) job.name.number
   pub alone : list_any (λ object. object.is_started) (with_started job.name.number false volume.objects.uploads.window.objects)
       ≡ false
   pub plans : volume.pins ≡ []

@@ -1,6 +1,4 @@
-ghost use Rattle.std.specs.Prelude.{◌≡◌, ◌+◌, ◌<◌, [], length, IfOk, OnOk, IsErrOf, IsOkUnless};
-ghost use Rattle.lsvd_names.specs.Spelling.{IsUuid, IsName};
-ghost use Rattle.object_stream.specs.Replay.{name_of};
+ghost use Rattle.std.specs.Prelude.{◌≡◌, ◌+◌, ◌<◌, [], IfOk, OnOk, IsErrOf, IsOkUnless};
 ghost use Rattle.vol_core.specs.declared.event.Event.TheVariants as events;
 ghost use Rattle.vol_core.specs.Shows.{max_number};
 ghost use Rattle.volume_owner.specs.Owner.{IsIdle};
@@ -12,11 +10,9 @@ ghost use Rattle.volume_owner.specs.Helping.{work_of, HasHelped, IsTaken};
 use crate::error::OwnerError;
 use crate::replies::{job_of, seal_of};
 use lsvd_device::Disk;
-use lsvd_names::{Kind, ObjName};
 use lsvd_objstore::{Receipt, Store};
 use object_uploads::Job;
 use std::alloc::Global;
-use uuid::Uuid;
 use vol_core::{Event, Volume};
 
 /// Puts the lowest object that waits for its put; where none does, seals the next one. Answers whether there
@@ -63,8 +59,7 @@ fn put<D: Disk, R: Receipt, S: Store<Receipt = R>>(
     ensures idle { IsIdle volume.new.volume }
 {
     volume.is_volume();
-    let name = object_name(volume.uuid().into_bytes(), job.name().number);
-    match store.put(alloc, &name, job.object()) {
+    match store.put(alloc, job.name(), job.object()) {
         Ok(receipt) => {
             drop(volume.step(Event::JobDone { job, receipt }));
             Ok(())
@@ -92,22 +87,3 @@ fn seal<D: Disk, R: Receipt>(volume: &mut Volume<D, R>) -> Result<bool, OwnerErr
     volume.is_volume();
     seal_of(volume.step(Event::Seal))
 }
-
-// The name of the numbered object of a volume.
-fn object_name(uuid: [u8; 16], number: u64) -> ObjName
-    ensures is_name { IsName result }
-    ensures is { result ≡ name_of uuid number }
-{
-    is_uuid(uuid.as_slice());
-    ObjName {
-        uuid: Uuid::from_bytes(uuid),
-        kind: Kind::Object,
-        number,
-    }
-}
-
-// A fact for the proofs of callers: 16 bytes are those of a uuid. Nothing is done.
-fn is_uuid(bytes: &[u8])
-    requires { length bytes.now ≡ 16 }
-    ensures { IsUuid bytes.now }
-{}

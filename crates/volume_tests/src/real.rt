@@ -1,4 +1,3 @@
-ghost use Rattle.lsvd_names.specs.Spelling.{IsName};
 ghost use Rattle.lsvd_objstore.specs.Memory.{told_receipt};
 ghost use Rattle.vol_core.specs.Step.{HasItsReceipt};
 
@@ -7,7 +6,6 @@ use crate::step::{Byte, Step};
 use batcher::Full;
 use lsvd_base::{Body, Entry, Geometry};
 use lsvd_device::MemDisk;
-use lsvd_names::{Kind, ObjName};
 use lsvd_objstore::{MemReceipt, MemStore, Store};
 use object_uploads::Job;
 use read_plan::Plan;
@@ -218,7 +216,7 @@ fn put(
     store: &mut MemStore,
     job: Job,
 ) -> Result<Answer, TestError> {
-    let receipt = store.put(alloc, &name_of(job.name().number), job.object())?;
+    let receipt = store.put(alloc, job.name(), job.object())?;
     answered(volume, Event::JobDone { job, receipt })
 }
 
@@ -226,17 +224,6 @@ fn failed(volume: &mut MemVolume, jobs: &mut Vec<Job>, number: u64) -> Result<An
     match job_of(jobs, number) {
         Some(job) => answered(volume, Event::JobFailed(job)),
         None => Ok(Answer::NotAsked),
-    }
-}
-
-// The name of the object of a number.
-fn name_of(number: u64) -> ObjName
-    ensures { IsName result }
-{
-    ObjName {
-        uuid: Uuid::from_bytes(UUID),
-        kind: Kind::Object,
-        number,
     }
 }
 

@@ -2,7 +2,7 @@ use Rattle.std.proofs.Common.{◌≡◌, ◌+◌, ◌<◌, ◌^◌, Some, subst,
 use Rattle.std.proofs.lemmas.Bool.Decides.{nat_tests}
 use Rattle.lsvd_objstore.specs.Store.{Finds}
 use Rattle.object_format.specs.declared.expected.Expected.{Expected}
-use Rattle.object_stream.specs.Replay.{name_of}
+use Rattle.object_stream.specs.Replay.{object_name}
 use Rattle.object_uploads.specs.Queue.{FitObject}
 use Rattle.obj_log.specs.Changes.{next_of, HasAdoptedObject}
 use Rattle.object_recovery.specs.Adoption.{IsReadAsData, IsNextRead}
@@ -24,7 +24,7 @@ returns-in-Left-clause-next g c =
     let receipt = g.S.Receipt.Receipt.state c.in-Some.receipt in
     let told = (g.S.Store.state c.args.store.now).objects in
     let next = c.expected_next-expected.ensures in
-    let name = c.name_of.ensures.is ∙ ap (λ (e : Expected). name_of e.uuid e.number) next in
+    let name = c.object_name.ensures.is ∙ ap (λ (e : Expected). object_name e e.number) next in
     let finds = subst (λ n. Finds n told (Some receipt)) name (rw c.in-Some.is at c.in_ok-receipt.ensures.found) in
     let read = subst (λ e. IsNextRead receipt e c.in_ok-reached.field-0) next c.in_ok-reached.ensures.next in (
       refl,
@@ -41,7 +41,7 @@ returns-in_ok-adopted-in-Data-clause-next g c =
     let end = c.in-Data.object.end in
     let read = subst (λ e. IsNextRead receipt e c.in_ok-reached.field-0) next c.in_ok-reached.ensures.next in
     let is = (subst (IsNextRead receipt (next_of c.args.log.now)) c.in-Data.is read) in
-    let name = c.name_of.ensures.is ∙ ap (λ (e : Expected). name_of e.uuid e.number) next in
+    let name = c.object_name.ensures.is ∙ ap (λ (e : Expected). object_name e e.number) next in
     let finds = subst (λ n. Finds n told (Some receipt)) name (rw c.in-Some.is at c.in_ok-receipt.ensures.found) in
     record {
       rows = rows;

@@ -55,6 +55,7 @@ pub returns-clause-judged : goal.returns-clause-judged
 returns-clause-judged g c = λ tells.
     let told = (g.S.Store.state c.args.store.now).objects in
     let names = c.args.names.now in
-    told_end told c.args.volume.now names c.args.gap.now c.loop-name.refused (subst IsUuid c.as_slice.ensures c.is_uuid.ensures)
+    told_end told c.args.volume.now names c.args.gap.now c.loop-name.refused
+    (subst IsUuid c.from_bytes.ensures c.a_uuid_has_sixteen_bytes.ensures)
     (subst (λ n. IfSome told (IsJudgedBy c.args.volume.now names c.args.gap.now n c.loop-name.refused)) (omega arith)
     (c.loop-name.invariant.judged tells))

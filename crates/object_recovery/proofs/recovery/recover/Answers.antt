@@ -18,19 +18,19 @@ use Rattle.object_recovery.proofs.recovery.recover.Goals as goal
 
 pub newest_checkpoint-requires : goal.newest_checkpoint-requires
 newest_checkpoint-requires g c =
-    let are = subst (AreNamesOf c.args.uuid) (sym c.as_slice-2.ensures) c.in_ok-names.ensures.names in
+    let are = subst (AreNamesOf c.args.uuid) (sym c.as_slice.ensures) c.in_ok-names.ensures.names in
     λ name listed. (are.each name listed).0
 
 pub returns-in_err-base-clause-refused : goal.returns-in_err-base-clause-refused
 returns-in_err-base-clause-refused g c = λ tells.
     let told = (g.S.Store.state c.args.store.now).objects in
-    let names = c.as_slice-2.result.now in
-    let is_uuid : IsUuid c.args.uuid = subst IsUuid (c.as_slice.ensures ∙ c.into_bytes.ensures) c.is_uuid.ensures in
+    let names = c.as_slice.result.now in
+    let is_uuid : IsUuid c.args.uuid = c.a_uuid_has_sixteen_bytes.ensures in
     let listed =
     same_store (g.S.Store.state c.args.store.now) (g.S.Store.state c.list.new.self) c.in_ok-names.ensures.unchanged
     c.in_ok-names.ensures.count in
     let lists =
-    subst (λ list. IfSome told (λ objects. Lists c.args.uuid objects list)) (sym c.as_slice-2.ensures)
+    subst (λ list. IfSome told (λ objects. Lists c.args.uuid objects list)) (sym c.as_slice.ensures)
     c.in_ok-names.ensures.listed in
     let error = c.in_err-base.field-0.0 in
     let volume = expected_of c.args.uuid c.args.geometry in
@@ -45,12 +45,12 @@ returns-in_err-log-clause-refused g c = λ tells.
     let told = (g.S.Store.state c.args.store.now).objects in
     let uuid = c.args.uuid in
     let geometry = c.args.geometry in
-    let names = c.as_slice-2.result.now in
-    let is_uuid : IsUuid uuid = subst IsUuid (c.as_slice.ensures ∙ c.into_bytes.ensures) c.is_uuid.ensures in
+    let names = c.as_slice.result.now in
+    let is_uuid : IsUuid uuid = c.a_uuid_has_sixteen_bytes.ensures in
     let listed =
     same_store (g.S.Store.state c.args.store.now) (g.S.Store.state c.list.new.self) c.in_ok-names.ensures.unchanged
     c.in_ok-names.ensures.count in
-    let lists = subst (λ list. IfSome told (λ objects. Lists uuid objects list)) (sym c.as_slice-2.ensures)
+    let lists = subst (λ list. IfSome told (λ objects. Lists uuid objects list)) (sym c.as_slice.ensures)
     c.in_ok-names.ensures.listed in
     let base = c.in_ok-base.base in
     let newest = newest_told told uuid geometry names base.number base.end is_uuid lists
@@ -60,13 +60,13 @@ returns-in_err-log-clause-refused g c = λ tells.
     let after =
     same_store (g.S.Store.state c.list.new.self) (g.S.Store.state c.newest_checkpoint.new.store)
     c.in_ok-base.ensures.unchanged c.in_ok-base.ensures.faults ∙ listed in
-    let given = subst (λ list. IfSome told (λ objects. Lists uuid objects list)) (sym c.as_slice-3.ensures)
+    let given = subst (λ list. IfSome told (λ objects. Lists uuid objects list)) (sym c.as_slice-2.ensures)
     c.in_ok-names.ensures.listed in
     let error = c.in_err-log.field-0.0 in
-    let Begun = IsRecoveryBegun uuid geometry base.number base.end c.as_slice-3.result.now in
+    let Begun = IsRecoveryBegun uuid geometry base.number base.end c.as_slice-2.result.now in
     passed_on (λ e. IfSome told (λ objects. IsRecoveryRefused volume objects e)) c.from_residual-in_err-log.result error
     c.from_residual-in_err-log.ensures.1
-    (told_begun told uuid geometry base.number base.end c.as_slice-3.result.now
+    (told_begun told uuid geometry base.number base.end c.as_slice-2.result.now
     (λ objects. IsRecoveryRefused volume objects error)
     newest given
     (subst (λ (s : StoreState). IfSome s.objects (λ objects. Begun objects → IsRecoveryRefused volume objects error)) after
@@ -92,12 +92,12 @@ newest g c tells =
     let told = (g.S.Store.state c.args.store.now).objects in
     let uuid = c.args.uuid in
     let geometry = c.args.geometry in
-    let names = c.as_slice-2.result.now in
-    let is_uuid : IsUuid uuid = subst IsUuid (c.as_slice.ensures ∙ c.into_bytes.ensures) c.is_uuid.ensures in
+    let names = c.as_slice.result.now in
+    let is_uuid : IsUuid uuid = c.a_uuid_has_sixteen_bytes.ensures in
     let listed =
     same_store (g.S.Store.state c.args.store.now) (g.S.Store.state c.list.new.self) c.in_ok-names.ensures.unchanged
     c.in_ok-names.ensures.count in
-    let lists = subst (λ list. IfSome told (λ objects. Lists uuid objects list)) (sym c.as_slice-2.ensures)
+    let lists = subst (λ list. IfSome told (λ objects. Lists uuid objects list)) (sym c.as_slice.ensures)
     c.in_ok-names.ensures.listed in
     let base = c.in_ok-base.base in
     newest_told told uuid geometry names base.number base.end is_uuid lists
@@ -126,12 +126,12 @@ recovers g c tells begun =
     let after =
     same_store (g.S.Store.state c.list.new.self) (g.S.Store.state c.newest_checkpoint.new.store)
     c.in_ok-base.ensures.unchanged c.in_ok-base.ensures.faults ∙ listed in
-    let given_names = subst (λ list. IfSome told (λ objects. Lists uuid objects list)) (sym c.as_slice-3.ensures)
+    let given_names = subst (λ list. IfSome told (λ objects. Lists uuid objects list)) (sym c.as_slice-2.ensures)
     c.in_ok-names.ensures.listed in
-    told_begun told uuid geometry base.number base.end c.as_slice-3.result.now
+    told_begun told uuid geometry base.number base.end c.as_slice-2.result.now
     (λ objects. Recovers (expected_of uuid geometry) base.number objects log) begun given_names
     (subst (λ (s : StoreState). IfSome s.objects (λ objects. IsRecoveryBegun uuid geometry base.number base.end
-    c.as_slice-3.result.now objects
+    c.as_slice-2.result.now objects
     → Recovers (expected_of uuid geometry) base.number objects log)) after (c.in_ok-log.ensures.recovers tells))
 
 pub returns-clause-recovered : goal.returns-clause-recovered
@@ -157,7 +157,7 @@ returns-clause-landed g c = λ tells.
     let volume = expected_of c.args.uuid c.args.geometry in
     let base = c.in_ok-base.base.number in
     let log = c.in_ok-log.log in
-    told_so (λ objects. Recovers volume base objects log) (λ objects. HaveLanded objects c.args.uuid base log.uploads.window.last)
+    told_so (λ objects. Recovers volume base objects log) (λ objects. HaveLanded objects volume base log.uploads.window.last)
     (g.S.Store.state c.args.store.now).objects (λ objects is. is.landed)
     (let at = goal.at.returns-clause-landed g c in recovers g at.In_ok-log tells (newest g at.In_ok-base tells))
 

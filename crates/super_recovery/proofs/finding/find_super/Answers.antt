@@ -3,5 +3,5 @@ use Rattle.super_recovery.proofs.finding.find_super.Goals as goal
 
 pub returns-in_default-clause-why : goal.returns-in_default-clause-why
 returns-in_default-clause-why g c = λ tells.
-    told_absent (g.S.Store.state c.args.store.now).objects c.args.uuid c.super_name.result c.super_name.ensures.is
+    told_absent (g.S.Store.state c.args.store.now).objects c.args.uuid c.super_of.result c.super_of.ensures.is
     (rw c.in_default.is at (c.in_ok-bytes.ensures.read tells))

@@ -12,7 +12,7 @@ returns-in_default-clause-why g c = λ tells.
     let names = c.as_slice.result.now in
     let lists = subst (λ list. IfSome told (λ objects. Lists c.args.uuid objects list)) (sym c.as_slice.ensures)
     c.in_ok-names.ensures.listed in
-    told_none told c.args.uuid names c.is_uuid.ensures lists c.in_default.ensures
+    told_none told c.args.uuid names c.a_uuid_has_sixteen_bytes.ensures lists c.in_default.ensures
 
 pub returns-then-not-branch-clause-why : goal.returns-then-not-branch-clause-why
 returns-then-not-branch-clause-why g c = λ tells.
@@ -25,8 +25,8 @@ returns-then-not-branch-clause-why g c = λ tells.
     let number = c.in-Some.number in
     let has = subst (λ held. IfSome held (λ objects. IsTrue c.in_ok-has_epoch.field-0 ↔ HasEpoch c.args.uuid number objects)) same
     (c.in_ok-has_epoch.ensures.has tells) in
-    told_bad told c.args.uuid names c.is_uuid.ensures lists number c.in-Some.ensures c.in_ok-has_epoch.field-0 has
-    c.if-not-branch.true
+    told_bad told c.args.uuid names c.a_uuid_has_sixteen_bytes.ensures lists number c.in-Some.ensures
+    c.in_ok-has_epoch.field-0 has c.if-not-branch.true
 
 pub returns-clause-newest : goal.returns-clause-newest
 returns-clause-newest g c = λ tells.
@@ -39,5 +39,5 @@ returns-clause-newest g c = λ tells.
     let number = c.in-Some.number in
     let has = subst (λ held. IfSome held (λ objects. IsTrue c.in_ok-has_epoch.field-0 ↔ HasEpoch c.args.uuid number objects)) same
     (c.in_ok-has_epoch.ensures.has tells) in
-    told_newest told c.args.uuid names c.is_uuid.ensures lists number c.in-Some.ensures c.in_ok-has_epoch.field-0 has
-    c.if-not-branch.false
+    told_newest told c.args.uuid names c.a_uuid_has_sixteen_bytes.ensures lists number c.in-Some.ensures
+    c.in_ok-has_epoch.field-0 has c.if-not-branch.false

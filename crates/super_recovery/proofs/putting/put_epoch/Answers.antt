@@ -11,8 +11,8 @@ returns-in_err-put-clause-failed g c = λ fault.
     let epoch : Epoch = record { uuid = c.args.uuid; number = c.args.number } in
     let error = c.in_err-put.field-0.0 in
     let failed = store_failed c.from_residual-in_err-put.result error c.from_residual-in_err-put.ensures.1 fault in
-    may_put_epoch c.args.uuid c.args.number epoch c.epoch_name.result c.in_ok-bytes.bytes c.in_ok-bytes.ensures
-    c.epoch_name.ensures.is old new
+    may_put_epoch c.args.uuid c.args.number epoch c.epoch.result c.in_ok-bytes.bytes c.in_ok-bytes.ensures
+    c.epoch.ensures.is old new
     (c.in_err-put.ensures.failed (error_of error store.Failed failed))
 
 pub returns-clause-ok : goal.returns-clause-ok
@@ -20,6 +20,6 @@ returns-clause-ok g c =
     let old = (g.S.Store.state c.args.store.now).objects in
     let new = (g.S.Store.state c.put.new.self).objects in
     let epoch : Epoch = record { uuid = c.args.uuid; number = c.args.number } in
-    puts_epoch c.args.uuid c.args.number epoch c.epoch_name.result c.in_ok-bytes.bytes c.in_ok-bytes.ensures
-    c.epoch_name.ensures.is old new
+    puts_epoch c.args.uuid c.args.number epoch c.epoch.result c.in_ok-bytes.bytes c.in_ok-bytes.ensures
+    c.epoch.ensures.is old new
     c.in_ok-put.ensures.put

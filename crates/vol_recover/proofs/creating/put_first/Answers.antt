@@ -1,8 +1,8 @@
 use Rattle.std.proofs.Common.{◌≡◌, List, ◌∙◌, subst, ap, ℕ}
+use Rattle.lsvd_names.specs.Names.{numbered_name}
 use Rattle.lsvd_objstore.specs.Objects.{IsPut, MayBePut}
 use Rattle.lsvd_objstore.specs.Store.{Becomes}
 use Rattle.lsvd_objstore.specs.declared.error.StoreError.TheVariants as store_errors
-use Rattle.object_stream.specs.Replay.{name_of}
 use Rattle.super_recovery.specs.Put.{MayBecome}
 use Rattle.object_recovery.proofs.FindLemmas.{error_of}
 use Rattle.vol_recover.specs.Creating.{PutsFirst}
@@ -14,8 +14,7 @@ pub returns-in_err-put-clause-err : goal.returns-in_err-put-clause-err
 returns-in_err-put-clause-err g c =
     let old = g.S.Store.state c.args.store.now in
     let new = g.S.Store.state c.put.new.self in
-    let name : c.first_name.result ≡ name_of c.args.uuid 1 = c.first_name.ensures.is
-    ∙ ap (λ (u : List ℕ). name_of u 1) c.into_bytes.ensures in
+    let name : c.first_name.result ≡ numbered_name c.args.uuid 1 = c.first_name.ensures.is in
     let error = c.in_err-put.field-0.0 in
     let e = c.in_err-put.ensures in
     on_error (Becomes (MayBecome (PutsFirst c.args.uuid c.args.geometry.now)) old.objects new.objects)
@@ -29,7 +28,6 @@ pub returns-clause-ok : goal.returns-clause-ok
 returns-clause-ok g c =
     let old = (g.S.Store.state c.args.store.now).objects in
     let new = (g.S.Store.state c.put.new.self).objects in
-    let name : c.first_name.result ≡ name_of c.args.uuid 1 = c.first_name.ensures.is
-    ∙ ap (λ (u : List ℕ). name_of u 1) c.into_bytes.ensures in
+    let name : c.first_name.result ≡ numbered_name c.args.uuid 1 = c.first_name.ensures.is in
     puts_first c.args.uuid c.args.geometry.now c.in_ok-object.object old new c.in_ok-object.ensures
     (subst (λ n. Becomes (IsPut n c.in_ok-object.object) old new) name c.in_ok-put.ensures.put)

@@ -13,7 +13,7 @@ keep-requires-clause-place c =
     let puts : List PutView = c.args.self.now.list in
     let n : ℕ = c.args.job.name.number in
     let place : ℕ = c.place_of-place.result in
-    let same : c.name.result.now.number ≡ n = ap (λ (name : ObjName). name.number) c.name.ensures in
+    let same : c.name.result.now.number ≡ n = ap (λ (name : ObjName). name.number) c.name.ensures.is in
     let at : place ≡ place_of_put n puts = c.place_of-place.ensures ∙ ap (λ k. place_of_put k puts) same in
     let stands : c.is_at.result ≡ stands_at_place place n puts = c.is_at.ensures ∙ ap (λ k. stands_at_place place k puts) same in
     elim c.if-is_at.branch [
@@ -33,7 +33,7 @@ returns c =
     let n : ℕ = c.args.job.name.number in
     let bytes : List ℕ = c.args.job.bytes in
     let place : ℕ = c.place_of-place.result in
-    let same : c.name.result.now.number ≡ n = ap (λ (name : ObjName). name.number) c.name.ensures in
+    let same : c.name.result.now.number ≡ n = ap (λ (name : ObjName). name.number) c.name.ensures.is in
     let at : place ≡ place_of_put n puts = c.place_of-place.ensures ∙ ap (λ k. place_of_put k puts) same in
     let stands : c.is_at.result ≡ stands_at_place place n puts = c.is_at.ensures ∙ ap (λ k. stands_at_place place k puts) same in
     let kept : c.keep.new.self.list ≡ insert c.if-is_at.self.list place (out_put n bytes) =

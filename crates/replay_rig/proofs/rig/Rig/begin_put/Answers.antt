@@ -59,7 +59,7 @@ invariant_of-self-2 c =
     c.in_ok-reserve.ensures.list in (
       plain_after events.TakeJob known.0,
       ((begun_some old c.step.new.self c.in-Taken.job c.name.result.now.number c.begin.new.self.list
-          (ap (λ (n : ObjName). n.number) c.name.ensures) same
+          (ap (λ (n : ObjName). n.number) c.name.ensures.is) same
           c.is_ordered.ensures.uploads of).by known.0 known.1).1,
     )
 
@@ -73,7 +73,7 @@ returns-clause-ok c =
     c.in_ok-reserve.ensures.list in
     subst (λ r. AnswersEvent events.TakeJob (answers.Put c.name.result.now.number) r now) c.self.view_is
     (begun_some old c.step.new.self c.in-Taken.job c.name.result.now.number c.begin.new.self.list
-    (ap (λ (n : ObjName). n.number) c.name.ensures) same
+    (ap (λ (n : ObjName). n.number) c.name.ensures.is) same
     c.is_ordered.ensures.uploads of)
 
 pub returns-clause-lines : goal.returns-clause-lines
