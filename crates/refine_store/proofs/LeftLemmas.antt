@@ -1,7 +1,8 @@
--- Whatever a stop leaves of the store has the plain volume's objects up to the one before the first missing number.
+-- Whatever a stop leaves of the store has the plain volume's objects up to the one before the first missing number, and so the
+-- volume up to there.
 use Rattle.std.proofs.Common.{◌≡◌, ℕ, zero, suc, ◌+◌, ◌-◌, ◌^◌, ◌<◌, ◌==◌, inl, inr, Bool, true, false, cond, ◌&&◌, ◌||◌, Option}
 use Rattle.std.proofs.Common.{Some}
-use Rattle.std.proofs.Common.{None, is_some, List, [], ◌∷◌, take, drop, get_or, refl, sym, ◌∙◌, ap, subst, arith}
+use Rattle.std.proofs.Common.{None, is_some, List, [], ◌∷◌, take, get_or, refl, sym, ◌∙◌, ap, subst, arith}
 use Rattle.std.specs.Prelude.{IsTrue}
 use Rattle.std.specs.List.{slice_get, list_any, All}
 use Rattle.std.proofs.lemmas.Bool.{cases_lt}
@@ -9,7 +10,6 @@ use Rattle.std.proofs.lemmas.Bool.Decides.{nat_tests}
 use Rattle.std.proofs.lemmas.List.{length-take}
 use Rattle.std.proofs.lemmas.List.Elements.{All-weaker}
 use Rattle.std.proofs.lemmas.Option.{slice_get-get_or}
-use Rattle.lsvd_base.specs.declared.entry.Entry.{Entry}
 use Rattle.lsvd_base.specs.Image.{zero_sector, blank}
 use Rattle.lsvd_base.specs.Laws.{EndsBy}
 use Rattle.lsvd_base.specs.Range.{is_in_range}
@@ -21,8 +21,8 @@ use Rattle.object_stream.specs.declared.object.Content.TheVariants.{Data}
 use Rattle.object_stream.specs.declared.object.StreamObject.{StreamObject}
 use Rattle.object_stream.specs.Landed.{Numbers, IsFirstMissing}
 use Rattle.object_stream.specs.Replay.{object_name, HasParts, expected_at}
-use Rattle.object_stream.specs.Stored.{HasContent, IsObjectStored, AreStored}
-use Rattle.object_stream.specs.Stream.{Owners, Stream, objects_to, end_after, end_at, EndsFollow}
+use Rattle.object_stream.specs.Stored.{HasContent}
+use Rattle.object_stream.specs.Stream.{Owners, Stream, objects_to, end_at}
 use Rattle.object_stream.specs.Value.{StandsForSector, IsValue}
 use Rattle.object_stream.proofs.OneLemmas.{same_parts}
 use Rattle.upload_window.specs.declared.object.OpenObject.{OpenObject}
@@ -39,9 +39,10 @@ use Rattle.plain_disk.specs.Valid.{IsPlainVolume, MayLand}
 use Rattle.plain_disk.proofs.Overlaid.{EndsBy-in_range, sectors_limit}
 use Rattle.plain_disk.proofs.StopLemmas.{recovers_before_missing, recovers_sealed}
 use Rattle.refine_mount.specs.Found.{HasObjects}
-use Rattle.refine_store.specs.Puts.{entries_in_object, IsObjectOf, state_of_put, AreBytesOfPut, ArePuts, MayBeLeft}
-use Rattle.refine_store.specs.Laws.{LeftHasObjects}
-use Rattle.refine_store.proofs.ObjectLemmas.{get_of_first, end_up_to, entries_at, entries_past_first, entries_of_first}
+use Rattle.refine_store.specs.Puts.{IsObjectOf, state_of_put, AreBytesOfPut, ArePuts, MayBeLeft}
+use Rattle.refine_store.specs.Laws.{LeftHasObjects, LeftHasVolume}
+use Rattle.refine_store.proofs.ObjectLemmas.{get_of_first, entries_at}
+use Rattle.refine_store.proofs.StoredLemmas.{IsStoredAt, stored_by_each, end_before, entries_there}
 
 -- ---- the objects of puts
 
@@ -90,46 +91,6 @@ no_data volume plain objects number end owned bytes wide is there data_is =
     is.bytes bytes is.header data_is.header
     rows_of.Checkpoint (rows_of.Data data_is.rows) is.payload data_is.payload wide wide same is.parts data_is.parts in
     one.same_rows
-
--- objects are stored where each is
-module _ (objects : Objects) (uuid_at : ℕ → Option (List ℕ)) (volume : Expected) where
-  -- the object at an index is stored
-  abbrev IsStoredAt : (number end : ℕ) → List Entry → List StreamObject → ℕ → StreamObject → Type 0
-  IsStoredAt number end entries list i object =
-      IsObjectStored objects uuid_at (expected_at volume (number + 1 + i) (end_after end (take i list))) object
-      (entries_at end entries list i object)
-
-  stored_past_first : (number end : ℕ) (entries : List Entry) (first object : StreamObject) (i : ℕ) (more : List StreamObject)
-      → EndsFollow end (first ∷ more) → IsStoredAt number end entries (first ∷ more) (suc i) object
-      → IsStoredAt (number + 1) first.end (drop (first.end - end) entries) more i object
-  stored_past_first number end entries first object i more follow is =
-      let before = end_after first.end (take i more) in
-      let sum : number + 1 + suc i ≡ number + 1 + 1 + i = omega arith in
-      let part = entries_at first.end (drop (first.end - end) entries) more i object in
-      subst (λ n. IsObjectStored objects uuid_at (expected_at volume n before) object part) sum
-      (subst (λ list. IsObjectStored objects uuid_at (expected_at volume (number + 1 + suc i) before) object list)
-      (sym (entries_past_first end entries first object i more follow)) is)
-
-  stored_is_first : (number end : ℕ) (entries : List Entry) (object : StreamObject) (more : List StreamObject)
-      → IsStoredAt number end entries (object ∷ more) 0 object
-      → IsObjectStored objects uuid_at (expected_at volume (number + 1) end) object (take (object.end - end) entries)
-  stored_is_first number end entries object more is =
-      let sum : number + 1 + 0 ≡ number + 1 = omega arith in
-      subst (λ n. IsObjectStored objects uuid_at (expected_at volume n end) object (take (object.end - end) entries)) sum
-      (subst (λ list. IsObjectStored objects uuid_at (expected_at volume (number + 1 + 0) end) object list)
-      (sym (entries_of_first end entries object more)) is)
-
-  stored_by_each : (count number end : ℕ) (entries : List Entry) (list : List StreamObject) → EndsFollow end list
-      → ((i : ℕ) (object : StreamObject) → i < count → slice_get list i ≡ Some object
-      → IsStoredAt number end entries list i object)
-      → AreStored objects uuid_at volume number end entries (take count list)
-  stored_by_each zero number end entries list follow each = tt
-  stored_by_each (suc count) number end entries [] follow each = tt
-  stored_by_each (suc count) number end entries (object ∷ more) follow each = (
-    stored_is_first number end entries object more (each 0 object (omega arith) refl),
-    stored_by_each count (number + 1) object.end (drop (object.end - end) entries) more follow.1
-        (λ i other low at. stored_past_first number end entries object other i more follow (each (suc i) other (omega arith) at)),
-  )
 
 -- a blank image has zeros
 blank_at : (sectors k : ℕ) (sector : List ℕ) → slice_get (blank sectors) k ≡ Some sector → sector ≡ zero_sector
@@ -266,27 +227,13 @@ module _ (uuid : List ℕ) (epoch : ℕ) (plain : PlainState) (puts : ℕ → Op
     is_data : object.content ≡ Data
     is_data = ap (λ (o : StreamObject). o.content) same
 
-    before : end_at stream (n - 1) ≡ end_after plain.end (take i plain.objects)
-    before = let index : n - 1 - plain.number ≡ i = omega arith in ap (λ m. end_after plain.end (take m plain.objects)) index
-
-    ends : end_at stream n ≡ object.end
-    ends =
-        let index : n - plain.number ≡ suc i = omega arith in
-        ap (λ m. end_after plain.end (take m plain.objects)) index ∙ end_up_to plain.end i plain.objects object at
-
-    entries : entries_in_object stream n ≡ entries_at plain.end plain.entries plain.objects i object
-    entries =
-        let from = end_after plain.end (take i plain.objects) in
-        ap (λ last. take (end_at stream n - last) (drop (last - plain.end) plain.entries)) before
-        ∙ ap (λ end. take (end - from) (drop (from - plain.end) plain.entries)) ends
-
     content : HasContent objects uuid_at object.content (entries_at plain.end plain.entries plain.objects i object)
         (rows_of.Data is_object.rows) is_object.payload
     content =
         let part = entries_at plain.end plain.entries plain.objects i object in
         let data_has : HasContent objects uuid_at Data part (rows_of.Data is_object.rows) is_object.payload =
-        subst (λ list. HasContent objects uuid_at Data list (rows_of.Data is_object.rows) is_object.payload) entries
-        is_object.changes in
+        subst (λ list. HasContent objects uuid_at Data list (rows_of.Data is_object.rows) is_object.payload)
+        (entries_there plain i object at) is_object.changes in
         subst (λ (c : Content). HasContent objects uuid_at c part (rows_of.Data is_object.rows) is_object.payload)
         (sym is_data) data_has
 
@@ -300,7 +247,7 @@ module _ (uuid : List ℕ) (epoch : ℕ) (plain : PlainState) (puts : ℕ → Op
       parts =
           subst (λ end. HasParts (expected_at volume n end) there.0 is_object.header (rows_of.Data is_object.rows)
           is_object.payload)
-          before is_object.parts;
+          (end_before plain i object at) is_object.parts;
       ends = sym (ap (λ (o : StreamObject). o.end) same);
       content = content;
     }
@@ -356,3 +303,11 @@ module _ (uuid : List ℕ) (epoch : ℕ) (plain : PlainState) (puts : ℕ → Op
 pub left_has_objects : LeftHasObjects
 left_has_objects uuid epoch plain puts objects valid are left =
     (has_objects uuid epoch plain puts objects valid are left, may_land uuid epoch plain puts objects valid are left)
+
+pub left_has_volume : LeftHasVolume
+left_has_volume uuid epoch plain puts objects valid are left = record {
+  described = left.described;
+  objects_are = has_objects uuid epoch plain puts objects valid are left;
+  opened_first = left.opened_first;
+  none_lower = left.none_lower;
+}

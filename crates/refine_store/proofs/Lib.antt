@@ -1,4 +1,6 @@
 pub mod ObjectLemmas
+pub mod StoredLemmas
 pub mod KeepLemmas
 pub mod JobLemmas
 pub mod LeftLemmas
+pub mod StandLemmas

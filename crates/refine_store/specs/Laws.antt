@@ -1,8 +1,9 @@
--- Contract: what a put gives a store is the plain volume's object, and what a stop leaves of the store has its objects.
+-- Contract: what a put gives a store is the plain volume's object, what a stop leaves of the store has its objects, and what a
+-- mount leaves stands for the volume that it makes.
 use Rattle.std.specs.Prelude.{ℕ, ◌<◌, ◌≤◌, Option, List}
 use Rattle.lsvd_objstore.specs.Objects.{Objects}
 use Rattle.object_format.specs.declared.expected.Expected.{Expected}
-use Rattle.object_uploads.specs.State.{JobState}
+use Rattle.object_uploads.specs.State.{JobState, UploadsState}
 use Rattle.object_uploads.specs.Order.{IsUploads}
 use Rattle.object_uploads.specs.Changes.{IsJobOf}
 use Rattle.obj_log.specs.State.{ObjLogState}
@@ -11,6 +12,7 @@ use Rattle.stopped_volume.specs.Objects.{landed_in}
 use Rattle.stopped_volume.specs.Store.{PutState}
 use Rattle.plain_disk.specs.declared.event.PlainEvent.{PlainEvent}
 use Rattle.plain_disk.specs.declared.log.PlainCommit.{PlainCommit}
+use Rattle.plain_disk.specs.Cache.{PlainCache}
 use Rattle.plain_disk.specs.State.{PlainState}
 use Rattle.plain_disk.specs.Step.{plain_after}
 use Rattle.plain_disk.specs.Stops.{recovered_number}
@@ -20,6 +22,7 @@ use Rattle.object_recovery.specs.Checkpoints.{expected_of}
 use Rattle.refine_mount.specs.Found.{HasObjects}
 use Rattle.refine_mount.specs.Mounted.{mounted_with, mounted_without}
 use Rattle.refine_store.specs.Puts.{IsObjectOf, ArePuts, MayBeLeft}
+use Rattle.refine_store.specs.Stored.{StoreStands, HasVolumeUpTo, HasNonePast}
 
 -- ---- objects
 
@@ -55,3 +58,29 @@ LeftHasObjects =
     → ArePuts (expected_of uuid plain.geometry) plain puts → MayBeLeft uuid epoch plain puts objects
     → HasObjects uuid plain (recovered_number (landed_in objects (expected_of uuid plain.geometry)) plain) objects
     × MayLand plain (landed_in objects (expected_of uuid plain.geometry))
+
+-- so it has the whole volume up to there, which is what a mount goes on from
+abbrev pub LeftHasVolume : Type 0
+LeftHasVolume =
+    (uuid : List ℕ) (epoch : ℕ) (plain : PlainState) (puts : ℕ → Option (PutState × List ℕ)) (objects : Objects)
+    → IsPlainVolume plain
+    → ArePuts (expected_of uuid plain.geometry) plain puts → MayBeLeft uuid epoch plain puts objects
+    → HasVolumeUpTo uuid epoch plain (recovered_number (landed_in objects (expected_of uuid plain.geometry)) plain) objects
+
+-- ---- mounts
+
+-- Once the store has no object past that one, it stands for the volume that a mount makes of the plain one, with the cache or
+-- without it, whatever objects are on their way: none is.
+abbrev pub MountedStands : Type 0
+MountedStands =
+    (uuid : List ℕ) (epoch : ℕ) (plain : PlainState) (found : PlainCommit) (number : ℕ) (uploads : UploadsState)
+    (objects : Objects)
+    → IsPlainVolume plain → HasVolumeUpTo uuid epoch plain number objects → HasNonePast uuid number objects
+    → StoreStands uuid epoch (mounted_with found number plain) uploads objects
+    × StoreStands uuid epoch (mounted_without number plain) uploads objects
+
+-- for which volume a store stands does not depend on the cache
+abbrev pub StandsWithAnyCache : Type 0
+StandsWithAnyCache =
+    (uuid : List ℕ) (epoch : ℕ) (plain : PlainState) (cache : PlainCache) (uploads : UploadsState) (objects : Objects)
+    → StoreStands uuid epoch plain uploads objects → StoreStands uuid epoch (record plain { cache = cache }) uploads objects

@@ -1,13 +1,17 @@
--- Contract: how a store stands for a plain volume while puts of its objects are under way.
-use Rattle.std.specs.Prelude.{◌≡◌, ℕ, ◌<◌, Option, Some, List}
-use Rattle.lsvd_objstore.specs.Objects.{Objects}
+-- Contract: how a store stands for a plain volume while puts of its objects are under way, and what it has of one between a stop
+-- and the end of a mount.
+use Rattle.std.specs.Prelude.{◌≡◌, ℕ, ◌<◌, Option, Some, None, List}
+use Rattle.lsvd_objstore.specs.Objects.{Objects, found}
 use Rattle.object_recovery.specs.Checkpoints.{expected_of}
+use Rattle.object_stream.specs.Replay.{name_of}
 use Rattle.object_uploads.specs.State.{UploadsState}
 use Rattle.object_uploads.specs.Queue.{HasBytesAt}
 use Rattle.object_uploads.specs.Changes.{index_of}
 use Rattle.plain_disk.specs.State.{PlainState}
 use Rattle.stopped_volume.specs.Store.{PutState}
 use Rattle.stopped_volume.specs.Store.PutState.{Begun}
+use Rattle.stopped_volume.specs.Super.{HasVolume}
+use Rattle.refine_mount.specs.Found.{HasObjects}
 use Rattle.refine_store.specs.Puts.{ArePuts, MayBeLeft}
 
 -- A store stands for a plain volume, whose objects on their way are these: it has the volume in this epoch, the checkpoint at
@@ -20,3 +24,15 @@ pub record StoreStands (uuid : List ℕ) (epoch : ℕ) (plain : PlainState) (upl
   pub left : MayBeLeft uuid epoch plain puts objects
   pub sealed : (number : ℕ) (bytes : List ℕ) → plain.number < number → puts number ≡ Some (Begun, bytes)
       → HasBytesAt (index_of uploads number) uploads.queue.sealed bytes
+
+-- A store has a plain volume up to its object of a number, that before the first missing one: the volume in this epoch, and its
+-- objects from the first on up to there, with none below. What it has past them is for a mount to remove.
+pub record HasVolumeUpTo (uuid : List ℕ) (epoch : ℕ) (plain : PlainState) (number : ℕ) (objects : Objects) : Type 0 where
+  pub described : HasVolume uuid plain.geometry epoch objects
+  pub objects_are : HasObjects uuid plain number objects
+  pub opened_first : plain.number ≡ 1
+  pub none_lower : (other : ℕ) → other < plain.number → found objects (name_of uuid other) ≡ None
+
+-- it has none of the volume's objects past a number
+abbrev pub HasNonePast : (uuid : List ℕ) → (number : ℕ) → Objects → Type 0
+HasNonePast uuid number objects = (other : ℕ) → number < other → found objects (name_of uuid other) ≡ None
