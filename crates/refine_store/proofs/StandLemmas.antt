@@ -5,21 +5,24 @@ use Rattle.std.specs.Prelude.{unwrap_or}
 use Rattle.std.specs.List.{slice_get}
 use Rattle.std.proofs.lemmas.List.{length-take-le}
 use Rattle.std.proofs.lemmas.Option.{slice_get-get_or}
+use Rattle.lsvd_base.specs.declared.geometry.Geometry.{Geometry}
+use Rattle.lsvd_names.specs.Names.{numbered_name}
 use Rattle.lsvd_objstore.specs.Objects.{Objects, found}
 use Rattle.object_format.specs.declared.expected.Expected.{Expected}
 use Rattle.object_recovery.specs.Checkpoints.{expected_of}
 use Rattle.object_stream.specs.declared.object.Content.TheVariants.{Data}
 use Rattle.object_stream.specs.declared.object.StreamObject.{StreamObject}
-use Rattle.object_stream.specs.Replay.{name_of}
+use Rattle.object_stream.specs.Replay.{object_name}
 use Rattle.object_uploads.specs.State.{UploadsState}
-use Rattle.plain_disk.specs.Cache.{PlainCache, cache_with}
 use Rattle.plain_disk.specs.Log.{mounted_log, empty_from}
+use Rattle.plain_disk.specs.Cache.{PlainCache, cache_with}
 use Rattle.plain_disk.specs.State.{PlainState}
 use Rattle.plain_disk.specs.Stops.{cut_to_count}
 use Rattle.plain_disk.specs.Valid.{IsPlainVolume}
 use Rattle.stopped_volume.specs.Store.{PutState, MayHoldPut}
 use Rattle.stopped_volume.specs.Store.PutState.{Acknowledged, Begun, NotBegun}
-use Rattle.refine_mount.specs.Mounted.{end_of_object}
+use Rattle.stopped_volume.specs.Super.{HasVolume}
+use Rattle.refine_mount.specs.Mounted.{end_of_object, sizes_with, mounted_without}
 use Rattle.refine_store.specs.Puts.{IsObjectOf, state_of_put, AreBytesOfPut, ArePuts, MayBeLeft}
 use Rattle.refine_store.specs.Stored.{StoreStands, HasVolumeUpTo, HasNonePast}
 use Rattle.refine_store.specs.Laws.{MountedStands, StandsWithAnyCache}
@@ -30,9 +33,13 @@ use Rattle.refine_store.proofs.StoredLemmas.{stored_at, get_within, stored_is_ob
 -- ---- puts of what the store has
 
 -- each object that a store has was put, and is acknowledged
-abbrev pub put_held : Option (List ℕ) → Option (PutState × List ℕ)
+abbrev put_held : Option (List ℕ) → Option (PutState × List ℕ)
 put_held None = None
 put_held (Some bytes) = Some (Acknowledged, bytes)
+
+-- the puts of all those that it has
+abbrev pub puts_in : (uuid : List ℕ) → Objects → ℕ → Option (PutState × List ℕ)
+puts_in uuid objects number = put_held (found objects (numbered_name uuid number))
 
 -- the put that another one is
 same_put : (a b : PutState × List ℕ) → Some a ≡ Some b → a ≡ b
@@ -57,15 +64,28 @@ none_begun (Some there) bytes is =
 
 -- ---- what a mount made
 
+-- the volume has the same sizes but for the log, on whatever log
+has_with_log : (uuid : List ℕ) (geometry : Geometry) (epoch : ℕ) (objects : Objects) (log : ℕ)
+    → HasVolume uuid geometry epoch objects
+    → HasVolume uuid (sizes_with log geometry) epoch objects
+has_with_log uuid geometry epoch objects log has = record {
+  volume = has.volume;
+  says = has.says;
+  sizes = ap (sizes_with log) has.sizes;
+  alone = has.alone;
+  epochs = has.epochs;
+  whole = has.whole;
+}
+
+-- a plain volume with its objects up to a number, its first N entries, a log and a cache
+abbrev made_as : (log number count : ℕ) → PlainCache → PlainState → PlainState
+made_as log number count cache plain =
+    record (cut_to_count number count plain) { geometry = sizes_with log plain.geometry; cache = cache }
+
 module _ (uuid : List ℕ) (epoch : ℕ) (plain : PlainState) (number : ℕ) (objects : Objects) (valid : IsPlainVolume plain)
     (has : HasVolumeUpTo uuid epoch plain number objects) where
   abbrev volume : Expected
   volume = expected_of uuid plain.geometry
-
-  -- it opens at an object that was recovered
-  from : plain.number ≤ number
-  from = let missing = has.objects_are.stored.stored.missing in
-      omega (arith, missing.above, has.objects_are.stored.stored.base)
 
   -- an object that was recovered is the plain volume's
   module _ (i : ℕ) (low : i < number - plain.number) where
@@ -85,7 +105,8 @@ module _ (uuid : List ℕ) (epoch : ℕ) (plain : PlainState) (number : ℕ) (ob
         let same : get_or list i at.0 ≡ at.0 = ap (λ (o : Option StreamObject). unwrap_or o at.0) there in
         subst (λ (o : StreamObject). o.content ≡ Data) same (has.objects_are.stored.hold_data i at.0 inside)
 
-    recovered_at : (bytes : List ℕ) × (found objects (name_of uuid (plain.number + 1 + i)) ≡ Some bytes)
+    recovered_at : (bytes : List ℕ)
+        × (found objects (object_name volume (plain.number + 1 + i)) ≡ Some bytes)
         × IsObjectOf volume plain (plain.number + 1 + i) bytes
     recovered_at =
         let uuid_at = has.objects_are.uuid_at in
@@ -94,71 +115,85 @@ module _ (uuid : List ℕ) (epoch : ℕ) (plain : PlainState) (number : ℕ) (ob
         valid.stream.ends low at.1 has.objects_are.stored.stored.stored)
 
   recovered : (other : ℕ) → plain.number < other → other ≤ number
-      → (bytes : List ℕ) × (found objects (name_of uuid other) ≡ Some bytes) × IsObjectOf volume plain other bytes
+      → (bytes : List ℕ) × (found objects (object_name volume other) ≡ Some bytes)
+      × IsObjectOf volume plain other bytes
   recovered other past low =
       let i = other - (plain.number + 1) in
       let same : plain.number + 1 + i ≡ other = omega (arith, past) in
-      subst (λ n. (bytes : List ℕ) × (found objects (name_of uuid n) ≡ Some bytes) × IsObjectOf volume plain n bytes) same
+      subst (λ n. (bytes : List ℕ) × (found objects (object_name volume n) ≡ Some bytes)
+      × IsObjectOf volume plain n bytes) same
       (recovered_at i (omega (arith, past, low)))
 
-  -- the puts of the objects that are there
-  abbrev puts : ℕ → Option (PutState × List ℕ)
-  puts other = put_held (found objects (name_of uuid other))
-
   -- the volume with these objects, its first N entries and any cache, where each object is one of it
-  module _ (count : ℕ) (cache : PlainCache)
+  module _ (log count : ℕ) (cache : PlainCache)
       (keeps : (other : ℕ) (bytes : List ℕ) → other ≤ number → IsObjectOf volume plain other bytes
-      → IsObjectOf volume (record (cut_to_count number count plain) { cache = cache }) other bytes)
+      → IsObjectOf volume (made_as log number count cache plain) other bytes)
       (none : HasNonePast uuid number objects) where
     abbrev made : PlainState
-    made = record (cut_to_count number count plain) { cache = cache }
+    made = made_as log number count cache plain
 
-    are_puts : ArePuts volume made puts
+    are_puts : ArePuts volume made (puts_in uuid objects)
     are_puts = record {
       known = λ other past low.
           let there = recovered other past low in (there.0, ap put_held there.1, keeps other there.0 low there.2);
       none_else = λ other past. ap put_held (none other past);
     }
 
-    may_be_left : MayBeLeft uuid epoch made puts objects
+    may_be_left : MayBeLeft uuid epoch made (puts_in uuid objects) objects
     may_be_left = record {
-      described = has.described;
+      described = has_with_log uuid plain.geometry epoch objects log has.described;
       opened = has.objects_are.opened;
       opened_first = has.opened_first;
       blank_is = has.objects_are.blank_is;
       first = has.objects_are.stored.stored.based;
       none_lower = has.none_lower;
       held = record {
-        puts_are = λ other state bytes past is. may_hold (found objects (name_of uuid other)) state bytes is;
-        none_else = λ other past is. holds_none (found objects (name_of uuid other)) is;
+        puts_are = λ other state bytes past is. may_hold (found objects (object_name volume other))
+            state bytes is;
+        none_else = λ other past is. holds_none (found objects (object_name volume other)) is;
       };
     }
 
     made_stands : (uploads : UploadsState) → StoreStands uuid epoch made uploads objects
     made_stands uploads = record {
-      puts = puts;
+      puts = puts_in uuid objects;
       are = are_puts;
       left = may_be_left;
-      sealed = λ other bytes past is. absurd (none_begun (found objects (name_of uuid other)) bytes is);
+      sealed = λ other bytes past is. absurd
+          (none_begun (found objects (object_name volume other)) bytes is);
     }
+
+  -- what a mount without the cache makes is left of the store
+  pub without_is_left : (log : ℕ) → HasNonePast uuid number objects
+      → ArePuts volume (mounted_without log number plain) (puts_in uuid objects)
+      × MayBeLeft uuid epoch (mounted_without log number plain) (puts_in uuid objects) objects
+  without_is_left log none =
+      let end = end_of_object number plain in
+      let cache : PlainCache = cache_with (empty_from log end) in
+      let found = plain.cache.log.last in (
+        are_puts log end cache
+            (λ other bytes low is. (mounts_keep_object volume plain found log number other bytes valid low is).1) none,
+        may_be_left log end cache
+            (λ other bytes low is. (mounts_keep_object volume plain found log number other bytes valid low is).1) none,
+      )
 
 -- ---- the laws
 
 pub mounted_stands : MountedStands
-mounted_stands uuid epoch plain found number uploads objects valid has none =
+mounted_stands uuid epoch plain found log number uploads objects valid has none =
     let volume = expected_of uuid plain.geometry in
     let end = end_of_object number plain in (
-      made_stands uuid epoch plain number objects valid has (max end found.head.seq)
+      made_stands uuid epoch plain number objects valid has plain.geometry.log (max end found.head.seq)
           (cache_with (mounted_log found end plain.cache.log))
-          (λ other bytes low is. (mounts_keep_object volume plain found number other bytes valid low is).0) none uploads,
-      made_stands uuid epoch plain number objects valid has end (cache_with (empty_from plain.cache.log.size end))
-          (λ other bytes low is. (mounts_keep_object volume plain found number other bytes valid low is).1) none uploads,
+          (λ other bytes low is. (mounts_keep_object volume plain found log number other bytes valid low is).0) none uploads,
+      made_stands uuid epoch plain number objects valid has log end (cache_with (empty_from log end))
+          (λ other bytes low is. (mounts_keep_object volume plain found log number other bytes valid low is).1) none uploads,
     )
 
 -- an object of a plain volume is one whatever the cache is
-object_with : (cache : PlainCache) (volume : Expected) (plain : PlainState) (number : ℕ) (bytes : List ℕ)
-    → IsObjectOf volume plain number bytes → IsObjectOf volume (record plain { cache = cache }) number bytes
-object_with cache volume plain number bytes is = record {
+object_with : (cache : PlainCache) (expected : Expected) (plain : PlainState) (number : ℕ) (bytes : List ℕ)
+    → IsObjectOf expected plain number bytes → IsObjectOf expected (record plain { cache = cache }) number bytes
+object_with cache expected plain number bytes is = record {
   past = is.past;
   header = is.header;
   object = is.object;
@@ -168,11 +203,11 @@ object_with cache volume plain number bytes is = record {
   changes = is.changes;
 }
 
-bytes_with : (cache : PlainCache) (state : PutState) (volume : Expected) (plain : PlainState) (number : ℕ) (bytes : List ℕ)
-    → AreBytesOfPut state volume plain number bytes → AreBytesOfPut state volume (record plain { cache = cache }) number bytes
-bytes_with cache Acknowledged volume plain number bytes known = object_with cache volume plain number bytes known
-bytes_with cache Begun volume plain number bytes known = object_with cache volume plain number bytes known
-bytes_with cache NotBegun volume plain number bytes known = tt
+bytes_with : (cache : PlainCache) (state : PutState) (expected : Expected) (plain : PlainState) (number : ℕ) (bytes : List ℕ)
+    → AreBytesOfPut state expected plain number bytes → AreBytesOfPut state expected (record plain { cache = cache }) number bytes
+bytes_with cache Acknowledged expected plain number bytes known = object_with cache expected plain number bytes known
+bytes_with cache Begun expected plain number bytes known = object_with cache expected plain number bytes known
+bytes_with cache NotBegun expected plain number bytes known = tt
 
 pub stands_with_any_cache : StandsWithAnyCache
 stands_with_any_cache uuid epoch plain cache uploads objects stands =

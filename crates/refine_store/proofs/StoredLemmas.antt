@@ -13,7 +13,7 @@ use Rattle.object_stream.specs.declared.object.Content.{Content}
 use Rattle.object_stream.specs.declared.object.Content.TheVariants.{Data}
 use Rattle.object_stream.specs.declared.object.StreamObject.{StreamObject}
 use Rattle.object_stream.specs.Changes.{change_at, change_in}
-use Rattle.object_stream.specs.Replay.{name_of, HasParts, expected_at}
+use Rattle.object_stream.specs.Replay.{object_name, HasParts, expected_at}
 use Rattle.object_stream.specs.Stored.{HasContent, IsObjectStored, AreStored}
 use Rattle.object_stream.specs.Stream.{Stream, end_after, end_at, EndsFollow}
 use Rattle.plain_disk.specs.State.{PlainState, stream_in}
@@ -141,7 +141,7 @@ module _ (plain : PlainState) (i : ℕ) (object : StreamObject) (at : slice_get 
   -- one that is stored, and holds data, is the plain volume's
   pub stored_is_object : (objects : Objects) (uuid_at : ℕ → Option (List ℕ)) (volume : Expected) → object.content ≡ Data
       → IsStoredAt objects uuid_at volume plain.number plain.end plain.entries plain.objects i object
-      → (bytes : List ℕ) × (found objects (name_of volume.uuid n) ≡ Some bytes) × IsObjectOf volume plain n bytes
+      → (bytes : List ℕ) × (found objects (object_name volume n) ≡ Some bytes) × IsObjectOf volume plain n bytes
   stored_is_object objects uuid_at volume is_data is =
       let part = entries_at plain.end plain.entries plain.objects i object in
       let data_is = data_content objects uuid_at object.content part is.rows_of is.payload is_data is.content in

@@ -70,14 +70,14 @@ LeftHasVolume =
 -- ---- mounts
 
 -- Once the store has no object past that one, it stands for the volume that a mount makes of the plain one, with the cache or
--- without it, whatever objects are on their way: none is.
+-- without it, on whatever log. All its objects are acknowledged.
 abbrev pub MountedStands : Type 0
 MountedStands =
-    (uuid : List ℕ) (epoch : ℕ) (plain : PlainState) (found : PlainCommit) (number : ℕ) (uploads : UploadsState)
+    (uuid : List ℕ) (epoch : ℕ) (plain : PlainState) (found : PlainCommit) (log number : ℕ) (uploads : UploadsState)
     (objects : Objects)
     → IsPlainVolume plain → HasVolumeUpTo uuid epoch plain number objects → HasNonePast uuid number objects
     → StoreStands uuid epoch (mounted_with found number plain) uploads objects
-    × StoreStands uuid epoch (mounted_without number plain) uploads objects
+    × StoreStands uuid epoch (mounted_without log number plain) uploads objects
 
 -- for which volume a store stands does not depend on the cache
 abbrev pub StandsWithAnyCache : Type 0

@@ -1,9 +1,10 @@
 -- Contract: how a store stands for a plain volume while puts of its objects are under way, and what it has of one between a stop
 -- and the end of a mount.
 use Rattle.std.specs.Prelude.{◌≡◌, ℕ, ◌<◌, Option, Some, None, List}
+use Rattle.lsvd_names.specs.Names.{numbered_name}
 use Rattle.lsvd_objstore.specs.Objects.{Objects, found}
 use Rattle.object_recovery.specs.Checkpoints.{expected_of}
-use Rattle.object_stream.specs.Replay.{name_of}
+use Rattle.object_stream.specs.Replay.{object_name}
 use Rattle.object_uploads.specs.State.{UploadsState}
 use Rattle.object_uploads.specs.Queue.{HasBytesAt}
 use Rattle.object_uploads.specs.Changes.{index_of}
@@ -31,8 +32,8 @@ pub record HasVolumeUpTo (uuid : List ℕ) (epoch : ℕ) (plain : PlainState) (n
   pub described : HasVolume uuid plain.geometry epoch objects
   pub objects_are : HasObjects uuid plain number objects
   pub opened_first : plain.number ≡ 1
-  pub none_lower : (other : ℕ) → other < plain.number → found objects (name_of uuid other) ≡ None
+  pub none_lower : (other : ℕ) → other < plain.number → found objects (object_name (expected_of uuid plain.geometry) other) ≡ None
 
 -- it has none of the volume's objects past a number
 abbrev pub HasNonePast : (uuid : List ℕ) → (number : ℕ) → Objects → Type 0
-HasNonePast uuid number objects = (other : ℕ) → number < other → found objects (name_of uuid other) ≡ None
+HasNonePast uuid number objects = (other : ℕ) → number < other → found objects (numbered_name uuid other) ≡ None

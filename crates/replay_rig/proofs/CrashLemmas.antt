@@ -3,13 +3,14 @@ use Rattle.std.proofs.Common.{◌≡◌, ℕ, zero, suc, ◌+◌, ◌<◌, ◌�
 use Rattle.std.proofs.Common.{refl, sym, ◌∙◌, ap, subst, inl, inr, arith, rules}
 use Rattle.std.specs.Prelude.{Option, Some, None, IsSome, Result, Ok, Err, OnOk, IfOk, not, ◌==◌}
 use Rattle.std.specs.declared.alloc.AllocError.{AllocError}
+use Rattle.std.proofs.lemmas.Bool.{cases_lt}
 use Rattle.std.proofs.lemmas.List.Elements.{All-from_recursion}
 use Rattle.lsvd_names.specs.Spelling.{IsUuid}
 use Rattle.std.proofs.lemmas.List.{length-take-le, length_push, take_more}
 use Rattle.lsvd_base.specs.declared.geometry.Geometry.{Geometry}
 use Rattle.lsvd_fault.specs.Faults.{Counts, CountsOne}
 use Rattle.lsvd_names.specs.declared.name.ObjName.{ObjName}
-use Rattle.lsvd_names.specs.Names.{super_name, epoch_name, numbered_name}
+use Rattle.lsvd_names.specs.Names.{super_name, numbered_name}
 use Rattle.lsvd_device.specs.Medium.{Medium}
 use Rattle.lsvd_device.specs.Calls.{Fuse, Budget, Cost, Takes, fuse_of, passes, fuse_after}
 use Rattle.lsvd_device.specs.Device.{DiskState, HoldsNow, MakesCalls}
@@ -20,9 +21,9 @@ use Rattle.lsvd_device.specs.declared.fate.Fate.{Fate}
 use Rattle.lsvd_objstore.specs.Memory.{Kept}
 use Rattle.lsvd_objstore.specs.Objects.{Objects, found, IsPut}
 use Rattle.lsvd_objstore.specs.Store.{Becomes}
+use Rattle.object_uploads.specs.State.{UploadsState}
 use Rattle.stopped_volume.specs.Objects.{IsCheckpointOf}
-use Rattle.stopped_volume.specs.Super.{HasVolume}
-use Rattle.super_recovery.proofs.LawLemmas.{says_the_same, next_epoch_is_begun}
+use Rattle.super_recovery.proofs.LawLemmas.{next_epoch_is_begun}
 use Rattle.object_recovery.specs.Checkpoints.{expected_of}
 use Rattle.commit_slot.specs.Slots.{log_of}
 use Rattle.commit_slot.specs.Formatting.{format_cost, format_calls}
@@ -34,6 +35,7 @@ use Rattle.object_recovery.specs.Recovery.{RemovesAllPast}
 use Rattle.refine_log.specs.Fuses.{fuse_in}
 use Rattle.refine_log.specs.Pending.{ShowsPending}
 use Rattle.refine_log.proofs.Asked.{asked, has_now}
+use Rattle.refine_store.specs.Stored.{StoreStands}
 use Rattle.vol_core.specs.Volume.{SteppedVolume}
 use Rattle.vol_core.specs.Creating.{IsCreated, CostsFormat, CanFormat}
 use Rattle.vol_core.proofs.CreateLemmas.{format_covered}
@@ -50,9 +52,10 @@ use Rattle.vol_mount.specs.Epochs.{BeginsEpoch}
 use Rattle.vol_mount.specs.Mounted.{MountedState, disk_of, IsOfVolume}
 use Rattle.vol_mount.specs.Mounting.{RefusesNoneStored, RefusesNoneLeft, KeepsLeft}
 use Rattle.vol_mount.specs.Refusals.{IsWhyLost, IsWhyNotLeft, refuses, is_device_fault, is_store_fault_of}
-use Rattle.vol_recover.specs.Creating.{PutsVolume, IsNewTo, HasNewVolume, MayFormat, is_put_fault}
+use Rattle.vol_recover.specs.Creating.{IsNewTo, HasNewVolume, MayFormat, is_put_fault}
 use Rattle.vol_recover.specs.Describing.{OfVolume, IsWhyFor}
 use Rattle.vol_recover.proofs.ForCallers.{FailsToFormatIn}
+use Rattle.vol_recover.proofs.StandLemmas.{removal_keeps_volume}
 use Rattle.replay_rig.specs.Crash.{FailsNone, IsBlankDisk, IsLeftBy, IsNewVolume, MayMountStored, MayMountLeft}
 use Rattle.replay_rig.specs.Crash.{RemovesNumbers, IsMountedVolume, IsPutAs}
 use Rattle.replay_rig.specs.Puts.{PutView, IsPutOut}
@@ -119,59 +122,52 @@ no_fault one = elim one.risen [ inl less ↦ omega (arith, less) | inr most ↦ 
 blank_now : (len : ℕ) (disk : DiskState) → IsBlankDisk len disk → HasNow (λ now. Unit {0}) disk.moments
 blank_now len disk blank = subst (HasNow (λ now. Unit {0})) (sym blank.moments) tt
 
-other_name : (uuid : List ℕ) (number : ℕ) → (number ≡ 1 → ⊥) → numbered_name uuid number ≡ numbered_name uuid 1 → ⊥
-other_name uuid number other same = other (ap (λ (name : ObjName). name.number) same)
-
 -- an empty store has nothing of a volume
 empty_is_new : (objects : Objects) → objects ≡ [] → IsNewTo script_uuid objects
 empty_is_new objects empty = λ name own there. absurd (there (ap (λ (os : Objects). found os name) empty))
 
--- no other numbered object was put
-no_other : (geometry : Geometry) (old new : Objects) (number : ℕ) → (number ≡ 1 → ⊥) → PutsVolume script_uuid geometry old new
-    → found new (numbered_name script_uuid number) ≡ found old (numbered_name script_uuid number)
-no_other geometry old new number other puts =
-    let (middle, (first, put, epoch), whole) = puts in
-    whole.others (numbered_name script_uuid number) (λ same. (let e = ap (λ (name : ObjName). name.kind) same in cc))
-    ∙ epoch.others (numbered_name script_uuid number) (λ same. (let e = ap (λ (name : ObjName). name.kind) same in cc))
-    ∙ put.1.others (numbered_name script_uuid number) (other_name script_uuid number other)
-
--- the first object stands
-first_there : (geometry : Geometry) (old new : Objects) → PutsVolume script_uuid geometry old new
+-- the first object stands in a store that stands for a new volume, and no other one does
+new_first : (geometry : Geometry) (uploads : UploadsState) (new : Objects)
+    → StoreStands script_uuid 0 (created_volume geometry) uploads new
     → IsCheckpointOf (expected_of script_uuid geometry) new 1 0 (λ k. None)
-first_there geometry old new puts =
-    let (middle, (first, put, epoch), whole) = puts in
-    let name : ObjName = numbered_name script_uuid 1 in
-    let there : found new name ≡ found first name =
-    whole.others name (λ same. (let e = ap (λ (n : ObjName). n.kind) same in cc))
-    ∙ epoch.others name (λ same. (let e = ap (λ (n : ObjName). n.kind) same in cc)) in
+new_first geometry uploads new stands =
+    let first = stands.left.first in
     record {
-      bytes = put.2.bytes;
-      present = there ∙ put.2.present;
-      header = put.2.header;
-      payload = put.2.payload;
-      parts = put.2.parts;
-      ends = put.2.ends;
-      none = put.2.none;
+      bytes = first.bytes;
+      present = first.present;
+      header = first.header;
+      payload = first.payload;
+      parts = first.parts;
+      ends = first.ends;
+      none = λ k. refl;
     }
+
+new_alone : (geometry : Geometry) (uploads : UploadsState) (new : Objects) (number : ℕ)
+    → StoreStands script_uuid 0 (created_volume geometry) uploads new → (number ≡ 1 → ⊥)
+    → found new (numbered_name script_uuid number) ≡ None
+new_alone geometry uploads new number stands other =
+    elim (cases_lt 1 number) [
+      | inl past ↦ stands.left.held.none_else number past (stands.are.none_else number past)
+      | inr low ↦ stands.left.none_lower number (omega (arith, low, other))
+    ]
 
 pub new_volume : (geometry : Geometry) (disk : DiskState) (volume : SteppedVolume) (old new : Objects)
     → FailsNone format_cost disk
     → IsBlankDisk disk.size disk → old ≡ [] → IsCreated script_uuid geometry volume
-    → Becomes (PutsVolume script_uuid geometry) (Some old) (Some new)
     → (IsNewTo script_uuid old → HasNewVolume script_uuid geometry new)
     → CostsFormat script_uuid true disk volume.volume.log.commits.disk
     → (CanFormat disk → ShowsPending volume.volume.log (created_volume geometry).cache) → IsNewVolume geometry volume new
-new_volume geometry disk volume old new fails blank empty created becomes stands calls pending =
-    let puts = becomes_told (PutsVolume script_uuid geometry) old new becomes in
+new_volume geometry disk volume old new fails blank empty created has calls pending =
+    let new_one = has (empty_is_new old empty) in
+    let uploads : UploadsState = volume.volume.objects.uploads in
     record {
       created = created;
       fuse = (makes_all format_cost true disk volume.volume.log.commits.disk fails calls.calls).1;
       pending = pending (record { now = blank_now disk.size disk blank; room = fails.room });
       commits = created.number;
-      described = (stands (empty_is_new old empty)).0;
-      first = first_there geometry old new puts;
-      none_else = λ number other. no_other geometry old new number other puts
-          ∙ ap (λ (objects : Objects). found objects (numbered_name script_uuid number)) empty;
+      described = new_one.0;
+      first = new_first geometry uploads new (new_one.2 uploads);
+      none_else = λ number other. new_alone geometry uploads new number (new_one.2 uploads) other;
     }
 
 -- what ends a creation is want of memory alone
@@ -270,16 +266,6 @@ removes_numbers number old new removed = record {
   ];
 }
 
--- what a removal leaves of what the store says of the volume
-removal_keeps_volume : (number : ℕ) (old new : Objects) (geometry : Geometry) (epoch : ℕ)
-    → RemovesAllPast script_uuid number old new
-    → HasVolume script_uuid geometry epoch old → HasVolume script_uuid geometry epoch new
-removal_keeps_volume number old new geometry epoch removed has =
-    (says_the_same script_uuid old new (record {
-      of_super = removed.removes.others (super_name script_uuid) (λ past. (let e = past.1.0 in cc));
-      of_epochs = λ n. removed.removes.others (epoch_name script_uuid n) (λ past. (let e = past.1.0 in cc));
-    })).has geometry epoch has
-
 pub mounted_again : (geometry : Geometry) (disk : DiskState) (mounted : MountedState) (old new : Objects)
     → FailsNone (mount_cost 0) disk
     → MayMountLeft geometry old disk
@@ -295,7 +281,7 @@ mounted_again geometry disk mounted old new fails may volume becomes stops costs
     let removed = becomes_told (RemovesAllPast script_uuid mounted.number) old new becomes in
     record {
       volume = volume g epoch log described;
-      described = removal_keeps_volume mounted.number old new g epoch removed described;
+      described = removal_keeps_volume script_uuid mounted.number old new removed.removes g epoch described;
       removed = removes_numbers mounted.number old new removed;
       fuse = (mounts_all (log_of disk.size) true disk (disk_of mounted) fails costs).1;
       now = synced_one (disk_of mounted).moments synced (subst (HasNow (λ now. Unit {0})) (sym since.moments) one);
@@ -338,8 +324,8 @@ mounted_anew disk mounted old new fails blank volume becomes costs synced = λ g
     record {
       volume = volume g epoch log described;
       described =
-          next_epoch_is_begun script_uuid g epoch middle new (removal_keeps_volume mounted.number old middle g epoch removed
-          described) put;
+          next_epoch_is_begun script_uuid g epoch middle new
+          (removal_keeps_volume script_uuid mounted.number old middle removed.removes g epoch described) put;
       removed = begun_numbers mounted.number (epoch + 1) old new begun;
       fuse = (makes_all format_cost true disk (disk_of mounted) fails costs.1.calls.calls).1;
       now = synced_one (disk_of mounted).moments synced (formatted_one costs.0 costs.1.end disk (disk_of mounted) fails blank

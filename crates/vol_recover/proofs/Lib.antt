@@ -2,4 +2,6 @@ pub mod Results
 pub mod ForCallers
 pub mod CreateLemmas
 pub mod NewLemmas
+pub mod StandLemmas
+pub mod StopLemmas
 pub mod AdmitLemmas

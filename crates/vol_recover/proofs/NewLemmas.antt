@@ -7,13 +7,16 @@ use Rattle.lsvd_names.specs.declared.name.ObjName.{ObjName}
 use Rattle.lsvd_names.specs.Names.{super_name, epoch_name, numbered_name}
 use Rattle.lsvd_objstore.specs.Objects.{Objects, found}
 use Rattle.lsvd_objstore.specs.Store.{Becomes}
+use Rattle.object_uploads.specs.State.{UploadsState}
 use Rattle.stopped_volume.specs.Objects.{IsCheckpointOf}
 use Rattle.stopped_volume.specs.Store.{PutState, MayHoldPuts}
+use Rattle.stopped_volume.specs.Store.PutState.{Begun}
 use Rattle.stopped_volume.specs.Super.{HasVolume}
 use Rattle.plain_disk.specs.State.{created_volume, stream_in}
 use Rattle.plain_disk.proofs.EventLemmas.{created_is}
 use Rattle.object_recovery.specs.Checkpoints.{expected_of}
 use Rattle.refine_store.specs.Puts.{ArePuts, MayBeLeft}
+use Rattle.refine_store.specs.Stored.{StoreStands}
 use Rattle.refine_store.specs.Laws.{LeftHasObjects}
 use Rattle.super_recovery.specs.Found.{HasEpoch}
 use Rattle.super_recovery.specs.Laws.{VolumeIsCreated}
@@ -39,7 +42,7 @@ other_epoch : (uuid : List ℕ) (number : ℕ) → 0 < number → epoch_name uui
 other_epoch uuid number past same = let number_is : number ≡ 0 = ap (λ (n : ObjName). n.number) same in
     omega (arith, number_is, past)
 
-epoch_is_no_object : (uuid : List ℕ) (number epoch : ℕ) → numbered_name uuid number ≡ epoch_name uuid epoch → ⊥
+pub epoch_is_no_object : (uuid : List ℕ) (number epoch : ℕ) → numbered_name uuid number ≡ epoch_name uuid epoch → ⊥
 epoch_is_no_object uuid number epoch same = let kind = ap (λ (n : ObjName). n.kind) same in cc
 
 super_is_no_object : (uuid : List ℕ) (number : ℕ) → numbered_name uuid number ≡ super_name uuid → ⊥
@@ -154,11 +157,20 @@ module _ (uuid : List ℕ) (geometry : Geometry) (old : Objects) (new_to : IsNew
     are_puts : ArePuts (expected_of uuid geometry) (created_volume geometry) no_puts
     are_puts = record { known = λ number past within. absurd (omega arith); none_else = λ number past. refl }
 
+    stands : (uploads : UploadsState) → StoreStands uuid 0 (created_volume geometry) uploads new
+    stands uploads = record {
+      puts = no_puts;
+      are = are_puts;
+      left = may_be_left;
+      sealed = λ number bytes past some. absurd (none_is_some (Begun, bytes) some);
+    }
+
     has_new_volume : HasNewVolume uuid geometry new
     has_new_volume = (
       has_volume,
       (left uuid 0 (created_volume geometry) no_puts new (created_is geometry limits) are_puts
           may_be_left).0,
+      stands,
     )
 
 -- ---- what a creation leaves

@@ -10,6 +10,7 @@ use Rattle.lsvd_objstore.specs.declared.error.StoreError.TheVariants as store_er
 use Rattle.object_format.specs.declared.header.Header.{Header}
 use Rattle.object_format.specs.declared.rows.Rows.TheVariants.{Checkpoint}
 use Rattle.object_stream.specs.Replay.{object_name, HasParts}
+use Rattle.object_uploads.specs.State.{UploadsState}
 use Rattle.super_format.specs.declared.super_object.Super.{Super}
 use Rattle.stopped_volume.specs.Objects.{expected_alone, IsCheckpointOf}
 use Rattle.stopped_volume.specs.Super.{HasVolume}
@@ -19,6 +20,7 @@ use Rattle.super_recovery.specs.declared.error.SuperError.{SuperError}
 use Rattle.super_recovery.specs.declared.error.SuperError.TheVariants as super_errors
 use Rattle.super_recovery.specs.Put.{PutsSuper, PutsEpoch}
 use Rattle.refine_mount.specs.Found.{HasObjects}
+use Rattle.refine_store.specs.Stored.{StoreStands}
 use Rattle.vol_core.specs.Creating.{CostsFormat}
 use Rattle.vol_recover.specs.declared.creating.CreateError.{CreateError}
 use Rattle.vol_recover.specs.declared.creating.CreateError.TheVariants.{Exists, StoreFault, DeviceFault, OutOfMemory}
@@ -87,9 +89,11 @@ abbrev pub IsNewTo : (uuid : List ℕ) → Objects → Type 0
 IsNewTo uuid objects =
     (name : ObjName) → name.uuid ≡ uuid → found objects name ≢ None → (name ≡ numbered_name uuid 1) ⊎ (name ≡ epoch_name uuid 0)
 
--- the store has the volume, with no entries
+-- the store has the volume, with no entries, and stands for it, whatever objects are on their way: none is
 abbrev pub HasNewVolume : (uuid : List ℕ) → Geometry → Objects → Type 0
-HasNewVolume uuid geometry objects = HasVolume uuid geometry 0 objects × HasObjects uuid (created_volume geometry) 1 objects
+HasNewVolume uuid geometry objects =
+    HasVolume uuid geometry 0 objects × HasObjects uuid (created_volume geometry) 1 objects
+    × ((uploads : UploadsState) → StoreStands uuid 0 (created_volume geometry) uploads objects)
 
 -- the store has no volume, or has it so
 abbrev pub HasNoneOrNew : (uuid : List ℕ) → Geometry → Objects → Type 0

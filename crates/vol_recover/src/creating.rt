@@ -93,10 +93,10 @@ impl From<Failed> for CreateError {
 ///
 /// The geometry is within the limits, its log has just the sectors of the device past byte 4,096, and the
 /// device is a disk (conditions). Where the store has no more of the volume than a creation leaves that was
-/// stopped, it has no volume until the super object is put, and then the whole one, with no entries. The
-/// device is asked for the calls of formatting alone, of which those are made that its fuse passes, where it
-/// has room for them; and where it tells what it holds too, nothing is pending then. An error comes with the
-/// device, which is a disk still:
+/// stopped, it has no volume until the super object is put, and then the whole one, with no entries, for
+/// which it stands. The device is asked for the calls of formatting alone, of which those are made that its
+/// fuse passes, where it has room for them; and where it tells what it holds too, nothing is pending then. An
+/// error comes with the device, which is a disk still:
 ///
 /// - `Exists`: the store has a super object of the volume. Nothing was changed.
 /// - `StoreFault`: a call of the store failed, which the store counted. Some of the puts were made, in their

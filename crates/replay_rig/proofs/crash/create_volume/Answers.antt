@@ -1,8 +1,6 @@
 use Rattle.std.proofs.Common.{◌≡◌, true, List, ℕ, subst}
-use Rattle.std.specs.Prelude.{Some}
-use Rattle.lsvd_objstore.specs.Store.{Becomes}
 use Rattle.vol_core.specs.Creating.{IsCreated, CostsFormat}
-use Rattle.vol_recover.specs.Creating.{PutsVolume, IsNewTo, HasNewVolume}
+use Rattle.vol_recover.specs.Creating.{IsNewTo, HasNewVolume}
 use Rattle.replay_rig.specs.Rig.{script_uuid}
 use Rattle.replay_rig.proofs.CrashLemmas.{new_volume}
 use Rattle.replay_rig.proofs.crash.create_volume.Goals as goal
@@ -17,6 +15,5 @@ returns-in-Ok c =
     let e = c.in-Ok.ensures in
     new_volume geometry c.args.disk volume old new c.requires.fails_none c.requires.blank c.requires.empty
     (subst (λ (u : List ℕ). IsCreated u geometry volume) uuid e.ok)
-    (subst (λ (u : List ℕ). Becomes (PutsVolume u geometry) (Some old) (Some new)) uuid e.made)
     (subst (λ (u : List ℕ). IsNewTo u old → HasNewVolume u geometry new) uuid e.stands)
     (subst (λ (u : List ℕ). CostsFormat u true c.args.disk volume.volume.log.commits.disk) uuid e.calls) e.pending

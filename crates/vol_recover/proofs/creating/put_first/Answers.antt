@@ -1,4 +1,4 @@
-use Rattle.std.proofs.Common.{◌≡◌, List, ◌∙◌, subst, ap, ℕ}
+use Rattle.std.proofs.Common.{◌≡◌, subst}
 use Rattle.lsvd_names.specs.Names.{numbered_name}
 use Rattle.lsvd_objstore.specs.Objects.{IsPut, MayBePut}
 use Rattle.lsvd_objstore.specs.Store.{Becomes}

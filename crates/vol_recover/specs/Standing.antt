@@ -1,0 +1,149 @@
+-- Contract: from its creation on, and over mounts, a volume stands with its store; and what a stop leaves of the two, also in the
+-- midst of a mount, is what the next mount asks for.
+use Rattle.std.specs.Prelude.{ℕ, ◌+◌, ◌⊎◌, Some, OnSome, IsTrue, List}
+use Rattle.lsvd_base.specs.declared.geometry.Geometry.{Geometry}
+use Rattle.lsvd_base.specs.Limits.{is_within_limits}
+use Rattle.lsvd_device.specs.Device.{DiskState, HoldsNow, HoldsSince}
+use Rattle.lsvd_device.specs.Medium.{Medium, MayLeave}
+use Rattle.lsvd_device.specs.Stop.{HasNow}
+use Rattle.lsvd_names.specs.Spelling.{IsUuid}
+use Rattle.lsvd_objstore.specs.Objects.{Objects}
+use Rattle.lsvd_objstore.specs.Store.{ReceiptState}
+use Rattle.stopped_volume.specs.Objects.{landed_in}
+use Rattle.plain_disk.specs.declared.log.PlainCommit.{PlainCommit}
+use Rattle.plain_disk.specs.State.{PlainState, created_volume}
+use Rattle.plain_disk.specs.Stops.{recovered_number}
+use Rattle.object_recovery.specs.Checkpoints.{expected_of}
+use Rattle.object_recovery.specs.Recovery.{RemovesAllPast, MayRemovePast}
+use Rattle.refine_log.specs.Fuses.{fuse_in}
+use Rattle.refine_log.specs.Stops.{IsFoundCommit}
+use Rattle.refine_mount.specs.Mounted.{mounted_with, sizes_with, mounted_without}
+use Rattle.refine_mount.specs.Stops.{StopKeepsMount}
+use Rattle.refine_store.specs.Stored.{StoreStands, HasVolumeUpTo}
+use Rattle.vol_core.specs.declared.event.Event.{Event}
+use Rattle.vol_core.specs.declared.reply.Reply.{Reply}
+use Rattle.vol_core.specs.Creating.{IsCreated}
+use Rattle.vol_core.specs.Shows.{Shows, IsVolume}
+use Rattle.vol_core.specs.Step.{passing, CountedStep}
+use Rattle.vol_core.specs.Stops.{MayBeLeftBy, HasOwnCommits, KeepsNow}
+use Rattle.vol_core.specs.Volume.{VolumeState, SteppedVolume}
+use Rattle.vol_mount.specs.Epochs.{BeginsEpoch, MayBeginEpoch}
+use Rattle.vol_mount.specs.Mounted.{MountedState}
+use Rattle.vol_mount.specs.Mounting.{IsStored, IsLeft, MountsStored, MountsLeft}
+use Rattle.vol_recover.specs.Creating.{HasNewVolume}
+
+-- ---- what stands
+
+-- a volume shows a plain volume, for which the objects of its store stand in an epoch
+pub record StandsWithStore (uuid : List ℕ) (epoch : ℕ) (plain : PlainState) (volume : VolumeState) (objects : Objects) :
+    Type 0 where
+  pub shows : Shows volume plain
+  pub stands : StoreStands uuid epoch plain volume.objects.uploads objects
+
+-- the same of a volume that was created or mounted as a plain one, whose device passes the calls that its own does
+abbrev pub IsMadeWithStore : (uuid : List ℕ) → (epoch : ℕ) → PlainState → VolumeState → Objects → Type 0
+IsMadeWithStore uuid epoch plain volume objects =
+    StandsWithStore uuid epoch (passing (fuse_in volume.log.commits.disk.budget) plain) volume objects
+
+-- ---- what a mount asks for
+
+-- A store may be mounted without the cache on a log of so many sectors: it has a plain volume up to its object of a number, that
+-- before the first missing one.
+pub record MayMountWithout (uuid : List ℕ) (log epoch : ℕ) (plain : PlainState) (number : ℕ) (objects : Objects) : Type 0 where
+  pub stored : IsStored uuid (sizes_with log plain.geometry) plain number (Some objects)
+  pub volume : HasVolumeUpTo uuid epoch plain number objects
+
+-- and with it: the device reads as this commit of the plain volume
+pub record MayMountWith (uuid : List ℕ) (epoch : ℕ) (plain : PlainState) (found : PlainCommit) (number : ℕ) (objects : Objects)
+    (disk : DiskState) : Type 0 where
+  pub left : IsLeft uuid plain.geometry epoch plain found number (Some objects) disk
+  pub volume : HasVolumeUpTo uuid epoch plain number objects
+
+-- whatever a stop leaves of a medium, a device that has it may be mounted with these objects: it reads as a commit with P
+abbrev pub StopMayMount : (uuid : List ℕ) → (epoch : ℕ) → PlainState → (P : PlainCommit → Type 0) → Objects → Medium → Type 0
+StopMayMount uuid epoch plain P objects medium =
+    (disk : DiskState) → HasNow (λ now. MayLeave medium now.bytes) disk.moments
+    → (found : PlainCommit) × P found
+    × MayMountWith uuid epoch plain found (recovered_number (landed_in objects (expected_of uuid plain.geometry)) plain) objects
+    disk
+
+-- ---- creations and mounts
+
+-- a volume that was created stands with its store in epoch 0
+abbrev pub CreatedStands : Type 0
+CreatedStands =
+    (uuid : List ℕ) (geometry : Geometry) (stepped : SteppedVolume) (objects : Objects) → IsCreated uuid geometry stepped
+    → HasNewVolume uuid geometry objects → IsMadeWithStore uuid 0 (created_volume geometry) stepped.volume objects
+
+-- one that was mounted with its cache does in the epoch that there was
+abbrev pub MountedWithStands : Type 0
+MountedWithStands =
+    (uuid : List ℕ) (epoch : ℕ) (plain : PlainState) (found : PlainCommit) (number : ℕ) (old new : Objects) (disk : DiskState)
+    (mounted : MountedState)
+    → IsUuid uuid → MayMountWith uuid epoch plain found number old disk
+    → MountsLeft uuid plain.geometry epoch (Some old) disk mounted → RemovesAllPast uuid mounted.number old new
+    → IsMadeWithStore uuid epoch (mounted_with found number plain) mounted.volume.volume new
+
+-- and one without it in the next epoch
+abbrev pub MountedWithoutStands : Type 0
+MountedWithoutStands =
+    (uuid : List ℕ) (log epoch : ℕ) (plain : PlainState) (number : ℕ) (old new : Objects) (mounted : MountedState)
+    → IsUuid uuid → MayMountWithout uuid log epoch plain number old
+    → MountsStored uuid (sizes_with log plain.geometry) (Some old) mounted
+    → BeginsEpoch uuid mounted.number (epoch + 1) old new
+    → IsMadeWithStore uuid (epoch + 1) (mounted_without log number plain) mounted.volume.volume new
+
+-- ---- stops
+
+-- Of a volume that stands with its store, the store may be mounted without the cache, up to the object before the first missing
+-- number. Whatever a stop in the midst of a put leaves of it stands too, so that this and what follows is said of that.
+abbrev pub StopLeavesStore : Type 0
+StopLeavesStore =
+    (stepped : SteppedVolume) (epoch : ℕ) (plain : PlainState) (objects : Objects) (log : ℕ) → IsVolume stepped
+    → StandsWithStore stepped.volume.objects.uploads.uuid epoch plain stepped.volume objects
+    → IsTrue (is_within_limits (sizes_with log plain.geometry))
+    → MayMountWithout stepped.volume.objects.uploads.uuid log epoch plain
+    (recovered_number (landed_in objects (expected_of stepped.volume.objects.uploads.uuid plain.geometry)) plain) objects
+
+-- And with the cache, by whatever a stop leaves of the device: that reads as the last commit of the plain volume or as the
+-- unfinished one.
+abbrev pub StopLeavesBoth : Type 0
+StopLeavesBoth =
+    (stepped : SteppedVolume) (epoch : ℕ) (plain : PlainState) (objects : Objects) → IsVolume stepped
+    → KeepsNow epoch stepped.volume → StandsWithStore stepped.volume.objects.uploads.uuid epoch plain stepped.volume objects
+    → HoldsNow (StopMayMount stepped.volume.objects.uploads.uuid epoch plain (λ found. IsFoundCommit found plain.cache.log)
+    objects) stepped.volume.log.commits.disk.moments
+
+-- So it is at each moment of a step, of the plain volume before it: the device reads as a commit that a stop may leave in the
+-- midst of a step of this event.
+abbrev pub StepLeavesBoth : {R : Type 0} → (R → ReceiptState) → Type 0
+StepLeavesBoth {R} state =
+    (event : Event R) (reply : Reply R) (old new : SteppedVolume) (epoch : ℕ) (plain : PlainState) (objects : Objects)
+    → IsVolume old → HasOwnCommits epoch old.volume → CountedStep state event reply old new
+    → StandsWithStore old.volume.objects.uploads.uuid epoch plain old.volume objects
+    → OnSome old.volume.log.all (HoldsSince (StopMayMount old.volume.objects.uploads.uuid epoch plain (MayBeLeftBy event plain)
+    objects) old.volume.log.commits.disk.moments new.volume.log.commits.disk.moments)
+
+-- ---- a mount that is stopped
+
+-- What a mount with the cache leaves that was stopped, or that failed, may be mounted with it again: as the same plain volume, or
+-- as that which the mount was to make. Either makes the same.
+abbrev pub StoppedWithCache : Type 0
+StoppedWithCache =
+    (uuid : List ℕ) (epoch : ℕ) (plain : PlainState) (found : PlainCommit) (number : ℕ) (old new : Objects)
+    (disk left : DiskState) (medium : Medium)
+    → MayMountWith uuid epoch plain found number old disk → MayRemovePast (Unit {0}) (expected_of uuid plain.geometry) old new
+    → StopKeepsMount (record { uuid = uuid; epoch = epoch }) plain found number medium
+    → HasNow (λ now. MayLeave medium now.bytes) left.moments
+    → MayMountWith uuid epoch plain found number new left
+    ⊎ MayMountWith uuid epoch (mounted_with found number plain) (mounted_with found number plain).cache.log.last number new left
+
+-- What one without the cache leaves may be mounted without it again: as the same plain volume, or in the next epoch as that which
+-- the mount was to make. This makes the same.
+abbrev pub StoppedWithoutCache : Type 0
+StoppedWithoutCache =
+    (uuid : List ℕ) (log epoch : ℕ) (plain : PlainState) (number : ℕ) (old new : Objects) → IsUuid uuid
+    → MayMountWithout uuid log epoch plain number old
+    → MayBeginEpoch (Unit {0}) (expected_of uuid plain.geometry) (epoch + 1) old new
+    → MayMountWithout uuid log epoch plain number new ⊎ MayMountWithout uuid log (epoch + 1) (mounted_without log number plain)
+    number new
