@@ -1,5 +1,5 @@
 -- Contract: what a store says of a volume that is mounted, and what is claimed of the volume that it has.
-use Rattle.std.specs.Prelude.{◌≡◌, ℕ, false, ◌⊎◌, Option, IsSomeAnd, IfSome, List, []}
+use Rattle.std.specs.Prelude.{◌≡◌, ℕ, false, ◌⊎◌, Option, IsSomeAnd, IfSome, List, [], length}
 use Rattle.lsvd_base.specs.declared.geometry.Geometry.{Geometry}
 use Rattle.lsvd_base.specs.Limits.{is_within_limits}
 use Rattle.lsvd_objstore.specs.Objects.{Objects}
@@ -36,7 +36,8 @@ IsWhyNotDescribed uuid objects NoVolume = IfSome objects (λ objects. IsVolumeRe
 IsWhyNotDescribed uuid objects (BadSuper reason) =
     IfSome objects (λ objects. IsVolumeRefused uuid objects (supers.BadSuper reason))
 IsWhyNotDescribed uuid objects (HasAncestors count) =
-    IfSome objects (λ objects. (volume : Super) × HasSuper uuid volume objects × (volume.chain ≡ [] → ⊥))
+    IfSome objects (λ objects. (volume : Super) × HasSuper uuid volume objects × (volume.chain ≡ [] → ⊥)
+    × (count ≡ length volume.chain))
 IsWhyNotDescribed uuid objects StoreFault = Unit {0}
 IsWhyNotDescribed uuid objects OutOfMemory = Unit {0}
 IsWhyNotDescribed uuid objects error = ⊥
