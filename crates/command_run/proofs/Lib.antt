@@ -1,2 +1,3 @@
 mod Ran
+mod Reached
 mod Reported

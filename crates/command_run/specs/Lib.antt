@@ -1,3 +1,4 @@
 pub mod Help
+pub mod MemWorld
 pub mod QuietWorld
 pub mod Run

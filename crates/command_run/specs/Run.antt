@@ -1,7 +1,9 @@
 -- Contract: what a run of the program says of its input, of its output and of its status.
-use Rattle.std.specs.Prelude.{◌≡◌, ◌⊎◌, ℕ, List, Option, IfSome}
+use Rattle.std.specs.Prelude.{◌≡◌, ◌⊎◌, ℕ, Bool, List, Option, IfSome}
 use Rattle.std.specs.Io.KnownBytes.{Appends}
+use Rattle.lsvd_device.specs.Device.{DiskState}
 use Rattle.lsvd_fault.specs.Faults.{CountsOne}
+use Rattle.lsvd_objstore.specs.Store.{ReceiptState}
 use Rattle.clap.specs.Walk.{Text}
 use Rattle.transcript.specs.Answers.{State}
 use Rattle.transcript.specs.Transcript.{AllAnswered, Stopped, IsTranscript, IsFrontOfTranscript}
@@ -13,9 +15,13 @@ use Rattle.command_line.specs.declared.create.CreateRequest.{CreateRequest}
 use Rattle.command_line.specs.declared.serve.ServeRequest.{ServeRequest}
 use Rattle.vol_replay.specs.declared.outcome.Outcome.{Outcome}
 use Rattle.vol_replay.specs.declared.outcome.Outcome.TheVariants as outcomes
-use Rattle.volume_commands.specs.Creating.{TellsCreation}
+use Rattle.nbd_session.specs.Session.{LinkBytes}
+use Rattle.volume_server.specs.Serving.{ListenerState}
+use Rattle.volume_commands.specs.Creating.{TellsCreation, Creates, RefusesToCreate}
+use Rattle.volume_commands.specs.Mounting.{Serves, RefusesFor}
 use Rattle.volume_commands.specs.Serving.{TellsServing}
-use Rattle.volume_commands.specs.World.{CountsOneOf, CountsNone}
+use Rattle.volume_commands.specs.World.{Places, CountsOneOf, CountsNone}
+use Rattle.volume_commands.specs.declared.refusal.Refusal.{Refusal}
 use Rattle.volume_commands.specs.declared.report.Report.{Report}
 use Rattle.volume_commands.specs.declared.report.Report.TheVariants.{Done, Fault, Usage, BadLine, Refused, Memory}
 
@@ -82,6 +88,25 @@ AreWordsRefused words =
     IsFaulty words
     ⊎ (((options : List Given) × Spells words (create options) × HasBadValue (value_in options))
     ⊎ ((options : List Given) × Spells words (serve options) × HasBadServeValue (serve_value options)))
+
+-- ---- what stands at the paths
+
+-- What a run that ended so made of what stands at the paths of its world: a volume was created or served, as the values of the
+-- options ask; or it was refused.
+pub record Reaches {D R L K : Type 0} (tells : Bool) (disk_state : D → DiskState) (receipt_state : R → ReceiptState)
+    (listener_state : L → ListenerState) (coming : L → Option (List K)) (bytes_of : K → LinkBytes) (words : List Text)
+    (report : Report) (clients : List ℕ → Option (List K)) (before after : Places) (old new : Option (List ℕ)) : Type 0 where
+  pub creates : (options : List Given) → Spells words (create options) → report ≡ Done
+      → (request : CreateRequest) × AsksToCreate (value_in options) request × Creates tells request before after old new
+  pub creates_none : (options : List Given) (why : Refusal) → Spells words (create options) → report ≡ Refused why
+      → (request : CreateRequest) × AsksToCreate (value_in options) request × RefusesToCreate tells request before after why
+  pub serves : (options : List Given) → Spells words (serve options) → report ≡ Done
+      → (request : ServeRequest) × AsksToServe (serve_value options) request
+      × Serves tells disk_state receipt_state listener_state coming bytes_of request (clients request.socket.now) before after
+      old new
+  pub serves_none : (options : List Given) (why : Refusal) → Spells words (serve options) → report ≡ Refused why
+      → (request : ServeRequest) × AsksToServe (serve_value options) request
+      × RefusesFor tells disk_state receipt_state request before after why
 
 -- ---- faults
 

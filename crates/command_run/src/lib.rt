@@ -7,10 +7,12 @@
 #![tactic(auto)]
 
 mod help;
+mod mem_world;
 mod quiet_world;
 mod running;
 
 pub use help::answer_help;
+pub use mem_world::{MemWorld, run_in_memory};
 pub use quiet_world::{
     QuietDisk, QuietListener, QuietWorld, a_quiet_world_counts_no_fault, run_quietly,
 };

@@ -1,4 +1,4 @@
-ghost use Rattle.std.specs.Prelude.{◌≡◌, Some, [], IfOk};
+ghost use Rattle.std.specs.Prelude.{◌≡◌, Some, None, false, [], IfOk};
 ghost use Rattle.lsvd_fault.specs.Faults.{CountsOne};
 ghost use Rattle.lsvd_device.specs.Device.{IsDisk};
 ghost use Rattle.lsvd_objstore.specs.Memory.{told_state};
@@ -178,6 +178,14 @@ impl World for QuietWorld {
 
     ghost faults = { λ w. w.faults };
 
+    ghost tells = { false };
+
+    ghost disk_at = { λ _ _. None };
+
+    ghost store_at = { λ _ _. None };
+
+    ghost clients_at = { λ _ _. Some [] };
+
     fn disk(&mut self, _path: &str, len: Option<u64>) -> Result<QuietDisk, WorldError> {
         match len {
             Some(len) => Ok(QuietDisk::new(self.alloc, len)?),
@@ -195,6 +203,15 @@ impl World for QuietWorld {
 
     fn listen(&mut self, _path: &str) -> Result<QuietListener, WorldError> {
         Ok(QuietListener { closed: false })
+    }
+
+    // What was made of it is let go.
+    fn close_disk(&mut self, _path: &str, disk: QuietDisk) {
+        drop(disk);
+    }
+
+    fn close_store(&mut self, _path: &str, store: MemStore) {
+        drop(store);
     }
 
     // They are always the same.

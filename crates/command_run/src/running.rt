@@ -9,7 +9,7 @@ ghost use Rattle.command_line.specs.Serve.{AreValidToServe, serve_value};
 ghost use Rattle.command_line.specs.Values.{IsNoUuid};
 ghost use Rattle.volume_commands.specs.Report.{status_of, line_of, IsTold};
 ghost use Rattle.volume_commands.specs.World.{CountsNone, CountsOneOf};
-ghost use Rattle.command_run.specs.Run.{AreWordsRefused, CountsOneOfAll, Runs, report_of};
+ghost use Rattle.command_run.specs.Run.{AreWordsRefused, CountsOneOfAll, Reaches, Runs, report_of};
 ghost use Rattle.volume_commands.specs.World.{IsConstant};
 
 use command_line::{CommandLineError, Request, request_of};
@@ -33,12 +33,25 @@ pub fn run<W: World>(
     err: &mut W::Err,
 ) -> u8
     // 0: it is done. 3: a line is bad, or the volume is refused. 1 or 4: a fault, or memory ran out. The
-    // output and the line on the error stream say so too.
+    // output and the line on the error stream say so too. What stands at the paths that the words name is
+    // what creating and serving make of what stood there.
     ensures report { (report : Report) × (result ≡ status_of report)
         × IsTold (W.Err.contents err.old) (W.Err.contents err.new) (W.Err.faults err.old)
         (W.Err.faults err.new) (line_of report)
         × Runs (map string_bytes words.now) report (W.In.remaining input.old) (W.Out.contents out.old)
-        (W.Out.contents out.new) }
+        (W.Out.contents out.new)
+        × Reaches W.tells (λ disk. W.Disk.state disk) W.Store.Receipt.state
+        (λ clients. record {
+          given = W.Clients.given clients;
+          closed = W.Clients.closed clients;
+          faults = W.Clients.faults clients;
+        })
+        (λ clients. W.Clients.coming clients)
+        (λ link. record { left = W.Clients.Link.remaining link; sent = W.Clients.Link.contents link })
+        (map string_bytes words.now) report (W.clients_at world.old)
+        (record { disks = W.disk_at world.old; stores = W.store_at world.old })
+        (record { disks = W.disk_at world.new; stores = W.store_at world.new })
+        (W.Out.contents out.old) (W.Out.contents out.new) }
 
     // The input of a script was read to its end, and the world was asked for nothing. Creating and serving
     // read no input.
@@ -98,6 +111,18 @@ fn execute<W: World>(
     out: &mut W::Out,
 ) -> Report
     ensures output { Runs (map string_bytes words.now) result (W.In.remaining input.old)
+        (W.Out.contents out.old) (W.Out.contents out.new) }
+    ensures reaches { Reaches W.tells (λ disk. W.Disk.state disk) W.Store.Receipt.state
+        (λ clients. record {
+          given = W.Clients.given clients;
+          closed = W.Clients.closed clients;
+          faults = W.Clients.faults clients;
+        })
+        (λ clients. W.Clients.coming clients)
+        (λ link. record { left = W.Clients.Link.remaining link; sent = W.Clients.Link.contents link })
+        (map string_bytes words.now) result (W.clients_at world.old)
+        (record { disks = W.disk_at world.old; stores = W.store_at world.old })
+        (record { disks = W.disk_at world.new; stores = W.store_at world.new })
         (W.Out.contents out.old) (W.Out.contents out.new) }
     ensures end { Spells (map string_bytes words.now) replay → result ≡ Report.Done
         → IsAtEnd (W.In.remaining input.new) }

@@ -1,3 +1,4 @@
-mod Made
+mod Mounts
+mod Places
 mod Served
 pub mod Told

@@ -16,6 +16,7 @@ use Rattle.vol_mount.specs.declared.error.MountError.{MountError}
 use Rattle.vol_mount.specs.declared.error.MountError.TheVariants as mounts
 use Rattle.volume_owner.specs.declared.error.OwnerError.{OwnerError}
 use Rattle.volume_owner.specs.declared.error.OwnerError.TheVariants as owners
+use Rattle.volume_owner.specs.Acts.{moment_of}
 use Rattle.volume_owner.specs.Calls.{Adds, IsCall, IsDrained, IsLengthOf, CountsEitherFault}
 use Rattle.volume_owner.specs.Errors.{is_eio}
 use Rattle.volume_owner.specs.Owner.{IsIdle, most_of_call}
@@ -33,7 +34,6 @@ use Rattle.volume_commands.specs.declared.world.WorldError.TheVariants as worlds
 use Rattle.volume_commands.specs.declared.report.Report.TheVariants as reports
 use Rattle.volume_commands.specs.Mounting.{Drains}
 use Rattle.volume_commands.specs.Serving.{of_mount, of_owner, judged}
-use Rattle.volume_commands.specs.World.{CountsOneOf}
 use Rattle.volume_commands.specs.World.{IsConstant, world_failed}
 
 -- a count that is one number does not rise
@@ -126,16 +126,6 @@ mount_counts_none disk_faults store_faults first last old new (mounts.Worn value
 mount_counts_none disk_faults store_faults first last old new mounts.OutOfMemory disk store is disks stores =
     let bad : ⊥ = cc in bad
 
--- a log is asked for of the store alone
-pub admit_counts_none : {S : Type 0} (store_faults : S → ℕ) (old new : S) (error : MountError) → is_device_fault error ≡ false
-    → Counts (is_store_fault_of error) (store_faults old) (store_faults new) → of_mount error ≡ errors.Fault
-    → IsConstant store_faults → ⊥
-admit_counts_none store_faults old new error no_device counted is stores =
-    mount_counts_none store_faults store_faults old new old new error no_count counted is stores stores
-  where
-    no_count : is_device_fault error ≡ true → CountsOne (store_faults old) (store_faults new)
-    no_count device = (let bad : ⊥ = cc in absurd bad)
-
 -- the calls of a mount with the cache tell a fault of the device
 pub cost_counts : (log : ℕ) (error : MountError) (old new : DiskState) → CostsMount log (not (is_device_fault error)) old new
     → is_device_fault error ≡ true → CountsOne old.faults new.faults
@@ -201,15 +191,14 @@ length_stays count old new adds counted plain shows =
     ∙ ap (λ (entries : List Entry). plain.end + length entries) (append-nil plain.entries)
 
 -- the volume of an owner who has drained it
-pub drains_all : {R : Type 0} (state : R → ReceiptState) (entries : ℕ) (volume owner closing : SteppedVolume)
-    (old new : StoreState) (failed : Bool) → owner ≡ volume → failed ≡ false
+pub drains_all : {R : Type 0} (state : R → ReceiptState) (entries : ℕ) (volume owner closing left : SteppedVolume)
+    (old new : StoreState) (failed : Bool) → owner ≡ volume → left ≡ closing → failed ≡ false
     → IsCall state most_of_call [] failed owner closing old new → IsLengthOf entries closing.volume → IsDrained closing.volume
-    → Drains state entries (record { volume = volume; store = old })
-drains_all state entries volume owner closing old new failed same none call count drained = record {
+    → Drains state entries (moment_of volume old) (moment_of left new)
+drains_all {R} state entries volume owner closing left old new failed same back none call count drained = record {
   count = length_stays entries volume.volume closing.volume calls.steps.adds count;
-  closing = record { volume = closing; store = new };
-  calls = calls;
-  drained = drained;
+  calls = subst (λ (v : SteppedVolume). IsCall state most_of_call [] false volume v old new) (sym back) calls;
+  drained = subst (λ (v : SteppedVolume). IsDrained v.volume) (sym back) drained;
 }
   where
     calls : IsCall state most_of_call [] false volume closing old new
@@ -230,6 +219,12 @@ judged_refuses_none lanes.Counted why is = let bad : ⊥ = cc in bad
 judged_refuses_none lanes.Closed why is = let bad : ⊥ = cc in bad
 judged_refuses_none lanes.Failed why is = let bad : ⊥ = cc in bad
 
+-- one that ends by a fault is one whose listener failed
+pub judged_fault : (end : LaneEnd) → IsErrOf (judged end) errors.Fault → end ≡ lanes.Failed
+judged_fault lanes.Counted is = (let bad : ⊥ = cc in absurd bad)
+judged_fault lanes.Closed is = (let bad : ⊥ = cc in absurd bad)
+judged_fault lanes.Failed is = refl
+
 pub lane_counts_none : {L : Type 0} (faults : L → ℕ) (first last : L) (old new : ListenerState) (end : LaneEnd)
     → old.faults ≡ faults first
     → new.faults ≡ faults last → ClosesAs end old new → end ≡ lanes.Failed → IsConstant faults → ⊥
@@ -240,28 +235,13 @@ lane_counts_none faults first last old new lanes.Failed is_old is_new closes is 
     (subst (λ a. CountsOne a (faults last)) is_old (subst (λ b. CountsOne old.faults b) is_new closes.1))
 
 -- what a result with such an error tells
-pub mount_error : {T : Type 0} (told other : CommandError) (error : MountError) → told ≡ of_mount error
-    → IsErrOf {T = T} (Err told) other
-    → of_mount error ≡ other
-mount_error {T} told other error is same = sym is ∙ same_error {T = T} told other same
-
-pub owner_error : {T : Type 0} (error : OwnerError) (other : CommandError) → IsErrOf {T = T} (Err (of_owner error)) other
-    → of_owner error ≡ other
-owner_error {T} error other is = same_error {T = T} (of_owner error) other is
+pub told_as : {T : Type 0} (told other error : CommandError) → told ≡ error → IsErrOf {T = T} (Err told) other → error ≡ other
+told_as {T} told other error is same = sym is ∙ same_error {T = T} told other same
 
 -- an error that is a refusal is so of any result
 pub refused_in : {T : Type 0} (error : CommandError) (why : Refusal) → error ≡ errors.Refused why
     → IsErrOf {T = T} (Err error) (errors.Refused why)
 refused_in error why is = ap (λ e. Err e) is
-
--- what is done is no error
-pub no_error : {T : Type 0} (value : T) (error : CommandError) → Ok value ≡ Err error → ⊥
-no_error value error is = cc
-
--- one call of the output failed
-pub output_counts : (world_before world_now first mid last : ℕ) → world_now ≡ world_before → mid ≡ first → CountsOne mid last
-    → CountsOneOf world_before world_now first last
-output_counts world_before world_now first mid last same quiet counted = inr (same, subst (λ n. CountsOne n last) quiet counted)
 
 -- a report of a refusal is that of the error
 pub same_refusal : {T : Type 0} (error : CommandError) (first second : Refusal) → error ≡ errors.Refused first

@@ -4,21 +4,19 @@ use Rattle.std.proofs.KnownBytes.{Appends-nil, Appends-trans}
 use Rattle.std.proofs.lemmas.List.{take-append-le}
 use Rattle.std.proofs.Math.Seq.{take-append-add, take-append_seam, take-length}
 use Rattle.std.specs.Io.KnownBytes.{Appends}
-use Rattle.std.specs.Prelude.{Option, Err}
-use Rattle.lsvd_device.specs.Device.{DiskState}
-use Rattle.lsvd_objstore.specs.Objects.{Objects}
+use Rattle.std.specs.Prelude.{OnOk, Option, Result, Err}
 use Rattle.lsvd_objstore.specs.Store.{StoreState, ReceiptState}
-use Rattle.command_line.specs.declared.serve.ServeRequest.{ServeRequest}
 use Rattle.vol_mount.specs.Mounted.{MountedState}
+use Rattle.volume_owner.specs.Acts.{Moment, moment_of}
 use Rattle.nbd_session.specs.Session.{LinkBytes}
-use Rattle.volume_server.specs.Serving.{ListenerState}
+use Rattle.volume_server.specs.Serving.{ListenerState, GivesClients, EndsLane, AreClients}
 use Rattle.volume_server.specs.declared.serving.Lane.{Lane}
 use Rattle.volume_server.specs.declared.serving.LaneEnd.{LaneEnd}
 use Rattle.volume_server.specs.declared.serving.LaneEnd.TheVariants as lanes
 use Rattle.volume_commands.specs.declared.error.CommandError.{CommandError}
 use Rattle.volume_commands.specs.declared.error.CommandError.TheVariants as errors
 use Rattle.volume_commands.specs.declared.refusal.Refusal.{Refusal}
-use Rattle.volume_commands.specs.Mounting.{MountsFor, ServesClients, Serves}
+use Rattle.volume_commands.specs.Mounting.{Drains, ServesMounted}
 use Rattle.volume_commands.specs.Serving.{mounted_line, writes_line, serving_text, AppendsFront, IsServingFront, TellsServed}
 use Rattle.volume_commands.specs.Serving.{judged}
 
@@ -112,24 +110,41 @@ both_told kept number entries lanes.Failed old mid new first second = (
     whole = take-length (serving_text kept number entries)
 
 -- what stands behind both lines
-pub serves_with : {D S R L K : Type 0} (disk_state : D → DiskState) (objects_of : S → Option Objects)
-    (receipt_state : R → ReceiptState) (listener_state : L → ListenerState) (coming : L → Option (List K))
-    (bytes_of : K → LinkBytes) (request : ServeRequest) (shown mounted : MountedState) (store : StoreState) (lane : Lane)
-    (entries : ℕ) (old mid new : Option (List ℕ))
-    → shown ≡ mounted → MountsFor disk_state objects_of receipt_state request mounted → (lane.end ≡ lanes.Failed → ⊥)
-    → ServesClients receipt_state listener_state coming bytes_of request.sessions lane entries
-    (record { volume = shown.volume; store = store })
+pub serves_with : {R L K : Type 0} (receipt_state : R → ReceiptState) (listener_state : L → ListenerState)
+    (coming : L → Option (List K)) (bytes_of : K → LinkBytes) (sessions : ℕ) (lane : Lane) (shown mounted : MountedState)
+    (clients after : L) (store : StoreState) (last closing : Moment) (entries : ℕ) (old mid new : Option (List ℕ))
+    → shown ≡ mounted → (lane.end ≡ lanes.Failed → ⊥) → EndsLane sessions lane
+    → GivesClients lane (listener_state clients) (listener_state after)
+    → AreClients receipt_state bytes_of lane.served (coming clients) (coming after) (moment_of shown.volume store) last
+    → Drains receipt_state entries last closing
     → Appends old mid (mounted_line shown.entries shown.number) → Appends mid new (writes_line entries)
-    → Serves disk_state objects_of receipt_state listener_state coming bytes_of request old new
-serves_with disk_state objects_of receipt_state listener_state coming bytes_of request shown mounted store lane entries old mid
-    new same mounts succeeds serves first second =
-    record {
-      mounted = shown;
-      mounts = subst (λ m. MountsFor disk_state objects_of receipt_state request m) (sym same) mounts;
-      store = store;
+    → ServesMounted receipt_state listener_state coming bytes_of sessions (coming clients) mounted store closing old new
+serves_with receipt_state listener_state coming bytes_of sessions lane shown mounted clients after store last closing entries old
+    mid new same succeeds ends gives served drains first second =
+    subst (λ (m : MountedState).
+    ServesMounted receipt_state listener_state coming bytes_of sessions (coming clients) m store closing old new) same
+    (record {
       lane = lane;
       succeeds = succeeds;
+      ends = ends;
+      clients = clients;
+      after = after;
+      gives = gives;
+      last = last;
+      served = served;
       entries = entries;
-      serves = serves;
+      drains = drains;
       told = Appends-trans old mid new (mounted_line shown.entries shown.number) (writes_line entries) first second;
-    }
+    })
+
+-- so it is of the same links, as a world told them
+pub serves_those : {R L K : Type 0} (receipt_state : R → ReceiptState) (listener_state : L → ListenerState)
+    (coming : L → Option (List K)) (bytes_of : K → LinkBytes) (sessions : ℕ) (came links : Option (List K))
+    (mounted : MountedState) (store : StoreState) (closing : Moment) (old new : Option (List ℕ))
+    (result : Result (Unit {0}) CommandError) → came ≡ links
+    → OnOk result (ServesMounted receipt_state listener_state coming bytes_of sessions came mounted store closing old new)
+    → OnOk result (ServesMounted receipt_state listener_state coming bytes_of sessions links mounted store closing old new)
+serves_those {R} {L} {K} receipt_state listener_state coming bytes_of sessions came links mounted store closing old new result
+    same serves =
+    subst (λ (l : Option (List K)).
+    OnOk result (ServesMounted receipt_state listener_state coming bytes_of sessions l mounted store closing old new)) same serves

@@ -1,17 +1,20 @@
 -- Contract: what a run of `create` says, and of which volume.
-use Rattle.std.specs.Prelude.{◌≡◌, ◌⊎◌, ◌≤◌, ℕ, List, ◌++◌, Option, Some, None, IfSome, IsSome, codes, length, slice_index, take}
+use Rattle.std.specs.Prelude.{◌≡◌, ◌⊎◌, ◌≤◌, ℕ, Bool, true, List, ◌++◌, Option, Some, None, IfSome, IsSome, codes, length}
+use Rattle.std.specs.Prelude.{slice_index, take}
 use Rattle.std.specs.Io.KnownBytes.{Appends}
 use Rattle.uuid.specs.Parts.{variant_of}
 use Rattle.uuid.specs.Uuid.{version_num}
 use Rattle.uuid.specs.declared.Variant.TheVariants.{RFC4122}
 use Rattle.uuid.specs.Text.{hyphenated_text, lower}
+use Rattle.lsvd_device.specs.Device.{DiskState, IsDisk}
 use Rattle.lsvd_names.specs.Names.{super_name}
 use Rattle.lsvd_objstore.specs.Objects.{Objects, found}
+use Rattle.lsvd_objstore.specs.Store.{StoreState, Becomes}
 use Rattle.command_line.specs.Create.{sizes_of}
 use Rattle.command_line.specs.declared.create.CreateRequest.{CreateRequest}
 use Rattle.super_recovery.specs.declared.error.SuperError.{SuperError}
 use Rattle.super_recovery.specs.declared.error.SuperError.TheVariants as super_errors
-use Rattle.vol_core.specs.Creating.{IsCreated}
+use Rattle.vol_core.specs.Creating.{IsCreated, CostsFormat}
 use Rattle.vol_core.specs.Volume.{SteppedVolume}
 use Rattle.vol_recover.specs.Creating.{PutsVolume}
 use Rattle.vol_recover.specs.declared.creating.CreateError.{CreateError}
@@ -24,6 +27,7 @@ use Rattle.volume_commands.specs.declared.report.Report.{Report}
 use Rattle.volume_commands.specs.declared.report.Report.TheVariants.{Done, Fault, Usage, BadLine, Refused, Memory}
 use Rattle.volume_commands.specs.declared.world.WorldError.{WorldError}
 use Rattle.volume_commands.specs.declared.world.WorldError.TheVariants as world_errors
+use Rattle.volume_commands.specs.World.{Places, where_told, bytes_with, IsBlank, IsGivenStore}
 
 -- ---- errors
 
@@ -52,25 +56,53 @@ IsUuidFor request uuid =
     (request.uuid ≡ Some uuid)
     ⊎ ((request.uuid ≡ None) × (version_num uuid ≡ 4) × (variant_of (slice_index uuid 8) ≡ RFC4122))
 
--- It is a volume that was created as the request asks: of the uuid for it, and of its sizes. Where its store tells its objects,
--- they are those before with the whole volume put into them, and before there was no super object of that uuid.
-pub record IsVolumeFor (request : CreateRequest) (uuid : List ℕ) (volume : SteppedVolume) (objects : Option Objects) :
+-- A volume was created as the request asks, of the uuid for it and of its sizes, on this disk, which is formatted then. Where its
+-- store tells its objects, the whole volume was put into those before, which had no super object of that uuid.
+pub record CreatesOn (request : CreateRequest) (uuid : List ℕ) (disk disk_left : DiskState) (before after : Option Objects) :
     Type 0 where
-  pub named : IsUuidFor request uuid
+  pub volume : SteppedVolume
   pub created : IsCreated uuid (sizes_of request) volume
-  pub stored : IfSome objects (λ now.
-      (before : Objects) × PutsVolume uuid (sizes_of request) before now × (found before (super_name uuid) ≡ None))
+  pub formatted : CostsFormat uuid true disk disk_left
+  pub disk_is : disk_left ≡ volume.volume.log.commits.disk
+  pub stored : Becomes (PutsVolume uuid (sizes_of request)) before after
+  pub absent : IfSome before (λ objects. found objects (super_name uuid) ≡ None)
 
--- None is created, since some store has a super object of the volume that is asked for. Its objects are as they were.
-pub record RefusesToCreate {S : Type 0} (objects_of : S → Option Objects) (request : CreateRequest) (why : Refusal) :
+-- So it was on a disk that was made at its path, blank, which stands there as it was left.
+pub record CreatesCache (tells : Bool) (request : CreateRequest) (uuid : List ℕ) (stands : Option DiskState)
+    (before after : Option Objects) : Type 0 where
+  pub disk : DiskState
+  pub blank : IsDisk disk × IsBlank (bytes_with request.log) disk
+  pub disk_left : DiskState
+  pub creates : CreatesOn request uuid disk disk_left before after
+  pub cache_now : stands ≡ where_told tells disk_left
+
+-- And so it was in the store that stood at its path, or was made there, which stands there as it was left.
+pub record CreatesFor (tells : Bool) (request : CreateRequest) (uuid : List ℕ) (before after : Places) : Type 0 where
+  pub named : IsUuidFor request uuid
+  pub store : StoreState
+  pub stood : IsGivenStore tells true (before.stores request.store.now) store
+  pub store_left : StoreState
+  pub creates : CreatesCache tells request uuid (after.disks request.cache.now) store.objects store_left.objects
+  pub store_now : after.stores request.store.now ≡ where_told tells store_left
+
+-- A volume is not created, since a store has a super object of it; its objects stay. Where it tells them, the cache is as it was.
+pub record IsThere (uuid : List ℕ) (why : Refusal) (before after : Option Objects) (stood stands : Option DiskState) :
     Type 0 where
   pub is : why ≡ refusals.Exists
+  pub exists : IfSome before (λ objects. IsSome (found objects (super_name uuid)))
+  pub same : after ≡ before
+  pub cache : IfSome before (λ objects. stands ≡ stood)
+
+-- So it is of the volume that is asked for, of the store that stood at its path, which stands there, and of the disk at that of
+-- its cache.
+pub record RefusesToCreate (tells : Bool) (request : CreateRequest) (before after : Places) (why : Refusal) : Type 0 where
   pub uuid : List ℕ
   pub named : IsUuidFor request uuid
-  pub before : S
-  pub after : S
-  pub exists : IfSome (objects_of before) (λ objects. IsSome (found objects (super_name uuid)))
-  pub same : objects_of after ≡ objects_of before
+  pub store : StoreState
+  pub stood : IsGivenStore tells true (before.stores request.store.now) store
+  pub store_left : StoreState
+  pub there : IsThere uuid why store.objects store_left.objects (before.disks request.cache.now) (after.disks request.cache.now)
+  pub store_now : after.stores request.store.now ≡ where_told tells store_left
 
 -- ---- the output
 
@@ -90,11 +122,8 @@ TellsCreation request Memory old new = new ≡ old
 TellsCreation request Usage old new = ⊥
 TellsCreation request (BadLine number reason) old new = ⊥
 
--- A volume was created as the request asks, with some store, and the line tells its uuid.
-pub record Creates {S : Type 0} (objects_of : S → Option Objects) (request : CreateRequest) (old new : Option (List ℕ)) :
-    Type 0 where
+-- A volume was created as the request asks, and the line tells its uuid.
+pub record Creates (tells : Bool) (request : CreateRequest) (before after : Places) (old new : Option (List ℕ)) : Type 0 where
   pub uuid : List ℕ
-  pub volume : SteppedVolume
-  pub store : S
-  pub made : IsVolumeFor request uuid volume (objects_of store)
+  pub creates : CreatesFor tells request uuid before after
   pub told : Appends old new (created_line uuid)

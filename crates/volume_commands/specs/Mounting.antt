@@ -1,19 +1,17 @@
--- Contract: which volume `serve` mounts and what it tells of it, or why it mounts none.
-use Rattle.std.specs.Prelude.{◌≡◌, ℕ, ◌⊎◌, Bool, true, false, List, [], Option, Some}
+-- Contract: which volume `serve` mounts, what it tells of it and what becomes of it, or why it mounts none.
+use Rattle.std.specs.Prelude.{◌≡◌, ℕ, ◌⊎◌, Bool, true, false, List, [], Option, Some, None, Result, Ok, Err, option_map}
 use Rattle.std.specs.Io.KnownBytes.{Appends}
 use Rattle.lsvd_device.specs.Device.{DiskState}
 use Rattle.lsvd_objstore.specs.Objects.{Objects}
 use Rattle.lsvd_objstore.specs.Store.{StoreState, ReceiptState}
-use Rattle.commit_slot.specs.Slots.{log_of}
 use Rattle.command_line.specs.declared.serve.ServeRequest.{ServeRequest}
 use Rattle.stopped_volume.specs.Store.{TellsBytes}
+use Rattle.vol_core.specs.Volume.{SteppedVolume}
 use Rattle.vol_mount.specs.declared.error.MountError.{MountError}
 use Rattle.vol_mount.specs.Mounted.{MountedState}
-use Rattle.vol_mount.specs.Mounting.{MountsStored, MountsLeft}
-use Rattle.vol_mount.specs.Refusals.{IsWhyLost, IsWhyNotLeft}
 use Rattle.vol_recover.specs.Admitting.{IsWhyNotAdmitted}
-use Rattle.vol_recover.specs.Describing.{OfVolume, IsWhyOf}
-use Rattle.volume_owner.specs.Acts.{Moment}
+use Rattle.vol_recover.specs.Mounting.{MountsKept, MountsLost}
+use Rattle.volume_owner.specs.Acts.{Moment, moment_of}
 use Rattle.volume_owner.specs.Calls.{IsLengthOf, IsDrained}
 use Rattle.nbd_session.specs.Exchanges.{Calls}
 use Rattle.nbd_session.specs.Session.{LinkBytes}
@@ -23,88 +21,134 @@ use Rattle.volume_server.specs.declared.serving.LaneEnd.TheVariants as ends
 use Rattle.volume_commands.specs.declared.error.CommandError.TheVariants as errors
 use Rattle.volume_commands.specs.declared.refusal.Refusal.{Refusal}
 use Rattle.volume_commands.specs.Serving.{of_mount, serving_text}
+use Rattle.volume_commands.specs.World.{Places, where_told, bytes_with, IsGiven}
+
+-- ---- the cache
+
+-- how many sectors the log of a cache has that is made anew; None is for a cache that there is
+abbrev pub log_if_lost : (is_lost : Bool) → Option ℕ → Option ℕ
+log_if_lost true log = log
+log_if_lost false log = None
+
+abbrev pub log_anew : ServeRequest → Option ℕ
+log_anew request = log_if_lost request.is_lost request.log
+
+-- the bytes of such a cache
+abbrev pub bytes_anew : ServeRequest → Option ℕ
+bytes_anew request = option_map bytes_with (log_anew request)
 
 -- ---- a mount
 
--- what a volume is that was mounted of this disk and these objects: what the store has where its cache is lost, and else what the
--- cache left
-abbrev pub IsMountedFrom : (is_lost : Bool) → (uuid : List ℕ) → DiskState → Option Objects → MountedState → Type 0
-IsMountedFrom false uuid disk objects mounted =
-    OfVolume uuid (log_of disk.size) objects (λ geometry epoch. MountsLeft uuid geometry epoch objects disk mounted)
-IsMountedFrom true uuid disk objects mounted =
-    OfVolume uuid (log_of disk.size) objects (λ geometry epoch. MountsStored uuid geometry objects mounted)
+-- how a mount ends of the volume with this uuid, without its cache or with it
+abbrev pub MountEnds : {D R : Type 0} → (D → DiskState) → (R → ReceiptState) → (is_lost : Bool) → (uuid : List ℕ) → DiskState
+    → (old new : StoreState) → Result MountedState (D × MountError) → Type 0
+MountEnds state receipt_state true uuid disk old new result =
+    MountsLost state (TellsBytes receipt_state) uuid disk old new result
+MountEnds state receipt_state false uuid disk old new result =
+    MountsKept state (TellsBytes receipt_state) uuid disk old new result
 
--- why none was
-abbrev pub IsWhyNotMounted : (is_lost : Bool) → (uuid : List ℕ) → DiskState → Option Objects → MountError → Type 0
-IsWhyNotMounted false uuid disk objects error =
-    IsWhyOf uuid (log_of disk.size) objects (λ geometry epoch. IsWhyNotLeft uuid geometry epoch objects disk) error
-IsWhyNotMounted true uuid disk objects error =
-    IsWhyOf uuid (log_of disk.size) objects (λ geometry epoch. IsWhyLost uuid geometry epoch objects) error
+-- ---- refusals
 
--- a refusal is told for such an error alone
-abbrev pub IsRefusalFor : (is_lost : Bool) → (uuid : List ℕ) → DiskState → Option Objects → Refusal → Type 0
-IsRefusalFor is_lost uuid disk objects why =
-    (error : MountError) × (of_mount error ≡ errors.Refused why) × IsWhyNotMounted is_lost uuid disk objects error
-
--- ---- of some store and some disk of the world
-
--- a refusal before the cache is made anew is told for such an error alone: the volume does not take the log that it is to have
+-- A refusal before the cache is made anew is told for such an error alone: the volume does not take the log that it is to have.
 abbrev pub IsWhyBefore : ServeRequest → Option Objects → Refusal → Type 0
 IsWhyBefore request objects why =
-    (request.is_lost ≡ true) × (log : ℕ) × (request.log ≡ Some log) × (error : MountError)
-    × (of_mount error ≡ errors.Refused why) × IsWhyNotAdmitted request.volume log objects error
+    (log : ℕ) × (log_anew request ≡ Some log) × (error : MountError) × (of_mount error ≡ errors.Refused why)
+    × IsWhyNotAdmitted request.volume log objects error
 
--- why the volume that is asked for is refused: before its cache is made anew, or since it is not mounted with the disk
-abbrev pub IsWhyNone : {D : Type 0} → (D → DiskState) → ServeRequest → Option Objects → Refusal → Type 0
-IsWhyNone {D} state request objects why =
-    IsWhyBefore request objects why ⊎ ((disk : D) × IsRefusalFor request.is_lost request.volume (state disk) objects why)
+-- The volume that is asked for was refused by its mount of this disk and this store, which left them so.
+pub record RefusesOn {D R : Type 0} (disk_state : D → DiskState) (receipt_state : R → ReceiptState) (request : ServeRequest)
+    (disk : DiskState) (disk_left : D) (store store_left : StoreState) (why : Refusal) : Type 0 where
+  pub error : MountError
+  pub is : of_mount error ≡ errors.Refused why
+  pub ends : MountEnds disk_state receipt_state request.is_lost request.volume disk store store_left (Err (disk_left, error))
 
--- so it is of some store, where receipts tell what they stand for
-abbrev pub RefusesFor : {D S R : Type 0} → (D → DiskState) → (S → Option Objects) → (R → ReceiptState) → ServeRequest
-    → Refusal → Type 0
-RefusesFor {D} {S} disk_state objects_of receipt_state request why =
-    (store : S) × (TellsBytes receipt_state → IsWhyNone disk_state request (objects_of store) why)
+-- It was refused so of the disk that stood at its path or was made anew, which stands there as the mount left it.
+pub record RefusesCache {D R : Type 0} (tells : Bool) (disk_state : D → DiskState) (receipt_state : R → ReceiptState)
+    (request : ServeRequest) (stood stands : Option DiskState) (store store_left : StoreState) (why : Refusal) : Type 0 where
+  pub disk : DiskState
+  pub given : IsGiven tells (bytes_anew request) stood disk
+  pub disk_left : D
+  pub refuses : RefusesOn disk_state receipt_state request disk disk_left store store_left why
+  pub cache_now : stands ≡ where_told tells (disk_state disk_left)
 
--- and a volume that is served was mounted of some store and some disk
-abbrev pub MountsFor : {D S R : Type 0} → (D → DiskState) → (S → Option Objects) → (R → ReceiptState) → ServeRequest
-    → MountedState → Type 0
-MountsFor {D} {S} disk_state objects_of receipt_state request mounted =
-    (disk : D) × (store : S) × (TellsBytes receipt_state → IsMountedFrom request.is_lost request.volume (disk_state disk)
-    (objects_of store) mounted)
+-- It was refused before the cache was made anew, which is as it was, or so.
+abbrev pub RefusesIn : {D R : Type 0} → (tells : Bool) → (D → DiskState) → (R → ReceiptState) → ServeRequest
+    → (stood stands : Option DiskState) → (store store_left : StoreState) → Refusal → Type 0
+RefusesIn tells disk_state receipt_state request stood stands store store_left why =
+    ((TellsBytes receipt_state → IsWhyBefore request store.objects why) × (stands ≡ stood))
+    ⊎ RefusesCache tells disk_state receipt_state request stood stands store store_left why
+
+-- The volume that is asked for is refused, of the store that stood at its path, which stands there with the same objects, and of
+-- the disk at that of its cache.
+pub record RefusesFor {D R : Type 0} (tells : Bool) (disk_state : D → DiskState) (receipt_state : R → ReceiptState)
+    (request : ServeRequest) (before after : Places) (why : Refusal) : Type 0 where
+  pub store : StoreState
+  pub stood : before.stores request.store.now ≡ where_told tells store
+  pub store_left : StoreState
+  pub refuses : RefusesIn tells disk_state receipt_state request (before.disks request.cache.now)
+      (after.disks request.cache.now) store store_left why
+  pub same : store_left.objects ≡ store.objects
+  pub store_now : after.stores request.store.now ≡ where_told tells store_left
 
 -- ---- a server
 
 -- A volume was drained, whose history has so many entries: none was added, and each is in an object that is acknowledged.
-pub record Drains {R : Type 0} (receipt_state : R → ReceiptState) (entries : ℕ) (old : Moment) : Type 0 where
+pub record Drains {R : Type 0} (receipt_state : R → ReceiptState) (entries : ℕ) (old closing : Moment) : Type 0 where
   pub count : IsLengthOf entries old.volume.volume
-  pub closing : Moment
   pub calls : Calls receipt_state [] false old closing
   pub drained : IsDrained closing.volume.volume
 
--- The clients that some listener gave were served, one after the other: as many as were to be, or as came before it was closed or
--- failed. Then the volume was drained, whose history has so many entries, with those of the clients.
-pub record ServesClients {R L K : Type 0} (receipt_state : R → ReceiptState) (listener_state : L → ListenerState)
-    (coming : L → Option (List K)) (bytes_of : K → LinkBytes) (sessions : ℕ) (lane : Lane) (entries : ℕ) (old : Moment) :
-    Type 0 where
+-- A volume that was mounted was served to the clients that came, one after the other: as many as were to be, or all before the
+-- listener was closed. Then it was drained. The lines tell how many entries its history had and the number of its last object,
+-- and how many entries it has at the end, with those of the clients.
+pub record ServesMounted {R L K : Type 0} (receipt_state : R → ReceiptState) (listener_state : L → ListenerState)
+    (coming : L → Option (List K)) (bytes_of : K → LinkBytes) (sessions : ℕ) (links : Option (List K)) (mounted : MountedState)
+    (store : StoreState) (closing : Moment) (old new : Option (List ℕ)) : Type 0 where
+  pub lane : Lane
+  pub succeeds : lane.end ≡ ends.Failed → ⊥
+  pub ends : EndsLane sessions lane
   pub clients : L
   pub after : L
   pub gives : GivesClients lane (listener_state clients) (listener_state after)
-  pub ends : EndsLane sessions lane
   pub last : Moment
-  pub served : AreClients receipt_state bytes_of lane.served (coming clients) (coming after) old last
-  pub drains : Drains receipt_state entries last
-
--- A volume was mounted and served to clients, until all were served that were to be, or the listener was closed, and drained. The
--- lines tell how many entries its history had and the number of its last object, and how many entries it has at the end.
-pub record Serves {D S R L K : Type 0} (disk_state : D → DiskState) (objects_of : S → Option Objects)
-    (receipt_state : R → ReceiptState) (listener_state : L → ListenerState) (coming : L → Option (List K))
-    (bytes_of : K → LinkBytes) (request : ServeRequest) (old new : Option (List ℕ)) : Type 0 where
-  pub mounted : MountedState
-  pub mounts : MountsFor disk_state objects_of receipt_state request mounted
-  pub store : StoreState
-  pub lane : Lane
-  pub succeeds : lane.end ≡ ends.Failed → ⊥
+  pub served : AreClients receipt_state bytes_of lane.served links (coming after) (moment_of mounted.volume store) last
   pub entries : ℕ
-  pub serves : ServesClients receipt_state listener_state coming bytes_of request.sessions lane entries
-      (record { volume = mounted.volume; store = store })
+  pub drains : Drains receipt_state entries last closing
   pub told : Appends old new (serving_text mounted.entries mounted.number entries)
+
+-- The volume that is asked for was mounted of this disk and this store, and served and drained, which left them so.
+pub record ServesOn {D R L K : Type 0} (disk_state : D → DiskState) (receipt_state : R → ReceiptState)
+    (listener_state : L → ListenerState) (coming : L → Option (List K)) (bytes_of : K → LinkBytes) (request : ServeRequest)
+    (links : Option (List K)) (disk disk_left : DiskState) (store store_left : StoreState) (old new : Option (List ℕ)) :
+    Type 0 where
+  pub mounted : MountedState
+  pub mid : StoreState
+  pub mounts : MountEnds disk_state receipt_state request.is_lost request.volume disk store mid (Ok mounted)
+  pub closing : SteppedVolume
+  pub serves : ServesMounted receipt_state listener_state coming bytes_of request.sessions links mounted mid
+      (moment_of closing store_left) old new
+  pub disk_is : disk_left ≡ closing.volume.log.commits.disk
+
+-- So it was of the disk that stood at its path or was made anew, which stands there as it was left.
+pub record ServesCache {D R L K : Type 0} (tells : Bool) (disk_state : D → DiskState) (receipt_state : R → ReceiptState)
+    (listener_state : L → ListenerState) (coming : L → Option (List K)) (bytes_of : K → LinkBytes) (request : ServeRequest)
+    (links : Option (List K)) (stood stands : Option DiskState) (store store_left : StoreState) (old new : Option (List ℕ)) :
+    Type 0 where
+  pub disk : DiskState
+  pub given : IsGiven tells (bytes_anew request) stood disk
+  pub disk_left : DiskState
+  pub serves : ServesOn disk_state receipt_state listener_state coming bytes_of request links disk disk_left store store_left
+      old new
+  pub cache_now : stands ≡ where_told tells disk_left
+
+-- And so it was of the store that stood at its path, which stands there as it was left, and of the disk at that of its cache, for
+-- the clients that came to the socket.
+pub record Serves {D R L K : Type 0} (tells : Bool) (disk_state : D → DiskState) (receipt_state : R → ReceiptState)
+    (listener_state : L → ListenerState) (coming : L → Option (List K)) (bytes_of : K → LinkBytes) (request : ServeRequest)
+    (links : Option (List K)) (before after : Places) (old new : Option (List ℕ)) : Type 0 where
+  pub store : StoreState
+  pub stood : before.stores request.store.now ≡ where_told tells store
+  pub store_left : StoreState
+  pub serves : ServesCache tells disk_state receipt_state listener_state coming bytes_of request links
+      (before.disks request.cache.now) (after.disks request.cache.now) store store_left old new
+  pub store_now : after.stores request.store.now ≡ where_told tells store_left

@@ -1,13 +1,17 @@
-ghost use Rattle.std.specs.Prelude.{◌≡◌, ◌≢◌, ◌≤◌, ◌^◌, ℕ, IsTrue, IfOk, OnOk, OnErr, Err, IsErrOf, is_err};
-ghost use Rattle.std.specs.Prelude.{length, take};
+ghost use Rattle.std.specs.Prelude.{◌≡◌, ◌≢◌, ◌≤◌, ◌^◌, ℕ, IsTrue, IsSome, IfSome, IfOk, OnOk, OnErr, Err};
+ghost use Rattle.std.specs.Prelude.{IsErrOf, is_err, length, take};
 ghost use Rattle.std.specs.Io.KnownBytes.{Appends};
 ghost use Rattle.lsvd_base.specs.Limits.{is_within_limits};
+ghost use Rattle.lsvd_device.specs.Device.{IsDisk};
 ghost use Rattle.lsvd_fault.specs.Faults.{Counts, CountsOne};
+ghost use Rattle.lsvd_objstore.specs.Objects.{found};
 ghost use Rattle.commit_slot.specs.Slots.{log_of};
+ghost use Rattle.lsvd_names.specs.Names.{super_name};
 ghost use Rattle.command_line.specs.Create.{sizes_of};
-ghost use Rattle.volume_commands.specs.Creating.{IsUuidFor, IsVolumeFor, RefusesToCreate, TellsCreation};
-ghost use Rattle.volume_commands.specs.Creating.{Creates, created_line};
-ghost use Rattle.volume_commands.specs.World.{CountsNone, CountsOneOf, IsConstant};
+ghost use Rattle.volume_commands.specs.Creating.{IsUuidFor, CreatesOn, CreatesCache, CreatesFor, Creates};
+ghost use Rattle.volume_commands.specs.Creating.{IsThere, RefusesToCreate, TellsCreation, created_line};
+ghost use Rattle.volume_commands.specs.World.{CountsNone, CountsOneOf, IsConstant, bytes_with};
+ghost use Rattle.volume_commands.specs.World.{GivesBack, IsGivenBack};
 
 use crate::error::CommandError;
 use crate::refusal::Refusal;
@@ -23,11 +27,10 @@ use lsvd_objstore::Store;
 use std::alloc::Global;
 use super_recovery::has_super;
 use uuid::{Builder, Uuid};
-use vol_core::Volume;
 use vol_recover::create;
 
 /// Creates the volume that is asked for, whose sizes are in their limits (a condition), and writes its uuid
-/// to `out`, in a line of its own.
+/// to `out`, in a line of its own. The store and the cache stand at their paths again when it ends.
 ///
 /// The refusal `Exists` comes where the store has a super object of the volume, and nothing was changed then;
 /// `Fault` where a call of the world failed, or of the store and the disk that it gave, or of `out`; `Memory`
@@ -40,11 +43,16 @@ pub fn answer_create<W: World>(
 ) -> Report
     requires { IsTrue (is_within_limits (sizes_of request.now)) }
     ensures told { TellsCreation request.now result (W.Out.contents out.old) (W.Out.contents out.new) }
-    ensures creates { result ≡ Report.Done
-        → Creates (λ store. (W.Store.state store).objects) request.now (W.Out.contents out.old)
-        (W.Out.contents out.new) }
-    ensures why { (why : Refusal) → result ≡ Report.Refused why
-        → RefusesToCreate (λ store. (W.Store.state store).objects) request.now why }
+    ensures creates { result ≡ Report.Done → Creates W.tells request.now
+        (record { disks = W.disk_at world.old; stores = W.store_at world.old })
+        (record { disks = W.disk_at world.new; stores = W.store_at world.new })
+        (W.Out.contents out.old) (W.Out.contents out.new) }
+    ensures why { (why : Refusal) → result ≡ Report.Refused why → RefusesToCreate W.tells request.now
+        (record { disks = W.disk_at world.old; stores = W.store_at world.old })
+        (record { disks = W.disk_at world.new; stores = W.store_at world.new }) why }
+    ensures back { GivesBack W.tells request.now.store.now request.now.cache.now
+        (record { disks = W.disk_at world.old; stores = W.store_at world.old })
+        (record { disks = W.disk_at world.new; stores = W.store_at world.new }) }
     ensures fault { result ≡ Report.Fault → IsConstant (λ disk. (W.Disk.state disk).faults)
         → IsConstant (λ store. (W.Store.state store).faults)
         → CountsOneOf (W.faults world.old) (W.faults world.new) (W.Out.faults out.old)
@@ -52,40 +60,35 @@ pub fn answer_create<W: World>(
     ensures no_fault { result ≢ Report.Fault → CountsNone (W.faults world.old) (W.faults world.new)
         (W.Out.faults out.old) (W.Out.faults out.new) }
 {
-    let created = match create_volume(alloc, request, world) {
-        Ok(created) => created,
+    let uuid = match create_volume(alloc, request, world) {
+        Ok(uuid) => uuid,
         Err(CommandError::Refused(why)) => return Report::Refused(why),
         Err(CommandError::Fault) => return Report::Fault,
         Err(CommandError::OutOfMemory) => return Report::Memory,
     };
-    let uuid = created.uuid;
-    drop(created);
     match tell_created(out, uuid) {
         Ok(()) => Report::Done,
         Err(Failed) => Report::Fault,
     }
 }
 
-// A volume that was created, on the disk and with the store that the world gave for it.
-#[derive(Drop)]
-struct Created<D: Disk + Drop, S: Store + Drop> {
-    uuid: Uuid,
-    volume: Volume<D, S::Receipt>,
-    store: S,
-}
-
-// Creates a volume, and answers it with its disk and its store as they stand then. Whether there is one
-// already is asked before its cache is made, since what a cache held is lost then.
+// Creates a volume with the store that the world gives, which then has it again, and answers its uuid.
 fn create_volume<W: World>(
     alloc: Global,
     request: &CreateRequest<'_>,
     world: &mut W,
-) -> Result<Created<W::Disk, W::Store>, CommandError>
+) -> Result<Uuid, CommandError>
     requires { IsTrue (is_within_limits (sizes_of request.now)) }
     ensures why { (why : Refusal) → IsErrOf result (CommandError.Refused why)
-        → RefusesToCreate (λ store. (W.Store.state store).objects) request.now why }
-    ensures made { IfOk result (λ created. IsVolumeFor request.now created.uuid created.volume
-        (W.Store.state created.store).objects) }
+        → RefusesToCreate W.tells request.now
+        (record { disks = W.disk_at world.old; stores = W.store_at world.old })
+        (record { disks = W.disk_at world.new; stores = W.store_at world.new }) why }
+    ensures creates { IfOk result (λ uuid. CreatesFor W.tells request.now uuid
+        (record { disks = W.disk_at world.old; stores = W.store_at world.old })
+        (record { disks = W.disk_at world.new; stores = W.store_at world.new })) }
+    ensures back { GivesBack W.tells request.now.store.now request.now.cache.now
+        (record { disks = W.disk_at world.old; stores = W.store_at world.old })
+        (record { disks = W.disk_at world.new; stores = W.store_at world.new }) }
     ensures fault { IsErrOf result CommandError.Fault
         → IsConstant (λ disk. (W.Disk.state disk).faults) → IsConstant (λ store. (W.Store.state store).faults)
         → CountsOne (W.faults world.old) (W.faults world.new) }
@@ -93,20 +96,66 @@ fn create_volume<W: World>(
 {
     let uuid = uuid_for(request, world)?;
     let mut store = world.store(request.store, true)?;
-    if has_super(alloc, &mut store, uuid)? {
+    let created = create_in(alloc, request, uuid, world, &mut store);
+    world.close_store(request.store, store);
+    created?;
+    Ok(uuid)
+}
+
+// Creates a volume in a store, with a cache that the world makes and that goes back to it. Whether there is
+// a volume already is asked before its cache is made, since what a cache held is lost then.
+fn create_in<W: World>(
+    alloc: Global,
+    request: &CreateRequest<'_>,
+    uuid: Uuid,
+    world: &mut W,
+    store: &mut W::Store,
+) -> Result<(), CommandError>
+    requires { IsTrue (is_within_limits (sizes_of request.now)) }
+    ensures why { (why : Refusal) → IsErrOf result (CommandError.Refused why)
+        → IsThere uuid why (W.Store.state store.old).objects (W.Store.state store.new).objects
+        (W.disk_at world.old request.now.cache.now) (W.disk_at world.new request.now.cache.now) }
+    ensures creates { OnOk result (CreatesCache W.tells request.now uuid
+        (W.disk_at world.new request.now.cache.now)
+        (W.Store.state store.old).objects (W.Store.state store.new).objects) }
+    ensures back { IsGivenBack W.tells (W.disk_at world.old request.now.cache.now)
+        (W.disk_at world.new request.now.cache.now) }
+    ensures fault { IsErrOf result CommandError.Fault
+        → IsConstant (λ disk. (W.Disk.state disk).faults) → IsConstant (λ store. (W.Store.state store).faults)
+        → CountsOne (W.faults world.old) (W.faults world.new) }
+    ensures no_fault { result ≢ Err CommandError.Fault → W.faults world.new ≡ W.faults world.old }
+{
+    if has_super(alloc, store, uuid)? {
         return Err(CommandError::Refused(Refusal::Exists));
     }
     let disk = world.disk(request.cache, Some(device_bytes(request.log)))?;
-    match create(alloc, disk, &mut store, uuid, request.geometry()) {
-        Ok(volume) => Ok(Created {
-            uuid,
-            volume,
-            store,
-        }),
-        Err((disk, error)) => {
-            drop(disk);
-            Err(error.into())
-        }
+    let (disk, created) = create_on(alloc, disk, store, uuid, request);
+    world.close_disk(request.cache, disk);
+    created
+}
+
+// Creates a volume on a disk and in a store. The disk is given back, with its cache where it was created.
+fn create_on<D: Disk + Drop, S: Store>(
+    alloc: Global,
+    disk: D,
+    store: &mut S,
+    uuid: Uuid,
+    request: &CreateRequest<'_>,
+) -> (D, Result<(), CommandError>)
+    requires limits { IsTrue (is_within_limits (sizes_of request.now)) }
+    requires log { request.now.log ≡ log_of (D.state disk).size }
+    requires is_disk { IsDisk (D.state disk) }
+    ensures creates { OnOk result.1 (CreatesOn request.now uuid (D.state disk) (D.state result.0)
+        (S.state store.old).objects (S.state store.new).objects) }
+    ensures why { (why : Refusal) → IsErrOf result.1 (CommandError.Refused why) → (why ≡ Refusal.Exists)
+        × IfSome (S.state store.old).objects (λ objects. IsSome (found objects (super_name uuid)))
+        × ((S.state store.new).objects ≡ (S.state store.old).objects) }
+    ensures fault { IsErrOf result.1 CommandError.Fault
+        → IsConstant (λ disk. (D.state disk).faults) → IsConstant (λ store. (S.state store).faults) → ⊥ }
+{
+    match create(alloc, disk, store, uuid, request.geometry()) {
+        Ok(volume) => (volume.into_disk(), Ok(())),
+        Err((disk, error)) => (disk, Err(error.into())),
     }
 }
 
@@ -114,6 +163,8 @@ fn create_volume<W: World>(
 fn uuid_for<W: World>(request: &CreateRequest<'_>, world: &mut W) -> Result<Uuid, CommandError>
     ensures named { IfOk result (IsUuidFor request.now) }
     ensures refused { (why : Refusal) → IsErrOf result (CommandError.Refused why) → ⊥ }
+    ensures disks { W.disk_at world.new ≡ W.disk_at world.old }
+    ensures stores { W.store_at world.new ≡ W.store_at world.old }
     ensures fault { IsErrOf result CommandError.Fault → CountsOne (W.faults world.old) (W.faults world.new) }
     ensures no_fault { result ≢ Err CommandError.Fault → W.faults world.new ≡ W.faults world.old }
 {
@@ -126,6 +177,7 @@ fn uuid_for<W: World>(request: &CreateRequest<'_>, world: &mut W) -> Result<Uuid
 // The bytes of a device whose log has so many sectors.
 pub(crate) fn device_bytes(log: u64) -> u64
     requires { log ≤ 2 ^ 31 }
+    ensures bytes { result ≡ bytes_with log }
     ensures log { log_of result ≡ log }
 {
     LOG_START + SECTOR_BYTES * log

@@ -6,8 +6,10 @@
 //! gives.
 #![tactic(auto)]
 
+mod clients;
 mod creating;
 mod error;
+mod mounting;
 mod real_world;
 mod refusal;
 mod report;

@@ -59,6 +59,14 @@ impl<'a, R: Read + Drop, O: Write + Drop, E: Write + Drop> World for RealWorld<'
 
     ghost faults = { λ w. w.faults };
 
+    ghost tells = { false };
+
+    ghost disk_at = { λ _ _. None };
+
+    ghost store_at = { λ _ _. None };
+
+    ghost clients_at = { λ _ _. None };
+
     fn disk(&mut self, path: &str, len: Option<u64>) -> Result<RealDisk<'a>, WorldError> {
         let place = Place::new(self.rt, path)?;
         let opened = match len {
@@ -108,6 +116,15 @@ impl<'a, R: Read + Drop, O: Write + Drop, E: Write + Drop> World for RealWorld<'
                 Err(self.count())
             }
         }
+    }
+
+    // Its file is closed.
+    fn close_disk(&mut self, _path: &str, disk: RealDisk<'a>) {
+        drop(disk);
+    }
+
+    fn close_store(&mut self, _path: &str, store: RealStore<'a>) {
+        drop(store);
     }
 
     fn random16(&mut self) -> Result<[u8; 16], WorldError> {

@@ -1,9 +1,12 @@
-use Rattle.std.proofs.Common.{◌∙◌, ap, map, string_bytes, subst}
+use Rattle.std.proofs.Common.{◌≡◌, ◌∙◌, ap, map, string_bytes, subst}
 use Rattle.std.specs.Prelude.{Ok, Err}
 use Rattle.command_line.specs.CommandLine.{IsRead, IsRefused}
 use Rattle.command_run.proofs.Ran.{are_refused, one_of_all, runs_as_create, runs_as_memory, runs_as_replay, runs_as_serve}
 use Rattle.command_run.proofs.Ran.{runs_as_usage}
+use Rattle.command_run.proofs.Reached.{reaches_by_replay, reaches_by_create, reaches_by_serve, reaches_nothing}
 use Rattle.command_run.proofs.Reported.{reported}
+use Rattle.volume_commands.specs.declared.refusal.Refusal.{Refusal}
+use Rattle.volume_commands.specs.declared.report.Report.TheVariants as reports
 use Rattle.command_run.proofs.running.execute.Goals as goal
 
 pub returns-in-Ok-Replay-clause-output : goal.returns-in-Ok-Replay-clause-output
@@ -67,3 +70,51 @@ pub returns-in-Err-OutOfMemory-clause-output : goal.returns-in-Err-OutOfMemory-c
 returns-in-Err-OutOfMemory-clause-output g c =
     runs_as_memory (map string_bytes c.args.words.now) (g.W.In.Source.remaining c.args.input.now)
     (g.W.Out.Sink.contents c.args.out.now)
+
+-- ---- what stands at the paths
+
+pub returns-in-Ok-Replay-clause-reaches : goal.returns-in-Ok-Replay-clause-reaches
+returns-in-Ok-Replay-clause-reaches g c =
+    reaches_by_replay g.W.World.tells (λ disk. g.W.Disk.Disk.state disk) g.W.Store.Receipt.Receipt.state _ _ _
+    (map string_bytes c.args.words.now) c.report_of.result (g.W.World.clients_at c.args.world.now) _ _ _ _
+    (λ line spelled. subst (λ request. IsRead line (Ok request)) c.in-Ok-Replay.field-0-is
+    (c.in-Ok-Replay.ensures.line line spelled))
+
+pub returns-in-Ok-Create-clause-reaches : goal.returns-in-Ok-Create-clause-reaches
+returns-in-Ok-Create-clause-reaches g c =
+    reaches_by_create g.W.World.tells (λ disk. g.W.Disk.Disk.state disk) g.W.Store.Receipt.Receipt.state _ _ _
+    (map string_bytes c.args.words.now) c.answer_create.result (g.W.World.clients_at c.args.world.now) _ _ _ _
+    c.in-Ok-Create.request
+    (λ line spelled. subst (λ request. IsRead line (Ok request)) c.in-Ok-Create.field-0-is
+    (c.in-Ok-Create.ensures.line line spelled)) c.answer_create.ensures.creates c.answer_create.ensures.why
+
+pub returns-in-Ok-Serve-clause-reaches : goal.returns-in-Ok-Serve-clause-reaches
+returns-in-Ok-Serve-clause-reaches g c =
+    reaches_by_serve g.W.World.tells (λ disk. g.W.Disk.Disk.state disk) g.W.Store.Receipt.Receipt.state _ _ _
+    (map string_bytes c.args.words.now) c.answer_serve.result (g.W.World.clients_at c.args.world.now) _ _ _ _
+    c.in-Ok-Serve.request
+    (λ line spelled. subst (λ request. IsRead line (Ok request)) c.in-Ok-Serve.field-0-is
+    (c.in-Ok-Serve.ensures.line line spelled)) c.answer_serve.ensures.serves c.answer_serve.ensures.why
+
+not_done : reports.Usage ≡ reports.Done → ⊥
+not_done is = cc
+
+not_refused : (why : Refusal) → reports.Usage ≡ reports.Refused why → ⊥
+not_refused why is = cc
+
+pub returns-in-Err-Usage-clause-reaches : goal.returns-in-Err-Usage-clause-reaches
+returns-in-Err-Usage-clause-reaches g c =
+    reaches_nothing g.W.World.tells (λ disk. g.W.Disk.Disk.state disk) g.W.Store.Receipt.Receipt.state _ _ _
+    (map string_bytes c.args.words.now) reports.Usage (g.W.World.clients_at c.args.world.now) _ _ _ _ not_done not_refused
+
+no_memory_done : reports.Memory ≡ reports.Done → ⊥
+no_memory_done is = cc
+
+no_memory_refused : (why : Refusal) → reports.Memory ≡ reports.Refused why → ⊥
+no_memory_refused why is = cc
+
+pub returns-in-Err-OutOfMemory-clause-reaches : goal.returns-in-Err-OutOfMemory-clause-reaches
+returns-in-Err-OutOfMemory-clause-reaches g c =
+    reaches_nothing g.W.World.tells (λ disk. g.W.Disk.Disk.state disk) g.W.Store.Receipt.Receipt.state _ _ _
+    (map string_bytes c.args.words.now) reports.Memory (g.W.World.clients_at c.args.world.now) _ _ _ _ no_memory_done
+    no_memory_refused

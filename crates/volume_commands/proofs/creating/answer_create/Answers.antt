@@ -4,19 +4,10 @@ use Rattle.volume_commands.proofs.creating.answer_create.Goals as goal
 
 pub returns-in-Err-Refused-clause-told : goal.returns-in-Err-Refused-clause-told
 returns-in-Err-Refused-clause-told g c =
-    let refuses = c.in-Err-Refused.ensures.why c.in-Err-Refused.why
-    (refused_in _ c.in-Err-Refused.why c.in-Err-Refused.field-0-is) in
-    (refuses.is, refl)
+    let refuses =
+    c.in-Err-Refused.ensures.why c.in-Err-Refused.why (refused_in _ c.in-Err-Refused.why c.in-Err-Refused.field-0-is) in
+    (refuses.there.is, refl)
 
 pub returns-in-Err-Refused-clause-why : goal.returns-in-Err-Refused-clause-why
 returns-in-Err-Refused-clause-why g c why is =
     c.in-Err-Refused.ensures.why why (same_refusal _ c.in-Err-Refused.why why c.in-Err-Refused.field-0-is is)
-
-pub returns-in-Ok-tell_created-clause-creates : goal.returns-in-Ok-tell_created-clause-creates
-returns-in-Ok-tell_created-clause-creates g c is = record {
-  uuid = c.in-Ok.created.uuid;
-  volume = c.in-Ok.created.volume;
-  store = c.in-Ok.created.store;
-  made = c.in-Ok.ensures.made;
-  told = c.in-Ok-tell_created.ensures.ok;
-}

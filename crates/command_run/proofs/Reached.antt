@@ -1,0 +1,63 @@
+-- What a run makes of what stands at the paths, by what its words were read as.
+use Rattle.std.proofs.Common.{◌≡◌, ℕ, Bool, List}
+use Rattle.std.specs.Prelude.{Option, Ok}
+use Rattle.clap.specs.Walk.{Text}
+use Rattle.lsvd_device.specs.Device.{DiskState}
+use Rattle.lsvd_objstore.specs.Store.{ReceiptState}
+use Rattle.command_line.specs.CommandLine.{IsRead, Line, Spells, replay, create, serve}
+use Rattle.command_line.specs.declared.create.CreateRequest.{CreateRequest}
+use Rattle.command_line.specs.declared.serve.ServeRequest.{ServeRequest}
+use Rattle.command_line.specs.declared.request.Request.TheVariants.{Replay, Create, Serve}
+use Rattle.nbd_session.specs.Session.{LinkBytes}
+use Rattle.volume_server.specs.Serving.{ListenerState}
+use Rattle.volume_commands.specs.Creating.{Creates, RefusesToCreate}
+use Rattle.volume_commands.specs.Mounting.{Serves, RefusesFor}
+use Rattle.volume_commands.specs.World.{Places}
+use Rattle.volume_commands.specs.declared.refusal.Refusal.{Refusal}
+use Rattle.volume_commands.specs.declared.report.Report.{Report}
+use Rattle.volume_commands.specs.declared.report.Report.TheVariants.{Done, Refused}
+use Rattle.command_run.specs.Run.{Reaches}
+
+module _ {D R L K : Type 0} (tells : Bool) (disk_state : D → DiskState) (receipt_state : R → ReceiptState)
+    (listener_state : L → ListenerState) (coming : L → Option (List K)) (bytes_of : K → LinkBytes) (words : List Text)
+    (report : Report) (clients : List ℕ → Option (List K)) (before after : Places) (old new : Option (List ℕ)) where
+  abbrev reaches : Type 0
+  reaches = Reaches tells disk_state receipt_state listener_state coming bytes_of words report clients before after old new
+
+  pub reaches_by_replay : ((line : Line) → Spells words line → IsRead line (Ok Replay)) → reaches
+  reaches_by_replay read = record {
+    creates = λ options spelled is. absurd (read (create options) spelled);
+    creates_none = λ options why spelled is. absurd (read (create options) spelled);
+    serves = λ options spelled is. absurd (read (serve options) spelled);
+    serves_none = λ options why spelled is. absurd (read (serve options) spelled);
+  }
+
+  pub reaches_by_create : (request : CreateRequest) → ((line : Line) → Spells words line → IsRead line (Ok (Create request)))
+      → (report ≡ Done → Creates tells request before after old new)
+      → ((why : Refusal) → report ≡ Refused why → RefusesToCreate tells request before after why) → reaches
+  reaches_by_create request read creates refuses = record {
+    creates = λ options spelled is. (request, read (create options) spelled, creates is);
+    creates_none = λ options why spelled is. (request, read (create options) spelled, refuses why is);
+    serves = λ options spelled is. absurd (read (serve options) spelled);
+    serves_none = λ options why spelled is. absurd (read (serve options) spelled);
+  }
+
+  pub reaches_by_serve : (request : ServeRequest) → ((line : Line) → Spells words line → IsRead line (Ok (Serve request)))
+      → (report ≡ Done → Serves tells disk_state receipt_state listener_state coming bytes_of request
+      (clients request.socket.now) before after old new)
+      → ((why : Refusal) → report ≡ Refused why → RefusesFor tells disk_state receipt_state request before after why) → reaches
+  reaches_by_serve request read serves refuses = record {
+    creates = λ options spelled is. absurd (read (create options) spelled);
+    creates_none = λ options why spelled is. absurd (read (create options) spelled);
+    serves = λ options spelled is. (request, read (serve options) spelled, serves is);
+    serves_none = λ options why spelled is. (request, read (serve options) spelled, refuses why is);
+  }
+
+  -- a run that is neither done nor refused promises nothing of them
+  pub reaches_nothing : (report ≡ Done → ⊥) → ((why : Refusal) → report ≡ Refused why → ⊥) → reaches
+  reaches_nothing not_done not_refused = record {
+    creates = λ options spelled is. absurd (not_done is);
+    creates_none = λ options why spelled is. absurd (not_refused why is);
+    serves = λ options spelled is. absurd (not_done is);
+    serves_none = λ options why spelled is. absurd (not_refused why is);
+  }

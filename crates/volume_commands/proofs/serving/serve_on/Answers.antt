@@ -1,0 +1,54 @@
+use Rattle.volume_commands.specs.declared.error.CommandError.TheVariants as errors
+use Rattle.volume_commands.proofs.Mounts.{fault_counts_none, made_some}
+use Rattle.volume_commands.proofs.Places.{on_done}
+use Rattle.volume_commands.proofs.Served.{mounted_has_room, mounted_is_idle, told_as}
+use Rattle.volume_commands.proofs.Told.{nothing_served}
+use Rattle.volume_commands.proofs.serving.serve_on.Goals as goal
+
+-- ---- it was not mounted
+
+pub returns-in-Err-clause-told : goal.returns-in-Err-clause-told
+returns-in-Err-clause-told g c = nothing_served c.into.result (g.W.Out.Sink.contents c.args.out.now)
+
+pub returns-in-Err-clause-why : goal.returns-in-Err-clause-why
+returns-in-Err-clause-why g c why is = record {
+  error = c.in-Err.error;
+  is = told_as _ _ _ c.into.ensures is;
+  ends = c.in-Err.ensures;
+}
+
+pub returns-in-Err-clause-fault : goal.returns-in-Err-clause-fault
+returns-in-Err-clause-fault g c is disks stores clients =
+    absurd
+    (fault_counts_none (λ disk. g.W.Disk.Disk.state disk) (λ store. g.W.Store.Store.state store)
+    g.W.Store.Receipt.Receipt.state c.args.request.now.is_lost c.args.request.now.volume c.args.disk c.in-Err.disk
+    c.args.store.now c.mount.new.store c.in-Err.error c.in-Err.ensures
+    (told_as _ errors.Fault _ c.into.ensures is) disks stores)
+
+-- ---- it was mounted
+
+pub serve_mounted-volume-requires-clause-idle : goal.serve_mounted-volume-requires-clause-idle
+serve_mounted-volume-requires-clause-idle g c =
+    mounted_is_idle _ _ c.in-Ok.mounted
+    (made_some (λ disk. g.W.Disk.Disk.state disk) g.W.Store.Receipt.Receipt.state c.args.request.now.is_lost
+    c.args.request.now.volume (g.W.Disk.Disk.state c.args.disk) _ _ c.in-Ok.mounted c.in-Ok.ensures)
+
+pub serve_mounted-volume-requires-clause-steps : goal.serve_mounted-volume-requires-clause-steps
+serve_mounted-volume-requires-clause-steps g c =
+    mounted_has_room _ _ c.in-Ok.mounted
+    (made_some (λ disk. g.W.Disk.Disk.state disk) g.W.Store.Receipt.Receipt.state c.args.request.now.is_lost
+    c.args.request.now.volume (g.W.Disk.Disk.state c.args.disk) _ _ c.in-Ok.mounted c.in-Ok.ensures)
+
+pub returns-clause-why : goal.returns-clause-why
+returns-clause-why g c why is = absurd (c.serve_mounted-volume.ensures.refused why is)
+
+pub returns-clause-serves : goal.returns-clause-serves
+returns-clause-serves g c =
+    on_done c.serve_mounted-volume.result.1 (λ serves. record {
+      mounted = c.in-Ok.mounted;
+      mid = g.W.Store.Store.state c.mount.new.store;
+      mounts = c.in-Ok.ensures;
+      closing = c.serve_mounted-volume.result.0;
+      serves = serves;
+      disk_is = c.into_disk.ensures.same;
+    }) c.serve_mounted-volume.ensures.serves

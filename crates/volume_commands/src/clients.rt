@@ -1,0 +1,138 @@
+ghost use Rattle.std.specs.Prelude.{◌≡◌, ◌≢◌, ◌≤◌, IfOk, OnOk, OnErr, Err, IsErrOf, is_err};
+ghost use Rattle.std.specs.Io.KnownBytes.{Appends};
+ghost use Rattle.lsvd_fault.specs.Faults.{Counts, CountsOne};
+ghost use Rattle.nbd_session.specs.History.{most_steps};
+ghost use Rattle.volume_owner.specs.Acts.{moment_of};
+ghost use Rattle.volume_owner.specs.Owner.{IsIdle};
+ghost use Rattle.volume_commands.specs.Mounting.{Drains, ServesMounted};
+ghost use Rattle.volume_commands.specs.Serving.{TellsServed, judged};
+ghost use Rattle.volume_commands.specs.Serving.{mounted_line, writes_line, AppendsFront};
+ghost use Rattle.volume_commands.specs.World.{IsConstant};
+
+use crate::error::CommandError;
+use crate::refusal::Refusal;
+use arrayvec::ArrayString;
+use itoa::Buffer;
+use lsvd_device::Disk;
+use lsvd_fault::{Failed, Sink, write_all};
+use lsvd_listen::Listener;
+use lsvd_objstore::Store;
+use std::alloc::Global;
+use vol_core::Volume;
+use vol_recover::Mounted;
+use volume_owner::Owner;
+use volume_server::{LaneEnd, clients_add_to_one_history, serve_volume};
+
+// Tells that a volume was mounted, serves it until the last session has ended, and drains it and tells that
+// then. The volume is given back.
+pub(crate) fn serve_clients<D: Disk, S: Store, L: Listener, O: Sink>(
+    alloc: Global,
+    mounted: Mounted<D, S::Receipt>,
+    clients: &mut L,
+    store: &mut S,
+    sessions: u64,
+    out: &mut O,
+) -> (Volume<D, S::Receipt>, Result<(), CommandError>)
+    requires idle { IsIdle mounted.volume.volume }
+    requires steps { mounted.volume.steps ≤ most_steps }
+    ensures told { TellsServed result.1 (O.contents out.old) (O.contents out.new) }
+    ensures serves { OnOk result.1 (ServesMounted S.Receipt.state
+        (λ clients. record {
+          given = L.given clients;
+          closed = L.closed clients;
+          faults = L.faults clients;
+        })
+        (λ clients. L.coming clients)
+        (λ link. record { left = L.Link.remaining link; sent = L.Link.contents link })
+        sessions (L.coming clients.old) mounted (S.state store.old)
+        (moment_of result.0 (S.state store.new)) (O.contents out.old) (O.contents out.new)) }
+    ensures refused { (why : Refusal) → IsErrOf result.1 (CommandError.Refused why) → ⊥ }
+    ensures fault { IsErrOf result.1 CommandError.Fault
+        → IsConstant (λ disk. (D.state disk).faults) → IsConstant (λ store. (S.state store).faults)
+        → IsConstant L.faults → CountsOne (O.faults out.old) (O.faults out.new) }
+    ensures no_fault { result.1 ≢ Err CommandError.Fault → O.faults out.new ≡ O.faults out.old }
+{
+    if let Err(Failed) = tell_mounted(out, mounted.entries, mounted.number) {
+        return (mounted.volume, Err(CommandError::Fault));
+    }
+    clients_add_to_one_history::<S::Receipt, L::Link>();
+    let closing = serve_volume(alloc, mounted.volume, clients, store, sessions);
+    let (volume, drained) = drain(alloc, closing.volume, store);
+    let entries = match drained {
+        Ok(entries) => entries,
+        Err(error) => return (volume, Err(error)),
+    };
+    if let Err(Failed) = tell_writes(out, entries) {
+        return (volume, Err(CommandError::Fault));
+    }
+    (volume, judge(closing.lane.end))
+}
+
+// A server is done where it has served all its clients, or no more come; it is not where its listener failed.
+fn judge(end: LaneEnd) -> Result<(), CommandError>
+    ensures { result ≡ judged end }
+{
+    match end {
+        LaneEnd::Counted | LaneEnd::Closed => Ok(()),
+        LaneEnd::Failed => Err(CommandError::Fault),
+    }
+}
+
+// Drains a volume, and answers how many entries its history has. The volume is given back.
+fn drain<D: Disk, S: Store>(
+    alloc: Global,
+    volume: Volume<D, S::Receipt>,
+    store: &mut S,
+) -> (Volume<D, S::Receipt>, Result<u64, CommandError>)
+    requires idle { IsIdle volume.volume }
+    requires steps { volume.steps ≤ most_steps }
+    ensures drains { IfOk result.1 (λ entries. Drains S.Receipt.state entries
+        (moment_of volume (S.state store.old)) (moment_of result.0 (S.state store.new))) }
+    ensures refused { (why : Refusal) → IsErrOf result.1 (CommandError.Refused why) → ⊥ }
+    ensures fault { IsErrOf result.1 CommandError.Fault
+        → IsConstant (λ disk. (D.state disk).faults) → IsConstant (λ store. (S.state store).faults) → ⊥ }
+{
+    let _ = volume.disk();
+    let mut owner = Owner::new(volume);
+    let drained = owner.drain(alloc, store);
+    let volume = owner.into_volume();
+    let _ = volume.disk();
+    match drained {
+        Ok(entries) => (volume, Ok(entries)),
+        Err(error) => (volume, Err(error.into())),
+    }
+}
+
+// The most bytes of a line that tells a mount or its end.
+const LINE_BYTES: usize = 64;
+
+// The line that tells a volume that was mounted, as one write.
+fn tell_mounted<O: Sink>(out: &mut O, entries: u64, number: u64) -> Result<(), Failed>
+    ensures ok { OnOk result (Appends (O.contents out.old) (O.contents out.new)
+        (mounted_line entries number)) }
+    ensures front { OnErr result (AppendsFront (mounted_line entries number) (O.contents out.old)
+        (O.contents out.new)) }
+    ensures count { Counts (is_err result) (O.faults out.old) (O.faults out.new) }
+{
+    let mut line = ArrayString::<LINE_BYTES>::new();
+    line.push_str("mounted ");
+    line.push_str(Buffer::new().format(entries));
+    line.push_str(" ");
+    line.push_str(Buffer::new().format(number));
+    line.push_str("\n");
+    write_all(out, line.as_bytes())
+}
+
+// The line that tells how many entries the history has at the end, as one write.
+fn tell_writes<O: Sink>(out: &mut O, entries: u64) -> Result<(), Failed>
+    ensures ok { OnOk result (Appends (O.contents out.old) (O.contents out.new) (writes_line entries)) }
+    ensures front { OnErr result (AppendsFront (writes_line entries) (O.contents out.old)
+        (O.contents out.new)) }
+    ensures count { Counts (is_err result) (O.faults out.old) (O.faults out.new) }
+{
+    let mut line = ArrayString::<LINE_BYTES>::new();
+    line.push_str("writes ");
+    line.push_str(Buffer::new().format(entries));
+    line.push_str("\n");
+    write_all(out, line.as_bytes())
+}
