@@ -1,4 +1,6 @@
+mod Lasting
 mod Mounts
 mod Places
 mod Served
 pub mod Told
+mod Whole

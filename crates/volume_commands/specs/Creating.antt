@@ -16,7 +16,7 @@ use Rattle.super_recovery.specs.declared.error.SuperError.{SuperError}
 use Rattle.super_recovery.specs.declared.error.SuperError.TheVariants as super_errors
 use Rattle.vol_core.specs.Creating.{IsCreated, CostsFormat}
 use Rattle.vol_core.specs.Volume.{SteppedVolume}
-use Rattle.vol_recover.specs.Creating.{PutsVolume}
+use Rattle.vol_recover.specs.Creating.{PutsVolume, IsNewTo, HasNewVolume}
 use Rattle.vol_recover.specs.declared.creating.CreateError.{CreateError}
 use Rattle.vol_recover.specs.declared.creating.CreateError.TheVariants as create_errors
 use Rattle.volume_commands.specs.declared.error.CommandError.{CommandError}
@@ -27,6 +27,7 @@ use Rattle.volume_commands.specs.declared.report.Report.{Report}
 use Rattle.volume_commands.specs.declared.report.Report.TheVariants.{Done, Fault, Usage, BadLine, Refused, Memory}
 use Rattle.volume_commands.specs.declared.world.WorldError.{WorldError}
 use Rattle.volume_commands.specs.declared.world.WorldError.TheVariants as world_errors
+use Rattle.volume_commands.specs.Closing.{IsLetGo}
 use Rattle.volume_commands.specs.World.{Places, where_told, bytes_with, IsBlank, IsGivenStore}
 
 -- ---- errors
@@ -57,7 +58,8 @@ IsUuidFor request uuid =
     ⊎ ((request.uuid ≡ None) × (version_num uuid ≡ 4) × (variant_of (slice_index uuid 8) ≡ RFC4122))
 
 -- A volume was created as the request asks, of the uuid for it and of its sizes, on this disk, which is formatted then. Where its
--- store tells its objects, the whole volume was put into those before, which had no super object of that uuid.
+-- store tells its objects, the whole volume was put into those before, which had no super object of that uuid; and if they had no
+-- more of it than a creation leaves that was stopped, it stands in its store.
 pub record CreatesOn (request : CreateRequest) (uuid : List ℕ) (disk disk_left : DiskState) (before after : Option Objects) :
     Type 0 where
   pub volume : SteppedVolume
@@ -66,6 +68,8 @@ pub record CreatesOn (request : CreateRequest) (uuid : List ℕ) (disk disk_left
   pub disk_is : disk_left ≡ volume.volume.log.commits.disk
   pub stored : Becomes (PutsVolume uuid (sizes_of request)) before after
   pub absent : IfSome before (λ objects. found objects (super_name uuid) ≡ None)
+  pub stands : IfSome before (λ objects. IsNewTo uuid objects → IfSome after (HasNewVolume uuid (sizes_of request)))
+  pub let_go : IsLetGo volume
 
 -- So it was on a disk that was made at its path, blank, which stands there as it was left.
 pub record CreatesCache (tells : Bool) (request : CreateRequest) (uuid : List ℕ) (stands : Option DiskState)

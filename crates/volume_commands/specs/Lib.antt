@@ -1,4 +1,6 @@
+pub mod Closing
 pub mod Creating
+pub mod Lasting
 pub mod Mounting
 pub mod Refusal
 pub mod Report

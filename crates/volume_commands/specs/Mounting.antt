@@ -20,6 +20,7 @@ use Rattle.volume_server.specs.declared.serving.Lane.{Lane}
 use Rattle.volume_server.specs.declared.serving.LaneEnd.TheVariants as ends
 use Rattle.volume_commands.specs.declared.error.CommandError.TheVariants as errors
 use Rattle.volume_commands.specs.declared.refusal.Refusal.{Refusal}
+use Rattle.volume_commands.specs.Closing.{IsLetGo}
 use Rattle.volume_commands.specs.Serving.{of_mount, serving_text}
 use Rattle.volume_commands.specs.World.{Places, where_told, bytes_with, IsGiven}
 
@@ -116,7 +117,7 @@ pub record ServesMounted {R L K : Type 0} (receipt_state : R → ReceiptState) (
   pub drains : Drains receipt_state entries last closing
   pub told : Appends old new (serving_text mounted.entries mounted.number entries)
 
--- The volume that is asked for was mounted of this disk and this store, and served and drained, which left them so.
+-- The volume that is asked for was mounted of this disk and this store, and served, drained and let go, which left them so.
 pub record ServesOn {D R L K : Type 0} (disk_state : D → DiskState) (receipt_state : R → ReceiptState)
     (listener_state : L → ListenerState) (coming : L → Option (List K)) (bytes_of : K → LinkBytes) (request : ServeRequest)
     (links : Option (List K)) (disk disk_left : DiskState) (store store_left : StoreState) (old new : Option (List ℕ)) :
@@ -127,6 +128,7 @@ pub record ServesOn {D R L K : Type 0} (disk_state : D → DiskState) (receipt_s
   pub closing : SteppedVolume
   pub serves : ServesMounted receipt_state listener_state coming bytes_of request.sessions links mounted mid
       (moment_of closing store_left) old new
+  pub let_go : IsLetGo closing
   pub disk_is : disk_left ≡ closing.volume.log.commits.disk
 
 -- So it was of the disk that stood at its path or was made anew, which stands there as it was left.

@@ -13,6 +13,7 @@ ghost use Rattle.volume_commands.specs.Creating.{IsThere, RefusesToCreate, Tells
 ghost use Rattle.volume_commands.specs.World.{CountsNone, CountsOneOf, IsConstant, bytes_with};
 ghost use Rattle.volume_commands.specs.World.{GivesBack, IsGivenBack};
 
+use crate::closing::let_go;
 use crate::error::CommandError;
 use crate::refusal::Refusal;
 use crate::report::Report;
@@ -154,7 +155,7 @@ fn create_on<D: Disk + Drop, S: Store>(
         → IsConstant (λ disk. (D.state disk).faults) → IsConstant (λ store. (S.state store).faults) → ⊥ }
 {
     match create(alloc, disk, store, uuid, request.geometry()) {
-        Ok(volume) => (volume.into_disk(), Ok(())),
+        Ok(volume) => (let_go(volume), Ok(())),
         Err((disk, error)) => (disk, Err(error.into())),
     }
 }

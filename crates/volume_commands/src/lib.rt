@@ -7,8 +7,10 @@
 #![tactic(auto)]
 
 mod clients;
+mod closing;
 mod creating;
 mod error;
+mod laws;
 mod mounting;
 mod real_world;
 mod refusal;
@@ -17,6 +19,7 @@ mod serving;
 mod world;
 
 pub use creating::answer_create;
+pub use laws::{a_created_volume_may_be_mounted, a_served_volume_may_be_mounted_again};
 pub use real_world::{RealDisk, RealListener, RealStore, RealWorld};
 pub use refusal::Refusal;
 pub use report::Report;

@@ -10,6 +10,7 @@ ghost use Rattle.volume_commands.specs.World.{CountsNone, CountsOneOf, IsConstan
 ghost use Rattle.volume_commands.specs.World.{GivesBack, IsGivenBack};
 
 use crate::clients::serve_clients;
+use crate::closing::let_go;
 use crate::error::CommandError;
 use crate::mounting::{length_anew, mount};
 use crate::refusal::Refusal;
@@ -196,7 +197,7 @@ fn serve_on<W: World>(
         Err((disk, error)) => return (disk, Err(error.into())),
     };
     let (volume, served) = serve_mounted(alloc, request, world, out, store, mounted);
-    (volume.into_disk(), served)
+    (let_go(volume), served)
 }
 
 // Begins to listen, and serves a volume that was mounted. The volume is given back.

@@ -50,5 +50,6 @@ returns-clause-serves g c =
       mounts = c.in-Ok.ensures;
       closing = c.serve_mounted-volume.result.0;
       serves = serves;
-      disk_is = c.into_disk.ensures.same;
+      let_go = c.let_go.ensures.let_go;
+      disk_is = c.let_go.ensures.same;
     }) c.serve_mounted-volume.ensures.serves

@@ -1,0 +1,108 @@
+-- Contract: what `create` and `serve` leave of a volume is what its next mount asks for, with its whole history.
+use Rattle.std.specs.Prelude.{◌≡◌, ℕ, ◌+◌, true, false, Option, Some, IsTrue, List, []}
+use Rattle.lsvd_base.specs.declared.entry.Entry.{Entry}
+use Rattle.lsvd_base.specs.Limits.{is_within_limits}
+use Rattle.lsvd_device.specs.Device.{DiskState, HoldsNow}
+use Rattle.lsvd_names.specs.Spelling.{IsUuid}
+use Rattle.lsvd_objstore.specs.Objects.{Objects}
+use Rattle.lsvd_objstore.specs.Store.{StoreState, ReceiptState}
+use Rattle.commit_slot.specs.Slots.{log_of}
+use Rattle.command_line.specs.Create.{sizes_of}
+use Rattle.command_line.specs.declared.create.CreateRequest.{CreateRequest}
+use Rattle.command_line.specs.declared.serve.ServeRequest.{ServeRequest}
+use Rattle.stopped_volume.specs.Objects.{landed_in}
+use Rattle.stopped_volume.specs.Store.{TellsBytes}
+use Rattle.plain_disk.specs.declared.log.PlainCommit.{PlainCommit}
+use Rattle.plain_disk.specs.State.{PlainState, created_volume, history_length}
+use Rattle.plain_disk.specs.Stops.{recovered_number}
+use Rattle.object_recovery.specs.Checkpoints.{expected_of}
+use Rattle.refine_mount.specs.Mounted.{mounted_with, sizes_with, mounted_without}
+use Rattle.vol_recover.specs.Creating.{IsNewTo}
+use Rattle.vol_recover.specs.Standing.{MayMountWith, MayMountWithout, StopMayMount}
+use Rattle.volume_owner.specs.Acts.{moment_of}
+use Rattle.volume_owner.specs.History.{GoesOn}
+use Rattle.nbd_session.specs.History.{Grows}
+use Rattle.nbd_session.specs.Session.{LinkBytes}
+use Rattle.volume_server.specs.Serving.{ListenerState}
+use Rattle.volume_commands.specs.Creating.{CreatesOn}
+use Rattle.volume_commands.specs.Mounting.{ServesOn}
+
+-- ---- what is left
+
+-- the number that a mount finds of a plain volume in these objects: that before the first missing one
+abbrev pub number_found : (uuid : List ℕ) → PlainState → Objects → ℕ
+number_found uuid plain objects = recovered_number (landed_in objects (expected_of uuid plain.geometry)) plain
+
+-- a mount without the cache may be made, on a log of so many sectors, and what it makes has each entry
+abbrev pub ComesBackWithout : (uuid : List ℕ) → (epoch : ℕ) → PlainState → Objects → (log : ℕ) → Type 0
+ComesBackWithout uuid epoch plain objects log =
+    MayMountWithout uuid log epoch plain (number_found uuid plain objects) objects
+    × ((mounted_without log (number_found uuid plain objects) plain).entries ≡ plain.entries)
+
+-- what a mount with the cache makes, which reads as this commit, has each entry
+abbrev pub ComesBackWith : (uuid : List ℕ) → PlainState → Objects → (found : PlainCommit) → Type 0
+ComesBackWith uuid plain objects found = (mounted_with found (number_found uuid plain objects) plain).entries ≡ plain.entries
+
+-- A plain volume is left whole: of these objects it comes back without the cache, on each log within the limits, and with
+-- whatever a stop leaves of the disk.
+pub record IsLeftWhole (uuid : List ℕ) (epoch : ℕ) (plain : PlainState) (objects : Objects) (disk : DiskState) : Type 0 where
+  pub log_is : plain.geometry.log ≡ log_of disk.size
+  pub without : (log : ℕ) → IsTrue (is_within_limits (sizes_with log plain.geometry))
+      → ComesBackWithout uuid epoch plain objects log
+  pub with_cache : HoldsNow (StopMayMount uuid epoch plain (ComesBackWith uuid plain objects) objects) disk.moments
+
+-- These entries were added to a plain volume, and what it became is left whole, by a store that tells its objects.
+pub record LeavesWhole (uuid : List ℕ) (epoch : ℕ) (added : List Entry) (plain : PlainState) (objects : Option Objects)
+    (disk : DiskState) : Type 0 where
+  pub after : PlainState
+  pub goes_on : GoesOn added plain after
+  pub left : Objects
+  pub told : objects ≡ Some left
+  pub whole : IsLeftWhole uuid epoch after left disk
+
+-- So a run of `serve` leaves what its mount made, with the entries that its clients added; and it told how many that has.
+pub record ServesWhole {D R L K : Type 0} {disk_state : D → DiskState} {receipt_state : R → ReceiptState}
+    {listener_state : L → ListenerState} {coming : L → Option (List K)} {bytes_of : K → LinkBytes} {request : ServeRequest}
+    {links : Option (List K)} {disk disk_left : DiskState} {store store_left : StoreState} {old new : Option (List ℕ)}
+    (serves : ServesOn disk_state receipt_state listener_state coming bytes_of request links disk disk_left store store_left old
+    new) (epoch : ℕ) (made : PlainState) : Type 0 where
+  pub added : List Entry
+  pub grows : Grows added (moment_of serves.mounted.volume serves.mid) serves.serves.last
+  pub leaves : LeavesWhole request.volume epoch added made store_left.objects disk_left
+  pub count : serves.serves.entries ≡ history_length leaves.after
+
+-- ---- laws
+
+-- A volume that was created in a store which had no more of it than a creation leaves that was stopped is left whole in epoch 0,
+-- with no entries.
+abbrev pub CreatedIsWhole : Type 0
+CreatedIsWhole =
+    (request : CreateRequest) (uuid : List ℕ) (disk disk_left : DiskState) (before : Objects) (after : Option Objects)
+    → IsNewTo uuid before → CreatesOn request uuid disk disk_left (Some before) after
+    → LeavesWhole uuid 0 [] (created_volume (sizes_of request)) after disk_left
+
+-- Where disk and store may be mounted with each other, a run of `serve` with the cache leaves what the mount made of them whole,
+-- with the entries that clients added, in the same epoch.
+abbrev pub ServedWithIsWhole : {D R L K : Type 0} → (D → DiskState) → (R → ReceiptState) → (L → ListenerState)
+    → (L → Option (List K)) → (K → LinkBytes) → Type 0
+ServedWithIsWhole {D} {R} {L} {K} disk_state receipt_state listener_state coming bytes_of =
+    (request : ServeRequest) (links : Option (List K)) (disk disk_left : DiskState) (store store_left : StoreState)
+    (old new : Option (List ℕ)) (epoch : ℕ) (plain : PlainState) (found : PlainCommit) (number : ℕ) (objects : Objects)
+    → TellsBytes receipt_state → IsUuid request.volume → request.is_lost ≡ false → store.objects ≡ Some objects
+    → plain.geometry.log ≡ log_of disk.size → MayMountWith request.volume epoch plain found number objects disk
+    → (serves : ServesOn disk_state receipt_state listener_state coming bytes_of request links disk disk_left store store_left old
+    new)
+    → ServesWhole serves epoch (mounted_with found number plain)
+
+-- Where the store may be mounted without the cache on the log of a disk, a run without it leaves what that mount made whole so,
+-- in the next epoch.
+abbrev pub ServedWithoutIsWhole : {D R L K : Type 0} → (D → DiskState) → (R → ReceiptState) → (L → ListenerState)
+    → (L → Option (List K)) → (K → LinkBytes) → Type 0
+ServedWithoutIsWhole {D} {R} {L} {K} disk_state receipt_state listener_state coming bytes_of =
+    (request : ServeRequest) (links : Option (List K)) (disk disk_left : DiskState) (store store_left : StoreState)
+    (old new : Option (List ℕ)) (epoch : ℕ) (plain : PlainState) (number : ℕ) (objects : Objects)
+    → TellsBytes receipt_state → IsUuid request.volume → request.is_lost ≡ true → store.objects ≡ Some objects
+    → MayMountWithout request.volume (log_of disk.size) epoch plain number objects
+    → (serves : ServesOn disk_state receipt_state listener_state coming bytes_of request links disk disk_left store store_left old
+    new)
+    → ServesWhole serves (epoch + 1) (mounted_without (log_of disk.size) number plain)

@@ -1,0 +1,35 @@
+ghost use Rattle.volume_commands.specs.Lasting.{CreatedIsWhole, ServedWithIsWhole, ServedWithoutIsWhole};
+
+use lsvd_device::Disk;
+use lsvd_listen::Listener;
+use lsvd_objstore::Receipt;
+use volume_server::clients_add_to_one_history;
+
+/// A law: a volume that was created may be mounted, with its cache and without it, and it has no entries.
+pub fn a_created_volume_may_be_mounted()
+    ensures { CreatedIsWhole }
+{}
+
+/// A law: a volume that was served may be mounted again, with its cache, by whatever a stop leaves of that,
+/// and without it. Either mount makes a volume whose history is that which the mount before made, with the
+/// entries that clients added: each of them was put into the store.
+pub fn a_served_volume_may_be_mounted_again<D: Disk, R: Receipt, L: Listener>()
+    ensures with_cache { ServedWithIsWhole (λ disk. D.state disk) R.state
+        (λ clients. record {
+          given = L.given clients;
+          closed = L.closed clients;
+          faults = L.faults clients;
+        })
+        (λ clients. L.coming clients)
+        (λ link. record { left = L.Link.remaining link; sent = L.Link.contents link }) }
+    ensures without { ServedWithoutIsWhole (λ disk. D.state disk) R.state
+        (λ clients. record {
+          given = L.given clients;
+          closed = L.closed clients;
+          faults = L.faults clients;
+        })
+        (λ clients. L.coming clients)
+        (λ link. record { left = L.Link.remaining link; sent = L.Link.contents link }) }
+{
+    clients_add_to_one_history::<R, L::Link>();
+}
