@@ -8,8 +8,7 @@ use Rattle.command_line.specs.CommandLine.{IsRead, Line, Spells, replay, create,
 use Rattle.command_line.specs.declared.create.CreateRequest.{CreateRequest}
 use Rattle.command_line.specs.declared.serve.ServeRequest.{ServeRequest}
 use Rattle.command_line.specs.declared.request.Request.TheVariants.{Replay, Create, Serve}
-use Rattle.nbd_session.specs.Session.{LinkBytes}
-use Rattle.volume_server.specs.Serving.{ListenerState}
+use Rattle.volume_server.specs.Serving.{ListenerState, ConnectionState}
 use Rattle.volume_commands.specs.Creating.{Creates, RefusesToCreate}
 use Rattle.volume_commands.specs.Mounting.{Serves, RefusesFor}
 use Rattle.volume_commands.specs.World.{Places}
@@ -19,10 +18,10 @@ use Rattle.volume_commands.specs.declared.report.Report.TheVariants.{Done, Refus
 use Rattle.command_run.specs.Run.{Reaches}
 
 module _ {D R L K : Type 0} (tells : Bool) (disk_state : D → DiskState) (receipt_state : R → ReceiptState)
-    (listener_state : L → ListenerState) (coming : L → Option (List K)) (bytes_of : K → LinkBytes) (words : List Text)
+    (listener_state : L → ListenerState) (coming : L → Option (List K)) (link_state : K → ConnectionState) (words : List Text)
     (report : Report) (clients : List ℕ → Option (List K)) (before after : Places) (old new : Option (List ℕ)) where
   abbrev reaches : Type 0
-  reaches = Reaches tells disk_state receipt_state listener_state coming bytes_of words report clients before after old new
+  reaches = Reaches tells disk_state receipt_state listener_state coming link_state words report clients before after old new
 
   pub reaches_by_replay : ((line : Line) → Spells words line → IsRead line (Ok Replay)) → reaches
   reaches_by_replay read = record {
@@ -43,7 +42,7 @@ module _ {D R L K : Type 0} (tells : Bool) (disk_state : D → DiskState) (recei
   }
 
   pub reaches_by_serve : (request : ServeRequest) → ((line : Line) → Spells words line → IsRead line (Ok (Serve request)))
-      → (report ≡ Done → Serves tells disk_state receipt_state listener_state coming bytes_of request
+      → (report ≡ Done → Serves tells disk_state receipt_state listener_state coming link_state request
       (clients request.socket.now) before after old new)
       → ((why : Refusal) → report ≡ Refused why → RefusesFor tells disk_state receipt_state request before after why) → reaches
   reaches_by_serve request read serves refuses = record {

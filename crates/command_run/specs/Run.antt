@@ -15,8 +15,7 @@ use Rattle.command_line.specs.declared.create.CreateRequest.{CreateRequest}
 use Rattle.command_line.specs.declared.serve.ServeRequest.{ServeRequest}
 use Rattle.vol_replay.specs.declared.outcome.Outcome.{Outcome}
 use Rattle.vol_replay.specs.declared.outcome.Outcome.TheVariants as outcomes
-use Rattle.nbd_session.specs.Session.{LinkBytes}
-use Rattle.volume_server.specs.Serving.{ListenerState}
+use Rattle.volume_server.specs.Serving.{ListenerState, ConnectionState}
 use Rattle.volume_commands.specs.Creating.{TellsCreation, Creates, RefusesToCreate}
 use Rattle.volume_commands.specs.Mounting.{Serves, RefusesFor}
 use Rattle.volume_commands.specs.Serving.{TellsServing}
@@ -94,7 +93,7 @@ AreWordsRefused words =
 -- What a run that ended so made of what stands at the paths of its world: a volume was created or served, as the values of the
 -- options ask; or it was refused.
 pub record Reaches {D R L K : Type 0} (tells : Bool) (disk_state : D → DiskState) (receipt_state : R → ReceiptState)
-    (listener_state : L → ListenerState) (coming : L → Option (List K)) (bytes_of : K → LinkBytes) (words : List Text)
+    (listener_state : L → ListenerState) (coming : L → Option (List K)) (link_state : K → ConnectionState) (words : List Text)
     (report : Report) (clients : List ℕ → Option (List K)) (before after : Places) (old new : Option (List ℕ)) : Type 0 where
   pub creates : (options : List Given) → Spells words (create options) → report ≡ Done
       → (request : CreateRequest) × AsksToCreate (value_in options) request × Creates tells request before after old new
@@ -102,7 +101,7 @@ pub record Reaches {D R L K : Type 0} (tells : Bool) (disk_state : D → DiskSta
       → (request : CreateRequest) × AsksToCreate (value_in options) request × RefusesToCreate tells request before after why
   pub serves : (options : List Given) → Spells words (serve options) → report ≡ Done
       → (request : ServeRequest) × AsksToServe (serve_value options) request
-      × Serves tells disk_state receipt_state listener_state coming bytes_of request (clients request.socket.now) before after
+      × Serves tells disk_state receipt_state listener_state coming link_state request (clients request.socket.now) before after
       old new
   pub serves_none : (options : List Given) (why : Refusal) → Spells words (serve options) → report ≡ Refused why
       → (request : ServeRequest) × AsksToServe (serve_value options) request

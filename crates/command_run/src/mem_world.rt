@@ -1,4 +1,4 @@
-ghost use Rattle.std.specs.Prelude.{◌≡◌, List, Option, Some, None, true, map, option_map, string_bytes};
+ghost use Rattle.std.specs.Prelude.{◌≡◌, List, [], Option, Some, None, true, map, option_map, string_bytes};
 ghost use Rattle.lsvd_device.specs.Device.{DiskState};
 ghost use Rattle.lsvd_fault.specs.Faults.{CountsOne};
 ghost use Rattle.lsvd_fault.specs.Memory.{LinkState};
@@ -162,7 +162,11 @@ pub fn run_in_memory(
           faults = clients.faults;
         })
         (λ (clients : MemListenerState). Some clients.left)
-        (λ (link : LinkState). record { left = Some link.left; sent = Some link.taken })
+        (λ (link : LinkState). record {
+          bytes = record { left = Some link.left; sent = Some link.taken };
+          held = [];
+          faults = link.faults;
+        })
         (map string_bytes words.now) report (λ _. world.old.clients) (places_of world.old)
         (places_of world.new) (Some out.old.taken) (Some out.new.taken) }
     ensures told { TellsBytes told_receipt }

@@ -47,7 +47,11 @@ pub fn run<W: World>(
           faults = W.Clients.faults clients;
         })
         (λ clients. W.Clients.coming clients)
-        (λ link. record { left = W.Clients.Link.remaining link; sent = W.Clients.Link.contents link })
+        (λ link. record {
+          bytes = record { left = W.Clients.Link.remaining link; sent = W.Clients.Link.contents link };
+          held = W.Clients.Link.held link;
+          faults = W.Clients.Link.Source.faults link;
+        })
         (map string_bytes words.now) report (W.clients_at world.old)
         (record { disks = W.disk_at world.old; stores = W.store_at world.old })
         (record { disks = W.disk_at world.new; stores = W.store_at world.new })
@@ -119,7 +123,11 @@ fn execute<W: World>(
           faults = W.Clients.faults clients;
         })
         (λ clients. W.Clients.coming clients)
-        (λ link. record { left = W.Clients.Link.remaining link; sent = W.Clients.Link.contents link })
+        (λ link. record {
+          bytes = record { left = W.Clients.Link.remaining link; sent = W.Clients.Link.contents link };
+          held = W.Clients.Link.held link;
+          faults = W.Clients.Link.Source.faults link;
+        })
         (map string_bytes words.now) result (W.clients_at world.old)
         (record { disks = W.disk_at world.old; stores = W.store_at world.old })
         (record { disks = W.disk_at world.new; stores = W.store_at world.new })

@@ -3,8 +3,9 @@
 //!
 //! Its contract is that of the traits `Listener` and `Connection`: a call fails only where the count of
 //! faults rose in it, the links that were given are counted, and None is a listener that is closed.
-//! `MemListener` gives links in memory, in order. `SocketListener` and `SocketLink` are those of a Unix
-//! socket: they count alike, and tell no bytes. It stands on `lsvd_fault` and the kit's `thiserror`.
+//! A link holds nothing back after a `send` that succeeds. `MemListener` gives links in memory, in order.
+//! `SocketListener` and `SocketLink` are those of a Unix socket: they count alike, and tell no bytes but
+//! those that a link holds back. It stands on `lsvd_fault` and the kit's `thiserror`.
 #![tactic(auto)]
 
 mod buffer;

@@ -1,4 +1,5 @@
-ghost use Rattle.std.specs.Prelude.{◌≡◌, ◌<◌, ◌↔◌, length, take, Some, None, IfOk, OnOk, IsOkAnd, IsSome};
+ghost use Rattle.std.specs.Prelude.{◌≡◌, ◌<◌, ◌↔◌, [], length, take, Some, None, IfOk, OnOk, IsOkAnd};
+ghost use Rattle.std.specs.Prelude.{IsSome};
 ghost use Rattle.std.specs.Io.{ReadsAtMost, WritesAtMost};
 ghost use Rattle.std.specs.Io.KnownBytes.{Consumes};
 ghost use Rattle.lsvd_listen.specs.Buffer.{empty_buffer, EndsWith};
@@ -13,7 +14,8 @@ use std::io;
 use std::marker::Model;
 use std::os::unix::net::UnixStream;
 
-/// A link to a client of a Unix socket. It tells its count of faults, and no bytes.
+/// A link to a client of a Unix socket. It tells its count of faults, and of its bytes those that it holds
+/// back alone.
 ///
 /// So that a server makes few calls of the system, it reads ahead up to 64 KiB of what has come, and holds
 /// back up to 64 KiB of what was written. Before a read waits for the client, what is held back is sent; so
@@ -33,17 +35,18 @@ pub struct SocketLink {
 }
 
 impl Model for SocketLink {
-    ghost use Rattle.std.specs.Prelude.{ℕ};
+    ghost use Rattle.lsvd_listen.specs.Socket.{SocketLinkState};
 
-    ghost Value = { ℕ };
+    ghost Value = { SocketLinkState };
 
-    ghost view = { λ l. l.faults };
+    ghost view = { λ l. record { held = l.output.waiting; faults = l.faults } };
 }
 
 impl SocketLink {
-    // A link over this stream, with no fault yet.
+    // A link over this stream, which holds nothing back and has no fault yet.
     pub(crate) fn over(alloc: Global, stream: UnixStream) -> Result<SocketLink, AllocError>
-        ensures { IfOk result (λ link. link ≡ 0) }
+        ensures held { IfOk result (λ link. link.held ≡ []) }
+        ensures faults { IfOk result (λ link. link.faults ≡ 0) }
     {
         let input = Buffer::new(alloc)?;
         let output = Buffer::new(alloc)?;
@@ -58,7 +61,7 @@ impl SocketLink {
 
     /// Why the last call that failed did; None is where none has failed.
     pub fn last_error(&self) -> Option<io::Error>
-        ensures { IsSome result ↔ (0 < self.now) }
+        ensures { IsSome result ↔ (0 < self.now.faults) }
     {
         self.faults.last_error()
     }
@@ -125,7 +128,7 @@ fn send_all(stream: &UnixStream, output: &mut Buffer, piece: &[u8]) -> io::Resul
 impl Source for SocketLink {
     ghost remaining = { λ _. None };
 
-    ghost faults = { λ l. l };
+    ghost faults = { λ l. l.faults };
 
     fn read(&mut self, buf: &mut [u8]) -> Result<usize, Failed> {
         let outcome = read_some(&self.stream, &mut self.input, &mut self.output, buf);
@@ -140,7 +143,7 @@ impl Source for SocketLink {
 impl Sink for SocketLink {
     ghost contents = { λ _. None };
 
-    ghost faults = { λ l. l };
+    ghost faults = { λ l. l.faults };
 
     fn write(&mut self, piece: &[u8]) -> Result<usize, Failed> {
         let outcome = write_some(&self.stream, &mut self.output, piece);
@@ -163,6 +166,8 @@ impl Link for SocketLink {
 }
 
 impl Connection for SocketLink {
+    ghost held = { λ l. l.held };
+
     fn send(&mut self) -> Result<(), Failed> {
         let outcome = send_all(&self.stream, &mut self.output, &[]);
         self.faults.judge(outcome)?;

@@ -5,10 +5,11 @@ use Rattle.lsvd_objstore.specs.Objects.{Objects, found}
 use Rattle.lsvd_objstore.specs.declared.error.StoreError.{StoreError}
 use Rattle.lsvd_objstore.specs.declared.error.StoreError.TheVariants.{Failed, OutOfMemory}
 
--- a put or a removal that was asked of a store
+-- a put, a removal or a get that was asked of a store; a get is of so many bytes of an object, from this one on
 pub data StoreCall : Type 0 where
   Put : (name : ObjName) (bytes : List ℕ) → StoreCall
   Remove : (name : ObjName) → StoreCall
+  Get : (name : ObjName) (from count : ℕ) → StoreCall
 
 -- a store
 pub record StoreState : Type 0 where

@@ -1,8 +1,9 @@
 ghost use Rattle.std.specs.Prelude.{◌≡◌, ◌+◌, ◌≤◌, length, take, drop, option_map, IsTrue, IfOk, IfSome};
-ghost use Rattle.std.specs.Prelude.{OnOk, OnErr, IsErrOf, is_err, ◌↔◌};
+ghost use Rattle.std.specs.Prelude.{OnOk, OnErr, IsErrOf, is_err, ◌↔◌, List, Option, None};
 ghost use Rattle.lsvd_names.specs.Spelling.{IsName};
 ghost use Rattle.lsvd_objstore.specs.Objects.{IsPut, MayBePut, IsRemoved, MayBeRemoved, AreNamesOf, Lists};
-ghost use Rattle.lsvd_objstore.specs.Store.{StoreState, ReceiptState, Put, Remove, IsReceiptOf, IsSameObject};
+ghost use Rattle.lsvd_objstore.specs.Store.{StoreState, ReceiptState, IsReceiptOf, IsSameObject};
+ghost use Rattle.lsvd_objstore.specs.Store.{StoreCall, Put, Remove, Get};
 ghost use Rattle.lsvd_objstore.specs.Store.{IsAskedOnce, OnlyCounts, Becomes, has_failed, Finds};
 ghost use Rattle.lsvd_fault.specs.Faults.{Counts};
 
@@ -60,6 +61,9 @@ pub trait Store {
     /// What it holds, where it tells that, and its count of faults.
     ghost state: { Self → StoreState };
 
+    /// The gets that were asked of it, the newest first, where it tells them.
+    ghost gets: { Self → Option (List StoreCall) } = { λ _. None };
+
     /// Puts an object, in place of one with its name. The name is one (a condition). `Failed` comes where the
     /// put was not acknowledged: what was there stands, or the whole new object; the fault was counted.
     /// `OutOfMemory` comes where memory ran out, and nothing changed.
@@ -88,6 +92,8 @@ pub trait Store {
         requires { from + length buf.old ≤ (Self.Receipt.state receipt.now).size }
         ensures bytes { OnOk result (IfSome (Self.Receipt.state receipt.now).told
             (λ told. buf.new ≡ take (length buf.old) (drop from told))) }
+        ensures asked { IsAskedOnce (Get (Self.Receipt.state receipt.now).name from (length buf.old))
+            (gets self.old) (gets self.new) }
         ensures unchanged { OnlyCounts (state self.old) (state self.new) }
         ensures count { Counts (is_err result) (state self.old).faults (state self.new).faults };
 

@@ -1,10 +1,11 @@
 -- A fetch gives the bytes of its plan, and no others, where each piece's receipt tells its object's.
 use Rattle.std.proofs.Common.{◌≡◌, ℕ, zero, suc, ◌+◌, ◌<◌, ◌≤◌, Option, Some, None, List, [], ◌∷◌, length, take, drop, get_or}
 use Rattle.std.proofs.Common.{refl, sym, ◌∙◌, ap, subst, arith}
-use Rattle.std.specs.Prelude.{IfSome, IsSome}
+use Rattle.std.specs.Prelude.{IfSome, IsSome, Result, Ok, Err, OnErr}
 use Rattle.std.specs.List.{AllByRecursion}
 use Rattle.std.proofs.lemmas.List.{take_all, drop_all}
-use Rattle.read_plan.specs.Plan.{PieceState, pasted, GivesOver}
+use Rattle.lsvd_objstore.specs.Store.{StoreCall, IsAskedOnce}
+use Rattle.read_plan.specs.Plan.{PieceState, pasted, GivesOver, piece_get, AreAsked}
 
 -- the receipt of a piece tells its object's bytes
 abbrev pub IsToldPiece : PieceState → Type 0
@@ -43,6 +44,25 @@ no_other pieces index under now bytes past all gives given =
     let made : GivesOver pieces under now =
     gives now (subst (λ l. GivesOver l now now) (sym (drop_all index pieces past)) refl) in
     alone pieces under bytes now whole given made
+
+-- ---- one get more
+
+-- the get of the next piece is asked after those of the pieces before it
+pub asked_next : (pieces : List PieceState) (index : ℕ) (piece : PieceState) (old now new : Option (List StoreCall))
+    → index < length pieces → piece ≡ get_or pieces index piece → AreAsked (take index pieces) old now
+    → IsAskedOnce (piece_get piece) now new → AreAsked (take (suc index) pieces) old new
+asked_next [] index piece old now new inside is asked once = absurd (omega (arith, inside))
+asked_next (first ∷ pieces) zero piece old now new inside is same once =
+    let by_first : IsAskedOnce (piece_get first) now new =
+    subst (λ (p : PieceState). IsAskedOnce (piece_get p) now new) is once in
+    (new, subst (λ (o : Option (List StoreCall)). IsAskedOnce (piece_get first) o new) same by_first, refl)
+asked_next (first ∷ pieces) (suc index) piece old now new inside is (between, one, asked) once =
+    (between, one, asked_next pieces index piece between now new (omega (arith, inside)) is asked once)
+
+-- what holds, holds where a call failed
+pub on_err : {T E : Type 0} (result : Result T E) (P : Type 0) → P → OnErr result P
+on_err (Ok value) P holds = tt
+on_err (Err error) P holds = holds
 
 -- ---- one piece more
 

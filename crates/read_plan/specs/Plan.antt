@@ -1,7 +1,7 @@
 -- Contract: what is seen of the plan of a read, and the bytes that it gives.
-use Rattle.std.specs.Prelude.{◌≡◌, ℕ, ◌+◌, ◌≤◌, IfSome, List, [], ◌∷◌, length}
+use Rattle.std.specs.Prelude.{◌≡◌, ℕ, ◌+◌, ◌≤◌, Option, IfSome, List, [], ◌∷◌, length, take}
 use Rattle.std.specs.List.{AllByRecursion}
-use Rattle.lsvd_objstore.specs.Store.{ReceiptState}
+use Rattle.lsvd_objstore.specs.Store.{ReceiptState, StoreCall, Get, IsAskedOnce}
 use Rattle.lsvd_bytes.specs.Places.{bytes_at, with_bytes}
 
 -- a part of a read that an object has
@@ -55,3 +55,19 @@ Gives plan bytes = GivesOver plan.pieces plan.bytes bytes
 -- it gives these bytes, and no others
 abbrev pub GivesNoOther : PlanState → (given : List ℕ) → Type 0
 GivesNoOther plan given = (bytes : List ℕ) → Gives plan bytes → bytes ≡ given
+
+-- ---- the gets that it takes
+
+-- the get of a piece: just its bytes of the object
+abbrev pub piece_get : PieceState → StoreCall
+piece_get piece = Get piece.receipt.name piece.from piece.count
+
+-- where a store tells its gets, those of pieces were asked of it, each once, one after the other
+abbrev pub AreAsked : List PieceState → Option (List StoreCall) → Option (List StoreCall) → Type 0
+AreAsked [] old new = new ≡ old
+AreAsked (piece ∷ pieces) old new =
+    (between : Option (List StoreCall)) × IsAskedOnce (piece_get piece) old between × AreAsked pieces between new
+
+-- those of the first of these pieces were, and no others
+abbrev pub AreAskedOfFirst : List PieceState → Option (List StoreCall) → Option (List StoreCall) → Type 0
+AreAskedOfFirst pieces old new = (count : ℕ) × AreAsked (take count pieces) old new

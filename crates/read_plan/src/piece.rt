@@ -1,7 +1,7 @@
 ghost use Rattle.std.specs.Prelude.{◌≡◌, length, OnOk, IfSome, IsSome, is_err};
 ghost use Rattle.lsvd_fault.specs.Faults.{Counts};
-ghost use Rattle.lsvd_objstore.specs.Store.{OnlyCounts};
-ghost use Rattle.read_plan.specs.Plan.{PieceFits, pasted};
+ghost use Rattle.lsvd_objstore.specs.Store.{IsAskedOnce, OnlyCounts};
+ghost use Rattle.read_plan.specs.Plan.{PieceFits, pasted, piece_get};
 
 use lsvd_fault::Failed;
 use lsvd_objstore::{Receipt, Store};
@@ -39,6 +39,7 @@ impl<R: Receipt> Piece<R> {
             (λ told. buf.new ≡ pasted self.now told buf.old)) }
         ensures told { ((receipt : R) → IsSome (R.state receipt).told) → IsSome self.now.receipt.told }
         ensures size { length buf.new ≡ length buf.old }
+        ensures asked { IsAskedOnce (piece_get self.now) (S.gets store.old) (S.gets store.new) }
         ensures unchanged { OnlyCounts (S.state store.old) (S.state store.new) }
         ensures count { Counts (is_err result) (S.state store.old).faults (S.state store.new).faults }
     {

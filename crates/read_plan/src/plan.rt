@@ -1,8 +1,8 @@
-ghost use Rattle.std.specs.Prelude.{◌≡◌, length, OnOk, IsSome, is_err};
+ghost use Rattle.std.specs.Prelude.{◌≡◌, length, OnOk, OnErr, IsSome, is_err};
 ghost use Rattle.std.specs.List.Sorted.{IsStrictlyIncreasing};
 ghost use Rattle.lsvd_fault.specs.Faults.{Counts};
 ghost use Rattle.lsvd_objstore.specs.Store.{OnlyCounts};
-ghost use Rattle.read_plan.specs.Plan.{Gives, GivesNoOther};
+ghost use Rattle.read_plan.specs.Plan.{Gives, GivesNoOther, AreAsked, AreAskedOfFirst};
 
 use crate::piece::Piece;
 use lsvd_fault::Failed;
@@ -69,6 +69,9 @@ impl<R: Receipt> Plan<R> {
         ensures bytes { OnOk result (Gives self.now buf.new) }
         ensures one { ((receipt : R) → IsSome (R.state receipt).told)
             → OnOk result (GivesNoOther self.now buf.new) }
+        ensures asked { OnOk result (AreAsked self.now.pieces (S.gets store.old) (S.gets store.new)) }
+        ensures asked_front { OnErr result (AreAskedOfFirst self.now.pieces (S.gets store.old)
+            (S.gets store.new)) }
         ensures unchanged { OnlyCounts (S.state store.old) (S.state store.new) }
         ensures count { Counts (is_err result) (S.state store.old).faults (S.state store.new).faults }
     {

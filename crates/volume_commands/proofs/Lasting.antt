@@ -32,8 +32,7 @@ use Rattle.volume_owner.proofs.PlainLemmas.{goes_on_nothing}
 use Rattle.volume_owner.proofs.StepLemmas.{goes_on_more}
 use Rattle.volume_owner.proofs.StoreLemmas.{made_keeps}
 use Rattle.nbd_session.specs.History.{Grows}
-use Rattle.nbd_session.specs.Session.{LinkBytes}
-use Rattle.volume_server.specs.Serving.{ListenerState, ClientsGrow}
+use Rattle.volume_server.specs.Serving.{ListenerState, ConnectionState, ClientsGrow}
 use Rattle.volume_commands.specs.Closing.{IsLetGo}
 use Rattle.volume_commands.specs.Lasting.{IsLeftWhole, LeavesWhole, ServesWhole, CreatedIsWhole, ServedWithIsWhole}
 use Rattle.volume_commands.specs.Lasting.{ServedWithoutIsWhole}
@@ -141,11 +140,11 @@ created_is_whole request uuid disk disk_left before after new_to creates =
 -- ---- a run of `serve`
 
 module _ {D R L K : Type 0} (disk_state : D → DiskState) (receipt_state : R → ReceiptState) (listener_state : L → ListenerState)
-    (coming : L → Option (List K)) (bytes_of : K → LinkBytes) (grow : ClientsGrow receipt_state bytes_of) where
+    (coming : L → Option (List K)) (link_state : K → ConnectionState) (grow : ClientsGrow receipt_state link_state) where
   module _ (request : ServeRequest) (links : Option (List K)) (disk disk_left : DiskState) (store store_left : StoreState)
       (old new : Option (List ℕ))
-      (serves : ServesOn disk_state receipt_state listener_state coming bytes_of request links disk disk_left store store_left old
-      new) where
+      (serves : ServesOn disk_state receipt_state listener_state coming link_state request links disk disk_left store store_left
+      old new) where
     -- what clients and a drain make of the volume that was mounted
     served_is_whole : (epoch : ℕ) (made : PlainState) (objects : Objects) → serves.mid.objects ≡ Some objects
         → serves.mounted.volume.volume.objects.uploads.uuid ≡ request.volume
@@ -181,7 +180,7 @@ module _ {D R L K : Type 0} (disk_state : D → DiskState) (receipt_state : R �
           count = whole.1;
         }
 
-  pub served_with_is_whole : ServedWithIsWhole disk_state receipt_state listener_state coming bytes_of
+  pub served_with_is_whole : ServedWithIsWhole disk_state receipt_state listener_state coming link_state
   served_with_is_whole request links disk disk_left store store_left old new epoch plain found number objects tells is_uuid kept
       told log_is may serves =
       let uuid : List ℕ = request.volume in
@@ -200,7 +199,7 @@ module _ {D R L K : Type 0} (disk_state : D → DiskState) (receipt_state : R �
       volume.own
       (mounted_with_stands uuid epoch plain found number objects left disk serves.mounted is_uuid may mounts removed)
 
-  pub served_without_is_whole : ServedWithoutIsWhole disk_state receipt_state listener_state coming bytes_of
+  pub served_without_is_whole : ServedWithoutIsWhole disk_state receipt_state listener_state coming link_state
   served_without_is_whole request links disk disk_left store store_left old new epoch plain number objects tells is_uuid lost told
       may serves =
       let uuid : List ℕ = request.volume in

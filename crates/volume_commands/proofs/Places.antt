@@ -4,8 +4,7 @@ use Rattle.std.specs.Prelude.{Option, OnOk, Result, Ok, Err}
 use Rattle.lsvd_device.specs.Device.{DiskState}
 use Rattle.lsvd_objstore.specs.Store.{StoreState, ReceiptState}
 use Rattle.command_line.specs.declared.serve.ServeRequest.{ServeRequest}
-use Rattle.nbd_session.specs.Session.{LinkBytes}
-use Rattle.volume_server.specs.Serving.{ListenerState}
+use Rattle.volume_server.specs.Serving.{ListenerState, ConnectionState}
 use Rattle.volume_commands.specs.declared.error.CommandError.{CommandError}
 use Rattle.volume_commands.specs.declared.refusal.Refusal.{Refusal}
 use Rattle.volume_commands.specs.Mounting.{RefusesIn, ServesOn, ServesCache}
@@ -17,35 +16,39 @@ on_done (Err error) then is = tt
 
 -- served so of a store that is the same, to the same clients
 pub serves_from : {D R L K : Type 0} (disk_state : D → DiskState) (receipt_state : R → ReceiptState)
-    (listener_state : L → ListenerState) (coming : L → Option (List K)) (bytes_of : K → LinkBytes) (request : ServeRequest)
-    (came links : Option (List K)) (disk disk_left : DiskState) (first store store_left : StoreState)
+    (listener_state : L → ListenerState) (coming : L → Option (List K)) (link_state : K → ConnectionState)
+    (request : ServeRequest) (came links : Option (List K)) (disk disk_left : DiskState) (first store store_left : StoreState)
     (old new : Option (List ℕ)) → came ≡ links → first ≡ store
-    → ServesOn disk_state receipt_state listener_state coming bytes_of request came disk disk_left first store_left old new
-    → ServesOn disk_state receipt_state listener_state coming bytes_of request links disk disk_left store store_left old new
-serves_from {D} {R} {L} {K} disk_state receipt_state listener_state coming bytes_of request came links disk disk_left first store
-    store_left old new same stays serves =
+    → ServesOn disk_state receipt_state listener_state coming link_state request came disk disk_left first store_left old new
+    → ServesOn disk_state receipt_state listener_state coming link_state request links disk disk_left store store_left old new
+serves_from {D} {R} {L} {K} disk_state receipt_state listener_state coming link_state request came links disk disk_left first
+    store store_left old new same stays serves =
     subst (λ (l : Option (List K)).
-    ServesOn disk_state receipt_state listener_state coming bytes_of request l disk disk_left store store_left old new) same
+    ServesOn disk_state receipt_state listener_state coming link_state request l disk disk_left store store_left old new) same
     (subst (λ (s : StoreState).
-    ServesOn disk_state receipt_state listener_state coming bytes_of request came disk disk_left s store_left old new) stays
+    ServesOn disk_state receipt_state listener_state coming link_state request came disk disk_left s store_left old new) stays
     serves)
 
 -- ---- served and refused, where other calls of the world came before and after that changed nothing of the cache
 
 pub serves_between : {D R L K : Type 0} (tells : Bool) (disk_state : D → DiskState) (receipt_state : R → ReceiptState)
-    (listener_state : L → ListenerState) (coming : L → Option (List K)) (bytes_of : K → LinkBytes) (request : ServeRequest)
-    (came links : Option (List K)) (first stood stands last : Option DiskState) (store store_left : StoreState)
-    (old new : Option (List ℕ)) → came ≡ links → stood ≡ first → last ≡ stands
-    → ServesCache tells disk_state receipt_state listener_state coming bytes_of request came stood stands store store_left old new
-    → ServesCache tells disk_state receipt_state listener_state coming bytes_of request links first last store store_left old new
-serves_between tells disk_state receipt_state listener_state coming bytes_of request came links first stood stands last store
+    (listener_state : L → ListenerState) (coming : L → Option (List K)) (link_state : K → ConnectionState)
+    (request : ServeRequest) (came links : Option (List K)) (first stood stands last : Option DiskState)
+    (store store_left : StoreState) (old new : Option (List ℕ)) → came ≡ links → stood ≡ first → last ≡ stands
+    → ServesCache tells disk_state receipt_state listener_state coming link_state request came stood stands store store_left
+    old new
+    → ServesCache tells disk_state receipt_state listener_state coming link_state request links first last store store_left
+    old new
+serves_between tells disk_state receipt_state listener_state coming link_state request came links first stood stands last store
     store_left old new same before after serves =
     subst (λ (l : Option (List _)).
-    ServesCache tells disk_state receipt_state listener_state coming bytes_of request l first last store store_left old new) same
+    ServesCache tells disk_state receipt_state listener_state coming link_state request l first last store store_left old new)
+    same
     (subst (λ (d : Option DiskState).
-    ServesCache tells disk_state receipt_state listener_state coming bytes_of request came d last store store_left old new) before
+    ServesCache tells disk_state receipt_state listener_state coming link_state request came d last store store_left old new)
+    before
     (subst (λ (d : Option DiskState).
-    ServesCache tells disk_state receipt_state listener_state coming bytes_of request came stood d store store_left old new)
+    ServesCache tells disk_state receipt_state listener_state coming link_state request came stood d store store_left old new)
     (sym after) serves))
 
 pub refuses_between : {D R : Type 0} (tells : Bool) (disk_state : D → DiskState) (receipt_state : R → ReceiptState)

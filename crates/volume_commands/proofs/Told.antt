@@ -8,8 +8,7 @@ use Rattle.std.specs.Prelude.{OnOk, Option, Result, Err}
 use Rattle.lsvd_objstore.specs.Store.{StoreState, ReceiptState}
 use Rattle.vol_mount.specs.Mounted.{MountedState}
 use Rattle.volume_owner.specs.Acts.{Moment, moment_of}
-use Rattle.nbd_session.specs.Session.{LinkBytes}
-use Rattle.volume_server.specs.Serving.{ListenerState, GivesClients, EndsLane, AreClients}
+use Rattle.volume_server.specs.Serving.{ListenerState, ConnectionState, GivesClients, EndsLane, AreClients}
 use Rattle.volume_server.specs.declared.serving.Lane.{Lane}
 use Rattle.volume_server.specs.declared.serving.LaneEnd.{LaneEnd}
 use Rattle.volume_server.specs.declared.serving.LaneEnd.TheVariants as lanes
@@ -111,18 +110,18 @@ both_told kept number entries lanes.Failed old mid new first second = (
 
 -- what stands behind both lines
 pub serves_with : {R L K : Type 0} (receipt_state : R → ReceiptState) (listener_state : L → ListenerState)
-    (coming : L → Option (List K)) (bytes_of : K → LinkBytes) (sessions : ℕ) (lane : Lane) (shown mounted : MountedState)
+    (coming : L → Option (List K)) (link_state : K → ConnectionState) (sessions : ℕ) (lane : Lane) (shown mounted : MountedState)
     (clients after : L) (store : StoreState) (last closing : Moment) (entries : ℕ) (old mid new : Option (List ℕ))
     → shown ≡ mounted → (lane.end ≡ lanes.Failed → ⊥) → EndsLane sessions lane
     → GivesClients lane (listener_state clients) (listener_state after)
-    → AreClients receipt_state bytes_of lane.served (coming clients) (coming after) (moment_of shown.volume store) last
+    → AreClients receipt_state link_state lane.served (coming clients) (coming after) (moment_of shown.volume store) last
     → Drains receipt_state entries last closing
     → Appends old mid (mounted_line shown.entries shown.number) → Appends mid new (writes_line entries)
-    → ServesMounted receipt_state listener_state coming bytes_of sessions (coming clients) mounted store closing old new
-serves_with receipt_state listener_state coming bytes_of sessions lane shown mounted clients after store last closing entries old
-    mid new same succeeds ends gives served drains first second =
+    → ServesMounted receipt_state listener_state coming link_state sessions (coming clients) mounted store closing old new
+serves_with receipt_state listener_state coming link_state sessions lane shown mounted clients after store last closing entries
+    old mid new same succeeds ends gives served drains first second =
     subst (λ (m : MountedState).
-    ServesMounted receipt_state listener_state coming bytes_of sessions (coming clients) m store closing old new) same
+    ServesMounted receipt_state listener_state coming link_state sessions (coming clients) m store closing old new) same
     (record {
       lane = lane;
       succeeds = succeeds;
@@ -139,12 +138,13 @@ serves_with receipt_state listener_state coming bytes_of sessions lane shown mou
 
 -- so it is of the same links, as a world told them
 pub serves_those : {R L K : Type 0} (receipt_state : R → ReceiptState) (listener_state : L → ListenerState)
-    (coming : L → Option (List K)) (bytes_of : K → LinkBytes) (sessions : ℕ) (came links : Option (List K))
+    (coming : L → Option (List K)) (link_state : K → ConnectionState) (sessions : ℕ) (came links : Option (List K))
     (mounted : MountedState) (store : StoreState) (closing : Moment) (old new : Option (List ℕ))
     (result : Result (Unit {0}) CommandError) → came ≡ links
-    → OnOk result (ServesMounted receipt_state listener_state coming bytes_of sessions came mounted store closing old new)
-    → OnOk result (ServesMounted receipt_state listener_state coming bytes_of sessions links mounted store closing old new)
-serves_those {R} {L} {K} receipt_state listener_state coming bytes_of sessions came links mounted store closing old new result
+    → OnOk result (ServesMounted receipt_state listener_state coming link_state sessions came mounted store closing old new)
+    → OnOk result (ServesMounted receipt_state listener_state coming link_state sessions links mounted store closing old new)
+serves_those {R} {L} {K} receipt_state listener_state coming link_state sessions came links mounted store closing old new result
     same serves =
     subst (λ (l : Option (List K)).
-    OnOk result (ServesMounted receipt_state listener_state coming bytes_of sessions l mounted store closing old new)) same serves
+    OnOk result (ServesMounted receipt_state listener_state coming link_state sessions l mounted store closing old new))
+    same serves

@@ -22,8 +22,7 @@ use Rattle.vol_recover.specs.Standing.{MayMountWith, MayMountWithout, StopMayMou
 use Rattle.volume_owner.specs.Acts.{moment_of}
 use Rattle.volume_owner.specs.History.{GoesOn}
 use Rattle.nbd_session.specs.History.{Grows}
-use Rattle.nbd_session.specs.Session.{LinkBytes}
-use Rattle.volume_server.specs.Serving.{ListenerState}
+use Rattle.volume_server.specs.Serving.{ListenerState, ConnectionState}
 use Rattle.volume_commands.specs.Creating.{CreatesOn}
 use Rattle.volume_commands.specs.Mounting.{ServesOn}
 
@@ -62,9 +61,10 @@ pub record LeavesWhole (uuid : List ℕ) (epoch : ℕ) (added : List Entry) (pla
 
 -- So a run of `serve` leaves what its mount made, with the entries that its clients added; and it told how many that has.
 pub record ServesWhole {D R L K : Type 0} {disk_state : D → DiskState} {receipt_state : R → ReceiptState}
-    {listener_state : L → ListenerState} {coming : L → Option (List K)} {bytes_of : K → LinkBytes} {request : ServeRequest}
-    {links : Option (List K)} {disk disk_left : DiskState} {store store_left : StoreState} {old new : Option (List ℕ)}
-    (serves : ServesOn disk_state receipt_state listener_state coming bytes_of request links disk disk_left store store_left old
+    {listener_state : L → ListenerState} {coming : L → Option (List K)} {link_state : K → ConnectionState}
+    {request : ServeRequest} {links : Option (List K)} {disk disk_left : DiskState} {store store_left : StoreState}
+    {old new : Option (List ℕ)}
+    (serves : ServesOn disk_state receipt_state listener_state coming link_state request links disk disk_left store store_left old
     new) (epoch : ℕ) (made : PlainState) : Type 0 where
   pub added : List Entry
   pub grows : Grows added (moment_of serves.mounted.volume serves.mid) serves.serves.last
@@ -84,25 +84,25 @@ CreatedIsWhole =
 -- Where disk and store may be mounted with each other, a run of `serve` with the cache leaves what the mount made of them whole,
 -- with the entries that clients added, in the same epoch.
 abbrev pub ServedWithIsWhole : {D R L K : Type 0} → (D → DiskState) → (R → ReceiptState) → (L → ListenerState)
-    → (L → Option (List K)) → (K → LinkBytes) → Type 0
-ServedWithIsWhole {D} {R} {L} {K} disk_state receipt_state listener_state coming bytes_of =
+    → (L → Option (List K)) → (K → ConnectionState) → Type 0
+ServedWithIsWhole {D} {R} {L} {K} disk_state receipt_state listener_state coming link_state =
     (request : ServeRequest) (links : Option (List K)) (disk disk_left : DiskState) (store store_left : StoreState)
     (old new : Option (List ℕ)) (epoch : ℕ) (plain : PlainState) (found : PlainCommit) (number : ℕ) (objects : Objects)
     → TellsBytes receipt_state → IsUuid request.volume → request.is_lost ≡ false → store.objects ≡ Some objects
     → plain.geometry.log ≡ log_of disk.size → MayMountWith request.volume epoch plain found number objects disk
-    → (serves : ServesOn disk_state receipt_state listener_state coming bytes_of request links disk disk_left store store_left old
-    new)
+    → (serves : ServesOn disk_state receipt_state listener_state coming link_state request links disk disk_left store store_left
+    old new)
     → ServesWhole serves epoch (mounted_with found number plain)
 
 -- Where the store may be mounted without the cache on the log of a disk, a run without it leaves what that mount made whole so,
 -- in the next epoch.
 abbrev pub ServedWithoutIsWhole : {D R L K : Type 0} → (D → DiskState) → (R → ReceiptState) → (L → ListenerState)
-    → (L → Option (List K)) → (K → LinkBytes) → Type 0
-ServedWithoutIsWhole {D} {R} {L} {K} disk_state receipt_state listener_state coming bytes_of =
+    → (L → Option (List K)) → (K → ConnectionState) → Type 0
+ServedWithoutIsWhole {D} {R} {L} {K} disk_state receipt_state listener_state coming link_state =
     (request : ServeRequest) (links : Option (List K)) (disk disk_left : DiskState) (store store_left : StoreState)
     (old new : Option (List ℕ)) (epoch : ℕ) (plain : PlainState) (number : ℕ) (objects : Objects)
     → TellsBytes receipt_state → IsUuid request.volume → request.is_lost ≡ true → store.objects ≡ Some objects
     → MayMountWithout request.volume (log_of disk.size) epoch plain number objects
-    → (serves : ServesOn disk_state receipt_state listener_state coming bytes_of request links disk disk_left store store_left old
-    new)
+    → (serves : ServesOn disk_state receipt_state listener_state coming link_state request links disk disk_left store store_left
+    old new)
     → ServesWhole serves (epoch + 1) (mounted_without (log_of disk.size) number plain)

@@ -14,8 +14,7 @@ use Rattle.vol_recover.specs.Mounting.{MountsKept, MountsLost}
 use Rattle.volume_owner.specs.Acts.{Moment, moment_of}
 use Rattle.volume_owner.specs.Calls.{IsLengthOf, IsDrained}
 use Rattle.nbd_session.specs.Exchanges.{Calls}
-use Rattle.nbd_session.specs.Session.{LinkBytes}
-use Rattle.volume_server.specs.Serving.{ListenerState, GivesClients, EndsLane, AreClients}
+use Rattle.volume_server.specs.Serving.{ListenerState, ConnectionState, GivesClients, EndsLane, AreClients}
 use Rattle.volume_server.specs.declared.serving.Lane.{Lane}
 use Rattle.volume_server.specs.declared.serving.LaneEnd.TheVariants as ends
 use Rattle.volume_commands.specs.declared.error.CommandError.TheVariants as errors
@@ -103,8 +102,8 @@ pub record Drains {R : Type 0} (receipt_state : R → ReceiptState) (entries : �
 -- listener was closed. Then it was drained. The lines tell how many entries its history had and the number of its last object,
 -- and how many entries it has at the end, with those of the clients.
 pub record ServesMounted {R L K : Type 0} (receipt_state : R → ReceiptState) (listener_state : L → ListenerState)
-    (coming : L → Option (List K)) (bytes_of : K → LinkBytes) (sessions : ℕ) (links : Option (List K)) (mounted : MountedState)
-    (store : StoreState) (closing : Moment) (old new : Option (List ℕ)) : Type 0 where
+    (coming : L → Option (List K)) (link_state : K → ConnectionState) (sessions : ℕ) (links : Option (List K))
+    (mounted : MountedState) (store : StoreState) (closing : Moment) (old new : Option (List ℕ)) : Type 0 where
   pub lane : Lane
   pub succeeds : lane.end ≡ ends.Failed → ⊥
   pub ends : EndsLane sessions lane
@@ -112,45 +111,45 @@ pub record ServesMounted {R L K : Type 0} (receipt_state : R → ReceiptState) (
   pub after : L
   pub gives : GivesClients lane (listener_state clients) (listener_state after)
   pub last : Moment
-  pub served : AreClients receipt_state bytes_of lane.served links (coming after) (moment_of mounted.volume store) last
+  pub served : AreClients receipt_state link_state lane.served links (coming after) (moment_of mounted.volume store) last
   pub entries : ℕ
   pub drains : Drains receipt_state entries last closing
   pub told : Appends old new (serving_text mounted.entries mounted.number entries)
 
 -- The volume that is asked for was mounted of this disk and this store, and served, drained and let go, which left them so.
 pub record ServesOn {D R L K : Type 0} (disk_state : D → DiskState) (receipt_state : R → ReceiptState)
-    (listener_state : L → ListenerState) (coming : L → Option (List K)) (bytes_of : K → LinkBytes) (request : ServeRequest)
-    (links : Option (List K)) (disk disk_left : DiskState) (store store_left : StoreState) (old new : Option (List ℕ)) :
-    Type 0 where
+    (listener_state : L → ListenerState) (coming : L → Option (List K)) (link_state : K → ConnectionState)
+    (request : ServeRequest) (links : Option (List K)) (disk disk_left : DiskState) (store store_left : StoreState)
+    (old new : Option (List ℕ)) : Type 0 where
   pub mounted : MountedState
   pub mid : StoreState
   pub mounts : MountEnds disk_state receipt_state request.is_lost request.volume disk store mid (Ok mounted)
   pub closing : SteppedVolume
-  pub serves : ServesMounted receipt_state listener_state coming bytes_of request.sessions links mounted mid
+  pub serves : ServesMounted receipt_state listener_state coming link_state request.sessions links mounted mid
       (moment_of closing store_left) old new
   pub let_go : IsLetGo closing
   pub disk_is : disk_left ≡ closing.volume.log.commits.disk
 
 -- So it was of the disk that stood at its path or was made anew, which stands there as it was left.
 pub record ServesCache {D R L K : Type 0} (tells : Bool) (disk_state : D → DiskState) (receipt_state : R → ReceiptState)
-    (listener_state : L → ListenerState) (coming : L → Option (List K)) (bytes_of : K → LinkBytes) (request : ServeRequest)
-    (links : Option (List K)) (stood stands : Option DiskState) (store store_left : StoreState) (old new : Option (List ℕ)) :
-    Type 0 where
+    (listener_state : L → ListenerState) (coming : L → Option (List K)) (link_state : K → ConnectionState)
+    (request : ServeRequest) (links : Option (List K)) (stood stands : Option DiskState) (store store_left : StoreState)
+    (old new : Option (List ℕ)) : Type 0 where
   pub disk : DiskState
   pub given : IsGiven tells (bytes_anew request) stood disk
   pub disk_left : DiskState
-  pub serves : ServesOn disk_state receipt_state listener_state coming bytes_of request links disk disk_left store store_left
+  pub serves : ServesOn disk_state receipt_state listener_state coming link_state request links disk disk_left store store_left
       old new
   pub cache_now : stands ≡ where_told tells disk_left
 
 -- And so it was of the store that stood at its path, which stands there as it was left, and of the disk at that of its cache, for
 -- the clients that came to the socket.
 pub record Serves {D R L K : Type 0} (tells : Bool) (disk_state : D → DiskState) (receipt_state : R → ReceiptState)
-    (listener_state : L → ListenerState) (coming : L → Option (List K)) (bytes_of : K → LinkBytes) (request : ServeRequest)
-    (links : Option (List K)) (before after : Places) (old new : Option (List ℕ)) : Type 0 where
+    (listener_state : L → ListenerState) (coming : L → Option (List K)) (link_state : K → ConnectionState)
+    (request : ServeRequest) (links : Option (List K)) (before after : Places) (old new : Option (List ℕ)) : Type 0 where
   pub store : StoreState
   pub stood : before.stores request.store.now ≡ where_told tells store
   pub store_left : StoreState
-  pub serves : ServesCache tells disk_state receipt_state listener_state coming bytes_of request links
+  pub serves : ServesCache tells disk_state receipt_state listener_state coming link_state request links
       (before.disks request.cache.now) (after.disks request.cache.now) store store_left old new
   pub store_now : after.stores request.store.now ≡ where_told tells store_left

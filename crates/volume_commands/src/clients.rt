@@ -43,7 +43,11 @@ pub(crate) fn serve_clients<D: Disk, S: Store, L: Listener, O: Sink>(
           faults = L.faults clients;
         })
         (λ clients. L.coming clients)
-        (λ link. record { left = L.Link.remaining link; sent = L.Link.contents link })
+        (λ link. record {
+          bytes = record { left = L.Link.remaining link; sent = L.Link.contents link };
+          held = L.Link.held link;
+          faults = L.Link.Source.faults link;
+        })
         sessions (L.coming clients.old) mounted (S.state store.old)
         (moment_of result.0 (S.state store.new)) (O.contents out.old) (O.contents out.new)) }
     ensures refused { (why : Refusal) → IsErrOf result.1 (CommandError.Refused why) → ⊥ }

@@ -21,7 +21,11 @@ pub fn a_served_volume_may_be_mounted_again<D: Disk, R: Receipt, L: Listener>()
           faults = L.faults clients;
         })
         (λ clients. L.coming clients)
-        (λ link. record { left = L.Link.remaining link; sent = L.Link.contents link }) }
+        (λ link. record {
+          bytes = record { left = L.Link.remaining link; sent = L.Link.contents link };
+          held = L.Link.held link;
+          faults = L.Link.Source.faults link;
+        }) }
     ensures without { ServedWithoutIsWhole (λ disk. D.state disk) R.state
         (λ clients. record {
           given = L.given clients;
@@ -29,7 +33,11 @@ pub fn a_served_volume_may_be_mounted_again<D: Disk, R: Receipt, L: Listener>()
           faults = L.faults clients;
         })
         (λ clients. L.coming clients)
-        (λ link. record { left = L.Link.remaining link; sent = L.Link.contents link }) }
+        (λ link. record {
+          bytes = record { left = L.Link.remaining link; sent = L.Link.contents link };
+          held = L.Link.held link;
+          faults = L.Link.Source.faults link;
+        }) }
 {
     clients_add_to_one_history::<R, L::Link>();
 }

@@ -47,7 +47,11 @@ pub fn answer_serve<W: World>(
           faults = W.Clients.faults clients;
         })
         (λ clients. W.Clients.coming clients)
-        (λ link. record { left = W.Clients.Link.remaining link; sent = W.Clients.Link.contents link })
+        (λ link. record {
+          bytes = record { left = W.Clients.Link.remaining link; sent = W.Clients.Link.contents link };
+          held = W.Clients.Link.held link;
+          faults = W.Clients.Link.Source.faults link;
+        })
         request.now (W.clients_at world.old request.now.socket.now)
         (record { disks = W.disk_at world.old; stores = W.store_at world.old })
         (record { disks = W.disk_at world.new; stores = W.store_at world.new })
@@ -90,7 +94,11 @@ fn serve<W: World>(
           faults = W.Clients.faults clients;
         })
         (λ clients. W.Clients.coming clients)
-        (λ link. record { left = W.Clients.Link.remaining link; sent = W.Clients.Link.contents link })
+        (λ link. record {
+          bytes = record { left = W.Clients.Link.remaining link; sent = W.Clients.Link.contents link };
+          held = W.Clients.Link.held link;
+          faults = W.Clients.Link.Source.faults link;
+        })
         request.now (W.clients_at world.old request.now.socket.now)
         (record { disks = W.disk_at world.old; stores = W.store_at world.old })
         (record { disks = W.disk_at world.new; stores = W.store_at world.new })
@@ -132,7 +140,11 @@ fn serve_in<W: World>(
           faults = W.Clients.faults clients;
         })
         (λ clients. W.Clients.coming clients)
-        (λ link. record { left = W.Clients.Link.remaining link; sent = W.Clients.Link.contents link })
+        (λ link. record {
+          bytes = record { left = W.Clients.Link.remaining link; sent = W.Clients.Link.contents link };
+          held = W.Clients.Link.held link;
+          faults = W.Clients.Link.Source.faults link;
+        })
         request.now (W.clients_at world.old request.now.socket.now)
         (W.disk_at world.old request.now.cache.now) (W.disk_at world.new request.now.cache.now)
         (W.Store.state store.old) (W.Store.state store.new)
@@ -177,7 +189,11 @@ fn serve_on<W: World>(
           faults = W.Clients.faults clients;
         })
         (λ clients. W.Clients.coming clients)
-        (λ link. record { left = W.Clients.Link.remaining link; sent = W.Clients.Link.contents link })
+        (λ link. record {
+          bytes = record { left = W.Clients.Link.remaining link; sent = W.Clients.Link.contents link };
+          held = W.Clients.Link.held link;
+          faults = W.Clients.Link.Source.faults link;
+        })
         request.now (W.clients_at world.old request.now.socket.now)
         (W.Disk.state disk) (W.Disk.state result.0) (W.Store.state store.old) (W.Store.state store.new)
         (W.Out.contents out.old) (W.Out.contents out.new)) }
@@ -222,7 +238,11 @@ fn serve_mounted<W: World>(
           faults = W.Clients.faults clients;
         })
         (λ clients. W.Clients.coming clients)
-        (λ link. record { left = W.Clients.Link.remaining link; sent = W.Clients.Link.contents link })
+        (λ link. record {
+          bytes = record { left = W.Clients.Link.remaining link; sent = W.Clients.Link.contents link };
+          held = W.Clients.Link.held link;
+          faults = W.Clients.Link.Source.faults link;
+        })
         request.now.sessions (W.clients_at world.old request.now.socket.now) mounted
         (W.Store.state store.old) (moment_of result.0 (W.Store.state store.new))
         (W.Out.contents out.old) (W.Out.contents out.new)) }

@@ -1,22 +1,22 @@
 -- How clients that were served add up.
-use Rattle.std.proofs.Common.{◌≡◌, ℕ, zero, suc, ◌+◌, List, [], ◌++◌, sym, ◌∙◌, ap, subst, inl, inr, arith}
-use Rattle.std.specs.Prelude.{Option, Some, None}
+use Rattle.std.proofs.Common.{◌≡◌, ℕ, zero, suc, ◌+◌, ◌≤◌, List, [], ◌++◌, sym, ◌∙◌, ap, subst, inl, inr, arith}
+use Rattle.std.specs.Prelude.{Bool, true, false, Option, Some, None, Result, Ok, Err, OnOk, is_err}
 use Rattle.lsvd_base.specs.declared.entry.Entry.{Entry}
-use Rattle.lsvd_fault.specs.Faults.{counted_with}
+use Rattle.lsvd_fault.specs.Faults.{HasRisen, Counts, counted_with}
 use Rattle.lsvd_listen.specs.Listening.{AreNone}
 use Rattle.lsvd_objstore.specs.Store.{StoreState, ReceiptState}
 use Rattle.vol_core.specs.Volume.{SteppedVolume}
 use Rattle.nbd_session.specs.declared.session.SessionEnd.{SessionEnd}
 use Rattle.volume_owner.specs.Acts.{Moment}
 use Rattle.nbd_session.specs.History.{Grows, LeavesRoom, SessionGrows, entered_in}
-use Rattle.nbd_session.specs.Session.{LinkBytes, IsSession, export_of}
+use Rattle.nbd_session.specs.Session.{IsSession, export_of}
 use Rattle.nbd_session.proofs.HistoryLemmas.{grows_nothing, grows_more, stays_leaves}
-use Rattle.volume_server.specs.Serving.{ListenerState, given_with, IsClient, AreClients, ClientsGrow}
+use Rattle.volume_server.specs.Serving.{ListenerState, ConnectionState, HasSentAll, given_with, IsClient, AreClients, ClientsGrow}
 
 -- ---- one after the other
 
-pub one_more : {R K : Type 0} (state : R → ReceiptState) (told : K → LinkBytes) (count : ℕ) (end : SessionEnd) (last : LinkBytes)
-    (coming between left : Option (List K)) (old mid new : Moment)
+pub one_more : {R K : Type 0} (state : R → ReceiptState) (told : K → ConnectionState) (count : ℕ) (end : SessionEnd)
+    (last : ConnectionState) (coming between left : Option (List K)) (old mid new : Moment)
     → AreClients state told count coming between old mid → IsClient state told end last between left mid new
     → AreClients state told (count + 1) coming left old new
 one_more state told count end last coming between left old mid new before is =
@@ -28,7 +28,7 @@ pub none_came : {K : Type 0} (coming left : Option (List K)) → AreNone coming 
 none_came None left none = none
 none_came (Some links) left none = none.1 ∙ ap (λ l. Some l) (sym none.0)
 
-pub then_none : {R K : Type 0} (state : R → ReceiptState) (told : K → LinkBytes) (count : ℕ)
+pub then_none : {R K : Type 0} (state : R → ReceiptState) (told : K → ConnectionState) (count : ℕ)
     (coming between left : Option (List K)) (old mid new : Moment) → AreClients state told count coming between old mid
     → left ≡ between → new ≡ mid → AreClients state told count coming left old new
 then_none state told count coming between left old mid new before left_is new_is =
@@ -36,7 +36,7 @@ then_none state told count coming between left old mid new before left_is new_is
     (subst (λ m. AreClients state told count coming between old m) (sym new_is) before)
 
 -- so it is of the volume that an owner was made of, and gives back
-pub of_volume : {R K : Type 0} (state : R → ReceiptState) (told : K → LinkBytes) (count : ℕ) (coming left : Option (List K))
+pub of_volume : {R K : Type 0} (state : R → ReceiptState) (told : K → ConnectionState) (count : ℕ) (coming left : Option (List K))
     (volume owner then closing : SteppedVolume) (old new : StoreState) → owner ≡ volume → closing ≡ then
     → AreClients state told count coming left (record { volume = owner; store = old }) (record { volume = then; store = new })
     → AreClients state told count coming left (record { volume = volume; store = old }) (record { volume = closing; store = new })
@@ -63,6 +63,24 @@ gave_one old new is = (
       (λ (l : ListenerState). l.faults) is,
 )
 
+-- ---- what a link holds back
+
+-- a count that rose in a later call has risen since an earlier one too
+rose_since : (before middle now : ℕ) → before ≤ middle → HasRisen middle now → HasRisen before now
+rose_since before middle now kept (inl more) = inl (omega (arith, kept, more))
+rose_since before middle now kept (inr most) = inr most
+
+kept_by : (failed : Bool) (before now : ℕ) → Counts failed before now → before ≤ now
+kept_by true before now counts = counts.kept
+kept_by false before now same = omega (arith, same)
+
+-- a link that is asked to send, after other calls, holds nothing back, or one of these calls has failed
+pub sent_after : {T E : Type 0} (failed : Bool) (result : Result T E) (held : List ℕ) (before middle now : ℕ)
+    → Counts failed before middle → OnOk result (held ≡ []) → Counts (is_err result) middle now → HasSentAll held before now
+sent_after failed (Ok value) held before middle now first sent second = inl sent
+sent_after failed (Err error) held before middle now first sent second =
+    inr (rose_since before middle now (kept_by failed before middle first) second.risen)
+
 -- ---- their history
 
 -- what a client adds
@@ -78,18 +96,18 @@ unchanged old new same = record {
   leaves = stays_leaves old new same;
 }
 
-client_adds : {R K : Type 0} (state : R → ReceiptState) (told : K → LinkBytes) → SessionGrows state
-    → (end : SessionEnd) (last : LinkBytes) (coming left : Option (List K)) (old new : Moment)
+client_adds : {R K : Type 0} (state : R → ReceiptState) (told : K → ConnectionState) → SessionGrows state
+    → (end : SessionEnd) (last : ConnectionState) (coming left : Option (List K)) (old new : Moment)
     → IsClient state told end last coming left old new → Adds old new
 client_adds state told sessions end last coming left old new is = by_session is.session
   where
-    by_session : IsSession state (export_of old.volume) end (told is.link) last old new → Adds old new
+    by_session : IsSession state (export_of old.volume) end (told is.link).bytes last.bytes old new → Adds old new
     by_session (inl ended) = unchanged old new ended.3
     by_session (inr entered) =
-        let grown = sessions end entered.0 last old new entered.2 in
+        let grown = sessions end entered.0 last.bytes old new entered.2 in
         record { added = entered_in entered.2.exchanges ++ grown.0; grows = grown.2; leaves = grown.3 }
 
-clients_add : {R K : Type 0} (state : R → ReceiptState) (told : K → LinkBytes) → SessionGrows state
+clients_add : {R K : Type 0} (state : R → ReceiptState) (told : K → ConnectionState) → SessionGrows state
     → (count : ℕ) (coming left : Option (List K)) (old new : Moment)
     → AreClients state told count coming left old new → Adds old new
 clients_add state told sessions zero coming left old new same = unchanged old new same.1
@@ -102,7 +120,8 @@ clients_add state told sessions (suc count) coming left old new (between, mid, c
       leaves = λ small. one.leaves (before.leaves small);
     }
 
-pub clients_grow : {R K : Type 0} (state : R → ReceiptState) (told : K → LinkBytes) → SessionGrows state → ClientsGrow state told
+pub clients_grow : {R K : Type 0} (state : R → ReceiptState) (told : K → ConnectionState) → SessionGrows state
+    → ClientsGrow state told
 clients_grow state told sessions count coming left old new clients =
     let all = clients_add state told sessions count coming left old new clients in
     ((all.added, all.grows), all.leaves)

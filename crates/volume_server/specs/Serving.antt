@@ -1,7 +1,7 @@
 -- Contract: what a server does for its clients.
-use Rattle.std.specs.Prelude.{ℕ, ◌≡◌, ◌<◌, zero, suc, Bool, true, List, [], Option, IfSome}
+use Rattle.std.specs.Prelude.{ℕ, ◌≡◌, ◌<◌, ◌⊎◌, zero, suc, Bool, true, List, [], Option, IfSome}
 use Rattle.lsvd_base.specs.declared.entry.Entry.{Entry}
-use Rattle.lsvd_fault.specs.Faults.{CountsOne, counted_with}
+use Rattle.lsvd_fault.specs.Faults.{HasRisen, CountsOne, counted_with}
 use Rattle.lsvd_listen.specs.Listening.{IsFirst, AreNone}
 use Rattle.lsvd_objstore.specs.Store.{ReceiptState}
 use Rattle.nbd_session.specs.declared.session.SessionEnd.{SessionEnd}
@@ -43,31 +43,45 @@ pub record GivesClients (lane : Lane) (old new : ListenerState) : Type 0 where
   pub given : new.given ≡ given_with old.given lane.served
   pub ends : ClosesAs lane.end old new
 
+-- ---- a client's link
+
+-- what a link tells: its bytes, those that it holds back, and its count of faults
+pub record ConnectionState : Type 0 where
+  pub bytes : LinkBytes
+  pub held : List ℕ
+  pub faults : ℕ
+
+-- a link holds nothing back, or one of its calls has failed
+abbrev pub HasSentAll : (held : List ℕ) → (old_faults new_faults : ℕ) → Type 0
+HasSentAll held old_faults new_faults = (held ≡ []) ⊎ HasRisen old_faults new_faults
+
 -- ---- the volume
 
 -- A client was served by a session of the volume, on a link that told this at its end. It was the first of the links that were
 -- to come, where these are told, and the session began on it as it came: with all that the client sends, and nothing sent to it.
-pub record IsClient {R K : Type 0} (state : R → ReceiptState) (told : K → LinkBytes) (end : SessionEnd) (last : LinkBytes)
-    (coming left : Option (List K)) (old new : Moment) : Type 0 where
+-- At its end the link holds nothing back, or one of its calls has failed.
+pub record IsClient {R K : Type 0} (state : R → ReceiptState) (told : K → ConnectionState) (end : SessionEnd)
+    (last : ConnectionState) (coming left : Option (List K)) (old new : Moment) : Type 0 where
   pub link : K
   pub came : IsFirst link coming left
-  pub fresh : IfSome (told link).sent (λ sent. sent ≡ [])
-  pub session : IsSession state (export_of old.volume) end (told link) last old new
+  pub fresh : IfSome (told link).bytes.sent (λ sent. sent ≡ [])
+  pub session : IsSession state (export_of old.volume) end (told link).bytes last.bytes old new
+  pub sent : HasSentAll last.held (told link).faults last.faults
 
 -- the client that came was served, or none came, and nothing becomes of the volume
-abbrev pub ServesNext : {R K : Type 0} → (R → ReceiptState) → (K → LinkBytes) → Next K → (coming left : Option (List K))
+abbrev pub ServesNext : {R K : Type 0} → (R → ReceiptState) → (K → ConnectionState) → Next K → (coming left : Option (List K))
     → (old new : Moment) → Type 0
 ServesNext state told (Served link end) coming left old new = IsClient state told end (told link) coming left old new
 ServesNext state told NoLink coming left old new = AreNone coming left × (new ≡ old)
 ServesNext state told Failed coming left old new = (left ≡ coming) × (new ≡ old)
 
 -- so many clients were served, one after the other
-abbrev pub AreClients : {R K : Type 0} → (R → ReceiptState) → (K → LinkBytes) → (count : ℕ) → (coming left : Option (List K))
-    → (old new : Moment) → Type 0
+abbrev pub AreClients : {R K : Type 0} → (R → ReceiptState) → (K → ConnectionState) → (count : ℕ)
+    → (coming left : Option (List K)) → (old new : Moment) → Type 0
 AreClients state told zero coming left old new = (left ≡ coming) × (new ≡ old)
 AreClients {R} {K} state told (suc count) coming left old new =
     (between : Option (List K)) × (mid : Moment) × AreClients state told count coming between old mid
-    × (end : SessionEnd) × (last : LinkBytes) × IsClient state told end last between left mid new
+    × (end : SessionEnd) × (last : ConnectionState) × IsClient state told end last between left mid new
 
 -- the server ends where its clients are as many as they were to be, and else, before that, by its listener
 abbrev pub EndsAt : (share served : ℕ) → LaneEnd → Type 0
@@ -81,7 +95,7 @@ EndsLane share lane = EndsAt share lane.served lane.end
 -- ---- the history
 
 -- clients add entries to the history of their volume, and nothing else becomes of it
-abbrev pub ClientsGrow : {R K : Type 0} → (R → ReceiptState) → (K → LinkBytes) → Type 0
+abbrev pub ClientsGrow : {R K : Type 0} → (R → ReceiptState) → (K → ConnectionState) → Type 0
 ClientsGrow {R} {K} state told =
     (count : ℕ) (coming left : Option (List K)) (old new : Moment) → AreClients state told count coming left old new
     → ((added : List Entry) × Grows added old new) × LeavesRoom old new

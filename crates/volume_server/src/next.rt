@@ -1,5 +1,5 @@
-ghost use Rattle.lsvd_fault.specs.Faults.{Counts};
-ghost use Rattle.volume_server.specs.Serving.{GivesNext, ServesNext};
+ghost use Rattle.nbd_session.specs.Session.{IsSession, export_of};
+ghost use Rattle.volume_server.specs.Serving.{HasSentAll, GivesNext, ServesNext};
 
 use lsvd_device::Disk;
 use lsvd_listen::{Connection, Listener};
@@ -39,7 +39,11 @@ pub fn serve_next<D: Disk, R: Receipt, S: Store<Receipt = R>, L: Listener>(
           faults = L.faults listener.new;
         }) }
     ensures serves { ServesNext R.state
-        (λ link. record { left = L.Link.remaining link; sent = L.Link.contents link }) result
+        (λ link. record {
+          bytes = record { left = L.Link.remaining link; sent = L.Link.contents link };
+          held = L.Link.held link;
+          faults = L.Link.Source.faults link;
+        }) result
         (L.coming listener.old) (L.coming listener.new)
         (record { volume = owner.old; store = S.state store.old })
         (record { volume = owner.new; store = S.state store.new }) }
@@ -49,7 +53,25 @@ pub fn serve_next<D: Disk, R: Receipt, S: Store<Receipt = R>, L: Listener>(
         Ok(None) => return Next::NoLink,
         Err(_) => return Next::Failed,
     };
-    let end = serve_session(alloc, owner, &mut link, store);
-    let _ = link.send();
+    let end = serve_client(alloc, owner, &mut link, store);
     Next::Served(link, end)
+}
+
+// Serves a client until its session ends, and sends then what its link still holds back.
+fn serve_client<D: Disk, R: Receipt, S: Store<Receipt = R>, K: Connection>(
+    alloc: Global,
+    owner: &mut Owner<D, R>,
+    link: &mut K,
+    store: &mut S,
+) -> SessionEnd
+    ensures session { IsSession R.state (export_of owner.old) result
+        (record { left = K.remaining link.old; sent = K.contents link.old })
+        (record { left = K.remaining link.new; sent = K.contents link.new })
+        (record { volume = owner.old; store = S.state store.old })
+        (record { volume = owner.new; store = S.state store.new }) }
+    ensures sent { HasSentAll (K.held link.new) (K.Source.faults link.old) (K.Source.faults link.new) }
+{
+    let end = serve_session(alloc, owner, link, store);
+    let _ = link.send();
+    end
 }

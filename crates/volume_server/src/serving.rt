@@ -60,7 +60,11 @@ pub fn serve_lane<D: Disk, R: Receipt, S: Store<Receipt = R>, L: Listener>(
         }) }
     ensures end { EndsLane share result }
     ensures clients { AreClients R.state
-        (λ link. record { left = L.Link.remaining link; sent = L.Link.contents link }) result.served
+        (λ link. record {
+          bytes = record { left = L.Link.remaining link; sent = L.Link.contents link };
+          held = L.Link.held link;
+          faults = L.Link.Source.faults link;
+        }) result.served
         (L.coming listener.old) (L.coming listener.new)
         (record { volume = owner.old; store = S.state store.old })
         (record { volume = owner.new; store = S.state store.new }) }
@@ -103,7 +107,11 @@ pub fn serve_volume<D: Disk, R: Receipt, S: Store<Receipt = R>, L: Listener>(
         }) }
     ensures end { EndsLane sessions result.lane }
     ensures clients { AreClients R.state
-        (λ link. record { left = L.Link.remaining link; sent = L.Link.contents link }) result.lane.served
+        (λ link. record {
+          bytes = record { left = L.Link.remaining link; sent = L.Link.contents link };
+          held = L.Link.held link;
+          faults = L.Link.Source.faults link;
+        }) result.lane.served
         (L.coming listener.old) (L.coming listener.new)
         (record { volume = volume; store = S.state store.old })
         (record { volume = result.volume; store = S.state store.new }) }

@@ -8,7 +8,11 @@ invariant-loop-served g l = record {
   closed : g.L.Listener.closed l.listener ≡ g.L.Listener.closed l.fn.listener;
   faults : g.L.Listener.faults l.listener ≡ g.L.Listener.faults l.fn.listener;
   clients : AreClients g.R.Receipt.state
-      (λ link. record { left = g.L.Link.Source.remaining link; sent = g.L.Link.Sink.contents link }) l.served
+      (λ link. record {
+        bytes = record { left = g.L.Link.Source.remaining link; sent = g.L.Link.Sink.contents link };
+        held = g.L.Link.Connection.held link;
+        faults = g.L.Link.Source.faults link;
+      }) l.served
       (g.L.Listener.coming l.fn.listener) (g.L.Listener.coming l.listener)
       (record { volume = l.fn.owner; store = g.S.Store.state l.fn.store })
       (record { volume = l.owner; store = g.S.Store.state l.store });

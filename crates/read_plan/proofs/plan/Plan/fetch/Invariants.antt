@@ -1,7 +1,7 @@
 use Rattle.std.proofs.Common.{◌≡◌, ℕ, List, length, take, drop}
 use Rattle.std.specs.Prelude.{IsSome}
 use Rattle.std.specs.List.{AllByRecursion}
-use Rattle.read_plan.specs.Plan.{GivesOver}
+use Rattle.read_plan.specs.Plan.{GivesOver, AreAsked}
 use Rattle.read_plan.proofs.FetchLemmas.{IsToldPiece}
 use Rattle.read_plan.proofs.plan.Plan.fetch.Given as goal
 
@@ -12,5 +12,6 @@ invariant-loop-piece g l = record {
       → GivesOver l.self.pieces l.self.bytes bytes;
   told : ((receipt : _) → IsSome (g.R.Receipt.state receipt).told)
       → AllByRecursion IsToldPiece (take l.piece-index l.self.pieces);
+  asked : AreAsked (take l.piece-index l.self.pieces) (g.S.Store.gets l.fn.store) (g.S.Store.gets l.store);
   unchanged : g.S.Store.state l.store ≡ g.S.Store.state l.fn.store;
 }

@@ -1,0 +1,22 @@
+use Rattle.std.proofs.Common.{◌≡◌, ℕ, ◌+◌, ◌-◌, ◌≤◌, List, length, take, drop, sym, ◌∙◌, subst, arith, length-drop}
+use Rattle.std.proofs.lemmas.List.{length-take-le}
+use Rattle.lsvd_objstore.specs.Store.{Get, IsAskedOnce}
+use Rattle.read_plan.specs.Plan.{PieceState, PieceFits, piece_get}
+use Rattle.read_plan.proofs.piece.Piece.fetch.Goals as goal
+
+pub returns-clause-asked : goal.returns-clause-asked
+returns-clause-asked g c =
+    let at : ℕ = c.self.inside.at in
+    let count : ℕ = c.self.inside.count in
+    let under : List ℕ = c.args.buf.now in
+    let fits = subst (λ (p : PieceState). PieceFits (length under) p) (sym c.self.view_is) c.requires in
+    let inside : at + count ≤ length under = fits.read in
+    let long = length-drop at under in
+    let whole : at + count - at ≡ count = omega arith in
+    let part : length (take (at + count - at) (drop at under)) ≡ count =
+    length-take-le (at + count - at) (drop at under) (omega (arith, long, inside)) ∙ whole in
+    subst (λ (p : PieceState). IsAskedOnce (piece_get p) (g.S.Store.gets c.args.store.now) (g.S.Store.gets c.get.new.self))
+    c.self.view_is
+    (subst (λ n.
+    IsAskedOnce (Get (g.R.Receipt.state c.self.inside.receipt).name c.self.inside.from n) (g.S.Store.gets c.args.store.now)
+    (g.S.Store.gets c.get.new.self)) part c.get.ensures.asked)
