@@ -11,7 +11,6 @@ ghost use Rattle.commit_slot.specs.Slots.{log_of};
 ghost use Rattle.commit_slot.specs.Commits.{with_budget, IsLastOr, commit_cost};
 ghost use Rattle.commit_slot.specs.Committing.{FailsToCommit};
 ghost use Rattle.commit_slot.specs.Sequence.{Costs, commit_calls};
-ghost use Rattle.commit_slot.specs.OnDisk.{AreOnDisk};
 ghost use Rattle.commit_slot.specs.Lending.{ChangesBudgetAlone};
 ghost use Rattle.commit_slot.specs.LogArea.{HasDurableLogArea};
 ghost use Rattle.commit_slot.specs.Formatting.{format_cost, format_calls};
@@ -379,7 +378,8 @@ impl<D: Disk> CacheLog<D> {
         ensures calls { Costs (commit_cost self.old.commits.unfinished)
             (commit_calls self.old.commits.number self.old.commits.unfinished (body_of self.old))
             (is_ok result) self.old.commits.disk self.new.commits.disk }
-        ensures on_disk { AreOnDisk self.new.commits }
+        ensures was_on_disk { IsOnDisk self.old }
+        ensures on_disk { IsOnDisk self.new }
         ensures reserved { self.old.reserved ≤ self.new.reserved }
     {
         let mut body = self.commits.body();
@@ -436,6 +436,7 @@ impl<D: Disk> CacheLog<D> {
         ensures same { D.state result ≡ self.commits.disk }
         ensures is_disk { IsDisk (D.state result) }
         ensures size { log_start ≤ (D.state result).size }
+        ensures on_disk { IsOnDisk self }
     {
         self.commits.into_disk()
     }

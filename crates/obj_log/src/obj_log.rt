@@ -97,7 +97,8 @@ impl<R: Receipt> ObjLog<R> {
         requires seqs { self.old.batch.first + length self.old.batch.entries < 2 ^ 64 - 1 }
         requires sectors { sum_by data_sectors self.old.batch.entries + data_sectors entry < 2 ^ 64 }
         requires places { data_at + sector_count entry < 2 ^ 63 }
-        ensures { IsAdded entry data_at self.old self.new }
+        ensures added { IsAdded entry data_at self.old self.new }
+        ensures order { IsUploads self.old.uploads.queue self.old.uploads.window }
     {
         self.uploads.enter(&entry, self.batch.next_seq(), data_at);
         self.batch.add(entry);
@@ -150,6 +151,7 @@ impl<R: Receipt> ObjLog<R> {
         requires fit { FitObject rows.now }
         ensures adopted { OnOk result (HasAdoptedObject rows.now end (R.state receipt) self.old self.new) }
         ensures same { OnErr result (IsSame self.old self.new) }
+        ensures order { IsUploads self.old.uploads.queue self.old.uploads.window }
     {
         self.uploads.adopt(rows, end, receipt)?;
         self.batch = Batch::new(alloc, self.batch.geometry(), end);
@@ -238,10 +240,12 @@ impl<R: Receipt> ObjLog<R> {
         &self.batch
     }
 
-    /// The frontier: the greatest number up to which all objects are acknowledged.
+    /// The frontier: the greatest number up to which all objects are acknowledged. The open objects are those
+    /// past it that are not, the first among them.
     pub fn frontier(&self) -> u64
         ensures is { result ≡ self.now.uploads.queue.frontier }
         ensures frontier { IsFrontier self.now.uploads.window result }
+        ensures order { IsUploads self.now.uploads.queue self.now.uploads.window }
     {
         self.uploads.frontier()
     }
@@ -265,14 +269,6 @@ impl<R: Receipt> ObjLog<R> {
         ensures { result ≡ self.now.uploads.uuid }
     {
         self.uploads.uuid()
-    }
-
-    /// What is so of the objects of every volume, as a fact for the proofs of callers: the open ones are
-    /// those past the frontier that are not acknowledged, the first among them. Nothing is done.
-    pub fn ordered(&self)
-        ensures { IsUploads self.now.uploads.queue self.now.uploads.window }
-    {
-        self.uploads.ordered();
     }
 
     // What is expected of the next object.

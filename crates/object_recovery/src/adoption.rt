@@ -98,7 +98,6 @@ fn adopt_next<S: Store>(
     ensures unchanged { OnlyCounts (S.state store.old) (S.state store.new) }
     ensures faults { Counts (ends_by_fault result) (S.state store.old).faults (S.state store.new).faults }
 {
-    log.ordered();
     if log.last() == u64::MAX {
         return Ok(Next::Missing);
     }

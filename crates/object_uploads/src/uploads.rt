@@ -105,6 +105,7 @@ impl<R: Receipt> Uploads<R> {
         requires fit { FitObject rows.now }
         ensures adopted { OnOk result (IsAdopted rows.now end (R.state receipt) self.old self.new) }
         ensures same { OnErr result (IsNotSealed self.old self.new) }
+        ensures order { IsUploads self.old.queue self.old.window }
     {
         self.queue.adopt(rows, end, receipt)?;
         self.window = Window::new(self.queue.frontier());
@@ -190,6 +191,7 @@ impl<R: Receipt> Uploads<R> {
         ensures entered { IsEntered entry.now seq data_at self.old.queue self.new.queue }
         ensures window { self.new.window ≡ self.old.window }
         ensures uuid { self.new.uuid ≡ self.old.uuid }
+        ensures order { IsUploads self.old.queue self.old.window }
     {
         self.queue.enter(entry, seq, data_at);
     }
@@ -227,10 +229,12 @@ impl<R: Receipt> Uploads<R> {
         self.uuid
     }
 
-    /// The frontier: the greatest number up to which all objects are acknowledged.
+    /// The frontier: the greatest number up to which all objects are acknowledged. The open objects are those
+    /// past it that are not, the first among them.
     pub fn frontier(&self) -> u64
         ensures is { result ≡ self.now.queue.frontier }
         ensures frontier { IsFrontier self.now.window result }
+        ensures order { IsUploads self.now.queue self.now.window }
     {
         self.window.frontier()
     }
@@ -247,14 +251,6 @@ impl<R: Receipt> Uploads<R> {
         ensures { result.now ≡ self.now.window }
     {
         &self.window
-    }
-
-    /// What is so of the objects of every volume, as a fact for the proofs of callers: the open ones are
-    /// those past the frontier that are not acknowledged, the first among them. Nothing is done.
-    pub fn ordered(&self)
-        ensures { IsUploads self.now.queue self.now.window }
-    {
-        let _uuid = self.uuid;
     }
 
     // The lowest ready number, and where its object stands.

@@ -123,7 +123,6 @@ impl Rig {
         ensures lines { self.new.lines ≤ self.old.lines + 1 }
     {
         self.lines += 1;
-        self.volume.is_ordered();
         let plan = match self.volume.step(Event::Look { lba, sectors }) {
             Reply::Planned(plan) => plan,
             reply => return answer_of(reply),
@@ -160,7 +159,6 @@ impl Rig {
     {
         self.lines += 1;
         self.puts.reserve()?;
-        self.volume.is_ordered();
         let job = match self.volume.step(Event::TakeJob) {
             Reply::Taken(job) => job,
             reply => {
@@ -288,7 +286,7 @@ impl Rig {
         ensures ok { IfOk result (λ made. MountsKeptRig fates.now letters.now made.1 self made.0) }
         ensures lines { IfOk result (λ made. made.0.lines ≤ self.lines + 1) }
     {
-        self.volume.is_ordered();
+        self.volume.is_volume();
         let disk = stopped_device(alloc, self.volume, fates)?;
         land(alloc, &mut self.store, self.puts.as_slice(), letters)?;
         let mounted = mount_again(alloc, disk, &mut self.store)?;
@@ -314,7 +312,7 @@ impl Rig {
         ensures { (plain : PlainState) → (shows : ShowsPlain self.now plain)
             → IsKeptByRig shows.epoch self.now plain }
     {
-        self.volume.is_ordered();
+        self.volume.is_volume();
     }
 }
 

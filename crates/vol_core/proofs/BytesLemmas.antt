@@ -6,12 +6,13 @@ use Rattle.std.proofs.lemmas.Bool.Decides.{nat_tests}
 use Rattle.lsvd_base.specs.declared.entry.Entry.{Entry}
 use Rattle.lsvd_objstore.specs.Store.{ReceiptState}
 use Rattle.upload_window.specs.declared.object.OpenObject.{OpenObject}
-use Rattle.upload_window.specs.Window.{has_number}
+use Rattle.upload_window.specs.Window.{has_number, is_started}
 use Rattle.cache_log.specs.Log.{LogState}
-use Rattle.object_uploads.specs.State.{JobState, SealedState}
+use Rattle.object_uploads.specs.State.{JobState, SealedState, QueueState, UploadsState}
 use Rattle.object_uploads.specs.Queue.{HasBytesAt, with_at, with_spare, with_receipt}
 use Rattle.object_uploads.specs.Order.{IsOpenFirst, AreOpen, IsUploads}
 use Rattle.object_uploads.specs.Changes.{IsPutDone}
+use Rattle.object_uploads.proofs.OpenLemmas.{started_at, uploads_done}
 use Rattle.obj_log.specs.State.{ObjLogState}
 use Rattle.obj_log.specs.Changes.{IsSame}
 use Rattle.vol_core.specs.declared.reply.Refusal.{Refusal}
@@ -157,6 +158,20 @@ module _ (old : VolumeState) (objects : ObjLogState) where
   returning_keeps_bytes job (told.NotReturned back) returned = unchanged_bytes returned.2
   returning_keeps_bytes job reply returned = absurd returned
 
+  -- the uploads are in order after a put that was out is done
+  done_in_order : (number : ℕ) (receipt : ReceiptState) → IsPutDone number receipt old.objects.uploads objects.uploads
+      → is_started number old.objects.uploads.window.objects ≡ true
+      → IsUploads old.objects.uploads.queue old.objects.uploads.window
+      → IsUploads objects.uploads.queue objects.uploads.window
+  done_in_order number receipt done started uploads =
+      let before : UploadsState = old.objects.uploads in
+      let queue : QueueState = before.queue in
+      let now : QueueState = objects.uploads.queue in
+      let found = started_at number (queue.frontier + 1) queue.sealed before.window.objects uploads.opened started in
+      subst (IsUploads now) (sym done.window)
+      (uploads_done queue now before.window number done.count receipt false uploads (omega (arith, found.0)) found.1 done.settled
+      done.waits)
+
   -- the objects up to the frontier go, and the one that is on its way still is past it
   settled_keeps_bytes : (number : ℕ) (receipt : ReceiptState) → IsPutDone number receipt old.objects.uploads objects.uploads
       → IsUploads objects.uploads.queue objects.uploads.window → KeepsBytes old now
@@ -179,10 +194,12 @@ module _ (old : VolumeState) (objects : ObjLogState) where
       subst (λ list. HasBytesAt (wanted - (objects.uploads.queue.frontier + 1)) list bytes) (sym settled.sealed) rest
 
   pub finishing_keeps_bytes : {R : Type 0} (state : R → ReceiptState) (job : JobState) (receipt : R) (reply : Reply R)
-      → Finishes state job receipt reply old.objects objects → IsUploads objects.uploads.queue objects.uploads.window
+      → Finishes state job receipt reply old.objects objects
+      → IsUploads old.objects.uploads.queue old.objects.uploads.window
       → KeepsBytes old now
   finishing_keeps_bytes state job receipt (told.Done frontier) done uploads =
-      settled_keeps_bytes job.name.number (state receipt) done.1 uploads
+      settled_keeps_bytes job.name.number (state receipt) done.1
+      (done_in_order job.name.number (state receipt) done.1 done.0.0.started uploads)
   finishing_keeps_bytes state job receipt (told.NotDone back given) done uploads = unchanged_bytes done.3
   finishing_keeps_bytes state job receipt reply done uploads = absurd done
 

@@ -50,7 +50,7 @@ use Rattle.vol_core.specs.Volume.{VolumeState}
 use Rattle.vol_core.specs.Shows.{Shows, NumbersGrow, max_number}
 use Rattle.vol_core.specs.Events.{Tells}
 use Rattle.vol_core.specs.Step.{passing, most_of_step, may_lack_memory, IsStep, IsNoStep, StepsAsPlain}
-use Rattle.vol_core.specs.Calls.{HasRoomForStep, event_of, MayEnter, fullness_in, ComesToLog, IsRefusedEntry, EntersBoth, Enters}
+use Rattle.vol_core.specs.Calls.{IsReadyForStep, event_of, MayEnter, fullness_in, ComesToLog, IsRefusedEntry, EntersBoth, Enters}
 use Rattle.vol_core.specs.Calls.{EntersLog}
 use Rattle.vol_core.proofs.CommitLemmas.{shown_next}
 use Rattle.vol_core.proofs.LoggedLemmas.{with_place, own_place, other_place, logged_alike, reaches_on_disk}
@@ -473,7 +473,7 @@ enter_grow state entry reply old objects log plain uploads disk enters shows =
 -- ---- before it
 
 pub may_enter : (volume : VolumeState) (plain : PlainState) (steps : ℕ) → Shows volume plain → steps ≤ max_number
-    → HasRoomForStep (record { volume = volume; steps = steps })
+    → IsReadyForStep (record { volume = volume; steps = steps })
     → IsUploads volume.objects.uploads.queue volume.objects.uploads.window
     → MayEnter volume.objects volume.log
 may_enter volume plain steps shows most ready uploads =

@@ -26,7 +26,7 @@ use Rattle.vol_core.specs.Volume.{VolumeState}
 use Rattle.vol_core.specs.Shows.{Shows, NumbersGrow, IsVolume}
 use Rattle.vol_core.specs.Events.{Tells}
 use Rattle.vol_core.specs.Step.{passing, most_of_commit, IsStep, StepsAsPlain}
-use Rattle.vol_core.specs.Calls.{HasRoomForStep, CommitsFrom}
+use Rattle.vol_core.specs.Calls.{IsReadyForStep, CommitsFrom}
 use Rattle.vol_core.proofs.CommitLemmas.{CommitsWithFuse, commit_has_fuse}
 use Rattle.vol_core.proofs.StepLemmas.{passing_keeps, small_of}
 use Rattle.vol_core.proofs.PendingSteps.{commit_pends}
@@ -150,7 +150,7 @@ flush_grow old log is_made end plain shows uploads end_is commits =
 pub flush_keeps_volume : (old : VolumeState) (log : LogState) (is_made : Bool) (end steps : ℕ)
     → IsUploads old.objects.uploads.queue old.objects.uploads.window → end ≡ old.objects.uploads.queue.end
     → CommitsFrom end is_made old.log log
-    → HasRoomForStep (record { volume = old; steps = steps }) → IsVolume (record { volume = old; steps = steps })
+    → IsReadyForStep (record { volume = old; steps = steps }) → IsVolume (record { volume = old; steps = steps })
     → IsVolume (record { volume = with_log log old; steps = steps })
 flush_keeps_volume old log is_made end steps uploads end_is commits ready is =
     let from = subst (λ n. CommitsFrom n is_made old.log log) end_is commits in

@@ -1,6 +1,6 @@
 -- A step that asks the device for nothing, and the invariant after a step.
-use Rattle.std.proofs.Common.{◌≡◌, ℕ, zero, suc, ◌+◌, ◌-◌, ◌≤◌, ◌⊎◌, inl, inr, Option, Some, None, List, [], ◌∷◌, drop, sym, ◌∙◌}
-use Rattle.std.proofs.Common.{ap, subst, arith}
+use Rattle.std.proofs.Common.{◌≡◌, ℕ, zero, suc, ◌+◌, ◌-◌, ◌≤◌, ◌<◌, ◌⊎◌, inl, inr, Option, Some, None, List, [], ◌∷◌, drop}
+use Rattle.std.proofs.Common.{sym, ◌∙◌, ap, subst, arith}
 use Rattle.std.specs.Prelude.{IfSome}
 use Rattle.std.proofs.Math.Path.{subst₂}
 use Rattle.std.proofs.lemmas.List.{drop-drop}
@@ -24,10 +24,10 @@ use Rattle.read_plan.specs.Pins.{times}
 use Rattle.vol_core.specs.declared.event.Event.{Event}
 use Rattle.vol_core.specs.declared.reply.Reply.{Reply}
 use Rattle.vol_core.specs.Volume.{VolumeState, SteppedVolume}
-use Rattle.vol_core.specs.Shows.{Shows, IsSmall, NumbersGrow, IsVolume}
+use Rattle.vol_core.specs.Shows.{Shows, IsSmall, NumbersGrow, IsVolume, max_number}
 use Rattle.vol_core.specs.Events.{Asks, Tells}
 use Rattle.vol_core.specs.Step.{passing, IsStep, IsNoStep, StepsAsPlain, StepOf}
-use Rattle.vol_core.specs.Calls.{HasRoomForStep}
+use Rattle.vol_core.specs.Calls.{IsReadyForStep}
 
 -- ---- other calls
 
@@ -78,7 +78,7 @@ numbers_stay old new same_log same_objects =
     record { entries = omega (arith, next); objects = omega (arith, last); commits = omega (arith, number) }
 
 -- a step leaves them small
-pub small_of : (old new : VolumeState) (steps : ℕ) → NumbersGrow old new → HasRoomForStep (record { volume = old; steps = steps })
+pub small_of : (old new : VolumeState) (steps : ℕ) → NumbersGrow old new → IsReadyForStep (record { volume = old; steps = steps })
     → IsSmall new steps
 small_of old new steps grow ready =
     let counted = ready.counted in
@@ -100,12 +100,31 @@ shown_after state event reply plain old new (inr none) = (plain, none.shows)
 
 pub steps_keep_volume : {R : Type 0} (state : R → ReceiptState) (event : Event R) (reply : Reply R) (old new : VolumeState)
     (steps : ℕ)
-    → IsVolume (record { volume = old; steps = steps }) → HasRoomForStep (record { volume = old; steps = steps })
+    → IsVolume (record { volume = old; steps = steps }) → IsReadyForStep (record { volume = old; steps = steps })
     → StepsAsPlain state event reply old new → NumbersGrow old new
     → IsVolume (record { volume = new; steps = steps })
 steps_keep_volume state event reply old new steps is ready as_plain grow =
     let after = shown_after state event reply is.plain old new (as_plain is.plain is.shows) in
     record { plain = after.0; shows = after.1; steps = is.steps; small = small_of old new steps grow ready }
+
+-- and so does a step that is counted with it
+pub counted_keeps_volume : {R : Type 0} (state : R → ReceiptState) (event : Event R) (reply : Reply R) (old new : SteppedVolume)
+    → IsVolume old → old.steps < max_number → StepOf state event reply old.volume new.volume → new.steps ≡ old.steps + 1
+    → IsVolume new
+counted_keeps_volume state event reply old new was few step count =
+    let after = shown_after state event reply was.plain old.volume new.volume (step.step was.plain was.shows) in
+    let small = was.small in
+    let grow = step.numbers in
+    record {
+      plain = after.0;
+      shows = after.1;
+      steps = omega (arith, few, count);
+      small = record {
+        entries = omega (arith, count, small.entries, grow.entries);
+        objects = omega (arith, count, small.objects, grow.objects);
+        commits = omega (arith, count, small.commits, grow.commits);
+      };
+    }
 
 -- the step is that of the volume as it is seen before
 pub step_seen : {R : Type 0} (state : R → ReceiptState) (event : Event R) (reply : Reply R) (new : VolumeState)

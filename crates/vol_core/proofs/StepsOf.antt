@@ -111,14 +111,13 @@ module _ {R : Type 0} (state : R → ReceiptState) (old : VolumeState) (objects 
       (taken_grow old objects reply taken) (taking_keeps_bytes old objects reply taken)
 
   pub step_of_done : (job : JobState) (receipt : R) (reply : Reply R)
-      → IsUploads old.objects.uploads.queue old.objects.uploads.window
-      → IsUploads objects.uploads.queue objects.uploads.window → IsReceiptFor job.bytes (state receipt)
+      → IsUploads old.objects.uploads.queue old.objects.uploads.window → IsReceiptFor job.bytes (state receipt)
       → Finishes state job receipt reply old.objects objects
       → StepOf state (JobDone job receipt) reply old (with_objects objects old)
-  step_of_done job receipt reply uploads uploads_now own done =
+  step_of_done job receipt reply uploads own done =
       step_of_list (JobDone job receipt) reply (done_list state job receipt reply old.objects objects done) tt
       (done_steps state old objects job receipt reply uploads own done) (done_grow old objects state job receipt reply done)
-      (finishing_keeps_bytes old objects state job receipt reply done uploads_now)
+      (finishing_keeps_bytes old objects state job receipt reply done uploads)
 
   pub step_of_return : (job : JobState) (reply : Reply R) → Returns job reply old.objects objects
       → StepOf state (JobFailed job) reply old (with_objects objects old)

@@ -24,7 +24,7 @@ use Rattle.lsvd_base.specs.Limits.{is_within_limits}
 use Rattle.log_room.specs.Room.{max_log}
 use Rattle.lsvd_base.specs.declared.entry.Entry.TheVariants as entries
 use Rattle.vol_core.specs.Volume.{SteppedVolume}
-use Rattle.vol_core.specs.Shows.{IsSmall}
+use Rattle.vol_core.specs.Shows.{IsSmall, IsSound}
 use Rattle.vol_core.specs.declared.event.Event.{Event}
 use Rattle.vol_core.specs.declared.event.Event.TheVariants as events
 use Rattle.vol_core.specs.declared.reply.Refusal.{Refusal}
@@ -38,11 +38,12 @@ abbrev pub event_of : {R : Type 0} → Entry → Event R
 event_of (entries.Write lba body) = events.Write lba body
 event_of (entries.Zero lba sectors) = events.Zero lba sectors
 
--- the numbers of a volume have room for a step that was counted already
-pub record HasRoomForStep (stepped : SteppedVolume) : Type 0 where
+-- a volume is ready for a step that was counted already: its numbers have room for it, and its log and its uploads are in order
+pub record IsReadyForStep (stepped : SteppedVolume) : Type 0 where
   pub steps : ℕ
   pub counted : stepped.steps ≡ steps + 1
   pub small : IsSmall stepped.volume steps
+  pub order : IsSound stepped.volume
 
 -- ---- the log
 

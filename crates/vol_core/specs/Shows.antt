@@ -1,6 +1,8 @@
 -- Contract: when a volume shows a plain volume.
 use Rattle.std.specs.Prelude.{◌≡◌, ℕ, ◌+◌, ◌*◌, ◌^◌, ◌≤◌}
 use Rattle.cache_log.specs.Log.{next_seq}
+use Rattle.cache_log.specs.Committed.{IsOnDisk}
+use Rattle.object_uploads.specs.Order.{IsUploads}
 use Rattle.plain_disk.specs.State.{PlainState}
 use Rattle.plain_disk.specs.Valid.{IsPlainVolume}
 use Rattle.refine_log.specs.Shows.{ShowsLog}
@@ -47,3 +49,8 @@ pub record IsVolume (stepped : SteppedVolume) : Type 0 where
   pub shows : Shows stepped.volume plain
   pub steps : stepped.steps ≤ max_number
   pub small : IsSmall stepped.volume stepped.steps
+
+-- and of the log and the uploads of each
+pub record IsSound (volume : VolumeState) : Type 0 where
+  pub on_disk : IsOnDisk volume.log
+  pub uploads : IsUploads volume.objects.uploads.queue volume.objects.uploads.window

@@ -22,7 +22,7 @@ use Rattle.vol_core.specs.declared.reply.Refusal.TheVariants as refusals
 use Rattle.vol_core.specs.declared.reply.Reply.{Reply}
 use Rattle.vol_core.specs.declared.reply.Reply.TheVariants as told
 use Rattle.vol_core.specs.Volume.{VolumeState, SteppedVolume}
-use Rattle.vol_core.specs.Shows.{Shows, NumbersGrow}
+use Rattle.vol_core.specs.Shows.{Shows, NumbersGrow, IsVolume, IsSound}
 use Rattle.vol_core.specs.Events.{Asks, Tells}
 use Rattle.vol_core.specs.Stops.{StepKeeps}
 
@@ -168,8 +168,11 @@ pub record StepOf {R : Type 0} (state : R → ReceiptState) (event : Event R) (r
   pub faults : CountsFault reply old new
   pub bytes : KeepsBytes old new
 
--- the same of a volume that counts its steps
+-- the same of a volume that counts its steps: it is one before and after, and its log and its uploads are in order before
 pub record CountedStep {R : Type 0} (state : R → ReceiptState) (event : Event R) (reply : Reply R) (old new : SteppedVolume) :
     Type 0 where
   pub step : StepOf state event reply old.volume new.volume
   pub count : new.steps ≡ old.steps + 1
+  pub was : IsVolume old
+  pub order : IsSound old.volume
+  pub is : IsVolume new

@@ -13,8 +13,5 @@ pub(crate) fn commit<D: Disk>(log: &mut CacheLog<D>, end: u64) -> Result<(), Fai
     ensures { CommitsFrom end (is_ok result) log.old log.new }
 {
     log.trim_to(end);
-    log.on_disk();
-    let made = log.commit();
-    log.on_disk();
-    made
+    log.commit()
 }

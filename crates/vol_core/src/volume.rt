@@ -1,17 +1,17 @@
-ghost use Rattle.std.specs.Prelude.{◌≡◌, ℕ, ◌+◌, ◌<◌, [], false};
+ghost use Rattle.std.specs.Prelude.{◌≡◌, ℕ, ◌+◌, ◌<◌, [], false, IsTrue};
 ghost use Rattle.std.specs.Fn.{FnOnceReturnsAtMut};
+ghost use Rattle.lsvd_base.specs.Limits.{is_within_limits};
 ghost use Rattle.lsvd_device.specs.Device.{IsDisk};
 ghost use Rattle.commit_slot.specs.Lending.{ChangesBudgetAlone};
 ghost use Rattle.cache_log.specs.Committed.{IsOnDisk};
-ghost use Rattle.object_uploads.specs.Order.{IsUploads};
 ghost use Rattle.plain_disk.specs.State.{PlainState};
 ghost use Rattle.refine_log.specs.Fuses.{fuse_in};
 ghost use Rattle.vol_core.specs.Volume.{volume_of, with_budget_of};
 ghost use Rattle.vol_core.specs.declared.event.Event.TheVariants as events;
-ghost use Rattle.vol_core.specs.Shows.{Shows, IsVolume, IsSmall, max_number};
+ghost use Rattle.vol_core.specs.Shows.{Shows, IsVolume, IsSound, IsSmall, max_number};
 ghost use Rattle.vol_core.specs.Step.{passing, HasItsReceipt, StepOf, CountedStep};
 ghost use Rattle.vol_core.specs.Stops.{HasOwnCommits, KeepsNow};
-ghost use Rattle.vol_core.specs.Calls.{HasRoomForStep, event_of};
+ghost use Rattle.vol_core.specs.Calls.{IsReadyForStep, event_of};
 
 use crate::committing::commit;
 use crate::entering::enter;
@@ -85,7 +85,9 @@ impl<D: Disk, R: Receipt> Volume<D, R> {
     /// record, or one read for each run of sectors that a write past the frontier's end wrote last; `Fault`
     /// is told exactly where one of them failed, which the device counted once. Where the device has room for
     /// them, as many writes are pending on it after the step as on the plain volume's cache, if so many were
-    /// before. A step adds an entry and an object at most, and makes two commits at most.
+    /// before. A step adds an entry and an object at most, and makes two commits at most. What is so of every
+    /// volume is told of the one before the step, with the order of its log and its uploads, and of the one
+    /// after it.
     pub fn step(&mut self, event: Event<R>) -> Reply<R>
         requires steps { self.old.steps < max_number }
         requires receipt { HasItsReceipt R.state event }
@@ -102,9 +104,10 @@ impl<D: Disk, R: Receipt> Volume<D, R> {
         self.steps
     }
 
-    /// Its geometry, which no step changes.
+    /// Its geometry, which no step changes. Each size keeps its limits.
     pub fn geometry(&self) -> Geometry
-        ensures { result ≡ self.now.volume.objects.batch.geometry }
+        ensures is { result ≡ self.now.volume.objects.batch.geometry }
+        ensures limits { IsTrue (is_within_limits result) }
     {
         self.objects.batch().geometry()
     }
@@ -116,31 +119,14 @@ impl<D: Disk, R: Receipt> Volume<D, R> {
         self.objects.uuid()
     }
 
-    /// What is so of every volume whose commits are its own, as a fact for the proofs of callers: whatever a
-    /// stop leaves of the device now reads as the last commit, or as the unfinished one. Nothing is done.
-    pub fn stands(&self)
-        ensures { (epoch : ℕ) → HasOwnCommits epoch self.now.volume → KeepsNow epoch self.now.volume }
-    {
-        self.log.on_disk();
-    }
-
-    /// What is so of every volume, as a fact for the proofs of callers: it shows a plain volume, and its
-    /// numbers are bounded by its steps. Nothing is done.
+    /// What is so of every volume, as facts for the proofs of callers: it shows a plain volume, its numbers
+    /// are bounded by its steps, and its log and its uploads are in order. Nothing is done.
     pub fn is_volume(&self)
-        ensures { IsVolume self.now }
+        ensures shown { IsVolume self.now }
+        ensures order { IsSound self.now.volume }
     {
         self.log.on_disk();
-    }
-
-    /// What is so of the log and the objects of every volume, as facts for the proofs of callers. Nothing is
-    /// done.
-    pub fn is_ordered(&self)
-        ensures on_disk { IsOnDisk self.now.volume.log }
-        ensures uploads { IsUploads self.now.volume.objects.uploads.queue
-            self.now.volume.objects.uploads.window }
-    {
-        self.log.on_disk();
-        self.objects.ordered();
+        self.objects.frontier();
     }
 
     /// The device.
@@ -150,10 +136,15 @@ impl<D: Disk, R: Receipt> Volume<D, R> {
         self.log.disk()
     }
 
-    /// The device, which is a disk. What is not on it or in the store is let go.
+    /// The device, which is a disk. What is not on it or in the store is let go. The volume was one that
+    /// shows a plain volume, and, where its commits are its own, whatever a stop leaves of the device now
+    /// reads as the last commit, or as the unfinished one.
     pub fn into_disk(self) -> D
         ensures same { D.state result ≡ self.volume.log.commits.disk }
         ensures is_disk { IsDisk (D.state result) }
+        ensures is_volume { IsVolume self }
+        ensures on_disk { IsOnDisk self.volume.log }
+        ensures stands { (epoch : ℕ) → HasOwnCommits epoch self.volume → KeepsNow epoch self.volume }
     {
         let Volume {
             objects,
@@ -191,15 +182,17 @@ impl<D: Disk, R: Receipt> Volume<D, R> {
     // Counts a step, of which fewer than 2^60 were made (a condition).
     fn count_step(&mut self)
         requires { self.old.steps < max_number }
-        ensures room { HasRoomForStep self.new }
+        ensures was { IsVolume self.old }
+        ensures ready { IsReadyForStep self.new }
         ensures counted { self.new ≡ record self.old { steps = self.old.steps + 1 } }
     {
+        self.is_volume();
         self.steps += 1;
     }
 
     // Does what an event asks for.
     fn answer(&mut self, event: Event<R>) -> Reply<R>
-        requires ready { HasRoomForStep self.old }
+        requires ready { IsReadyForStep self.old }
         requires receipt { HasItsReceipt R.state event }
         ensures step { StepOf R.state event result self.old.volume self.new.volume }
         ensures steps { self.new.steps ≡ self.old.steps }
@@ -220,12 +213,10 @@ impl<D: Disk, R: Receipt> Volume<D, R> {
 
     // Enters an entry.
     fn enter(&mut self, entry: Entry) -> Reply<R>
-        requires { HasRoomForStep self.old }
+        requires { IsReadyForStep self.old }
         ensures step { StepOf R.state (event_of entry) result self.old.volume self.new.volume }
         ensures steps { self.new.steps ≡ self.old.steps }
     {
-        self.objects.ordered();
-        self.log.on_disk();
         let reply = enter(&mut self.objects, &mut self.log, entry);
         self.log.on_disk();
         reply
@@ -233,12 +224,10 @@ impl<D: Disk, R: Receipt> Volume<D, R> {
 
     // Commits all entries so far, with the log's tail at the frontier's end.
     fn flush(&mut self) -> Reply<R>
-        requires { HasRoomForStep self.old }
+        requires { IsReadyForStep self.old }
         ensures step { StepOf R.state events.Flush result self.old.volume self.new.volume }
         ensures steps { self.new.steps ≡ self.old.steps }
     {
-        self.objects.ordered();
-        self.log.on_disk();
         match commit(&mut self.log, self.objects.end()) {
             Ok(()) => Reply::Flushed(self.objects.batch().next_seq()),
             Err(Failed) => Reply::Fault,
@@ -247,16 +236,16 @@ impl<D: Disk, R: Receipt> Volume<D, R> {
 
     // Plans a read.
     fn look(&mut self, lba: u64, sectors: u64) -> Reply<R>
-        requires { HasRoomForStep self.old }
+        requires { IsReadyForStep self.old }
         ensures step { StepOf R.state (events.Look lba sectors) result self.old.volume self.new.volume }
         ensures steps { self.new.steps ≡ self.old.steps }
     {
-        self.objects.ordered();
+        let alloc = self.alloc;
         if !self.geometry().may_transfer(lba, sectors) {
             return Reply::Range;
         }
         let (objects, log, pins) = (&self.objects, &mut self.log, &mut self.pins);
-        match look(self.alloc, objects, log, pins, lba, sectors) {
+        match look(alloc, objects, log, pins, lba, sectors) {
             Ok(plan) => Reply::Planned(plan),
             Err(LookError::Fault) => Reply::Fault,
             Err(LookError::OutOfMemory) => Reply::OutOfMemory,
@@ -265,7 +254,7 @@ impl<D: Disk, R: Receipt> Volume<D, R> {
 
     // Gives the plan of a read back.
     fn release(&mut self, plan: Plan<R>) -> Reply<R>
-        requires { HasRoomForStep self.old }
+        requires { IsReadyForStep self.old }
         ensures step { StepOf R.state (events.Release plan) result self.old.volume self.new.volume }
         ensures steps { self.new.steps ≡ self.old.steps }
     {
@@ -278,17 +267,16 @@ impl<D: Disk, R: Receipt> Volume<D, R> {
 
     // Seals the next data object.
     fn seal(&mut self) -> Reply<R>
-        requires { HasRoomForStep self.old }
+        requires { IsReadyForStep self.old }
         ensures step { StepOf R.state events.Seal result self.old.volume self.new.volume }
         ensures steps { self.new.steps ≡ self.old.steps }
     {
-        self.objects.ordered();
         seal(self.alloc, &mut self.objects)
     }
 
     // Begins the put of the lowest ready object.
     fn take_job(&mut self) -> Reply<R>
-        requires { HasRoomForStep self.old }
+        requires { IsReadyForStep self.old }
         ensures step { StepOf R.state events.TakeJob result self.old.volume self.new.volume }
         ensures steps { self.new.steps ≡ self.old.steps }
     {
@@ -297,20 +285,17 @@ impl<D: Disk, R: Receipt> Volume<D, R> {
 
     // Counts a put as acknowledged.
     fn job_done(&mut self, job: Job, receipt: R) -> Reply<R>
-        requires ready { HasRoomForStep self.old }
+        requires ready { IsReadyForStep self.old }
         requires receipt { HasItsReceipt R.state (events.JobDone job receipt) }
         ensures step { StepOf R.state (events.JobDone job receipt) result self.old.volume self.new.volume }
         ensures steps { self.new.steps ≡ self.old.steps }
     {
-        self.objects.ordered();
-        let reply = job_done(&mut self.objects, job, receipt);
-        self.objects.ordered();
-        reply
+        job_done(&mut self.objects, job, receipt)
     }
 
     // Makes the object of a put that failed ready again.
     fn job_failed(&mut self, job: Job) -> Reply<R>
-        requires { HasRoomForStep self.old }
+        requires { IsReadyForStep self.old }
         ensures step { StepOf R.state (events.JobFailed job) result self.old.volume self.new.volume }
         ensures steps { self.new.steps ≡ self.old.steps }
     {
@@ -321,7 +306,6 @@ impl<D: Disk, R: Receipt> Volume<D, R> {
     fn status(&self) -> Reply<R>
         ensures { StepOf R.state events.Status result self.now.volume self.now.volume }
     {
-        self.objects.ordered();
         Reply::Told {
             writes: self.objects.batch().next_seq(),
             sealed: self.objects.last(),

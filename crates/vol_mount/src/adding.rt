@@ -37,7 +37,6 @@ pub(crate) fn add_all<D: Disk, R: Receipt>(
 {
     for (index, entry) in entries.into_iter().enumerate() {
         objects.reserve()?;
-        objects.ordered();
         objects.add(entry, log.row(index).position() + 1);
     }
     Ok(())

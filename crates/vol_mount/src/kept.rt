@@ -146,6 +146,5 @@ fn complete<D: Disk, S: Store>(
         drop(objects);
         return Err(failed.into());
     }
-    log.on_disk();
     Ok(objects)
 }

@@ -23,11 +23,10 @@ use lsvd_device::Disk;
 use lsvd_fault::Failed;
 use lsvd_names::ObjName;
 use lsvd_objstore::{Store, StoreError};
-use object_format::{Expected, ObjectWriter, Rows, what_is_written_is_an_object};
-use refine_store::a_stopped_store_has_the_objects;
+use object_format::{Expected, ObjectWriter, Rows};
 use std::alloc::{AllocError, Global};
 use super_format::Super;
-use super_recovery::{SuperError, a_volume_is_created, has_super, put_epoch, put_super};
+use super_recovery::{SuperError, has_super, put_epoch, put_super};
 use thiserror::Error;
 use uuid::Uuid;
 use vol_core::{Volume, create as create_cache};
@@ -137,8 +136,6 @@ pub fn create<D: Disk, S: Store>(
     ensures faults { Counts (ends_by_put_fault result) (S.state store.old).faults (S.state store.new).faults }
     ensures is_disk { IfErr result (λ error. IsDisk (D.state error.0)) }
 {
-    a_volume_is_created();
-    a_stopped_store_has_the_objects();
     if let Err(error) = prepare(alloc, store, uuid, &geometry) {
         return Err((disk, error));
     }
@@ -243,7 +240,6 @@ const FIRST: u64 = 1;
 fn first_object(alloc: Global, uuid: Uuid, geometry: &Geometry) -> Result<ObjectBytes, AllocError>
     ensures { IfOk result (IsFirstObject uuid geometry.now) }
 {
-    what_is_written_is_an_object();
     let expected = Expected {
         uuid: uuid.into_bytes(),
         number: FIRST,

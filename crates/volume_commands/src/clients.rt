@@ -21,7 +21,7 @@ use std::alloc::Global;
 use vol_core::Volume;
 use vol_recover::Mounted;
 use volume_owner::Owner;
-use volume_server::{LaneEnd, clients_add_to_one_history, serve_volume};
+use volume_server::{LaneEnd, serve_volume};
 
 // Tells that a volume was mounted, serves it until the last session has ended, and drains it and tells that
 // then. The volume is given back.
@@ -59,7 +59,6 @@ pub(crate) fn serve_clients<D: Disk, S: Store, L: Listener, O: Sink>(
     if let Err(Failed) = tell_mounted(out, mounted.entries, mounted.number) {
         return (mounted.volume, Err(CommandError::Fault));
     }
-    clients_add_to_one_history::<S::Receipt, L::Link>();
     let closing = serve_volume(alloc, mounted.volume, clients, store, sessions);
     let (volume, drained) = drain(alloc, closing.volume, store);
     let entries = match drained {

@@ -12,8 +12,5 @@ pub(crate) fn let_go<D: Disk, R: Receipt>(volume: Volume<D, R>) -> D
     ensures is_disk { IsDisk (D.state result) }
     ensures let_go { IsLetGo volume }
 {
-    volume.is_volume();
-    volume.is_ordered();
-    volume.stands();
     volume.into_disk()
 }

@@ -1,30 +1,34 @@
 -- Helps one after the other, with attempts to enter an entry between them or without: how far they have come.
-use Rattle.std.proofs.Common.{arith, ◌≡◌, ℕ, ◌+◌, ◌*◌, ◌-◌, ◌≤◌, ◌<◌, Bool, true, false, List, []}
+use Rattle.std.proofs.Common.{arith, ◌≡◌, ℕ, ◌+◌, ◌*◌, ◌-◌, ◌≤◌, ◌<◌, ◌⊎◌, inl, inr, Bool, true, false, List}
+use Rattle.std.proofs.Common.{[], refl, ap, subst}
 use Rattle.lsvd_base.specs.declared.entry.Entry.{Entry}
 use Rattle.lsvd_fault.specs.Faults.{Counts}
 use Rattle.lsvd_objstore.specs.Store.{StoreState, ReceiptState}
-use Rattle.object_uploads.specs.Order.{IsUploads}
 use Rattle.vol_core.specs.declared.event.Event.TheVariants as asks
 use Rattle.vol_core.specs.Calls.{event_of}
 use Rattle.vol_core.specs.Volume.{VolumeState, SteppedVolume}
-use Rattle.vol_core.specs.Shows.{IsVolume, max_number}
+use Rattle.vol_core.specs.Shows.{max_number}
 use Rattle.volume_owner.specs.Owner.{IsIdle, max_steps, most_of_call}
 use Rattle.volume_owner.specs.Acts.{MakesStep}
 use Rattle.volume_owner.specs.Calls.{MakesSteps, IsCall}
-use Rattle.volume_owner.specs.Helping.{work_of, HasHelped}
+use Rattle.volume_owner.specs.Helping.{work_of, most_work, HasHelped}
 use Rattle.volume_owner.proofs.ActLemmas.{step_acts, entry_acts}
 use Rattle.volume_owner.proofs.CallLemmas.{nothing_call, disk_call, call_then, call_fewer}
-use Rattle.volume_owner.proofs.BoundLemmas.{work_bound}
 
 -- how many steps helps made that left as much work
 abbrev pub helping_steps : (old now : SteppedVolume) → ℕ
 helping_steps old now = 3 * (work_of old.volume - work_of now.volume)
+
+-- nothing was done yet, or a bound of the work before is known
+abbrev pub IsBounded : (old now : SteppedVolume) → Type 0
+IsBounded old now = (now ≡ old) ⊎ (work_of old.volume ≤ most_work)
 
 -- helps made this volume and this store of others, and entered nothing
 pub record IsHelped {R : Type 0} (state : R → ReceiptState) (old now : SteppedVolume) (first second : StoreState) : Type 0 where
   pub less : work_of now.volume ≤ work_of old.volume
   pub call : IsCall state (helping_steps old now) [] false old now first second
   pub idle : IsIdle now.volume
+  pub bounded : IsBounded old now
 
 -- the first time
 pub helped_first : {R : Type 0} (state : R → ReceiptState) (old : SteppedVolume) (store : StoreState) → IsIdle old.volume
@@ -33,7 +37,21 @@ helped_first state old store idle = record {
   less = omega arith;
   call = nothing_call state (helping_steps old old) old store;
   idle = idle;
+  bounded = inl refl;
 }
+
+-- what bounds the work now bounds the work before
+bound_before : (old now : SteppedVolume) → IsBounded old now → work_of now.volume ≤ most_work → work_of old.volume ≤ most_work
+bound_before old now (inl same) bound = subst (λ (v : SteppedVolume). work_of v.volume ≤ most_work) same bound
+bound_before old now (inr bound) now_bound = bound
+
+-- so few steps were made
+few_before : (old now : SteppedVolume) → IsBounded old now → old.steps ≤ max_steps
+    → now.steps ≤ old.steps + helping_steps old now → now.steps + 3 < max_number
+few_before old now (inl same) few steps =
+    let at = ap (λ (v : SteppedVolume). v.steps) same in
+    omega (arith, few, at)
+few_before old now (inr bound) few steps = omega (arith, few, bound, steps)
 
 -- what was some is less after a help
 pub helped_some : (has_helped : Bool) (old new : VolumeState) → 0 < work_of old → HasHelped has_helped old new
@@ -44,34 +62,31 @@ helped_some false old new some none = (let nothing = none.0 in omega (arith, som
 module _ {R : Type 0} (state : R → ReceiptState) (old now : SteppedVolume) (first second : StoreState)
     (helped : IsHelped state old now first second) where
   -- the steps are few enough for more
-  pub helped_few : old.steps ≤ max_steps → IsVolume old
-      → IsUploads old.volume.objects.uploads.queue old.volume.objects.uploads.window
-      → now.steps + 3 < max_number
-  helped_few few is uploads =
-      let bound = work_bound old.volume is.plain is.shows uploads in
-      let steps = helped.call.steps.steps in
-      omega (arith, few, bound, steps)
+  pub helped_few : old.steps ≤ max_steps → now.steps + 3 < max_number
+  helped_few few = few_before old now helped.bounded few helped.call.steps.steps
 
   -- three steps more, which end it
-  pub helped_ends : (added : List Entry) (failed : Bool) (new : SteppedVolume) (third : StoreState) → IsVolume old
-      → IsUploads old.volume.objects.uploads.queue old.volume.objects.uploads.window
+  pub helped_ends : (added : List Entry) (failed : Bool) (new : SteppedVolume) (third : StoreState)
+      → work_of now.volume ≤ most_work
       → IsCall state 3 added failed now new second third
       → IsCall state most_of_call added failed old new first third
-  helped_ends added failed new third is uploads call =
-      let bound = work_bound old.volume is.plain is.shows uploads in
+  helped_ends added failed new third work call =
+      let bound = bound_before old now helped.bounded work in
       call_fewer state (helping_steps old now + 3) most_of_call added failed old new first third (omega (arith, bound))
       (call_then state (helping_steps old now) 3 added failed old now new first second third helped.call call)
 
   -- or after which it goes on, with less left
-  pub helped_more : (new : SteppedVolume) (third : StoreState) → IsCall state 3 [] false now new second third
+  pub helped_more : (new : SteppedVolume) (third : StoreState) → work_of now.volume ≤ most_work
+      → IsCall state 3 [] false now new second third
       → work_of new.volume < work_of now.volume
       → IsIdle new.volume → IsHelped state old new first third
-  helped_more new third call less idle = record {
+  helped_more new third work call less idle = record {
     less = omega (arith, helped.less, less);
     call = call_fewer state (helping_steps old now + 3) (helping_steps old new) [] false old new first third
         (omega (arith, helped.less, less))
         (call_then state (helping_steps old now) 3 [] false old now new first second third helped.call call);
     idle = idle;
+    bounded = inr (bound_before old now helped.bounded work);
   }
 
 -- ---- what these steps are

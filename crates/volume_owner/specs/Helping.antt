@@ -1,5 +1,5 @@
 -- For this crate's own clauses: what an attempt to enter an entry answers, and what a help does.
-use Rattle.std.specs.Prelude.{◌≡◌, ℕ, ◌+◌, ◌*◌, ◌<◌, Bool, true, false, List, [], ◌∷◌, length}
+use Rattle.std.specs.Prelude.{◌≡◌, ℕ, ◌+◌, ◌*◌, ◌^◌, ◌<◌, Bool, true, false, List, [], ◌∷◌, length}
 use Rattle.std.specs.List.{list_any}
 use Rattle.lsvd_base.specs.declared.entry.Entry.{Entry}
 use Rattle.object_stream.specs.Replay.{object_name}
@@ -15,6 +15,10 @@ use Rattle.volume_owner.specs.declared.replies.Attempt.TheVariants.{Entered, Aga
 -- help lowers it.
 abbrev pub work_of : VolumeState → ℕ
 work_of volume = 2 * length volume.objects.batch.entries + length volume.objects.uploads.window.objects
+
+-- how much is left at most
+abbrev pub most_work : ℕ
+most_work = 3 * 2 ^ 31
 
 -- a help lowers what is left; or nothing was left, and nothing is
 abbrev pub HasHelped : (has_helped : Bool) → (old new : VolumeState) → Type 0

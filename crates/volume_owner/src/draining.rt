@@ -26,8 +26,6 @@ pub(crate) fn drain<D: Disk, R: Receipt, S: Store<Receipt = R>>(
     ensures range { IsErrOf result OwnerError.Range → ⊥ }
     ensures idle { IsIdle volume.new.volume }
 {
-    volume.is_volume();
-    volume.is_ordered();
     while help(alloc, volume, store)? {}
     Ok(flush(volume)?)
 }

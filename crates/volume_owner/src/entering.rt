@@ -7,7 +7,7 @@ ghost use Rattle.volume_owner.specs.Owner.{IsIdle, max_steps, most_of_call};
 ghost use Rattle.volume_owner.specs.Acts.{MakesStep};
 ghost use Rattle.volume_owner.specs.Calls.{MakesSteps, IsCall, IsLengthOf, added_by};
 ghost use Rattle.volume_owner.specs.Errors.{is_eio};
-ghost use Rattle.volume_owner.specs.Helping.{entered_by, attempt_failed, MayTryAgain};
+ghost use Rattle.volume_owner.specs.Helping.{work_of, most_work, entered_by, attempt_failed, MayTryAgain};
 
 use crate::error::OwnerError;
 use crate::helping::help;
@@ -37,8 +37,6 @@ pub(crate) fn enter<D: Disk, R: Receipt, S: Store<Receipt = R>>(
     if !in_range(&entry, &volume.geometry()) {
         return Err(OwnerError::Range);
     }
-    volume.is_volume();
-    volume.is_ordered();
     let mut left = entry;
     loop {
         left = match try_entry(volume, left) {
@@ -60,11 +58,11 @@ fn try_entry<D: Disk, R: Receipt>(volume: &mut Volume<D, R>, entry: Entry) -> At
     ensures steps { MakesSteps 1 (entered_by entry result) volume.old volume.new }
     ensures count { (count : ℕ) → result ≡ Attempt.Entered count → IsLengthOf count volume.new.volume }
     ensures back { MayTryAgain entry result volume.old.volume volume.new.volume }
+    ensures work { work_of volume.old.volume ≤ most_work }
     ensures faults { Counts (attempt_failed result) volume.old.volume.log.commits.disk.faults
         volume.new.volume.log.commits.disk.faults }
     ensures idle { IsIdle volume.new.volume }
 {
-    volume.is_volume();
     attempt_of(volume.step(event_for(entry)))
 }
 

@@ -1,11 +1,11 @@
-ghost use Rattle.std.specs.Prelude.{◌≡◌, ◌+◌, ◌<◌, [], IfOk, OnOk, IsErrOf, IsOkUnless};
+ghost use Rattle.std.specs.Prelude.{◌≡◌, ◌+◌, ◌<◌, ◌≤◌, [], IfOk, OnOk, IsErrOf, IsOkUnless};
 ghost use Rattle.vol_core.specs.declared.event.Event.TheVariants as events;
 ghost use Rattle.vol_core.specs.Shows.{max_number};
 ghost use Rattle.volume_owner.specs.Owner.{IsIdle};
 ghost use Rattle.volume_owner.specs.Acts.{MakesStep};
 ghost use Rattle.volume_owner.specs.Calls.{MakesSteps, IsCall};
 ghost use Rattle.volume_owner.specs.Errors.{is_eio};
-ghost use Rattle.volume_owner.specs.Helping.{work_of, HasHelped, IsTaken};
+ghost use Rattle.volume_owner.specs.Helping.{work_of, most_work, HasHelped, IsTaken};
 
 use crate::error::OwnerError;
 use crate::replies::{job_of, seal_of};
@@ -29,11 +29,10 @@ pub(crate) fn help<D: Disk, R: Receipt, S: Store<Receipt = R>>(
     ensures help { IsCall R.state 2 [] (is_eio result) volume.old volume.new (S.state store.old)
         (S.state store.new) }
     ensures less { IfOk result (λ has_helped. HasHelped has_helped volume.old.volume volume.new.volume) }
+    ensures work { work_of volume.old.volume ≤ most_work }
     ensures error { IsErrOf result OwnerError.Range → ⊥ }
     ensures idle { IsIdle volume.new.volume }
 {
-    volume.is_volume();
-    volume.is_ordered();
     match job_of(volume.step(Event::TakeJob)) {
         Some(job) => {
             put(alloc, volume, store, job)?;
@@ -58,7 +57,6 @@ fn put<D: Disk, R: Receipt, S: Store<Receipt = R>>(
     ensures error { IsErrOf result OwnerError.Range → ⊥ }
     ensures idle { IsIdle volume.new.volume }
 {
-    volume.is_volume();
     match store.put(alloc, job.name(), job.object()) {
         Ok(receipt) => {
             drop(volume.step(Event::JobDone { job, receipt }));
@@ -84,6 +82,5 @@ fn seal<D: Disk, R: Receipt>(volume: &mut Volume<D, R>) -> Result<bool, OwnerErr
     ensures faults { volume.new.volume.log.commits.disk.faults ≡ volume.old.volume.log.commits.disk.faults }
     ensures idle { IsIdle volume.new.volume }
 {
-    volume.is_volume();
     seal_of(volume.step(Event::Seal))
 }

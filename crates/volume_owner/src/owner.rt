@@ -169,7 +169,6 @@ impl<D: Disk, R: Receipt> Owner<D, R> {
         ensures same { result ≡ self.now.volume.objects.batch.geometry }
         ensures limits { IsTrue (is_within_limits result) }
     {
-        self.volume.is_volume();
         self.volume.geometry()
     }
 

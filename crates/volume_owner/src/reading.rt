@@ -37,7 +37,6 @@ pub(crate) fn read<D: Disk, R: Receipt, S: Store<Receipt = R>>(
         lba (length buf.old / 512) ≡ false) }
     ensures idle { IsIdle volume.new.volume }
 {
-    volume.is_volume();
     let sectors = buf.len() as u64 / SECTOR_BYTES;
     if !volume.geometry().may_transfer(lba, sectors) {
         return Err(OwnerError::Range);
@@ -64,7 +63,6 @@ pub(crate) fn flush<D: Disk, R: Receipt>(volume: &mut Volume<D, R>) -> Result<u6
         volume.new.volume.log.commits.disk.faults }
     ensures idle { IsIdle volume.new.volume }
 {
-    volume.is_volume();
     match count_of(volume.step(Event::Flush)) {
         Some(count) => Ok(count),
         None => Err(Failed),

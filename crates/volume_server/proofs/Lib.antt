@@ -1,1 +1,1 @@
-mod ClientLemmas
+pub mod ClientLemmas

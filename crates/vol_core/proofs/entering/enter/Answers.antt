@@ -5,6 +5,6 @@ returns-in-Ok g c = record {
   at = c.in-Ok.at;
   ready = c.append_record.new.objects;
   comes = c.in-Ok.ensures.ok;
-  added = c.add.ensures;
+  added = c.add.ensures.added;
   count_is = rw c.batch.ensures at c.next_seq.ensures;
 }

@@ -89,7 +89,8 @@ loop-index-preserved g c =
     (up_to g before)
     c.in_ok-reserve.ensures.same c.position.result c.in-Some.index c.next.new.self.count c.row.result c.add.new.self
     c.next.new.self.iter.rest.items
-    c.position.ensures c.in-Some.ensures.steps.1 c.row.ensures.row c.in-Some.ensures.steps.2 c.ordered.ensures c.add.ensures refl
+    c.position.ensures c.in-Some.ensures.steps.1 c.row.ensures.row c.in-Some.ensures.steps.2 c.add.ensures.order
+    c.add.ensures.added refl
 
 pub returns-clause-added : goal.returns-clause-added
 returns-clause-added g c =

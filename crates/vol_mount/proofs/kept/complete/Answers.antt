@@ -276,7 +276,7 @@ returns-clause-ok g c =
       made =
           made_again geometry end opened.0 c.args.log.now trimmed c.requires.limits opened.1 (trims g before) read new done
           c.in_default-commit.ensures.ok.commits.made;
-      numbered = c.on_disk.ensures.numbered;
+      numbered = c.commit.ensures.on_disk.numbered;
       synced = c.in_default-commit.ensures.ok.commits.synced;
-      is_disk = c.on_disk.ensures.commits.is_disk;
+      is_disk = c.commit.ensures.on_disk.commits.is_disk;
     }

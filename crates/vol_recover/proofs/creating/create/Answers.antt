@@ -1,5 +1,7 @@
 use Rattle.std.proofs.Common.{inl, inr}
 use Rattle.lsvd_objstore.specs.Store.{Becomes}
+use Rattle.refine_store.proofs.LeftLemmas.{left_has_objects}
+use Rattle.super_recovery.proofs.LawLemmas.{volume_is_created}
 use Rattle.object_recovery.proofs.RemovalLemmas.{becomes_so}
 use Rattle.vol_recover.specs.Creating.{PutsNoSuper, PutsSome, PutsVolume}
 use Rattle.vol_recover.proofs.CreateLemmas.{some_put, all_put, becomes_may_put}
@@ -14,8 +16,8 @@ pub returns-in-Err-clause-moments : goal.returns-in-Err-clause-moments
 returns-in-Err-clause-moments g c =
     let old = (g.S.Store.state c.args.store.now).objects in
     let new = (g.S.Store.state c.prepare.new.store).objects in
-    stands_none_or_new c.args.uuid c.args.geometry old new c.requires.limits c.a_volume_is_created.ensures
-    c.a_stopped_store_has_the_objects.ensures
+    stands_none_or_new c.args.uuid c.args.geometry old new c.requires.limits volume_is_created
+    left_has_objects
     (becomes_so (PutsNoSuper c.args.uuid c.args.geometry) (PutsSome c.args.uuid c.args.geometry) old new (λ a b so. inl so)
     c.in-Err.ensures.no_super)
 
@@ -35,14 +37,14 @@ pub returns-in-Ok-complete-clause-stands : goal.returns-in-Ok-complete-clause-st
 returns-in-Ok-complete-clause-stands g c =
     stands_new c.args.uuid c.args.geometry (g.S.Store.state c.args.store.now).objects
     (g.S.Store.state c.complete.new.store).objects
-    c.requires.limits c.a_volume_is_created.ensures c.a_stopped_store_has_the_objects.ensures (made g c)
+    c.requires.limits volume_is_created left_has_objects (made g c)
 
 pub returns-in-Ok-complete-clause-moments : goal.returns-in-Ok-complete-clause-moments
 returns-in-Ok-complete-clause-moments g c =
     let old = (g.S.Store.state c.args.store.now).objects in
     let new = (g.S.Store.state c.complete.new.store).objects in
-    stands_none_or_new c.args.uuid c.args.geometry old new c.requires.limits c.a_volume_is_created.ensures
-    c.a_stopped_store_has_the_objects.ensures
+    stands_none_or_new c.args.uuid c.args.geometry old new c.requires.limits volume_is_created
+    left_has_objects
     (becomes_so (PutsVolume c.args.uuid c.args.geometry) (PutsSome c.args.uuid c.args.geometry) old new (λ a b so. inr so)
     (made g c))
 
@@ -59,7 +61,7 @@ pub returns-in-Err-complete-clause-moments : goal.returns-in-Err-complete-clause
 returns-in-Err-complete-clause-moments g c =
     stands_none_or_new c.args.uuid c.args.geometry (g.S.Store.state c.args.store.now).objects
     (g.S.Store.state c.complete.new.store).objects
-    c.requires.limits c.a_volume_is_created.ensures c.a_stopped_store_has_the_objects.ensures (some g c)
+    c.requires.limits volume_is_created left_has_objects (some g c)
 
 pub returns-in-Err-complete-clause-err : goal.returns-in-Err-complete-clause-err
 returns-in-Err-complete-clause-err g c =

@@ -1,6 +1,7 @@
 use Rattle.std.proofs.Common.{◌≡◌, ◌∙◌, None, length, ap, subst, rules}
 use Rattle.object_format.specs.declared.rows.Rows.TheVariants.{Checkpoint}
 use Rattle.object_format.specs.Writing.{object_header_of, front_bytes}
+use Rattle.object_format.proofs.LawLemmas.{writes_objects}
 use Rattle.vol_recover.specs.Creating.{IsFirstObject}
 use Rattle.vol_recover.proofs.CreateLemmas.{first_object_is}
 use Rattle.vol_recover.proofs.Results.{ok_if}
@@ -18,5 +19,5 @@ returns c =
       end_before = None;
     }) 0 0 Checkpoint) Checkpoint) c.into_bytes.ensures in
     ok_if (IsFirstObject c.args.uuid c.args.geometry.now) c.finish.result c.in_ok-new.field-0.bytes c.finish.ensures
-    (first_object_is c.args.uuid c.args.geometry.now c.in_ok-new.field-0.bytes c.what_is_written_is_an_object.ensures uuid
+    (first_object_is c.args.uuid c.args.geometry.now c.in_ok-new.field-0.bytes writes_objects uuid
     (c.in_ok-new.ensures.bytes ∙ front))

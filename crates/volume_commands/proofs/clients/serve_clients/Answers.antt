@@ -2,8 +2,10 @@ use Rattle.std.proofs.Common.{◌∙◌, ◌≤◌, ℕ, refl, subst, sym}
 use Rattle.std.specs.Prelude.{IfOk, IsErrOf, Result}
 use Rattle.lsvd_fault.specs.Faults.{CountsOne}
 use Rattle.nbd_session.specs.History.{most_steps}
+use Rattle.nbd_session.proofs.HistoryLemmas.{session_grows}
 use Rattle.vol_mount.specs.Mounted.{MountedState}
 use Rattle.volume_owner.specs.Acts.{moment_of}
+use Rattle.volume_server.proofs.ClientLemmas.{clients_grow}
 use Rattle.volume_commands.specs.declared.error.CommandError.{CommandError}
 use Rattle.volume_commands.specs.declared.error.CommandError.TheVariants as errors
 use Rattle.volume_commands.specs.Mounting.{Drains}
@@ -14,7 +16,8 @@ use Rattle.volume_commands.proofs.clients.serve_clients.Goals as goal
 -- the clients leave room for a drain
 pub drain-volume-requires-clause-steps : goal.drain-volume-requires-clause-steps
 drain-volume-requires-clause-steps g c =
-    (c.clients_add_to_one_history.ensures _ _ _ _ _ c.serve_volume-closing.ensures.clients).1
+    let state = g.S.Receipt.Receipt.state in
+    (clients_grow state _ (session_grows state) _ _ _ _ _ c.serve_volume-closing.ensures.clients).1
     (subst (λ (m : MountedState). m.volume.steps ≤ most_steps) (sym c.mounted.view_is) c.requires.steps)
 
 -- ---- what was told

@@ -20,8 +20,7 @@ help-requires-clause-steps g c =
     let now : SteppedVolume = c.loop.volume in
     let first : StoreState = g.S.Store.state c.args.store.now in
     let second : StoreState = g.S.Store.state c.loop.store in
-    let few = helped_few g.R.Receipt.state old now first second c.loop.invariant c.requires.steps c.is_volume.ensures
-    c.is_ordered.ensures.uploads in
+    let few = helped_few g.R.Receipt.state old now first second c.loop.invariant c.requires.steps in
     omega (arith, few)
 
 pub returns-in_err-help-clause-call : goal.returns-in_err-help-clause-call
@@ -36,8 +35,7 @@ returns-in_err-help-clause-call g c =
     let failed = is_eio {T = Bool} (Err error) in
     call_ends_none g.R.Receipt.state most_of_call c.from_residual.result error old new first third c.from_residual.ensures.1
     (subst (λ b. IsCall g.R.Receipt.state most_of_call [] b old new first third) (same_eio Bool ℕ error)
-    (helped_ends g.R.Receipt.state old now first second c.loop.invariant [] failed new third c.is_volume.ensures
-    c.is_ordered.ensures.uploads
+    (helped_ends g.R.Receipt.state old now first second c.loop.invariant [] failed new third c.in_err-help.ensures.work
     (one_help g.R.Receipt.state failed now new second third c.in_err-help.ensures.help)))
 
 pub loop-preserved : goal.loop-preserved
@@ -49,7 +47,7 @@ loop-preserved g c =
     let second : StoreState = g.S.Store.state c.loop.store in
     let third : StoreState = g.S.Store.state c.help.new.store in
     let less = subst (λ b. HasHelped b now.volume new.volume) c.if-branch.true c.in_ok-help.ensures.less in
-    helped_more g.R.Receipt.state old now first second c.loop.invariant new third
+    helped_more g.R.Receipt.state old now first second c.loop.invariant new third c.in_ok-help.ensures.work
     (one_help g.R.Receipt.state false now new second third c.in_ok-help.ensures.help)
     less c.in_ok-help.ensures.idle
 
@@ -59,8 +57,7 @@ flush-requires-clause-steps g c =
     let now : SteppedVolume = c.loop.volume in
     let first : StoreState = g.S.Store.state c.args.store.now in
     let second : StoreState = g.S.Store.state c.loop.store in
-    let few = helped_few g.R.Receipt.state old now first second c.loop.invariant c.requires.steps c.is_volume.ensures
-    c.is_ordered.ensures.uploads in
+    let few = helped_few g.R.Receipt.state old now first second c.loop.invariant c.requires.steps in
     let two = c.in_ok-help.ensures.help.steps.steps in
     omega (arith, few, two)
 
@@ -75,8 +72,7 @@ returns-in_err-flush-clause-call g c =
     let third : StoreState = g.S.Store.state c.help.new.store in
     call_ends_none g.R.Receipt.state most_of_call c.from_residual-in_err-flush.result errors.Eio old new first third
     c.from_residual-in_err-flush.ensures.1
-    (helped_ends g.R.Receipt.state old now first second c.loop.invariant [] true new third c.is_volume.ensures
-    c.is_ordered.ensures.uploads
+    (helped_ends g.R.Receipt.state old now first second c.loop.invariant [] true new third c.in_ok-help.ensures.work
     (help_and_flush g.R.Receipt.state true now mid new second third c.in_ok-help.ensures.help c.in_err-flush.ensures.step
     c.in_err-flush.ensures.steps
     c.in_err-flush.ensures.faults))
@@ -90,8 +86,7 @@ returns-clause-call g c =
     let first : StoreState = g.S.Store.state c.args.store.now in
     let second : StoreState = g.S.Store.state c.loop.store in
     let third : StoreState = g.S.Store.state c.help.new.store in
-    helped_ends g.R.Receipt.state old now first second c.loop.invariant [] false new third c.is_volume.ensures
-    c.is_ordered.ensures.uploads
+    helped_ends g.R.Receipt.state old now first second c.loop.invariant [] false new third c.in_ok-help.ensures.work
     (help_and_flush g.R.Receipt.state false now mid new second third c.in_ok-help.ensures.help c.in_ok-flush.ensures.step
     c.in_ok-flush.ensures.steps
     c.in_ok-flush.ensures.faults)

@@ -1,4 +1,4 @@
-use Rattle.std.proofs.Common.{arith, ℕ, ◌<◌, Bool, true, false, [], ◌∷◌, ◌∙◌, subst, Err}
+use Rattle.std.proofs.Common.{arith, ℕ, ◌<◌, Bool, true, false, [], ◌∷◌, ◌∙◌, refl, subst, Err}
 use Rattle.lsvd_base.specs.declared.entry.Entry.{Entry}
 use Rattle.lsvd_objstore.specs.Store.{StoreState}
 use Rattle.vol_core.specs.Volume.{SteppedVolume}
@@ -8,8 +8,13 @@ use Rattle.volume_owner.specs.Errors.{is_eio}
 use Rattle.volume_owner.specs.Helping.{work_of}
 use Rattle.volume_owner.specs.declared.error.OwnerError.{OwnerError}
 use Rattle.volume_owner.proofs.CallLemmas.{call_ends, same_eio}
-use Rattle.volume_owner.proofs.LoopLemmas.{helped_some, helped_few, helped_ends, helped_more, one_attempt, attempt_and_help}
+use Rattle.volume_owner.proofs.LoopLemmas.{helped_first, helped_some, helped_few, helped_ends, helped_more}
+use Rattle.volume_owner.proofs.LoopLemmas.{one_attempt, attempt_and_help}
 use Rattle.volume_owner.proofs.entering.enter.Goals as goal
+
+pub loop-count-init : goal.loop-count-init
+loop-count-init g c =
+    (refl, helped_first g.R.Receipt.state c.args.volume.now (g.S.Store.state c.args.store.now) c.requires.idle)
 
 pub try_entry-requires-clause-steps : goal.try_entry-requires-clause-steps
 try_entry-requires-clause-steps g c =
@@ -17,8 +22,7 @@ try_entry-requires-clause-steps g c =
     let now : SteppedVolume = c.loop-count.volume in
     let first : StoreState = g.S.Store.state c.args.store.now in
     let second : StoreState = g.S.Store.state c.loop-count.store in
-    let few = helped_few g.R.Receipt.state old now first second c.loop-count.invariant.1 c.requires.steps c.is_volume.ensures
-    c.is_ordered.ensures.uploads in
+    let few = helped_few g.R.Receipt.state old now first second c.loop-count.invariant.1 c.requires.steps in
     omega (arith, few)
 
 pub help-requires-clause-steps : goal.help-requires-clause-steps
@@ -27,8 +31,7 @@ help-requires-clause-steps g c =
     let now : SteppedVolume = c.loop-count.volume in
     let first : StoreState = g.S.Store.state c.args.store.now in
     let second : StoreState = g.S.Store.state c.loop-count.store in
-    let few = helped_few g.R.Receipt.state old now first second c.loop-count.invariant.1 c.requires.steps c.is_volume.ensures
-    c.is_ordered.ensures.uploads in
+    let few = helped_few g.R.Receipt.state old now first second c.loop-count.invariant.1 c.requires.steps in
     let one = c.in-Again.ensures.steps.steps in
     omega (arith, few, one)
 
@@ -41,8 +44,8 @@ returns-in-Entered-clause-call g c =
     let first : StoreState = g.S.Store.state c.args.store.now in
     let second : StoreState = g.S.Store.state c.loop-count.store in
     subst (λ e. IsCall g.R.Receipt.state most_of_call (e ∷ []) false old new first second) c.loop-count.invariant.0
-    (helped_ends g.R.Receipt.state old now first second c.loop-count.invariant.1 (left ∷ []) false new second c.is_volume.ensures
-    c.is_ordered.ensures.uploads
+    (helped_ends g.R.Receipt.state old now first second c.loop-count.invariant.1 (left ∷ []) false new second
+    c.in-Entered.ensures.work
     (one_attempt g.R.Receipt.state left (left ∷ []) false now new second c.in-Entered.ensures.step c.in-Entered.ensures.steps
     c.in-Entered.ensures.faults))
 
@@ -53,8 +56,7 @@ returns-in-Failed-clause-call g c =
     let new : SteppedVolume = c.try_entry.new.volume in
     let first : StoreState = g.S.Store.state c.args.store.now in
     let second : StoreState = g.S.Store.state c.loop-count.store in
-    helped_ends g.R.Receipt.state old now first second c.loop-count.invariant.1 [] true new second c.is_volume.ensures
-    c.is_ordered.ensures.uploads
+    helped_ends g.R.Receipt.state old now first second c.loop-count.invariant.1 [] true new second c.in-Failed.ensures.work
     (one_attempt g.R.Receipt.state c.loop-count.left [] true now new second c.in-Failed.ensures.step c.in-Failed.ensures.steps
     c.in-Failed.ensures.faults)
 
@@ -65,8 +67,7 @@ returns-in-OutOfMemory-clause-call g c =
     let new : SteppedVolume = c.try_entry.new.volume in
     let first : StoreState = g.S.Store.state c.args.store.now in
     let second : StoreState = g.S.Store.state c.loop-count.store in
-    helped_ends g.R.Receipt.state old now first second c.loop-count.invariant.1 [] false new second c.is_volume.ensures
-    c.is_ordered.ensures.uploads
+    helped_ends g.R.Receipt.state old now first second c.loop-count.invariant.1 [] false new second c.in-OutOfMemory.ensures.work
     (one_attempt g.R.Receipt.state c.loop-count.left [] false now new second c.in-OutOfMemory.ensures.step
     c.in-OutOfMemory.ensures.steps
     c.in-OutOfMemory.ensures.faults)
@@ -84,7 +85,7 @@ loop-count-preserved g c =
     let lower = helped_some c.in_ok-help.field-0 mid.volume new.volume back.1 c.in_ok-help.ensures.less in
     let less : work_of new.volume < work_of now.volume = subst (λ n. work_of new.volume < n) back.2 lower in (
       back.0 ∙ c.loop-count.invariant.0,
-      helped_more g.R.Receipt.state old now first second c.loop-count.invariant.1 new third
+      helped_more g.R.Receipt.state old now first second c.loop-count.invariant.1 new third c.in-Again.ensures.work
           (attempt_and_help g.R.Receipt.state c.loop-count.left false now mid new second third c.in-Again.ensures.step
           c.in-Again.ensures.steps c.in-Again.ensures.faults c.in_ok-help.ensures.help)
           less c.in_ok-help.ensures.idle,
@@ -103,8 +104,7 @@ returns-in_err-help-clause-call g c =
     let error : OwnerError = c.in_err-help.field-0.0 in
     let failed = is_eio {T = Bool} (Err error) in
     let fails = helped_ends g.R.Receipt.state old now first second c.loop-count.invariant.1 [] failed new third
-    c.is_volume.ensures
-    c.is_ordered.ensures.uploads
+    c.in-Again.ensures.work
     (attempt_and_help g.R.Receipt.state c.loop-count.left failed now mid new second third c.in-Again.ensures.step
     c.in-Again.ensures.steps c.in-Again.ensures.faults c.in_err-help.ensures.help) in
     call_ends g.R.Receipt.state entry most_of_call c.from_residual.result error old new first third c.from_residual.ensures.1

@@ -6,6 +6,7 @@ use Rattle.volume_owner.specs.Acts.{MakesStep}
 use Rattle.volume_owner.specs.Calls.{MakesSteps}
 use Rattle.volume_owner.specs.Helping.{entered_by, attempt_failed, MayTryAgain}
 use Rattle.volume_owner.proofs.ActLemmas.{attempt_step}
+use Rattle.volume_owner.proofs.BoundLemmas.{work_bound}
 use Rattle.volume_owner.proofs.EnterLemmas.{attempt_makes, attempt_counts, attempt_hands, attempt_fault, entering_idle}
 use Rattle.volume_owner.proofs.entering.try_entry.Given as given
 use Rattle.volume_owner.proofs.entering.try_entry.Goals as goal
@@ -25,8 +26,8 @@ returns g c =
     let old = c.args.volume.now in
     let new = c.step.new.self in
     let of = steps g c in
-    let plain = c.is_volume.ensures.plain in
-    let shows = c.is_volume.ensures.shows in
+    let plain = c.step.ensures.was.plain in
+    let shows = c.step.ensures.was.shows in
     let is = c.attempt_of.ensures in
     let back = subst (λ e. HandsBack e reply) c.event_for.ensures c.step.ensures.step.back in
     record {
@@ -36,6 +37,7 @@ returns g c =
       count = λ count told. attempt_counts state entry reply old new of plain shows count (sym is ∙ told);
       back = subst (λ a. MayTryAgain entry a old.volume new.volume) (sym is)
           (attempt_hands state entry reply old new of plain shows c.requires.range back);
+      work = work_bound old.volume plain shows c.step.ensures.order.uploads;
       faults = subst (λ b. Counts b old.volume.log.commits.disk.faults new.volume.log.commits.disk.faults)
           (sym (ap attempt_failed is ∙ attempt_fault reply)) of.step.faults;
       idle = entering_idle state entry reply old new of plain shows c.requires.idle;

@@ -14,8 +14,8 @@ returns g c =
     let reply = c.step.result in
     let old : SteppedVolume = c.args.volume.now in
     let new : SteppedVolume = c.step.new.self in
-    let plain = c.is_volume.ensures.plain in
-    let shows = c.is_volume.ensures.shows in
+    let plain = c.step.ensures.was.plain in
+    let shows = c.step.ensures.was.shows in
     let of = c.step.ensures in
     let left = sealed_leaves state reply old new of plain shows c.requires.idle c.requires.none in
     record {

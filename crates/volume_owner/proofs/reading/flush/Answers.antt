@@ -10,8 +10,8 @@ returns-in-Some g c =
     let reply = c.step.result in
     let old : SteppedVolume = c.args.volume.now in
     let new : SteppedVolume = c.step.new.self in
-    let plain = c.is_volume.ensures.plain in
-    let shows = c.is_volume.ensures.shows in
+    let plain = c.step.ensures.was.plain in
+    let shows = c.step.ensures.was.shows in
     let of = c.step.ensures in
     let is = flushed_is state reply old new of plain shows c.in-Some.count
     (flushed_reply reply c.in-Some.count (sym c.count_of.ensures ∙ c.in-Some.is)) in
@@ -31,8 +31,8 @@ returns-in-None g c =
     let reply = c.step.result in
     let old : SteppedVolume = c.args.volume.now in
     let new : SteppedVolume = c.step.new.self in
-    let plain = c.is_volume.ensures.plain in
-    let shows = c.is_volume.ensures.shows in
+    let plain = c.step.ensures.was.plain in
+    let shows = c.step.ensures.was.shows in
     let of = c.step.ensures in
     let fault = not_flushed state reply old new of plain shows (sym c.count_of.ensures ∙ c.in-None.is) in
     record {

@@ -15,10 +15,10 @@ use Rattle.lsvd_device.specs.Device.{DiskState}
 use Rattle.cache_log.specs.declared.row.Row.{Row}
 use Rattle.cache_log.specs.Rows.{since}
 use Rattle.cache_log.specs.Log.{LogState, next_seq}
-use Rattle.cache_log.specs.Committed.{body_of, sectors_from}
+use Rattle.cache_log.specs.Committed.{body_of, sectors_from, IsOnDisk}
 use Rattle.cache_log.specs.Invariant.{IsLog}
 use Rattle.cache_log.proofs.CommitLemmas.{body_with, body_is, all_may, HasTried, left_by, released, IsDropped, dropped_after}
-use Rattle.cache_log.proofs.CommitLemmas.{log_after, release_log, IsCommitTried, commit_tried}
+use Rattle.cache_log.proofs.CommitLemmas.{log_after, release_log, IsCommitTried, commit_tried, is_on_disk}
 use Rattle.cache_log.proofs.CommittedLemmas.{view_of}
 use Rattle.cache_log.proofs.log.CacheLog.commit.Given as given
 use Rattle.cache_log.proofs.log.CacheLog.commit.Goals.{After-drop_below}
@@ -81,21 +81,39 @@ room_is g c log used room log_is used_is is =
     ∙ ap (λ r. room_of place.log place.head (sectors_from place.log c.commit-committed.new.self.body.tail.position place.head r))
     (dropped g c).whole
 
-pub invariant_of-self : goal.invariant_of-self
-invariant_of-self g c =
-    let before = (goal.at.invariant_of-self g c).After-drop_below in
+-- the log at the end
+log_left : (g : given.Over) (c : After-drop_below g) (log used : ℕ) (room : Room)
+    → log ≡ c.self.inside.room.log
+    → used ≡ sectors_from log c.body-last.result.tail.position c.head-head.result c.drop_below.new.rows.items
+    → room ≡ room_of log c.head-head.result used
+    → IsLog room c.self.inside.tail (take (c.self.inside.dropped - c.drop_below.result) c.drop_below.new.rows.items)
+    (drop (c.self.inside.dropped - c.drop_below.result) c.drop_below.new.rows.items) c.commit-committed.new.self
+log_left g c log used room log_is used_is room_of_is =
     let new : CommitsState = c.commit-committed.new.self in
     let mark : Mark = c.self.inside.tail in
-    let is = dropped g before in
-    let log = release_log _ _ _ _ _ (log_after _ _ _ _ _ _ c.self.invariant.1.is (left g before)).log in
+    let is = dropped g c in
+    let kept = release_log _ _ _ _ _ (log_after _ _ _ _ _ _ c.self.invariant.1.is (left g c)).log in
     let P : Room → List Row → List Row → Type 0 = λ p h r. IsLog p mark h r new in
     let held : List Row = since new.body.tail.seq (take c.self.inside.dropped c.self.inside.rows.items) in
     let rows : List Row = drop c.self.inside.dropped c.self.inside.rows.items in
-    let room = room_is g before _ _ _ c.sectors-log.ensures c.sectors_from-used.ensures.sectors c.at-self-inside.ensures in (
-      is.within,
-      subst₂ (λ h r. P c.at-self-inside.result h r) (sym is.held) (sym is.rows)
-          (subst (λ p. P p held rows) (sym room) log),
+    subst₂ (λ h r. P room h r) (sym is.held) (sym is.rows)
+    (subst (λ p. P p held rows) (sym (room_is g c log used room log_is used_is room_of_is)) kept)
+
+pub invariant_of-self : goal.invariant_of-self
+invariant_of-self g c =
+    let before = (goal.at.invariant_of-self g c).After-drop_below in (
+      (dropped g before).within,
+      log_left g before _ _ _ c.sectors-log.ensures c.sectors_from-used.ensures.sectors c.at-self-inside.ensures,
     )
+
+pub returns-clause-was_on_disk : goal.returns-clause-was_on_disk
+returns-clause-was_on_disk g c = subst IsOnDisk c.self.view_is (is_on_disk _ _ _ _ _ _ c.self.invariant.1)
+
+pub returns-clause-on_disk : goal.returns-clause-on_disk
+returns-clause-on_disk g c =
+    is_on_disk _ _ _ _ _ _
+    (log_left g (goal.at.returns-clause-on_disk g c).After-drop_below _ _ _ c.sectors-log.ensures
+    c.sectors_from-used.ensures.sectors c.at-self-inside.ensures)
 
 promised : (g : given.Over) (c : After-drop_below g) (log used after : ℕ) (room : Room)
     → log ≡ c.self.inside.room.log

@@ -60,7 +60,7 @@ invariant_of-self-2 c =
       plain_after events.TakeJob known.0,
       ((begun_some old c.step.new.self c.in-Taken.job c.name.result.now.number c.begin.new.self.list
           (ap (λ (n : ObjName). n.number) c.name.ensures.is) same
-          c.is_ordered.ensures.uploads of).by known.0 known.1).1,
+          of.order.uploads of).by known.0 known.1).1,
     )
 
 pub returns-clause-ok : goal.returns-clause-ok
@@ -74,7 +74,7 @@ returns-clause-ok c =
     subst (λ r. AnswersEvent events.TakeJob (answers.Put c.name.result.now.number) r now) c.self.view_is
     (begun_some old c.step.new.self c.in-Taken.job c.name.result.now.number c.begin.new.self.list
     (ap (λ (n : ObjName). n.number) c.name.ensures.is) same
-    c.is_ordered.ensures.uploads of)
+    of.order.uploads of)
 
 pub returns-clause-lines : goal.returns-clause-lines
 returns-clause-lines c = (let same = ap (λ (r : RigState). r.lines) c.self.view_is in omega (arith, same))

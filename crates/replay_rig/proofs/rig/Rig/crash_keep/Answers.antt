@@ -19,8 +19,8 @@ inside c = rig_of c.self.inside.volume c.self.inside.store c.self.inside.puts.li
 was : (c : In_ok-land) → WasStopped (inside c) c.args.fates.now c.args.letters.now c.land.new.store c.in_ok-disk.disk
 was c =
     was_stopped (inside c) c.args.self c.args.fates.now c.args.letters.now c.as_slice.result.now c.land.new.store
-    c.self.inside.volume.volume.log.commits.disk c.in_ok-disk.disk c.self.view_is c.is_ordered.ensures.on_disk c.requires.lines
-    c.requires.fates refl c.in_ok-disk.ensures.left c.as_slice.ensures c.in_ok-land.ensures
+    c.self.inside.volume.volume.log.commits.disk c.in_ok-disk.disk c.self.view_is c.is_volume.ensures.order.on_disk
+    c.requires.lines c.requires.fates refl c.in_ok-disk.ensures.left c.as_slice.ensures c.in_ok-land.ensures
 
 pub mount_again-requires-clause-may : goal.mount_again-requires-clause-may
 mount_again-requires-clause-may c =

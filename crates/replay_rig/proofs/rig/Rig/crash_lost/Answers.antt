@@ -24,7 +24,8 @@ mount_anew-requires-clause-may c =
     let known = c.self.invariant in
     let rig : RigState = inside before in (
       known.0.geometry,
-      log_anew rig known.0 c.geometry-log.result (log_of c.in_ok-disk.disk.size) known.1 c.geometry-log.ensures (sectors before),
+      log_anew rig known.0 c.geometry-log.result
+          (log_of c.in_ok-disk.disk.size) known.1 c.geometry-log.ensures.is (sectors before),
       may_mount_anew rig known.0 c.args.letters.now c.land.new.store known.1 (was before),
     )
 
@@ -37,7 +38,8 @@ go_on-requires-clause-shows c =
       _,
       (rig_anew rig known.0 c.args.letters.now c.land.new.store c.mount_anew.new.store c.in_ok-mounted.mounted
           (log_of c.in_ok-disk.disk.size) known.1
-          (was before) (log_anew rig known.0 c.geometry-log.result (log_of c.in_ok-disk.disk.size) known.1 c.geometry-log.ensures
+          (was before)
+              (log_anew rig known.0 c.geometry-log.result (log_of c.in_ok-disk.disk.size) known.1 c.geometry-log.ensures.is
           (sectors before)) e.ok
           e.mounts e.number).1,
     )
@@ -54,7 +56,7 @@ returns-clause-ok c = record {
       c.go_on.ensures.answer
       (rig_anew rig plain c.args.letters.now c.land.new.store c.mount_anew.new.store c.in_ok-mounted.mounted
       (log_of c.in_ok-disk.disk.size) shown
-      (was before) (log_anew rig plain c.geometry-log.result (log_of c.in_ok-disk.disk.size) shown c.geometry-log.ensures
+      (was before) (log_anew rig plain c.geometry-log.result (log_of c.in_ok-disk.disk.size) shown c.geometry-log.ensures.is
       (sectors before)) e.ok e.mounts
       e.number);
 }

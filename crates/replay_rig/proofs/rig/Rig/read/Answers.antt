@@ -75,7 +75,7 @@ returns-clause-ok c =
     let now : RigState = rig_of c.step-2.new.self inside.store inside.puts.list inside.is_stopping (inside.lines + 1) in
     let shown : AnswersRead c.args.lba c.args.sectors (answers.Sectors held) old now =
     read_planned c.args.lba c.args.sectors old c.step.new.self c.step-2.new.self c.in-Planned.plan c.step-2.result held
-    c.is_ordered.ensures.on_disk c.in-Planned.ensures c.step-2.ensures c.in_ok-bytes.ensures.gives in
+    c.in-Planned.ensures.order.on_disk c.in-Planned.ensures c.step-2.ensures c.in_ok-bytes.ensures.gives in
     subst (λ objects. AnswersRead c.args.lba c.args.sectors (answers.Sectors held) c.args.self.now
     (rig_of c.step-2.new.self objects inside.puts.list inside.is_stopping (inside.lines + 1)))
     (sym c.fetched-outcome.ensures.store)

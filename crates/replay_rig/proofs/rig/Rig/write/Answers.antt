@@ -15,7 +15,7 @@ returns-then-not-may_transfer-clause-ok c =
     let now : RigState = rig_of inside.volume inside.store inside.puts.list inside.is_stopping (inside.lines + 1) in
     subst (λ r. AnswersEvent (events.Write c.args.lba (replicate (512 * c.args.sectors) c.args.byte)) answers.Range r now)
     c.self.view_is
-    (write_range old c.args.lba c.args.sectors c.args.byte c.geometry.result c.geometry.ensures
+    (write_range old c.args.lba c.args.sectors c.args.byte c.geometry.result c.geometry.ensures.is
     (sym c.if-not-may_transfer.ensures))
 
 pub returns-clause-ok : goal.returns-clause-ok

@@ -1,6 +1,6 @@
 use Rattle.std.proofs.Common.{rules, subst, sym}
 use Rattle.vol_core.specs.Volume.{VolumeState, volume_of}
-use Rattle.vol_core.specs.Calls.{HasRoomForStep, event_of}
+use Rattle.vol_core.specs.Calls.{IsReadyForStep, event_of}
 use Rattle.vol_core.proofs.StepLemmas.{steps_keep_volume, step_seen}
 use Rattle.vol_core.proofs.EnterSteps.{with_both, may_enter, enter_steps, enter_grow}
 use Rattle.vol_core.proofs.BytesLemmas.{entering_keeps_bytes}
@@ -11,8 +11,9 @@ pub enter-reply-requires : goal.enter-reply-requires
 enter-reply-requires g c =
     let inside = c.self.inside in
     let volume : VolumeState = volume_of inside.objects inside.log inside.pins inside.checkpoint in
-    let ready = subst HasRoomForStep (sym c.self.view_is) c.requires in
-    may_enter volume c.self.invariant.plain inside.steps c.self.invariant.shows c.self.invariant.steps ready c.ordered.ensures
+    let ready = subst IsReadyForStep (sym c.self.view_is) c.requires in
+    may_enter volume c.self.invariant.plain inside.steps c.self.invariant.shows c.self.invariant.steps ready
+    ready.order.uploads
 
 pub invariant_of-self : goal.invariant_of-self
 invariant_of-self g c =
@@ -20,13 +21,13 @@ invariant_of-self g c =
     let volume : VolumeState = volume_of inside.objects inside.log inside.pins inside.checkpoint in
     let objects = c.enter-reply.new.objects in
     let log = c.enter-reply.new.log in
-    let ready = subst HasRoomForStep (sym c.self.view_is) c.requires in
+    let ready = subst IsReadyForStep (sym c.self.view_is) c.requires in
     let reply = c.enter-reply.result in
     let is = c.self.invariant in
     steps_keep_volume g.R.Receipt.state (event_of c.args.entry) reply volume (with_both objects log volume) inside.steps is ready
-    (enter_steps g.R.Receipt.state c.args.entry reply volume objects log c.ordered.ensures c.on_disk.ensures
+    (enter_steps g.R.Receipt.state c.args.entry reply volume objects log ready.order.uploads ready.order.on_disk
     c.enter-reply.ensures)
-    (enter_grow g.R.Receipt.state c.args.entry reply volume objects log is.plain c.ordered.ensures c.on_disk.ensures
+    (enter_grow g.R.Receipt.state c.args.entry reply volume objects log is.plain ready.order.uploads ready.order.on_disk
     c.enter-reply.ensures is.shows)
 
 pub returns-clause-step : goal.returns-clause-step
@@ -36,20 +37,21 @@ returns-clause-step g c =
     let entry = c.args.entry in
     let objects = c.enter-reply.new.objects in
     let log = c.enter-reply.new.log in
+    let ready = subst IsReadyForStep (sym c.self.view_is) c.requires in
     let reply = c.enter-reply.result in
     let is = c.self.invariant in
     step_seen g.R.Receipt.state (event_of entry) reply (with_both objects log volume) _ _ c.self.view_is
     (record {
       step =
-          enter_steps g.R.Receipt.state entry reply volume objects log c.ordered.ensures c.on_disk.ensures
+          enter_steps g.R.Receipt.state entry reply volume objects log ready.order.uploads ready.order.on_disk
           c.enter-reply.ensures;
       back = (entering_hands_back entry reply volume.objects objects volume.log log c.enter-reply.ensures).0;
       plan = (entering_hands_back entry reply volume.objects objects volume.log log c.enter-reply.ensures).1;
       sizes = search rules;
       numbers =
-          enter_grow g.R.Receipt.state entry reply volume objects log is.plain c.ordered.ensures c.on_disk.ensures
+          enter_grow g.R.Receipt.state entry reply volume objects log is.plain ready.order.uploads ready.order.on_disk
           c.enter-reply.ensures is.shows;
-      stops = entering_keeps_stops entry volume c.ordered.ensures c.on_disk.ensures reply objects log c.on_disk-2.ensures
+      stops = entering_keeps_stops entry volume ready.order.uploads ready.order.on_disk reply objects log c.on_disk.ensures
           c.enter-reply.ensures;
       faults = search rules;
       bytes = entering_keeps_bytes entry volume objects log reply c.enter-reply.ensures;

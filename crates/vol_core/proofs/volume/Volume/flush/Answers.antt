@@ -1,7 +1,7 @@
 use Rattle.std.proofs.Common.{rules, ◌+◌, true, false, length, refl, subst, sym}
 use Rattle.vol_core.specs.declared.event.Event.TheVariants as events
 use Rattle.vol_core.specs.Volume.{VolumeState, volume_of}
-use Rattle.vol_core.specs.Calls.{HasRoomForStep}
+use Rattle.vol_core.specs.Calls.{IsReadyForStep}
 use Rattle.vol_core.proofs.StepLemmas.{step_seen}
 use Rattle.vol_core.proofs.FlushLemmas.{with_log, flush_steps, flush_grow, flush_keeps_volume}
 use Rattle.vol_core.proofs.BytesLemmas.{same_bytes}
@@ -13,9 +13,9 @@ pub invariant_of-self : goal.invariant_of-self
 invariant_of-self g c =
     let inside = c.self.inside in
     let volume : VolumeState = volume_of inside.objects inside.log inside.pins inside.checkpoint in
-    let ready = subst HasRoomForStep (sym c.self.view_is) c.requires in
-    flush_keeps_volume volume c.commit.new.log _ c.end.result inside.steps c.ordered.ensures c.end.ensures c.commit.ensures ready
-    c.self.invariant
+    let ready = subst IsReadyForStep (sym c.self.view_is) c.requires in
+    flush_keeps_volume volume c.commit.new.log _ c.end.result inside.steps ready.order.uploads c.end.ensures c.commit.ensures
+    ready c.self.invariant
 
 pub returns-clause-step : goal.returns-clause-step
 returns-clause-step g c =
@@ -27,23 +27,24 @@ returns-clause-step g c =
     let log = c.commit.new.log in
     let end = c.end.result in
     let reply = c.match-commit.result in
+    let ready = subst IsReadyForStep (sym c.self.view_is) c.requires in
     let is = c.self.invariant in
     step_seen state events.Flush reply (with_log log volume) _ _ c.self.view_is
     (record {
       step = elim c.match-commit.branch [
         | in-Ok w ↦
-            flush_steps state volume log w.batch.result.now true end w.next_seq.result reply c.ordered.ensures c.on_disk.ensures
-            c.end.ensures w.in-Ok.ensures
+            flush_steps state volume log w.batch.result.now true end w.next_seq.result reply ready.order.uploads
+            ready.order.on_disk c.end.ensures w.in-Ok.ensures
             w.batch.ensures w.next_seq.ensures w.result-is
-        | in-Err w ↦ flush_steps state volume log batch false end count reply c.ordered.ensures c.on_disk.ensures c.end.ensures
-            w.in-Err.ensures
+        | in-Err w ↦ flush_steps state volume log batch false end count reply ready.order.uploads ready.order.on_disk
+            c.end.ensures w.in-Err.ensures
             refl refl w.result-is
       ];
       back = tt;
       plan = tt;
       sizes = record { geometry = refl; uuid = refl };
-      numbers = flush_grow volume log _ end is.plain is.shows c.ordered.ensures c.end.ensures c.commit.ensures;
-      stops = flushing_keeps events.Flush refl volume log _ end c.ordered.ensures c.on_disk.ensures
+      numbers = flush_grow volume log _ end is.plain is.shows ready.order.uploads c.end.ensures c.commit.ensures;
+      stops = flushing_keeps events.Flush refl volume log _ end ready.order.uploads ready.order.on_disk
           c.end.ensures c.commit.ensures;
       faults = search rules;
       bytes = same_bytes volume (with_log log volume) refl refl;

@@ -1,6 +1,14 @@
 use Rattle.std.proofs.Common.{subst}
-use Rattle.vol_core.specs.Shows.{IsVolume}
+use Rattle.vol_core.specs.Volume.{VolumeState, SteppedVolume, volume_of}
+use Rattle.vol_core.specs.Shows.{IsVolume, IsSound}
 use Rattle.vol_core.proofs.volume.Volume.is_volume.Goals as goal
 
 pub returns : goal.returns
-returns g c = subst IsVolume c.self.view_is c.self.invariant
+returns g c =
+    let inside = c.self.inside in
+    let volume : VolumeState = volume_of inside.objects inside.log inside.pins inside.checkpoint in
+    let order : IsSound volume = record { on_disk = c.on_disk.ensures; uploads = c.frontier.ensures.order } in
+    record {
+      shown = subst IsVolume c.self.view_is c.self.invariant;
+      order = subst (λ (s : SteppedVolume). IsSound s.volume) c.self.view_is order;
+    }

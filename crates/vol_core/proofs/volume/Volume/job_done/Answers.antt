@@ -1,7 +1,7 @@
 use Rattle.std.proofs.Common.{subst, sym}
 use Rattle.vol_core.specs.declared.event.Event.TheVariants as events
 use Rattle.vol_core.specs.Volume.{VolumeState, volume_of}
-use Rattle.vol_core.specs.Calls.{HasRoomForStep}
+use Rattle.vol_core.specs.Calls.{IsReadyForStep}
 use Rattle.vol_core.proofs.StepLemmas.{with_objects, steps_keep_volume, step_seen}
 use Rattle.vol_core.proofs.StepsOf.{step_of_done}
 use Rattle.vol_core.proofs.volume.Volume.job_done.Goals as goal
@@ -10,11 +10,11 @@ pub invariant_of-self : goal.invariant_of-self
 invariant_of-self g c =
     let inside = c.self.inside in
     let volume : VolumeState = volume_of inside.objects inside.log inside.pins inside.checkpoint in
-    let objects = c.job_done-reply.new.objects in
-    let reply = c.job_done-reply.result in
-    let step = step_of_done g.R.Receipt.state volume objects c.args.job c.args.receipt reply c.ordered.ensures
-    c.ordered-2.ensures c.requires.receipt c.job_done-reply.ensures in
-    let ready = subst HasRoomForStep (sym c.self.view_is) c.requires.ready in
+    let objects = c.job_done.new.objects in
+    let reply = c.job_done.result in
+    let ready = subst IsReadyForStep (sym c.self.view_is) c.requires.ready in
+    let step = step_of_done g.R.Receipt.state volume objects c.args.job c.args.receipt reply ready.order.uploads
+    c.requires.receipt c.job_done.ensures in
     steps_keep_volume g.R.Receipt.state (events.JobDone c.args.job c.args.receipt) reply volume (with_objects objects volume)
     inside.steps c.self.invariant ready step.step step.numbers
 
@@ -22,8 +22,9 @@ pub returns-clause-step : goal.returns-clause-step
 returns-clause-step g c =
     let inside = c.self.inside in
     let volume : VolumeState = volume_of inside.objects inside.log inside.pins inside.checkpoint in
-    let objects = c.job_done-reply.new.objects in
-    let reply = c.job_done-reply.result in
+    let objects = c.job_done.new.objects in
+    let reply = c.job_done.result in
+    let ready = subst IsReadyForStep (sym c.self.view_is) c.requires.ready in
     step_seen g.R.Receipt.state (events.JobDone c.args.job c.args.receipt) reply (with_objects objects volume) _ _ c.self.view_is
-    (step_of_done g.R.Receipt.state volume objects c.args.job c.args.receipt reply c.ordered.ensures c.ordered-2.ensures
-    c.requires.receipt c.job_done-reply.ensures)
+    (step_of_done g.R.Receipt.state volume objects c.args.job c.args.receipt reply ready.order.uploads c.requires.receipt
+    c.job_done.ensures)

@@ -5,7 +5,7 @@ use Rattle.vol_core.specs.declared.reply.Reply.TheVariants as replies
 use Rattle.vol_core.specs.Volume.{VolumeState, SteppedVolume, volume_of}
 use Rattle.vol_core.specs.Shows.{NumbersGrow}
 use Rattle.vol_core.specs.Step.{StepsAsPlain, StepOf, HasItsBytes}
-use Rattle.vol_core.specs.Calls.{HasRoomForStep}
+use Rattle.vol_core.specs.Calls.{IsReadyForStep}
 use Rattle.vol_core.proofs.StepLemmas.{steps_keep_volume, step_seen, numbers_stay}
 use Rattle.vol_core.proofs.LookLemmas.{may_of_own, log_has_read, objects_have_read}
 use Rattle.vol_core.proofs.LookSteps.{with_reads, planned_steps, fault_steps, memory_steps, range_steps, reads_grow}
@@ -27,7 +27,7 @@ returns-then-not-may_transfer-clause-step g c =
     (step_of_pins state (events.Look lba sectors) replies.Range volume volume.pins
     (range_steps state volume lba sectors
     (may_of_own volume inside.steps c.args.self.now c.geometry.result lba sectors c.may_transfer.result false c.self.view_is
-    c.geometry.ensures
+    c.geometry.ensures.is
     c.may_transfer.ensures c.if-not-may_transfer.true)) tt tt refl)
 
 pub look-requires-clause-log : goal.look-requires-clause-log
@@ -36,9 +36,10 @@ look-requires-clause-log g c =
     let volume : VolumeState = volume_of inside.objects inside.log inside.pins inside.checkpoint in
     let lba = c.args.lba in
     let sectors = c.args.sectors in
-    log_has_read volume c.self.invariant.plain c.self.invariant.shows c.ordered.ensures lba sectors
+    let ready = subst IsReadyForStep (sym c.self.view_is) c.requires in
+    log_has_read volume c.self.invariant.plain c.self.invariant.shows ready.order.uploads lba sectors
     (may_of_own volume inside.steps c.args.self.now c.geometry.result lba sectors c.may_transfer.result true c.self.view_is
-    c.geometry.ensures
+    c.geometry.ensures.is
     c.may_transfer.ensures c.if-not-may_transfer.false)
 
 pub look-requires-clause-objects : goal.look-requires-clause-objects
@@ -47,9 +48,10 @@ look-requires-clause-objects g c =
     let volume : VolumeState = volume_of inside.objects inside.log inside.pins inside.checkpoint in
     let lba = c.args.lba in
     let sectors = c.args.sectors in
-    objects_have_read volume c.self.invariant.plain c.self.invariant.shows c.ordered.ensures lba sectors
+    let ready = subst IsReadyForStep (sym c.self.view_is) c.requires in
+    objects_have_read volume c.self.invariant.plain c.self.invariant.shows ready.order.uploads lba sectors
     (may_of_own volume inside.steps c.args.self.now c.geometry.result lba sectors c.may_transfer.result true c.self.view_is
-    c.geometry.ensures
+    c.geometry.ensures.is
     c.may_transfer.ensures c.if-not-may_transfer.false)
 
 steps : (g : given.Over) (c : Joined-look g)
@@ -64,23 +66,24 @@ steps g c =
     let log = c.look.new.log in
     let pins = c.look.new.pins in
     let state = g.R.Receipt.state in
+    let ready = subst IsReadyForStep (sym c.self.view_is) c.requires in
     let may =
     may_of_own volume inside.steps c.args.self.now c.geometry.result lba sectors c.may_transfer.result true c.self.view_is
-    c.geometry.ensures
+    c.geometry.ensures.is
     c.may_transfer.ensures c.if-not-may_transfer.false in
     elim c.match-look.branch [
       | in-Ok w ↦
           let says = w.in-Ok.ensures in
           subst (λ reply. StepsAsPlain state (events.Look lba sectors) reply volume (with_reads log pins volume))
           (sym w.result-is)
-          (planned_steps state volume lba sectors w.in-Ok.plan log pins c.ordered.ensures may says.plan says.whole says.pinned
+          (planned_steps state volume lba sectors w.in-Ok.plan log pins ready.order.uploads may says.plan says.whole says.pinned
           (says.reads (λ e. cc)))
       | in-Err-Fault w ↦
           let says = w.in-Err-Fault.ensures in
           let fault = w.in-Err-Fault.field-0-is in
           subst (λ reply. StepsAsPlain state (events.Look lba sectors) reply volume (with_reads log pins volume))
           (sym w.result-is)
-          (fault_steps state volume lba sectors log pins c.ordered.ensures may says.same_pins (says.reads (λ e. cc)))
+          (fault_steps state volume lba sectors log pins ready.order.uploads may says.same_pins (says.reads (λ e. cc)))
       | in-Err-OutOfMemory w ↦
           let says = w.in-Err-OutOfMemory.ensures in
           subst (λ reply. StepsAsPlain state (events.Look lba sectors) reply volume (with_reads log pins volume))
@@ -112,7 +115,7 @@ pub invariant_of-self : goal.invariant_of-self
 invariant_of-self g c =
     let inside = c.self.inside in
     let volume : VolumeState = volume_of inside.objects inside.log inside.pins inside.checkpoint in
-    let ready = subst HasRoomForStep (sym c.self.view_is) c.requires in
+    let ready = subst IsReadyForStep (sym c.self.view_is) c.requires in
     steps_keep_volume g.R.Receipt.state (events.Look c.args.lba c.args.sectors) c.match-look.result volume
     (with_reads c.look.new.log c.look.new.pins volume) inside.steps c.self.invariant ready (steps g c) (grow g c)
 

@@ -3,7 +3,7 @@ use Rattle.vol_core.specs.declared.event.Event.TheVariants as events
 use Rattle.vol_core.specs.declared.reply.Reply.TheVariants as replies
 use Rattle.vol_core.specs.Volume.{VolumeState, SteppedVolume, volume_of}
 use Rattle.vol_core.specs.Step.{StepOf}
-use Rattle.vol_core.specs.Calls.{HasRoomForStep}
+use Rattle.vol_core.specs.Calls.{IsReadyForStep}
 use Rattle.vol_core.proofs.StepLemmas.{steps_keep_volume, step_seen, numbers_stay}
 use Rattle.vol_core.proofs.ReleaseSteps.{with_pins, released_steps, not_released_steps}
 use Rattle.vol_core.proofs.StepsOf.{step_of_pins}
@@ -27,7 +27,7 @@ invariant_of-self g c =
     let volume : VolumeState = volume_of inside.objects inside.log inside.pins inside.checkpoint in
     let plan = c.args.plan in
     let pins = c.unpin.new.self in
-    let ready = subst HasRoomForStep (sym c.self.view_is) c.requires in
+    let ready = subst IsReadyForStep (sym c.self.view_is) c.requires in
     steps_keep_volume g.R.Receipt.state (events.Release plan) replies.Released volume (with_pins pins volume) inside.steps
     c.self.invariant ready
     (released_steps g.R.Receipt.state plan volume pins c.objects.result.now c.objects-2.result.now c.has_all.result

@@ -1,7 +1,7 @@
 use Rattle.std.proofs.Common.{subst, sym}
 use Rattle.vol_core.specs.declared.event.Event.TheVariants as events
 use Rattle.vol_core.specs.Volume.{VolumeState, volume_of}
-use Rattle.vol_core.specs.Calls.{HasRoomForStep}
+use Rattle.vol_core.specs.Calls.{IsReadyForStep}
 use Rattle.vol_core.proofs.StepLemmas.{with_objects, steps_keep_volume, step_seen}
 use Rattle.vol_core.proofs.StepsOf.{step_of_seal}
 use Rattle.vol_core.proofs.volume.Volume.seal.Goals as goal
@@ -11,8 +11,8 @@ invariant_of-self g c =
     let inside = c.self.inside in
     let volume : VolumeState = volume_of inside.objects inside.log inside.pins inside.checkpoint in
     let objects = c.seal.new.objects in
-    let step = step_of_seal g.R.Receipt.state volume objects c.seal.result c.ordered.ensures c.seal.ensures in
-    let ready = subst HasRoomForStep (sym c.self.view_is) c.requires in
+    let ready = subst IsReadyForStep (sym c.self.view_is) c.requires in
+    let step = step_of_seal g.R.Receipt.state volume objects c.seal.result ready.order.uploads c.seal.ensures in
     steps_keep_volume g.R.Receipt.state events.Seal c.seal.result volume (with_objects objects volume) inside.steps
     c.self.invariant ready step.step step.numbers
 
@@ -21,5 +21,6 @@ returns-clause-step g c =
     let inside = c.self.inside in
     let volume : VolumeState = volume_of inside.objects inside.log inside.pins inside.checkpoint in
     let objects = c.seal.new.objects in
+    let ready = subst IsReadyForStep (sym c.self.view_is) c.requires in
     step_seen g.R.Receipt.state events.Seal c.seal.result (with_objects objects volume) _ _ c.self.view_is
-    (step_of_seal g.R.Receipt.state volume objects c.seal.result c.ordered.ensures c.seal.ensures)
+    (step_of_seal g.R.Receipt.state volume objects c.seal.result ready.order.uploads c.seal.ensures)

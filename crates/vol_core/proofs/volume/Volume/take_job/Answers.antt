@@ -1,7 +1,7 @@
 use Rattle.std.proofs.Common.{subst, sym}
 use Rattle.vol_core.specs.declared.event.Event.TheVariants as events
 use Rattle.vol_core.specs.Volume.{VolumeState, volume_of}
-use Rattle.vol_core.specs.Calls.{HasRoomForStep}
+use Rattle.vol_core.specs.Calls.{IsReadyForStep}
 use Rattle.vol_core.proofs.StepLemmas.{with_objects, steps_keep_volume, step_seen}
 use Rattle.vol_core.proofs.StepsOf.{step_of_take}
 use Rattle.vol_core.proofs.volume.Volume.take_job.Goals as goal
@@ -12,7 +12,7 @@ invariant_of-self g c =
     let volume : VolumeState = volume_of inside.objects inside.log inside.pins inside.checkpoint in
     let objects = c.take_job.new.objects in
     let step = step_of_take g.R.Receipt.state volume objects c.take_job.result c.take_job.ensures in
-    let ready = subst HasRoomForStep (sym c.self.view_is) c.requires in
+    let ready = subst IsReadyForStep (sym c.self.view_is) c.requires in
     steps_keep_volume g.R.Receipt.state events.TakeJob c.take_job.result volume (with_objects objects volume) inside.steps
     c.self.invariant ready step.step step.numbers
 
