@@ -17,7 +17,7 @@ use Rattle.lsvd_base.specs.Limits.{is_within_limits}
 use Rattle.lsvd_base.specs.Range.{is_in_range}
 use Rattle.lsvd_base.specs.Laws.{EndsBy}
 use Rattle.batcher.specs.declared.place.BatchPlace.{BatchPlace}
-use Rattle.batcher.specs.declared.plan.Plan.{Plan}
+use Rattle.batcher.specs.declared.plan.SealPlan.{SealPlan}
 use Rattle.batcher.specs.Batch.{data_sectors, max_entries, fullness, fullness_of_first}
 use Rattle.batcher.specs.Places.{extent_place, extent_of, place_by}
 use Rattle.batcher.specs.Plans.{IsPlanOf}
@@ -61,7 +61,7 @@ first_same batch entries more n within =
     ap (λ list. fullness batch (sum_by data_sectors list) n) (take-append-le n entries more within)
 
 -- a plan that is full is one of a longer list too
-pub full_stays : (batch : ℕ) (entries more : List Entry) (plan : Plan) → IsPlanOf batch entries plan
+pub full_stays : (batch : ℕ) (entries more : List Entry) (plan : SealPlan) → IsPlanOf batch entries plan
     → is_some (fullness batch plan.sectors plan.entries) ≡ true → IsPlanOf batch (entries ++ more) plan
 full_stays batch entries more plan is full =
     let same : take plan.entries (entries ++ more) ≡ take plan.entries entries =
@@ -81,7 +81,7 @@ full_stays batch entries more plan is full =
     }
 
 -- a plan that is not full has all entries
-pub not_full_has_all : (batch : ℕ) (entries : List Entry) (plan : Plan) → IsPlanOf batch entries plan
+pub not_full_has_all : (batch : ℕ) (entries : List Entry) (plan : SealPlan) → IsPlanOf batch entries plan
     → is_some (fullness batch plan.sectors plan.entries) ≡ false → plan.entries ≡ length entries
 not_full_has_all batch entries plan is none =
     elim is.count.full_or_all [
@@ -91,7 +91,7 @@ not_full_has_all batch entries plan is none =
     ]
 
 -- a plan that is not full, with the next entry put into it, is the plan of the longer list
-pub put_is_plan : (batch : ℕ) (entries : List Entry) (entry : Entry) (old new : Plan) → IsPlanOf batch entries old
+pub put_is_plan : (batch : ℕ) (entries : List Entry) (entry : Entry) (old new : SealPlan) → IsPlanOf batch entries old
     → is_some (fullness batch old.sectors old.entries) ≡ false → IsPutInPlan old entry new
     → IsPlanOf batch (entries ++ entry ∷ []) new
 put_is_plan batch entries entry old new is none put =
@@ -128,11 +128,11 @@ put_is_plan batch entries entry old new is none put =
     }
 
 -- a plan to which an entry was offered
-pub record IsOffered (batch : ℕ) (old : Plan) (entry : Entry) (new : Plan) : Type 0 where
+pub record IsOffered (batch : ℕ) (old : SealPlan) (entry : Entry) (new : SealPlan) : Type 0 where
   pub full : is_some (fullness batch old.sectors old.entries) ≡ true → new ≡ old
   pub put : is_some (fullness batch old.sectors old.entries) ≡ false → IsPutInPlan old entry new
 
-pub offered_is_plan : (batch : ℕ) (entries : List Entry) (entry : Entry) (old new : Plan) → IsPlanOf batch entries old
+pub offered_is_plan : (batch : ℕ) (entries : List Entry) (entry : Entry) (old new : SealPlan) → IsPlanOf batch entries old
     → IsOffered batch old entry new → IsPlanOf batch (entries ++ entry ∷ []) new
 offered_is_plan batch entries entry old new is offered =
     elim (cases_Bool (is_some (fullness batch old.sectors old.entries))) [
@@ -142,7 +142,7 @@ offered_is_plan batch entries entry old new is offered =
     ]
 
 -- an offer takes at most the room of one entry
-pub offered_room : (batch : ℕ) (entry : Entry) (old new : Plan) → IsOffered batch old entry new
+pub offered_room : (batch : ℕ) (entry : Entry) (old new : SealPlan) → IsOffered batch old entry new
     → old.changes.spare ≤ new.changes.spare + 1
 offered_room batch entry old new offered =
     elim (cases_Bool (is_some (fullness batch old.sectors old.entries))) [
@@ -152,7 +152,7 @@ offered_room batch entry old new offered =
     ]
 
 -- the plan for as many entries as an object takes at most is that for all
-pub most_is_plan : (batch : ℕ) (entries : List Entry) (plan : Plan) → IsPlanOf batch (take max_entries entries) plan
+pub most_is_plan : (batch : ℕ) (entries : List Entry) (plan : SealPlan) → IsPlanOf batch (take max_entries entries) plan
     → IsPlanOf batch entries plan
 most_is_plan batch entries plan is =
     elim (cases_lt (length entries) max_entries) [
@@ -182,7 +182,7 @@ entry_is_short geometry (Zero lba sectors) limits in_range =
 
 -- ---- what holds of every batch
 
-pub batch_added : (geometry : Geometry) (first : ℕ) (entries longer : List Entry) (sectors added : ℕ) (old new : Plan)
+pub batch_added : (geometry : Geometry) (first : ℕ) (entries longer : List Entry) (sectors added : ℕ) (old new : SealPlan)
     (entry : Entry)
     → IsBatch geometry first entries sectors old → IsTrue (is_in_range geometry entry) → first + length entries < 2 ^ 64 - 1
     → added ≡ data_sectors entry → longer ≡ entries ++ entry ∷ [] → IsOffered geometry.batch old entry new
@@ -197,7 +197,7 @@ batch_added geometry first entries longer sectors added old new entry is in_rang
       planned = offered_is_plan geometry.batch entries entry old new is.planned offered;
     })
 
-pub batch_released : (geometry : Geometry) (first : ℕ) (entries left : List Entry) (sectors removed n : ℕ) (old new : Plan)
+pub batch_released : (geometry : Geometry) (first : ℕ) (entries left : List Entry) (sectors removed n : ℕ) (old new : SealPlan)
     → IsBatch geometry first entries sectors old → n ≤ length entries → left ≡ drop n entries
     → removed + sum_by data_sectors left ≡ sum_by data_sectors entries → IsPlanOf geometry.batch (drop n entries) new
     → IsBatch geometry (first + n) left (sectors - removed) new
@@ -213,7 +213,7 @@ batch_released geometry first entries left sectors removed n old new is within l
     }
 
 -- the plan of a part of the entries, and of one entry more
-pub plan_offered : (batch : ℕ) (entries : List Entry) (from index : ℕ) (entry : Entry) (old new : Plan)
+pub plan_offered : (batch : ℕ) (entries : List Entry) (from index : ℕ) (entry : Entry) (old new : SealPlan)
     → IsPlanOf batch (take (index - from) (drop from entries)) old → IsOffered batch old entry new
     → from ≤ index → index < length entries → entry ≡ get_or entries index entry
     → IsPlanOf batch (take (index + 1 - from) (drop from entries)) new

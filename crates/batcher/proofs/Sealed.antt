@@ -31,7 +31,7 @@ use Rattle.object_format.proofs.LawLemmas.{writes_objects}
 use Rattle.object_stream.specs.Changes.{change_at, change_in}
 use Rattle.object_stream.specs.Replay.{HasParts}
 use Rattle.batcher.specs.declared.place.BatchPlace.{BatchPlace}
-use Rattle.batcher.specs.declared.plan.Plan.{Plan}
+use Rattle.batcher.specs.declared.plan.SealPlan.{SealPlan}
 use Rattle.batcher.specs.declared.sealing.WrittenObject.{WrittenObject}
 use Rattle.batcher.specs.Batch.{data_sectors, max_entries, fullness, fullness_of_first, IsSealedCount}
 use Rattle.batcher.specs.Places.{batch_place_number, place_on, place_by, change_of}
@@ -95,7 +95,7 @@ takes_few geometry entries n limits in_range is some =
 
 -- ---- a plan may be sealed
 
-module _ (geometry : Geometry) (first : ℕ) (entries : List Entry) (sectors : ℕ) (plan : Plan)
+module _ (geometry : Geometry) (first : ℕ) (entries : List Entry) (sectors : ℕ) (plan : SealPlan)
     (is : IsBatch geometry first entries sectors plan)
     (some : 0 < length entries) (extents : List (Extent BatchPlace)) (are : extents ≡ plan.changes.rows)
     (shortest : IsShortest place_on extents)
@@ -198,13 +198,14 @@ has_parts writes expected first end entries extents written is may uuid number f
     }
 
 -- what is written of a plan, with the plan of the rest, is the sealed batch
-pub is_sealed : (batch : BatchState) (sectors : ℕ) (plan : Plan)
+pub is_sealed : (batch : BatchState) (sectors : ℕ) (plan : SealPlan)
     (is : IsBatch batch.geometry batch.first batch.entries sectors plan)
     → 0 < length batch.entries → (extents : List (Extent BatchPlace)) → extents ≡ plan.changes.rows → IsShortest place_on extents
     → (expected : Expected) → AllFit batch_place_number extents → IsExpectedOf batch expected
     → (written : WrittenObject) → IsWritten expected batch.first (batch.first + plan.entries) batch.entries extents written
     → length expected.uuid ≡ 16 → expected.number < 2 ^ 64
-    → (rest : Plan) → IsPlanOf batch.geometry.batch (drop plan.entries batch.entries) rest → batch.reserved ≤ rest.changes.spare
+    → (rest : SealPlan) → IsPlanOf batch.geometry.batch (drop plan.entries batch.entries) rest
+    → batch.reserved ≤ rest.changes.spare
     → IsSealed batch expected
     (record {
       object = written.object;

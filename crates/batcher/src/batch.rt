@@ -8,7 +8,7 @@ ghost use Rattle.batcher.specs.Batch.{data_sectors, fullness};
 ghost use Rattle.batcher.specs.Sealing.{IsExpectedOf, IsSealed, IsBatchRest};
 
 use crate::full::{Full, data_sectors, fullness};
-use crate::plan::{Plan, plan_from};
+use crate::plan::{SealPlan, plan_from};
 use crate::sealing::{Rest, SealedBatch, keep_widths, write_object};
 use lsvd_base::{Entry, Geometry};
 use object_format::Expected;
@@ -26,7 +26,7 @@ pub struct Batch {
     // The sectors of data of all entries.
     sectors: u64,
     // Which of them the next object takes.
-    plan: Plan,
+    plan: SealPlan,
 }
 
 impl Model for Batch {
@@ -59,7 +59,7 @@ impl Batch {
             first: first_seq,
             entries: VecDeque::new(alloc),
             sectors: 0,
-            plan: Plan::new(alloc),
+            plan: SealPlan::new(alloc),
         }
     }
 

@@ -14,7 +14,7 @@ use std::collections::VecDeque;
 
 /// Which entries of a list the next object takes, the first ones, and what they change.
 #[derive(Drop)]
-pub(crate) struct Plan {
+pub(crate) struct SealPlan {
     // How many they are.
     pub(crate) entries: usize,
     // The sectors of their data.
@@ -23,12 +23,12 @@ pub(crate) struct Plan {
     pub(crate) changes: ExtentMap<BatchPlace>,
 }
 
-impl Plan {
+impl SealPlan {
     /// The plan for no entries. It takes no memory.
-    pub(crate) fn new(alloc: Global) -> Plan
+    pub(crate) fn new(alloc: Global) -> SealPlan
         ensures { result ≡ record { entries = 0; sectors = 0; changes = record { rows = []; spare = 0 } } }
     {
-        Plan {
+        SealPlan {
             entries: 0,
             sectors: 0,
             changes: ExtentMap::new(alloc),
@@ -86,7 +86,7 @@ pub(crate) fn plan_from(
     entries: &VecDeque<Entry>,
     from: usize,
     spare: usize,
-) -> Result<Plan, AllocError>
+) -> Result<SealPlan, AllocError>
     requires limits { IsTrue (is_within_limits geometry.now) }
     requires from { from ≤ length entries.now.items }
     requires in_range { AreInRange geometry.now entries.now.items }
@@ -97,7 +97,7 @@ pub(crate) fn plan_from(
     let Some(room) = most.checked_add(spare) else {
         return Err(AllocError);
     };
-    let mut plan = Plan::new(alloc);
+    let mut plan = SealPlan::new(alloc);
     plan.changes.reserve(room)?;
     for index in from..from + most {
         plan.offer(geometry.batch, &entries[index]);

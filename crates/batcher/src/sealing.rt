@@ -8,7 +8,7 @@ ghost use Rattle.batcher.specs.Rows.{payload_bytes, piece_of, extent_payload, Is
 ghost use Rattle.batcher.specs.Writing.{MayBeSealed, IsWritten};
 
 use crate::place::BatchPlace;
-use crate::plan::Plan;
+use crate::plan::SealPlan;
 use crate::rows::data_rows;
 use extent_map::Extent;
 use lsvd_base::{Entry, ObjectBytes, SECTOR_BYTES};
@@ -36,7 +36,7 @@ pub struct Rest {
     // How many entries the object has.
     pub(crate) after: usize,
     // The plan of those after them.
-    pub(crate) plan: Plan,
+    pub(crate) plan: SealPlan,
 }
 
 /// An object with its rows.

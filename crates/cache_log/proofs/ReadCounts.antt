@@ -8,7 +8,7 @@ use Rattle.lsvd_device.proofs.Together.{made_then}
 use Rattle.commit_slot.specs.Commits.{CommitsState, IsAsBefore}
 use Rattle.commit_slot.specs.OnDisk.{AreOnDisk}
 use Rattle.cache_log.specs.declared.error.OpenError.{OpenError}
-use Rattle.cache_log.specs.declared.error.ReadError.{ReadError}
+use Rattle.cache_log.specs.declared.error.LogReadError.{LogReadError}
 use Rattle.cache_log.specs.declared.row.Row.{Row}
 use Rattle.cache_log.specs.Rows.{position_of, next, end_of_rows}
 use Rattle.cache_log.specs.Reads.{reads_cost, AreReadOnly, headers_of, headers_of_rows, opens_without_fault, reads_without_fault}
@@ -130,7 +130,7 @@ open_error_then (Ok x) a b most old middle new first second within = tt
 open_error_then (Err e) a b most old middle new first second within =
     only_then a b most (opens_without_fault e) old middle new first second within
 
-pub read_error_then : {T : Type 0} (r : Result T ReadError) (a b most : ℕ) (old middle new : CommitsState)
+pub read_error_then : {T : Type 0} (r : Result T LogReadError) (a b most : ℕ) (old middle new : CommitsState)
     → AreReadOnly a true old middle → IfErr r (λ e. AreReadOnly b (reads_without_fault e) middle new) → a + b ≤ most
     → IfErr r (λ e. AreReadOnly most (reads_without_fault e) old new)
 read_error_then (Ok x) a b most old middle new first second within = tt

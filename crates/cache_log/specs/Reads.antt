@@ -6,8 +6,8 @@ use Rattle.commit_slot.specs.Commits.{CommitsState, IsAsBefore}
 use Rattle.commit_slot.specs.OnDisk.{AreOnDisk}
 use Rattle.cache_log.specs.declared.error.OpenError.{OpenError}
 use Rattle.cache_log.specs.declared.error.OpenError.TheVariants as open_errors
-use Rattle.cache_log.specs.declared.error.ReadError.{ReadError}
-use Rattle.cache_log.specs.declared.error.ReadError.TheVariants as read_errors
+use Rattle.cache_log.specs.declared.error.LogReadError.{LogReadError}
+use Rattle.cache_log.specs.declared.error.LogReadError.TheVariants as read_errors
 use Rattle.cache_log.specs.declared.row.Row.{Row}
 use Rattle.cache_log.specs.Rows.{position_of, next}
 
@@ -44,6 +44,6 @@ opens_without_fault open_errors.DeviceFault = false
 opens_without_fault open_errors.OutOfMemory = true
 
 -- and where entries were not read
-abbrev pub reads_without_fault : ReadError → Bool
+abbrev pub reads_without_fault : LogReadError → Bool
 reads_without_fault read_errors.DeviceFault = false
 reads_without_fault read_errors.OutOfMemory = true

@@ -1,6 +1,6 @@
 ghost use Rattle.std.specs.Prelude.{◌≡◌};
 ghost use Rattle.cache_log.specs.declared.error.AppendError.TheVariants as append_errors;
-ghost use Rattle.cache_log.specs.declared.error.ReadError.TheVariants as read_errors;
+ghost use Rattle.cache_log.specs.declared.error.LogReadError.TheVariants as read_errors;
 ghost use Rattle.cache_log.specs.declared.error.OpenError.TheVariants as open_errors;
 
 use log_record::Reason;
@@ -29,7 +29,7 @@ impl From<Failed> for AppendError {
 
 /// Why entries were not read.
 #[derive(Clone, Copy, Debug, PartialEq, Eq, Error)]
-pub enum ReadError {
+pub enum LogReadError {
     /// A call of the device failed, and was counted by it.
     #[error("the device failed")]
     DeviceFault,
@@ -38,27 +38,27 @@ pub enum ReadError {
     OutOfMemory,
 }
 
-impl From<Failed> for ReadError {
+impl From<Failed> for LogReadError {
     ghost from_gives = { λ _ e. e ≡ read_errors.DeviceFault };
 
-    fn from(_: Failed) -> ReadError {
-        ReadError::DeviceFault
+    fn from(_: Failed) -> LogReadError {
+        LogReadError::DeviceFault
     }
 }
 
-impl From<AllocError> for ReadError {
+impl From<AllocError> for LogReadError {
     ghost from_gives = { λ _ e. e ≡ read_errors.OutOfMemory };
 
-    fn from(_: AllocError) -> ReadError {
-        ReadError::OutOfMemory
+    fn from(_: AllocError) -> LogReadError {
+        LogReadError::OutOfMemory
     }
 }
 
-impl<T: Drop> From<AllocFailed<T>> for ReadError {
+impl<T: Drop> From<AllocFailed<T>> for LogReadError {
     ghost from_gives = { λ _ e. e ≡ read_errors.OutOfMemory };
 
-    fn from(_: AllocFailed<T>) -> ReadError {
-        ReadError::OutOfMemory
+    fn from(_: AllocFailed<T>) -> LogReadError {
+        LogReadError::OutOfMemory
     }
 }
 

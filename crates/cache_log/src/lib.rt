@@ -18,7 +18,7 @@ mod release;
 mod row;
 mod transfer;
 
-pub use error::{AppendError, OpenError, ReadError};
+pub use error::{AppendError, LogReadError, OpenError};
 pub use laws::{
     at_most_two_headers_are_read_for_each_record, bytes_have_one_list_of_records,
     records_are_read_again,

@@ -24,7 +24,7 @@ ghost use Rattle.cache_log.specs.Committed.{first_body, body_of, IsOnDisk, IsFor
 ghost use Rattle.cache_log.specs.Committed.{KeepsCommits, HasSameList, IsReleased, IsCommittedLog};
 ghost use Rattle.cache_log.specs.Committed.{LeavesEntriesSince};
 
-use crate::error::{AppendError, OpenError, ReadError};
+use crate::error::{AppendError, LogReadError, OpenError};
 use crate::opening::{read_rows, sectors_between};
 use crate::release::{drop_below, sectors_from, start_of};
 use crate::row::Row;
@@ -345,7 +345,7 @@ impl<D: Disk> CacheLog<D> {
     /// The entries with this seq and greater ones, in their order, by at most one read for each.
     /// `DeviceFault` comes where the device could not be read, and `OutOfMemory` where memory for
     /// them ran out.
-    pub fn entries_from(&mut self, alloc: Global, seq: u64) -> Result<Vec<Entry>, ReadError>
+    pub fn entries_from(&mut self, alloc: Global, seq: u64) -> Result<Vec<Entry>, LogReadError>
         ensures entries { IfOk result (λ list.
             IfSome self.old.entries (λ all. list.items ≡ drop (seq - self.old.first) all)) }
         ensures rows { IfOk result (λ list.

@@ -9,7 +9,7 @@ ghost use Rattle.cache_log.specs.Reads.{AreReadOnly, reads_without_fault};
 ghost use Rattle.cache_log.specs.Writing.{IsPadded, FailsToPad, IsWrittenAt, IsNotWrittenAt};
 ghost use Rattle.cache_log.specs.Writing.{RowLiesInside, RowsLieInside};
 
-use crate::error::ReadError;
+use crate::error::LogReadError;
 use crate::row::Row;
 use commit_slot::{Commits, LOG_START};
 use log_record::encode_pad;
@@ -69,7 +69,7 @@ pub(crate) fn read_entries<D: Disk>(
     commits: &mut Commits<D>,
     rows: &VecDeque<Row>,
     skipped: usize,
-) -> Result<Vec<Entry>, ReadError>
+) -> Result<Vec<Entry>, LogReadError>
     requires inside { RowsLieInside rows.now.items commits.old.disk }
     requires on_disk { AreOnDisk commits.old }
     ensures entries { IfOk result (λ list. HoldsNow
@@ -94,7 +94,7 @@ fn read_entry<D: Disk>(
     alloc: Global,
     commits: &mut Commits<D>,
     row: Row,
-) -> Result<Entry, ReadError>
+) -> Result<Entry, LogReadError>
     requires inside { RowLiesInside row commits.old.disk }
     requires on_disk { AreOnDisk commits.old }
     ensures entry { IfOk result (λ entry.

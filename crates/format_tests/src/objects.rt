@@ -5,7 +5,7 @@ ghost use Rattle.object_format.specs.Writing.{payload_of};
 use crate::lines::tell_bytes;
 use lsvd_base::ObjectBytes;
 use object_format::{
-    BadObject, CopyRow, DataRow, Expected, Kind, ObjectWriter, ReadError, Rows, Source,
+    BadObject, CopyRow, DataRow, Expected, Kind, ObjectWriter, Rows, RowsReadError, Source,
     read_header, read_rows,
 };
 use std::alloc::Global;
@@ -135,7 +135,7 @@ pub fn read(
     }
     match read_rows(alloc, bytes, size, expected, &header) {
         Ok(rows) => Ok(Ok(rows)),
-        Err(ReadError::Bad(reason)) => Ok(Err(reason)),
-        Err(ReadError::OutOfMemory) => Err(TestError::Memory),
+        Err(RowsReadError::Bad(reason)) => Ok(Err(reason)),
+        Err(RowsReadError::OutOfMemory) => Err(TestError::Memory),
     }
 }

@@ -1,6 +1,6 @@
 use crate::case::Case;
 use crate::objects::{SECOND, data_object, read};
-use object_format::{BadObject, ReadError, read_header};
+use object_format::{BadObject, RowsReadError, read_header};
 use test_output::{TestError, head, tell};
 
 const REASONS: [BadObject; 8] = [
@@ -229,7 +229,7 @@ fn tell_reasons(rt: &HostRuntime) -> Result<(), TestError> {
         println!(rt;
             "  {} {reason:?}: {}",
             reason.code(),
-            ReadError::Bad(reason)
+            RowsReadError::Bad(reason)
         )?;
     }
     Ok(())

@@ -3,7 +3,7 @@ use crate::lines::tell_bytes;
 use clone_chain::{Ancestor, Chain};
 use lsvd_base::ObjectBytes;
 use std::alloc::{AllocError, Global};
-use super_format::{ReadError, Reason, Super};
+use super_format::{Super, SuperReadError, SuperReason};
 use test_output::{TestError, head, tell};
 use uuid::Uuid;
 
@@ -17,13 +17,13 @@ const THIRD: u128 = 0x4000_8000_0000_0000_0003;
 // The ancestors of the last, each by its uuid and its checkpoint.
 const ANCESTORS: &[(u128, u64)] = &[(SECOND, 3), (FIRST, 0x0102_0304_0506_0708)];
 
-const REASONS: [Reason; 6] = [
-    Reason::Length,
-    Reason::Magic,
-    Reason::Version,
-    Reason::Uuid,
-    Reason::Limits,
-    Reason::Ancestors,
+const REASONS: [SuperReason; 6] = [
+    SuperReason::Length,
+    SuperReason::Magic,
+    SuperReason::Version,
+    SuperReason::Uuid,
+    SuperReason::Limits,
+    SuperReason::Ancestors,
 ];
 
 /// Writes what super objects are, and which are refused.
@@ -95,11 +95,11 @@ fn tell_volume(rt: &HostRuntime, volume: &Super) -> Result<(), TestError> {
 }
 
 // The reason for which bytes are no super object of the clone, or none where they are one.
-fn reason_of(alloc: Global, bytes: &[u8]) -> Result<Option<Reason>, AllocError> {
+fn reason_of(alloc: Global, bytes: &[u8]) -> Result<Option<SuperReason>, AllocError> {
     match Super::read(alloc, bytes, Uuid::from_u128(THIRD)) {
         Ok(_) => Ok(None),
-        Err(ReadError::BadSuper { reason }) => Ok(Some(reason)),
-        Err(ReadError::OutOfMemory) => Err(AllocError),
+        Err(SuperReadError::BadSuper { reason }) => Ok(Some(reason)),
+        Err(SuperReadError::OutOfMemory) => Err(AllocError),
     }
 }
 
@@ -268,7 +268,7 @@ fn add_ancestors(bytes: &mut Vec<u8>, count: u8) -> Result<(), TestError> {
 fn tell_reasons(rt: &HostRuntime) -> Result<(), TestError> {
     head(rt, "The reasons to refuse a super object")?;
     for reason in REASONS {
-        let error = ReadError::BadSuper { reason };
+        let error = SuperReadError::BadSuper { reason };
         println!(rt; "  {} {reason:?}: {error}", reason.code())?;
     }
     Ok(())

@@ -1,4 +1,4 @@
-use cache_log::{AppendError, OpenError, ReadError};
+use cache_log::{AppendError, LogReadError, OpenError};
 use commit_slot::LoadError;
 use log_record::Reason;
 use lsvd_device::FileError;
@@ -29,8 +29,8 @@ fn tell_log(rt: &HostRuntime) -> Result<(), TestError> {
     tell(rt, OpenError::BadRecord { seq, reason })?;
     tell(rt, OpenError::DeviceFault)?;
     tell(rt, OpenError::OutOfMemory)?;
-    tell(rt, ReadError::DeviceFault)?;
-    tell(rt, ReadError::OutOfMemory)
+    tell(rt, LogReadError::DeviceFault)?;
+    tell(rt, LogReadError::OutOfMemory)
 }
 
 fn tell<E: Display + Drop>(rt: &HostRuntime, error: E) -> Result<(), TestError> {

@@ -17,8 +17,8 @@ use Rattle.uuid.specs.Text.{parsed_urn, parsed}
 use Rattle.uuid.proofs.TextLemmas.{by_index_length, by_index_at, nibble_small}
 use Rattle.uuid.proofs.RoundTrips.{parses_hyphenated}
 use Rattle.lsvd_names.specs.Spelling.{hex_digits, dot, word, ending, spelling, IsNumbered, MayHaveNumber, IsUuid, IsName}
-use Rattle.lsvd_names.specs.declared.name.Kind.{Kind}
-use Rattle.lsvd_names.specs.declared.name.Kind.TheVariants.{Super, Epoch, Object, Hold}
+use Rattle.lsvd_names.specs.declared.name.NameKind.{NameKind}
+use Rattle.lsvd_names.specs.declared.name.NameKind.TheVariants.{Super, Epoch, Object, Hold}
 use Rattle.lsvd_names.specs.declared.name.ObjName.{ObjName}
 use Rattle.lsvd_names.proofs.Hexadecimal.{length-hex_digits, hex_digits_injective}
 
@@ -52,22 +52,23 @@ without_dot [] all i h = absurd (omega arith)
 without_dot (b ∷ text) all zero h = λ e. grind (arith, nat_tests)
 without_dot (b ∷ text) all (suc i) h = without_dot text (grind (arith, nat_tests)) i (omega arith)
 
-pub no_dot_in_word : (kind : Kind) (i : ℕ) → i < length (word kind) → get_or (word kind) i 0 ≢ 46
+pub no_dot_in_word : (kind : NameKind) (i : ℕ) → i < length (word kind) → get_or (word kind) i 0 ≢ 46
 no_dot_in_word Super = without_dot (word Super) refl
 no_dot_in_word Epoch = without_dot (word Epoch) refl
 no_dot_in_word Object = without_dot (word Object) refl
 no_dot_in_word Hold = without_dot (word Hold) refl
 
 -- what follows the uuid where there is a number
-pub numbered_ending : (kind : Kind) (number : ℕ) → IsNumbered kind → ending kind number ≡ word kind ++ dot ∷ hex_digits 16 number
+pub numbered_ending : (kind : NameKind) (number : ℕ) → IsNumbered kind
+    → ending kind number ≡ word kind ++ dot ∷ hex_digits 16 number
 numbered_ending Super number is = elim is [ ]
 numbered_ending Epoch number is = refl
 numbered_ending Object number is = refl
 numbered_ending Hold number is = refl
 
 -- one ending is of one kind and number
-same_ending : (k l : Kind) (m n : ℕ) → MayHaveNumber k m → MayHaveNumber l n → m < 2 ^ 64 → n < 2 ^ 64 → ending k m ≡ ending l n
-    → (k ≡ l) × (m ≡ n)
+same_ending : (k l : NameKind) (m n : ℕ) → MayHaveNumber k m → MayHaveNumber l n → m < 2 ^ 64 → n < 2 ^ 64
+    → ending k m ≡ ending l n → (k ≡ l) × (m ≡ n)
 same_ending Super Super m n none_m none_n small_m small_n e = (refl, none_m ∙ sym none_n)
 same_ending Epoch Epoch m n has_m has_n small_m small_n e = (refl, hex_digits_injective m n small_m small_n (cc))
 same_ending Object Object m n has_m has_n small_m small_n e = (refl, hex_digits_injective m n small_m small_n (cc))
@@ -82,7 +83,7 @@ rest_part : (name : ObjName) → drop 36 (spelling name) ≡ dot ∷ ending name
 rest_part name = drop_at (hyphenated_text lower name.uuid) (dot ∷ ending name.kind name.number) 36 (length-uuid_text name.uuid)
 
 -- names with the same parts are one
-same_parts : (u v : List ℕ) (k l : Kind) (m n : ℕ) → u ≡ v → k ≡ l → m ≡ n
+same_parts : (u v : List ℕ) (k l : NameKind) (m n : ℕ) → u ≡ v → k ≡ l → m ≡ n
     → ◌≡◌ {A = ObjName} (record { uuid = u; kind = k; number = m }) (record { uuid = v; kind = l; number = n })
 same_parts u v k l m n e1 e2 e3 = cc
 
@@ -99,7 +100,7 @@ nothing_follows : (rest : List ℕ) → length rest ≡ 0 → rest ≡ []
 nothing_follows [] e = refl
 nothing_follows (b ∷ rest) e = absurd (omega arith)
 
-ending_prefix : (k l : Kind) (m n : ℕ) (rest : List ℕ) → ending l n ≡ ending k m ++ rest → rest ≡ []
+ending_prefix : (k l : NameKind) (m n : ℕ) (rest : List ℕ) → ending l n ≡ ending k m ++ rest → rest ≡ []
 ending_prefix Super Super m n rest e = cc
 ending_prefix Epoch Epoch m n rest e = nothing_follows rest
     (omega (arith, ap length e, length-append (hex_digits 16 m) rest, length-hex_digits 16 m, length-hex_digits 16 n))
@@ -224,7 +225,7 @@ split_spelling text name found split e =
     (no_dot_in_uuid name.uuid)
 
 -- the parts of an ending with a number, at its first dot
-pub split_ending : (text : List ℕ) (kind : Kind) (number : ℕ) (found : Option (Bor (List ℕ) × Bor (List ℕ)))
+pub split_ending : (text : List ℕ) (kind : NameKind) (number : ℕ) (found : Option (Bor (List ℕ) × Bor (List ℕ)))
     → IsSplitOnceResult 46 text found → IsNumbered kind → text ≡ ending kind number
     → MatchOption found ⊥ (λ parts. (parts.0.now ≡ word kind) × (parts.1.now ≡ hex_digits 16 number))
 split_ending text kind number found split is e =
@@ -232,7 +233,7 @@ split_ending text kind number found split is e =
     (no_dot_in_word kind)
 
 -- what is not spelled by the word of the super alone, has a number
-pub ending_numbered : (text : List ℕ) (kind : Kind) (number : ℕ) → text ≡ ending kind number → (text ≡ word Super → ⊥)
+pub ending_numbered : (text : List ℕ) (kind : NameKind) (number : ℕ) → text ≡ ending kind number → (text ≡ word Super → ⊥)
     → IsNumbered kind
 ending_numbered text Super number e other = other e
 ending_numbered text Epoch number e other = tt

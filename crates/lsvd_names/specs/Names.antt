@@ -1,7 +1,7 @@
 -- Contract: the names of a volume's objects.
 use Rattle.std.specs.Prelude.{ℕ, List}
 use Rattle.lsvd_names.specs.declared.name.ObjName.{ObjName}
-use Rattle.lsvd_names.specs.declared.name.Kind.TheVariants.{Super, Epoch, Object}
+use Rattle.lsvd_names.specs.declared.name.NameKind.TheVariants.{Super, Epoch, Object}
 
 -- the name of the super object of a volume
 abbrev pub super_name : (uuid : List ℕ) → ObjName

@@ -3,8 +3,8 @@ use Rattle.std.specs.Prelude.{◌≡◌, ℕ, zero, suc, ◌/◌, ◌%◌, ◌^�
 use Rattle.std.specs.Char.{digit_char}
 use Rattle.std.specs.List.{All}
 use Rattle.uuid.specs.Text.{hyphenated_text, lower}
-use Rattle.lsvd_names.specs.declared.name.Kind.{Kind}
-use Rattle.lsvd_names.specs.declared.name.Kind.TheVariants.{Super, Epoch, Object, Hold}
+use Rattle.lsvd_names.specs.declared.name.NameKind.{NameKind}
+use Rattle.lsvd_names.specs.declared.name.NameKind.TheVariants.{Super, Epoch, Object, Hold}
 use Rattle.lsvd_names.specs.declared.name.ObjName.{ObjName}
 
 -- the last N digits of a number in lower-case hexadecimal, with leading zeros
@@ -17,14 +17,14 @@ abbrev pub dot : ℕ
 dot = 46
 
 -- the word of a kind
-abbrev pub word : Kind → List ℕ
+abbrev pub word : NameKind → List ℕ
 word Super = codes "super"
 word Epoch = codes "epoch"
 word Object = codes "obj"
 word Hold = codes "hold"
 
 -- what follows the uuid: the word, and for all but a super the sixteen digits of the number
-abbrev pub ending : Kind → ℕ → List ℕ
+abbrev pub ending : NameKind → ℕ → List ℕ
 ending Super number = word Super
 ending Epoch number = word Epoch ++ dot ∷ hex_digits 16 number
 ending Object number = word Object ++ dot ∷ hex_digits 16 number
@@ -35,14 +35,14 @@ abbrev pub spelling : ObjName → List ℕ
 spelling name = hyphenated_text lower name.uuid ++ dot ∷ ending name.kind name.number
 
 -- a kind has numbers (for this crate's own clauses)
-abbrev pub IsNumbered : Kind → Type 0
+abbrev pub IsNumbered : NameKind → Type 0
 IsNumbered Super = ⊥
 IsNumbered Epoch = Unit {0}
 IsNumbered Object = Unit {0}
 IsNumbered Hold = Unit {0}
 
 -- the number is one of its kind: a super has none, and 0 stands there
-abbrev pub MayHaveNumber : Kind → ℕ → Type 0
+abbrev pub MayHaveNumber : NameKind → ℕ → Type 0
 MayHaveNumber Super number = number ≡ 0
 MayHaveNumber Epoch number = Unit {0}
 MayHaveNumber Object number = Unit {0}

@@ -8,5 +8,5 @@ mod digits;
 mod name;
 mod volume;
 
-pub use name::{Kind, ObjName, a_name_has_one_spelling, no_spelling_begins_another};
+pub use name::{NameKind, ObjName, a_name_has_one_spelling, no_spelling_begins_another};
 pub use volume::a_uuid_has_sixteen_bytes;

@@ -10,7 +10,7 @@ use uuid::Uuid;
 
 /// What an object of the store is.
 #[derive(Clone, Copy, Debug, PartialEq, Eq, PartialOrd, Ord, Hash)]
-pub enum Kind {
+pub enum NameKind {
     /// The super object of a volume, which has one.
     Super,
     /// An epoch of the volume: each mount without its cache begins one.
@@ -27,7 +27,7 @@ pub struct ObjName {
     /// The volume that the object is part of.
     pub uuid: Uuid,
     /// What the object is.
-    pub kind: Kind,
+    pub kind: NameKind,
     /// Which of its kind it is. A super has no number, and 0 stands here.
     pub number: u64,
 }
@@ -41,7 +41,7 @@ impl ObjName {
         a_uuid_has_sixteen_bytes(uuid);
         ObjName {
             uuid,
-            kind: Kind::Super,
+            kind: NameKind::Super,
             number: 0,
         }
     }
@@ -54,7 +54,7 @@ impl ObjName {
         a_uuid_has_sixteen_bytes(uuid);
         ObjName {
             uuid,
-            kind: Kind::Epoch,
+            kind: NameKind::Epoch,
             number,
         }
     }
@@ -67,7 +67,7 @@ impl ObjName {
         a_uuid_has_sixteen_bytes(uuid);
         ObjName {
             uuid,
-            kind: Kind::Object,
+            kind: NameKind::Object,
             number,
         }
     }
@@ -79,10 +79,10 @@ impl ObjName {
     {
         let ObjName { uuid, kind, number } = *self;
         match kind {
-            Kind::Super => format!(in alloc; "{uuid}.super"),
-            Kind::Epoch => format!(in alloc; "{uuid}.epoch.{number:016x}"),
-            Kind::Object => format!(in alloc; "{uuid}.obj.{number:016x}"),
-            Kind::Hold => format!(in alloc; "{uuid}.hold.{number:016x}"),
+            NameKind::Super => format!(in alloc; "{uuid}.super"),
+            NameKind::Epoch => format!(in alloc; "{uuid}.epoch.{number:016x}"),
+            NameKind::Object => format!(in alloc; "{uuid}.obj.{number:016x}"),
+            NameKind::Hold => format!(in alloc; "{uuid}.hold.{number:016x}"),
         }
     }
 
@@ -102,27 +102,27 @@ impl ObjName {
 }
 
 // The kind and the number that stand after the uuid and a dot.
-fn kind_and_number(text: &str) -> Option<(Kind, u64)>
+fn kind_and_number(text: &str) -> Option<(NameKind, u64)>
     ensures found { IfSome result (λ found. MayHaveNumber found.0 found.1
         × (text.now ≡ ending found.0 found.1)) }
-    ensures none { IfNone result ((kind : Kind) (number : ℕ) → text.now ≡ ending kind number → ⊥) }
+    ensures none { IfNone result ((kind : NameKind) (number : ℕ) → text.now ≡ ending kind number → ⊥) }
 {
     if text == "super" {
-        return Some((Kind::Super, 0));
+        return Some((NameKind::Super, 0));
     }
     let (word, digits) = text.split_once('.')?;
     Some((kind_of(word)?, number_of(digits.as_bytes())?))
 }
 
 // The kind with a number that has this word. None is where there is none.
-fn kind_of(text: &str) -> Option<Kind>
+fn kind_of(text: &str) -> Option<NameKind>
     ensures found { IfSome result (λ kind. IsNumbered kind × (text.now ≡ word kind)) }
-    ensures none { IfNone result ((kind : Kind) → IsNumbered kind → text.now ≡ word kind → ⊥) }
+    ensures none { IfNone result ((kind : NameKind) → IsNumbered kind → text.now ≡ word kind → ⊥) }
 {
     match text {
-        "epoch" => Some(Kind::Epoch),
-        "obj" => Some(Kind::Object),
-        "hold" => Some(Kind::Hold),
+        "epoch" => Some(NameKind::Epoch),
+        "obj" => Some(NameKind::Object),
+        "hold" => Some(NameKind::Hold),
         _ => None,
     }
 }

@@ -20,8 +20,8 @@ use Rattle.std.proofs.lemmas.Map.Lookups.{exact_bytes}
 use Rattle.std.proofs.lemmas.Map.Entries.{lookup-filter-keys}
 use Rattle.std.proofs.lemmas.Map.Views.{Contains-keys_from_lookup, IsSome-lookup_from_Contains, tells_apart}
 use Rattle.lsvd_names.specs.Spelling.{IsName}
-use Rattle.lsvd_names.specs.declared.name.Kind.{Kind}
-use Rattle.lsvd_names.specs.declared.name.Kind.TheVariants.{Super, Epoch, Object, Hold}
+use Rattle.lsvd_names.specs.declared.name.NameKind.{NameKind}
+use Rattle.lsvd_names.specs.declared.name.NameKind.TheVariants.{Super, Epoch, Object, Hold}
 use Rattle.lsvd_names.specs.declared.name.ObjName.{ObjName}
 use Rattle.lsvd_objstore.specs.Objects.{Objects, found, AreNamesOf, Lists, name_cmp}
 use Rattle.lsvd_objstore.specs.Memory.{HaveNames, first_name_of, last_name_of}
@@ -49,13 +49,13 @@ least_number n = grind (arith, nat_tests)
 greatest_number : (m n : ℕ) → n ≤ m → not (is_lt (nat_cmp m n)) ≡ true
 greatest_number m n h = grind (arith, nat_tests)
 
-from_first : (kind : Kind) (n : ℕ) → is_le (ordering_then (kind_cmp Super kind) (nat_cmp 0 n)) ≡ true
+from_first : (kind : NameKind) (n : ℕ) → is_le (ordering_then (kind_cmp Super kind) (nat_cmp 0 n)) ≡ true
 from_first Super n = least_number n
 from_first Epoch n = refl
 from_first Object n = refl
 from_first Hold n = refl
 
-to_last : (kind : Kind) (m n : ℕ) → n ≤ m → not (is_lt (ordering_then (kind_cmp Hold kind) (nat_cmp m n))) ≡ true
+to_last : (kind : NameKind) (m n : ℕ) → n ≤ m → not (is_lt (ordering_then (kind_cmp Hold kind) (nat_cmp m n))) ≡ true
 to_last Super m n h = refl
 to_last Epoch m n h = refl
 to_last Object m n h = refl

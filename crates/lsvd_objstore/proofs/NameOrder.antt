@@ -7,16 +7,16 @@ use Rattle.std.specs.declared.cmp.Ordering.{Ordering}
 use Rattle.std.specs.declared.cmp.Ordering.TheVariants.{Less, Equal, Greater}
 use Rattle.std.proofs.lemmas.Map.Lookups.{CmpEqualImpliesEq, exact_bytes, exact_unsigned}
 use Rattle.lsvd_names.specs.contracts.name.ObjNameOrd.TheImpl.Laws.{total-law}
-use Rattle.lsvd_names.specs.contracts.name.KindOrd.TheImpl as kinds
-use Rattle.lsvd_names.specs.declared.name.Kind.{Kind}
-use Rattle.lsvd_names.specs.declared.name.Kind.TheVariants.{Super, Epoch, Object, Hold}
+use Rattle.lsvd_names.specs.contracts.name.NameKindOrd.TheImpl as kinds
+use Rattle.lsvd_names.specs.declared.name.NameKind.{NameKind}
+use Rattle.lsvd_names.specs.declared.name.NameKind.TheVariants.{Super, Epoch, Object, Hold}
 use Rattle.lsvd_names.specs.declared.name.ObjName.{ObjName}
 use Rattle.lsvd_objstore.specs.Objects.{name_cmp}
 
 pub name_cmp_total : IsTotalOrder name_cmp
 name_cmp_total = total-law
 
-abbrev pub kind_cmp : Kind → Kind → Ordering
+abbrev pub kind_cmp : NameKind → NameKind → Ordering
 kind_cmp = (kinds.ghosts).cmp
 
 kind_exact : CmpEqualImpliesEq kind_cmp
@@ -49,7 +49,7 @@ both_equal Greater q h = cc
 same_name : (a b : ObjName) → a.uuid ≡ b.uuid → a.kind ≡ b.kind → a.number ≡ b.number → a ≡ b
 same_name a b uuid kind number =
     ap (λ (u : List ℕ). let name : ObjName = record { uuid = u; kind = a.kind; number = a.number } in name) uuid
-    ∙ ap (λ (k : Kind). let name : ObjName = record { uuid = b.uuid; kind = k; number = a.number } in name) kind
+    ∙ ap (λ (k : NameKind). let name : ObjName = record { uuid = b.uuid; kind = k; number = a.number } in name) kind
     ∙ ap (λ (n : ℕ). let name : ObjName = record { uuid = b.uuid; kind = b.kind; number = n } in name) number
 
 pub name_cmp_exact : CmpEqualImpliesEq name_cmp

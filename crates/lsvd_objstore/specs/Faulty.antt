@@ -9,11 +9,11 @@ use Rattle.lsvd_fault.specs.Faults.{counted_with, Counts}
 use Rattle.lsvd_objstore.specs.declared.faulty.PlannedFault.{PlannedFault}
 
 -- the calls that are to fail, by their numbers, and whether each takes effect all the same
-abbrev pub Plan : Type 0
-Plan = List (ℕ × Bool)
+abbrev pub FaultPlan : Type 0
+FaultPlan = List (ℕ × Bool)
 
 -- whether the call of this number is to fail, and then whether it takes effect
-abbrev pub planned_at : Plan → ℕ → Option Bool
+abbrev pub planned_at : FaultPlan → ℕ → Option Bool
 planned_at plan call = lookup (is_at (nat_cmp call)) plan
 
 -- the later fault of a call, if any, in place of this one
@@ -30,7 +30,7 @@ planned_in (fault ∷ faults) call = planned_by fault call (planned_in faults ca
 pub record FaultState : Type 0 where
   -- the store under it
   pub store : StoreState
-  pub plan : Plan
+  pub plan : FaultPlan
   -- how many calls came, and how many of them failed as planned; the counts stand at the greatest number of their type
   pub calls : ℕ
   pub failed : ℕ

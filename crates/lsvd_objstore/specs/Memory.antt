@@ -3,7 +3,7 @@ use Rattle.std.specs.Prelude.{ℕ, ◌-◌, ◌^◌, List, Some, None, length}
 use Rattle.std.specs.List.{AllByRecursion}
 use Rattle.lsvd_names.specs.Spelling.{IsName}
 use Rattle.lsvd_names.specs.declared.name.ObjName.{ObjName}
-use Rattle.lsvd_names.specs.declared.name.Kind.TheVariants.{Super, Hold}
+use Rattle.lsvd_names.specs.declared.name.NameKind.TheVariants.{Super, Hold}
 use Rattle.lsvd_objstore.specs.Objects.{Objects}
 use Rattle.lsvd_objstore.specs.Store.{StoreState, ReceiptState}
 

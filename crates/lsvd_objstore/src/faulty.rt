@@ -6,7 +6,7 @@ ghost use Rattle.lsvd_objstore.specs.Store.{Put, Remove, IsReceiptOf, IsAskedOnc
 ghost use Rattle.lsvd_objstore.specs.Store.{has_failed};
 ghost use Rattle.lsvd_objstore.specs.Store.{Finds};
 ghost use Rattle.lsvd_fault.specs.Faults.{counted_with, Counts};
-ghost use Rattle.lsvd_objstore.specs.Faulty.{Plan, planned_at, planned_in, faulty_state, IsLost};
+ghost use Rattle.lsvd_objstore.specs.Faulty.{FaultPlan, planned_at, planned_in, faulty_state, IsLost};
 ghost use Rattle.lsvd_objstore.specs.Faulty.{LandsUnanswered};
 ghost use Rattle.lsvd_objstore.specs.Faulty.{IsFaultyCall};
 

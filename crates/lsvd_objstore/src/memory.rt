@@ -13,7 +13,7 @@ use crate::names::Names;
 use crate::store::{Receipt, Store};
 use lsvd_base::ObjectBytes;
 use lsvd_fault::Failed;
-use lsvd_names::{Kind, ObjName};
+use lsvd_names::{NameKind, ObjName};
 use std::alloc::{AllocError, Global};
 use std::collections::BTreeMap;
 use std::marker::Model;
@@ -212,7 +212,7 @@ fn first_name(uuid: Uuid) -> ObjName
 {
     ObjName {
         uuid,
-        kind: Kind::Super,
+        kind: NameKind::Super,
         number: 0,
     }
 }
@@ -223,7 +223,7 @@ fn last_name(uuid: Uuid) -> ObjName
 {
     ObjName {
         uuid,
-        kind: Kind::Hold,
+        kind: NameKind::Hold,
         number: u64::MAX,
     }
 }

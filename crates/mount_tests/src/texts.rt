@@ -1,9 +1,9 @@
 // The texts of errors.
 use crate::bytes::OTHER;
-use log_record::Reason as RecordReason;
+use log_record::Reason;
 use object_format::BadObject;
 use object_recovery::RecoverError;
-use super_format::Reason as SuperReason;
+use super_format::SuperReason;
 use super_recovery::{BadSuper, SuperError};
 use test_output::TestError;
 use uuid::Uuid;
@@ -32,7 +32,7 @@ const MOUNTS: [MountError; 15] = [
     MountError::StaleCache { cache: 1, store: 3 },
     MountError::BadRecord {
         seq: 5,
-        reason: RecordReason::Seq,
+        reason: Reason::Seq,
     },
     MountError::Worn { value: 1 << 60 },
     MountError::StoreFault,

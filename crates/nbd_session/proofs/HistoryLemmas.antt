@@ -37,7 +37,7 @@ pub grows_nothing : (moment : Moment) → Grows [] moment moment
 grows_nothing moment = record {
   adds = λ plain shows. (plain, shows, goes_on_nothing plain);
   sizes = record { geometry = refl; uuid = refl };
-  own = λ epoch own. own;
+  own = λ owner own. own;
   store = becomes_same moment.volume.volume.objects.uploads.uuid moment.store.objects;
   stands = keeps_nothing moment;
 }
@@ -46,7 +46,7 @@ pub grows_more : (xs ys : List Entry) (old mid new : Moment) → Grows xs old mi
 grows_more xs ys old mid new first second = record {
   adds = adds_more xs ys old.volume.volume mid.volume.volume new.volume.volume first.adds second.adds;
   sizes = same_sizes old.volume.volume mid.volume.volume new.volume.volume first.sizes second.sizes;
-  own = λ epoch own. second.own epoch (first.own epoch own);
+  own = λ owner own. second.own owner (first.own owner own);
   store =
       becomes_then old.volume.volume.objects.uploads.uuid old.store.objects mid.store.objects new.store.objects first.store
       (subst (λ u. Becomes (KeepsOtherNames u) mid.store.objects new.store.objects) first.sizes.uuid second.store);

@@ -2,6 +2,7 @@
 use Rattle.std.specs.Prelude.{◌≡◌, ℕ, ◌+◌, ◌^◌, ◌≤◌, List, [], ◌++◌, length, flat_map}
 use Rattle.lsvd_base.specs.declared.entry.Entry.{Entry}
 use Rattle.lsvd_objstore.specs.Store.{ReceiptState, Becomes}
+use Rattle.stopped_volume.specs.Device.{CacheOwner}
 use Rattle.vol_core.specs.Step.{HasSameSizes}
 use Rattle.vol_core.specs.Stops.{HasOwnCommits}
 use Rattle.volume_owner.specs.Acts.{Moment}
@@ -17,7 +18,7 @@ use Rattle.nbd_session.specs.Session.{LinkBytes, Transmits}
 pub record Grows (added : List Entry) (old new : Moment) : Type 0 where
   pub adds : Adds added old.volume.volume new.volume.volume
   pub sizes : HasSameSizes old.volume.volume new.volume.volume
-  pub own : (epoch : ℕ) → HasOwnCommits epoch old.volume.volume → HasOwnCommits epoch new.volume.volume
+  pub own : (owner : CacheOwner) → HasOwnCommits owner old.volume.volume → HasOwnCommits owner new.volume.volume
   pub store : Becomes (KeepsOtherNames old.volume.volume.objects.uploads.uuid) old.store.objects new.store.objects
   pub stands : KeepsStore added old new
 

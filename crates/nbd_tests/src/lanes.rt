@@ -10,7 +10,7 @@ use lsvd_objstore::MemStore;
 use nbd_session::SessionEnd;
 use std::alloc::{AllocError, Global};
 use test_output::{TestError, head};
-use volume_server::{Lane, Next, serve_next, serve_volume};
+use volume_server::{Lane, NextClient, serve_next, serve_volume};
 
 static WRITING: [Asking; 1] = [Asking {
     flags: 1,
@@ -75,9 +75,9 @@ fn tell_client(
     store: &mut MemStore,
 ) -> Result<(), TestError> {
     match serve_next(rt.alloc(), owner, listener, store) {
-        Next::Served(link, end) => tell_served(rt, link, end),
-        Next::NoLink => head(rt, "no link"),
-        Next::Failed => head(rt, "failed"),
+        NextClient::Served(link, end) => tell_served(rt, link, end),
+        NextClient::NoLink => head(rt, "no link"),
+        NextClient::Failed => head(rt, "failed"),
     }
 }
 

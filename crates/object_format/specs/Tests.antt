@@ -7,8 +7,8 @@ use Rattle.object_format.specs.declared.expected.Expected.{Expected}
 use Rattle.object_format.specs.declared.reason.BadObject.{BadObject}
 use Rattle.object_format.specs.declared.reason.BadObject.TheVariants as reasons
 use Rattle.object_format.specs.declared.rows.Rows.{Rows}
-use Rattle.object_format.specs.declared.rows_reading.ReadError.{ReadError}
-use Rattle.object_format.specs.declared.rows_reading.ReadError.TheVariants.{Bad, OutOfMemory}
+use Rattle.object_format.specs.declared.rows_reading.RowsReadError.{RowsReadError}
+use Rattle.object_format.specs.declared.rows_reading.RowsReadError.TheVariants.{Bad, OutOfMemory}
 use Rattle.object_format.specs.Layout.{length_of}
 use Rattle.object_format.specs.Header.{header_in, has_due_seqs, is_header_within_limits}
 use Rattle.object_format.specs.Object.{IsObject}
@@ -48,6 +48,6 @@ pub record IsObjectRefusedAs (bytes : List ℕ) (size : ℕ) (expected : Expecte
   pub failed : ¬ PassesObjectTest bytes size expected reason
 
 -- what an error of a read of rows says of the bytes: the rows are the first that fails
-abbrev pub IsObjectReason : (bytes : List ℕ) (size : ℕ) → Expected → ReadError → Type 0
+abbrev pub IsObjectReason : (bytes : List ℕ) (size : ℕ) → Expected → RowsReadError → Type 0
 IsObjectReason bytes size expected (Bad reason) = (reason ≡ reasons.Rows) × IsObjectRefusedAs bytes size expected reason
 IsObjectReason bytes size expected OutOfMemory = Unit {0}

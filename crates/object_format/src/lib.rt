@@ -30,7 +30,7 @@ pub use laws::{
 pub use reading::read_header;
 pub use reason::BadObject;
 pub use rows::Rows;
-pub use rows_reading::{ReadError, read_rows};
+pub use rows_reading::{RowsReadError, read_rows};
 pub use writing::ObjectWriter;
 
 // The bytes that an object begins with.

@@ -5,7 +5,7 @@ ghost use Rattle.object_format.specs.Rows.{data_row_in, copy_row_in, rows_in, Ar
 ghost use Rattle.object_format.specs.Object.{IsObject};
 ghost use Rattle.object_format.specs.Tests.{IsObjectReason};
 ghost use Rattle.object_format.specs.declared.kind.Kind.TheVariants.{Checkpoint};
-ghost use Rattle.object_format.specs.declared.rows_reading.ReadError.TheVariants.{OutOfMemory};
+ghost use Rattle.object_format.specs.declared.rows_reading.RowsReadError.TheVariants.{OutOfMemory};
 
 use crate::HEADER_BYTES;
 use crate::copy_row::CopyRow;
@@ -22,7 +22,7 @@ use thiserror::Error;
 
 /// Why rows were not read.
 #[derive(Clone, Copy, Debug, PartialEq, Eq, Error)]
-pub enum ReadError {
+pub enum RowsReadError {
     /// The bytes are no object under the expected number.
     #[error("bad object: {0}")]
     Bad(BadObject),
@@ -31,11 +31,11 @@ pub enum ReadError {
     OutOfMemory,
 }
 
-impl From<AllocError> for ReadError {
+impl From<AllocError> for RowsReadError {
     ghost from_gives = { λ _ e. e ≡ OutOfMemory };
 
-    fn from(_e: AllocError) -> ReadError {
-        ReadError::OutOfMemory
+    fn from(_e: AllocError) -> RowsReadError {
+        RowsReadError::OutOfMemory
     }
 }
 
@@ -49,7 +49,7 @@ pub fn read_rows(
     size: u64,
     expected: &Expected,
     header: &Header,
-) -> Result<Rows, ReadError>
+) -> Result<Rows, RowsReadError>
     requires header { IsObjectHeader bytes.now size expected.now header.now }
     requires front { 512 * front_sectors header.now ≤ length bytes.now }
     requires without { header.now.kind ≡ Checkpoint → header.now.rows ≡ 0 }
@@ -59,11 +59,11 @@ pub fn read_rows(
     let rows_end = header.rows_end() as usize;
     let front = (header.front_sectors() * SECTOR_BYTES) as usize;
     if !is_zeros(&bytes[rows_end..front]) {
-        return Err(ReadError::Bad(BadObject::Rows));
+        return Err(RowsReadError::Bad(BadObject::Rows));
     }
     let rows = rows_in(alloc, header, &bytes[HEADER_BYTES..rows_end])?;
     if !rows.may_stand(expected.sectors, header) {
-        return Err(ReadError::Bad(BadObject::Rows));
+        return Err(RowsReadError::Bad(BadObject::Rows));
     }
     Ok(rows)
 }

@@ -2,8 +2,8 @@
 use Rattle.std.proofs.Common.{◌≡◌, ℕ, Option, Some, None, Ok, Err, List, length, sym, ◌∙◌, ap, subst}
 use Rattle.std.specs.Prelude.{Result, IfSome, IfErr, IsErrAnd, IsErrOf, OnOk}
 use Rattle.std.specs.Option.{IsSome}
-use Rattle.lsvd_names.specs.declared.name.Kind.{Kind}
-use Rattle.lsvd_names.specs.declared.name.Kind.TheVariants.{Object}
+use Rattle.lsvd_names.specs.declared.name.NameKind.{NameKind}
+use Rattle.lsvd_names.specs.declared.name.NameKind.TheVariants.{Object}
 use Rattle.lsvd_names.specs.declared.name.ObjName.{ObjName}
 use Rattle.lsvd_names.specs.Names.{numbered_name}
 use Rattle.lsvd_objstore.specs.Objects.{Objects}
@@ -31,7 +31,7 @@ told_so P Q (Some objects) so is = so objects is
 
 -- the name of a numbered object
 pub numbered : (name : ObjName) → name.kind ≡ Object → name ≡ numbered_name name.uuid name.number
-numbered name kind = ap (λ (k : Kind). let other : ObjName = record { uuid = name.uuid; kind = k; number = name.number } in
+numbered name kind = ap (λ (k : NameKind). let other : ObjName = record { uuid = name.uuid; kind = k; number = name.number } in
     other) kind
 
 -- a store with the same count of faults is the same

@@ -2,7 +2,7 @@
 use Rattle.std.proofs.Common.{◌≡◌, ℕ, ◌<◌, ◌≤◌, inl, inr, List, [], ◌∷◌, ◌++◌, refl, ap, subst, arith, ◌∙◌}
 use Rattle.std.specs.List.{Contains}
 use Rattle.std.proofs.lemmas.List.Elements.{Contains-append_left, Contains-push, Contains-push_cases}
-use Rattle.lsvd_names.specs.declared.name.Kind.TheVariants.{Object}
+use Rattle.lsvd_names.specs.declared.name.NameKind.TheVariants.{Object}
 use Rattle.lsvd_names.specs.declared.name.ObjName.{ObjName}
 use Rattle.object_recovery.specs.Removal.{IsPast}
 use Rattle.object_recovery.specs.State.{IsGreatestNumber}

@@ -14,7 +14,7 @@ use Rattle.object_format.specs.declared.reason.BadObject.TheVariants as reasons
 use Rattle.object_format.specs.declared.kind.Kind.TheVariants as kinds
 use Rattle.object_format.specs.declared.rows.Rows.{Rows}
 use Rattle.object_format.specs.declared.rows.Rows.TheVariants as rows_of
-use Rattle.object_format.specs.declared.rows_reading.ReadError.TheVariants.{Bad}
+use Rattle.object_format.specs.declared.rows_reading.RowsReadError.TheVariants.{Bad}
 use Rattle.object_format.specs.Layout.{front_sectors, rows_end, rows_length, padding}
 use Rattle.object_format.specs.Header.{header_in, has_due_seqs, is_header_within_limits, IsObjectHeader}
 use Rattle.object_format.specs.Rows.{AreObjectRows}

@@ -4,7 +4,7 @@ use Rattle.std.specs.List.{Contains}
 use Rattle.lsvd_base.specs.declared.geometry.Geometry.{Geometry}
 use Rattle.lsvd_names.specs.Spelling.{IsName}
 use Rattle.lsvd_names.specs.declared.name.ObjName.{ObjName}
-use Rattle.lsvd_names.specs.declared.name.Kind.TheVariants.{Object}
+use Rattle.lsvd_names.specs.declared.name.NameKind.TheVariants.{Object}
 use Rattle.lsvd_objstore.specs.Objects.{Objects}
 use Rattle.object_format.specs.declared.expected.Expected.{Expected}
 use Rattle.object_format.specs.declared.header.Header.{Header}

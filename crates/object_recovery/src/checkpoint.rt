@@ -13,7 +13,7 @@ ghost use Rattle.object_recovery.specs.Checkpoints.{IsCheckpointNamed, AreNames,
 use crate::error::RecoverError;
 use crate::reading::{read_front, read_head};
 use lsvd_base::Geometry;
-use lsvd_names::{Kind as NameKind, ObjName};
+use lsvd_names::{NameKind, ObjName};
 use lsvd_objstore::{Receipt, Store};
 use object_format::{Expected, Kind};
 use std::alloc::Global;

@@ -8,7 +8,9 @@ ghost use Rattle.object_recovery.specs.Read.{IsWhyNotRead, IsToldRefused, IsTold
 use crate::error::RecoverError;
 use lsvd_base::SECTOR_BYTES;
 use lsvd_objstore::{Receipt, Store, StoreError};
-use object_format::{BadObject, Expected, Header, Kind, ReadError, Rows, read_header, read_rows};
+use object_format::{
+    BadObject, Expected, Header, Kind, Rows, RowsReadError, read_header, read_rows,
+};
 use std::alloc::Global;
 
 // The bytes of an object's header.
@@ -159,8 +161,8 @@ pub(crate) fn read_front<S: Store>(
     )?;
     match read_rows(alloc, bytes.as_slice(), size, expected, header) {
         Ok(rows) => Ok(rows),
-        Err(ReadError::Bad(reason)) => Err(bad_object(expected, reason)),
-        Err(ReadError::OutOfMemory) => Err(RecoverError::OutOfMemory),
+        Err(RowsReadError::Bad(reason)) => Err(bad_object(expected, reason)),
+        Err(RowsReadError::OutOfMemory) => Err(RecoverError::OutOfMemory),
     }
 }
 

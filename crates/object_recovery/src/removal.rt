@@ -9,7 +9,7 @@ ghost use Rattle.object_recovery.specs.State.{IsGreatestNumber};
 ghost use Rattle.object_recovery.specs.Removal.{Removes, IsPast, IsListedPast, RemovesFirst};
 
 use crate::error::RecoverError;
-use lsvd_names::{Kind, ObjName};
+use lsvd_names::{NameKind, ObjName};
 use lsvd_objstore::{Store, an_object_is_changed_whole_or_not_at_all};
 use std::alloc::Global;
 
@@ -53,7 +53,7 @@ pub(crate) fn greatest_number(names: &[ObjName], least: u64) -> u64
 pub(crate) fn is_past(name: &ObjName, number: u64) -> bool
     ensures { IsTrue result ↔ IsPast number name.now }
 {
-    name.kind == Kind::Object && number < name.number
+    name.kind == NameKind::Object && number < name.number
 }
 
 // Removes the object with this name, which is one (a condition), if there is one.

@@ -43,8 +43,8 @@ no_entries geometry [] = tt
 no_entries geometry (now ∷ past) = All-nil (λ entry. is_in_range geometry entry ≡ true)
 
 pub formatted_has_committed : FormattedHasCommitted
-formatted_has_committed uuid epoch first geometry old log is =
-    has_committed (record { uuid = uuid; epoch = epoch }) geometry (first_body uuid epoch first) None
+formatted_has_committed owner first geometry old log is =
+    has_committed owner geometry (first_body owner.uuid owner.epoch first) None
     (entries_in [] log.commits.disk.moments) log is.commits.same_body
     is.commits.same_unfinished
     (is.all ∙ is.entries) refl tt (no_entries geometry log.commits.disk.moments)

@@ -58,11 +58,11 @@ CommitStandsFor =
 
 -- ---- calls of the log
 
--- a log that was just formatted has commits of its volume and its epoch alone, and no entry
+-- a log that was just formatted has commits of its owner alone, and no entry
 abbrev pub FormattedHasCommitted : Type 0
 FormattedHasCommitted =
-    (uuid : List ℕ) (epoch first : ℕ) (geometry : Geometry) (old : DiskState) (log : LogState)
-    → IsFormattedLog uuid epoch first old log → HasCommitted (record { uuid = uuid; epoch = epoch }) geometry log
+    (owner : CacheOwner) (first : ℕ) (geometry : Geometry) (old : DiskState) (log : LogState)
+    → IsFormattedLog owner.uuid owner.epoch first old log → HasCommitted owner geometry log
 
 -- so it stays while calls fail, and while entries are dropped from its list
 abbrev pub SameHasCommitted : Type 0

@@ -59,7 +59,7 @@ use Rattle.vol_recover.proofs.StandLemmas.{removal_keeps_volume}
 use Rattle.replay_rig.specs.Crash.{FailsNone, IsBlankDisk, IsLeftBy, IsNewVolume, MayMountStored, MayMountLeft}
 use Rattle.replay_rig.specs.Crash.{RemovesNumbers, IsMountedVolume, IsPutAs}
 use Rattle.replay_rig.specs.Puts.{PutView, IsPutOut}
-use Rattle.replay_rig.specs.Rig.{script_uuid, LandsAs, Lands}
+use Rattle.replay_rig.specs.Rig.{script_uuid, owner_at, LandsAs, Lands}
 
 -- ---- calls within the room of a disk without a fuse
 
@@ -192,7 +192,7 @@ has_one P (now ∷ past) has = tt
 -- what it has is not refused
 no_refusal_left : (geometry : Geometry) (objects : Objects) (disk : DiskState) (error : MountError)
     → (may : MayMountLeft geometry objects disk)
-    → OfVolume script_uuid (log_of disk.size) (Some objects) (λ g epoch. RefusesNoneLeft script_uuid g epoch (Some objects)
+    → OfVolume script_uuid (log_of disk.size) (Some objects) (λ g epoch. RefusesNoneLeft (owner_at epoch) g (Some objects)
     disk error)
     → refuses error ≡ true → ⊥
 no_refusal_left geometry objects disk error may none refused =
@@ -203,8 +203,8 @@ pub only_memory_left : (geometry : Geometry) (objects : Objects) (disk left : Di
     → FailsNone (mount_cost 0) disk
     → MayMountLeft geometry objects disk
     → OfVolume script_uuid (log_of disk.size) (Some objects)
-    (λ g epoch. IsWhyFor script_uuid (Some objects) (λ h e. IsWhyNotLeft script_uuid h e (Some objects) disk) g epoch error)
-    → OfVolume script_uuid (log_of disk.size) (Some objects) (λ g epoch. RefusesNoneLeft script_uuid g epoch (Some objects)
+    (λ g epoch. IsWhyFor script_uuid (Some objects) (λ h e. IsWhyNotLeft (owner_at e) h (Some objects) disk) g epoch error)
+    → OfVolume script_uuid (log_of disk.size) (Some objects) (λ g epoch. RefusesNoneLeft (owner_at epoch) g (Some objects)
     disk error)
     → CostsMount (log_of disk.size) (not (is_device_fault error)) disk left → Counts (is_store_fault_of error) 0 0
     → error ≡ OutOfMemory
@@ -269,9 +269,9 @@ removes_numbers number old new removed = record {
 pub mounted_again : (geometry : Geometry) (disk : DiskState) (mounted : MountedState) (old new : Objects)
     → FailsNone (mount_cost 0) disk
     → MayMountLeft geometry old disk
-    → OfVolume script_uuid (log_of disk.size) (Some old) (λ g epoch. IsOfVolume script_uuid g epoch mounted)
+    → OfVolume script_uuid (log_of disk.size) (Some old) (λ g epoch. IsOfVolume (owner_at epoch) g mounted)
     → Becomes (RemovesAllPast script_uuid mounted.number) (Some old) (Some new)
-    → OfVolume script_uuid (log_of disk.size) (Some old) (λ g epoch. KeepsLeft script_uuid g epoch (Some old) disk
+    → OfVolume script_uuid (log_of disk.size) (Some old) (λ g epoch. KeepsLeft (owner_at epoch) g (Some old) disk
     (disk_of mounted))
     → CostsMount (log_of disk.size) true disk (disk_of mounted) → HoldsNow IsSynced (disk_of mounted).moments
     → OfVolume script_uuid (log_of disk.size) (Some old) (λ g epoch. IsMountedVolume g epoch old mounted new)
@@ -313,7 +313,7 @@ begun_numbers number epoch old new begun =
 
 pub mounted_anew : (disk : DiskState) (mounted : MountedState) (old new : Objects) → FailsNone format_cost disk
     → IsBlankDisk disk.size disk → OfVolume script_uuid (log_of disk.size) (Some old)
-    (λ g epoch. IsOfVolume script_uuid g (epoch + 1) mounted)
+    (λ g epoch. IsOfVolume (owner_at (epoch + 1)) g mounted)
     → OfVolume script_uuid (log_of disk.size) (Some old) (λ g epoch.
     Becomes (BeginsEpoch script_uuid mounted.number (epoch + 1)) (Some old) (Some new))
     → (epoch : ℕ) × mounts.CostsNewLog script_uuid epoch true disk (disk_of mounted) → HoldsNow IsSynced (disk_of mounted).moments

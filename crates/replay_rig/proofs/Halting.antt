@@ -23,7 +23,7 @@ use Rattle.vol_core.specs.Volume.{VolumeState, SteppedVolume, with_budget_of}
 use Rattle.vol_core.specs.Shows.{Shows}
 use Rattle.vol_core.specs.Step.{passing, HasBytesOf}
 use Rattle.vol_core.specs.Stops.{HasOwnCommits}
-use Rattle.replay_rig.specs.Rig.{RigState, rig_of, script_uuid, expected_of_plain, HasBytesOfObject, ShowsPlain}
+use Rattle.replay_rig.specs.Rig.{RigState, rig_of, script_uuid, owner_at, expected_of_plain, HasBytesOfObject, ShowsPlain}
 use Rattle.replay_rig.proofs.Stepped.{all_puts}
 use Rattle.replay_rig.proofs.WindowLemmas.{under_way_numbers}
 
@@ -104,7 +104,7 @@ stopping_rig calls old volume plain h none rest shows budget =
           (still_shows_pending before.log log plain.cache cache h.pending
           (record { same_number = refl; same_body = refl; same_unfinished = refl }) refl set.1 unspent refl);
       epoch = h.epoch;
-      own = subst (HasOwnCommits h.epoch) (sym is)
+      own = subst (HasOwnCommits (owner_at h.epoch)) (sym is)
           (record { last = h.own.last; unfinished = h.own.unfinished; in_range = h.own.in_range });
       described = h.described;
       begun = omega (arith, h.begun);

@@ -54,13 +54,13 @@ use Rattle.replay_rig.specs.declared.answer.Answer.TheVariants.{Mounted}
 use Rattle.replay_rig.specs.Steps.{IsMountTold}
 use Rattle.replay_rig.specs.Crash.{IsLeftBy, MayMountStored, MayMountLeft, RemovesNumbers, IsMountedVolume}
 use Rattle.replay_rig.specs.Puts.{PutView}
-use Rattle.replay_rig.specs.Rig.{RigState, rig_of, script_uuid, expected_of_plain, ShowsPlain, Lands}
+use Rattle.replay_rig.specs.Rig.{RigState, rig_of, script_uuid, owner_at, expected_of_plain, ShowsPlain, Lands}
 use Rattle.replay_rig.proofs.CrashLemmas.{left_is_synced}
 use Rattle.replay_rig.proofs.Crashing.{left_object, none_past, none_first, checkpoint_stays}
 use Rattle.replay_rig.proofs.Crashing.{recovered_same}
 use Rattle.replay_rig.proofs.Opening.{fuse_told}
 use Rattle.replay_rig.proofs.Describing.{lands_keep_volume}
-use Rattle.replay_rig.proofs.Standing.{owner_at, rig_stops, ends_past, number_left, has_left, left_within}
+use Rattle.replay_rig.proofs.Standing.{rig_stops, ends_past, number_left, has_left, left_within}
 
 -- ---- what may be mounted
 
@@ -177,7 +177,7 @@ module _ (rig : RigState) (plain : PlainState) (fates : List Fate) (letters : Li
       (rig_stops rig plain h on_disk) h.pending count
       is.may_leave ends.0 ends.1
 
-  pub is_left : rig.lines < 2 ^ 40 → IsLeft script_uuid plain.geometry h.epoch plain commit_left (number_left new plain)
+  pub is_left : rig.lines < 2 ^ 40 → IsLeft (owner_at h.epoch) plain.geometry plain commit_left (number_left new plain)
       (Some new) left
   is_left few = record {
     stored = stored_left rig plain letters new h lands few;
@@ -210,13 +210,13 @@ module _ (rig : RigState) (plain : PlainState) (fates : List Fate) (letters : Li
       (omega (arith, least, commits, few), omega (arith, same, head, entries, few))
 
   none_worn : rig.lines < 2 ^ 40 → (value : ℕ)
-      → IsWhyNotLeft script_uuid plain.geometry h.epoch (Some new) left (Worn value) → ⊥
+      → IsWhyNotLeft (owner_at h.epoch) plain.geometry (Some new) left (Worn value) → ⊥
   none_worn few value (inl stored) = absurd stored
   none_worn few value (inr (good, (greatest, end, extent, reads))) =
       let has = has_commit.0 in
       let P : ℕ → CommitBody → Type 0 = λ n body. IsFirstGreat (n ∷ h.epoch ∷ greatest ∷ max end body.head.seq ∷ []) value in
       let here = subst (HoldsNow (λ now. (n : ℕ) × (body : CommitBody) × Reads plain.geometry.log now.bytes body n
-      × (P n body × IsOwnCommit script_uuid h.epoch end body)
+      × (P n body × IsOwnCommit (owner_at h.epoch) end body)
       × ((rows : List Row) × AreRecordsInRange plain.geometry body rows now.bytes)))
       is.stopped.moments reads in
       let same = reads_one plain.geometry.log bytes_left here.0 has.number here.1 has.body here.2 has.slots.reads in
@@ -400,7 +400,7 @@ MountedAs log begun new mounted after =
 
 abbrev pub MountsLeftOf : (log : ℕ) → Objects → DiskState → MountedState → Type 0
 MountsLeftOf log new left mounted =
-    OfVolume script_uuid log (Some new) (λ geometry epoch. MountsLeft script_uuid geometry epoch (Some new) left mounted)
+    OfVolume script_uuid log (Some new) (λ geometry epoch. MountsLeft (owner_at epoch) geometry (Some new) left mounted)
 
 abbrev pub MountsStoredOf : (log : ℕ) → Objects → MountedState → Type 0
 MountsStoredOf log new mounted =

@@ -39,8 +39,8 @@ use Rattle.refine_store.proofs.JobLemmas.{job_is_object}
 use Rattle.refine_store.proofs.KeepLemmas.{events_keep_object}
 use Rattle.vol_core.specs.declared.event.Event.{Event}
 use Rattle.vol_core.specs.declared.event.Event.TheVariants.{TakeJob, JobDone, JobFailed}
-use Rattle.vol_core.specs.declared.reply.Refusal.{Refusal}
-use Rattle.vol_core.specs.declared.reply.Refusal.TheVariants as refusals
+use Rattle.vol_core.specs.declared.reply.EntryRefusal.{EntryRefusal}
+use Rattle.vol_core.specs.declared.reply.EntryRefusal.TheVariants as refusals
 use Rattle.vol_core.specs.declared.reply.Reply.{Reply}
 use Rattle.vol_core.specs.declared.reply.Reply.TheVariants as told
 use Rattle.vol_core.specs.Volume.{VolumeState, SteppedVolume}
@@ -225,7 +225,7 @@ stored_marked n started old plain asked h is =
 -- ---- a put begins
 
 -- what the plain volume answers
-not_refused : (why : Refusal) (number : ℕ) → TellsRefusal why (replies.Taken number) → ⊥
+not_refused : (why : EntryRefusal) (number : ℕ) → TellsRefusal why (replies.Taken number) → ⊥
 not_refused refusals.Range number tells = cc
 not_refused (refusals.Full (full.Sectors sectors)) number tells = cc
 not_refused (refusals.Full (full.Entries count)) number tells = cc

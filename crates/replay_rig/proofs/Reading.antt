@@ -29,8 +29,8 @@ use Rattle.refine_log.proofs.Asked.{pending_count}
 use Rattle.transcript.specs.Answers.{released_by}
 use Rattle.read_plan.specs.Plan.{PlanState, Gives, GivesNoOther}
 use Rattle.vol_core.specs.declared.event.Event.TheVariants.{Look, Release}
-use Rattle.vol_core.specs.declared.reply.Refusal.{Refusal}
-use Rattle.vol_core.specs.declared.reply.Refusal.TheVariants as refusals
+use Rattle.vol_core.specs.declared.reply.EntryRefusal.{EntryRefusal}
+use Rattle.vol_core.specs.declared.reply.EntryRefusal.TheVariants as refusals
 use Rattle.vol_core.specs.declared.reply.Reply.{Reply}
 use Rattle.vol_core.specs.declared.reply.Reply.TheVariants as told
 use Rattle.vol_core.specs.Events.{TellsRead, Tells, TellsRefusal}
@@ -136,7 +136,7 @@ look_shows lba sectors old volume plain reply h of =
 
 -- ---- a look without a plan
 
-refusal_no_plan : (why : Refusal) (read : PlannedRead) → TellsRefusal why (replies.Planned read) → ⊥
+refusal_no_plan : (why : EntryRefusal) (read : PlannedRead) → TellsRefusal why (replies.Planned read) → ⊥
 refusal_no_plan refusals.Range read tells = cc
 refusal_no_plan (refusals.Full (full.Sectors sectors)) read tells = cc
 refusal_no_plan (refusals.Full (full.Entries count)) read tells = cc

@@ -20,7 +20,7 @@ use Rattle.vol_core.specs.Stops.{HasOwnCommits}
 use Rattle.replay_rig.specs.declared.answer.Answer.{Answer}
 use Rattle.replay_rig.specs.Answers.{SaysReply, SaysCounts}
 use Rattle.replay_rig.specs.Steps.{is_counted, AnswersEvent, AnswersAsked, IsUntouched}
-use Rattle.replay_rig.specs.Rig.{RigState, rig_of, script_uuid, ShowsPlain}
+use Rattle.replay_rig.specs.Rig.{RigState, rig_of, script_uuid, owner_at, ShowsPlain}
 use Rattle.replay_rig.proofs.Says.{says_reply, lacks_unsaid, counted_asks, counted_reply}
 use Rattle.replay_rig.proofs.Stepped.{ShowsVolume, volume_shown, HasRoomForEvent, step_of_plain, bytes_kept}
 use Rattle.replay_rig.proofs.Stepped.{on_its_way, goes_on}
@@ -40,7 +40,7 @@ untouched_volume epoch old new plain h of =
           (still_shows_pending old.volume.log log plain.cache plain.cache h.pending
           (record { same_number = refl; same_body = refl; same_unfinished = refl }) refl
           (of.told h.pending.told) (λ spent. of.fuse ∙ spent) refl);
-      own = subst (HasOwnCommits epoch) (sym of.volume)
+      own = subst (HasOwnCommits (owner_at epoch)) (sym of.volume)
           (record { last = h.own.last; unfinished = h.own.unfinished; in_range = h.own.in_range });
       uuid_is = subst (λ (v : VolumeState). v.objects.uploads.uuid ≡ script_uuid) (sym of.volume) h.uuid_is;
     }

@@ -22,8 +22,8 @@ use Rattle.plain_disk.specs.Step.{plain_reply}
 use Rattle.vol_core.specs.declared.event.Event.{Event}
 use Rattle.vol_core.specs.declared.event.Event.TheVariants.{Write, Zero, Flush, Look, Release, Seal, TakeJob, JobDone, JobFailed}
 use Rattle.vol_core.specs.declared.event.Event.TheVariants.{Status}
-use Rattle.vol_core.specs.declared.reply.Refusal.{Refusal}
-use Rattle.vol_core.specs.declared.reply.Refusal.TheVariants as refusals
+use Rattle.vol_core.specs.declared.reply.EntryRefusal.{EntryRefusal}
+use Rattle.vol_core.specs.declared.reply.EntryRefusal.TheVariants as refusals
 use Rattle.vol_core.specs.declared.reply.Reply.{Reply}
 use Rattle.vol_core.specs.declared.reply.Reply.TheVariants as told
 use Rattle.vol_core.specs.Volume.{VolumeState}
@@ -91,7 +91,7 @@ done_counts plain job = either_counts (is_under_way job plain.window) _ _ tt tt
 
 -- ---- what is said
 
-says_refusal : (why : Refusal) (reply : PlainReply) (answer : Answer) → TellsRefusal why reply → SaysRefusal why answer
+says_refusal : (why : EntryRefusal) (reply : PlainReply) (answer : Answer) → TellsRefusal why reply → SaysRefusal why answer
     → SaysReply reply answer
 says_refusal refusals.Range reply answer tells says = subst (λ r. SaysReply r answer) (sym tells) says
 says_refusal (refusals.Full (full.Sectors sectors)) reply answer tells says = subst (λ r. SaysReply r answer) (sym tells) says
@@ -123,7 +123,7 @@ says_reply volume told.Fault plain answer tells counts says = subst (λ r. SaysR
 says_reply volume told.OutOfMemory plain answer tells counts says = absurd tells
 
 -- nothing is answered where memory lacks
-lacks_by : (why : Refusal) (entry : Entry) (answer : Answer) → lacks_memory {R = Kept} (told.NotEntered entry why) ≡ true
+lacks_by : (why : EntryRefusal) (entry : Entry) (answer : Answer) → lacks_memory {R = Kept} (told.NotEntered entry why) ≡ true
     → SaysRefusal why answer → ⊥
 lacks_by refusals.Range entry answer lacks says = cc
 lacks_by (refusals.Full why) entry answer lacks says = cc

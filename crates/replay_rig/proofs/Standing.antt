@@ -20,14 +20,10 @@ use Rattle.refine_mount.specs.Found.{HasObjects}
 use Rattle.refine_mount.specs.Mounted.{end_of_object}
 use Rattle.refine_store.proofs.LeftLemmas.{left_has_objects}
 use Rattle.vol_core.specs.Volume.{VolumeState}
-use Rattle.replay_rig.specs.Rig.{RigState, script_uuid, expected_of_plain, ShowsPlain, Lands, IsKeptByRig}
+use Rattle.replay_rig.specs.Rig.{RigState, script_uuid, owner_at, expected_of_plain, ShowsPlain, Lands, IsKeptByRig}
 use Rattle.replay_rig.proofs.Crashing.{puts_now, are_puts, may_be_left}
 
 -- ---- stops of the device
-
--- the volume of a script as the owner of its cache in an epoch
-abbrev pub owner_at : (epoch : ℕ) → CacheOwner
-owner_at epoch = record { uuid = script_uuid; epoch = epoch }
 
 -- what the log of a rig has of its plain volume, for stops
 pub rig_stops : (rig : RigState) (plain : PlainState) (h : ShowsPlain rig plain) → IsOnDisk rig.volume.volume.log
@@ -38,10 +34,7 @@ rig_stops rig plain h on_disk =
       valid = h.shows.valid;
       log_is = h.shows.log;
       logged = h.shows.logged;
-      committed =
-          subst (λ (g : Geometry). HasCommitted (owner_at h.epoch) g volume.log) h.shows.objects.geometry
-          (subst (λ (u : List ℕ). HasCommitted (record { uuid = u; epoch = h.epoch }) volume.objects.batch.geometry volume.log)
-          h.uuid_is h.own);
+      committed = subst (λ (g : Geometry). HasCommitted (owner_at h.epoch) g volume.log) h.shows.objects.geometry h.own;
       on_disk = on_disk;
     }
 
@@ -83,7 +76,7 @@ now_as P Q [] follows holds = tt
 now_as P Q (now ∷ past) follows holds = follows now holds
 
 pub kept_by_rig : (rig : RigState) (plain : PlainState) → (h : ShowsPlain rig plain) → IsOnDisk rig.volume.volume.log
-    → IsKeptByRig h.epoch rig plain
+    → IsKeptByRig (owner_at h.epoch) rig plain
 kept_by_rig rig plain h on_disk =
     let valid = h.shows.valid in
     let owner : CacheOwner = owner_at h.epoch in
@@ -108,6 +101,6 @@ kept_by_rig rig plain h on_disk =
 -- and so of the same rig
 pub kept_as : (rig seen : RigState) (plain : PlainState) → rig ≡ seen → (h : ShowsPlain seen plain)
     → IsOnDisk rig.volume.volume.log
-    → IsKeptByRig h.epoch seen plain
+    → IsKeptByRig (owner_at h.epoch) seen plain
 kept_as rig seen plain same h on_disk =
     kept_by_rig seen plain h (subst (λ (r : RigState). IsOnDisk r.volume.volume.log) same on_disk)

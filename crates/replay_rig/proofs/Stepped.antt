@@ -28,8 +28,8 @@ use Rattle.vol_core.specs.Step.{most_of_step, may_lack_memory, lacks_memory, pas
 use Rattle.vol_core.specs.Step.{HasBytesOf, KeepsBytes}
 use Rattle.vol_core.specs.Stops.{HasOwnCommits}
 use Rattle.replay_rig.specs.Puts.{PutView}
-use Rattle.replay_rig.specs.Rig.{RigState, rig_of, script_uuid, expected_of_plain, AreUnderWay, IsFirstUnderWay, HasBytesOfObject}
-use Rattle.replay_rig.specs.Rig.{HasStored, IsYoung, ShowsPlain}
+use Rattle.replay_rig.specs.Rig.{RigState, rig_of, script_uuid, owner_at, expected_of_plain, AreUnderWay, IsFirstUnderWay}
+use Rattle.replay_rig.specs.Rig.{HasBytesOfObject, HasStored, IsYoung, ShowsPlain}
 use Rattle.replay_rig.proofs.PlainLemmas.{GrowsByOne, event_grows, still_opens}
 
 -- ---- one step
@@ -38,7 +38,7 @@ use Rattle.replay_rig.proofs.PlainLemmas.{GrowsByOne, event_grows, still_opens}
 pub record ShowsVolume (epoch : ℕ) (volume : VolumeState) (plain : PlainState) : Type 0 where
   pub shows : Shows volume plain
   pub pending : ShowsPending volume.log plain.cache
-  pub own : HasOwnCommits epoch volume
+  pub own : HasOwnCommits (owner_at epoch) volume
   pub uuid_is : volume.objects.uploads.uuid ≡ script_uuid
 
 pub volume_shown : (rig : RigState) (plain : PlainState) → (h : ShowsPlain rig plain)
@@ -68,7 +68,7 @@ pub step_of_plain : (epoch : ℕ) (event : Event Kept) (reply : Reply Kept) (pla
     → HasRoomForEvent event old.volume → CountedStep told_receipt event reply old new
     → StepsPlain epoch event reply plain old.volume new.volume ⊎ StepsNot epoch event reply plain new.volume
 step_of_plain epoch event reply plain old new h room of =
-    let own = (of.step.stops epoch h.own).own in
+    let own = (of.step.stops (owner_at epoch) h.own).own in
     let uuid = of.step.sizes.uuid ∙ h.uuid_is in
     elim (of.step.step plain h.shows) [
       | inl s ↦

@@ -4,8 +4,8 @@ use Rattle.std.specs.Global.{Vec}
 use Rattle.plain_disk.specs.declared.event.PlainReply.{PlainReply}
 use Rattle.plain_disk.specs.declared.event.PlainReply.TheVariants as replies
 use Rattle.batcher.specs.declared.full.Full.TheVariants as full
-use Rattle.vol_core.specs.declared.reply.Refusal.{Refusal}
-use Rattle.vol_core.specs.declared.reply.Refusal.TheVariants as refusals
+use Rattle.vol_core.specs.declared.reply.EntryRefusal.{EntryRefusal}
+use Rattle.vol_core.specs.declared.reply.EntryRefusal.TheVariants as refusals
 use Rattle.vol_core.specs.declared.reply.Reply.{Reply}
 use Rattle.vol_core.specs.declared.reply.Reply.TheVariants as told
 use Rattle.replay_rig.specs.declared.answer.Answer.{Answer}
@@ -35,7 +35,7 @@ SaysReply replies.Fault answer = answer ≡ Fault
 -- ---- replies of the volume
 
 -- the answer that says why an entry was not entered; want of memory is no answer
-abbrev pub SaysRefusal : Refusal → Answer → Type 0
+abbrev pub SaysRefusal : EntryRefusal → Answer → Type 0
 SaysRefusal refusals.Range answer = answer ≡ Range
 SaysRefusal (refusals.Full (full.Sectors sectors)) answer = answer ≡ BatchFull sectors
 SaysRefusal (refusals.Full (full.Entries count)) answer = answer ≡ EntriesFull count

@@ -24,7 +24,7 @@ use Rattle.vol_mount.specs.declared.error.MountError.TheVariants.{Worn}
 use Rattle.vol_mount.specs.Refusals.{IsWornStored, IsWhyNotLeft}
 use Rattle.lsvd_objstore.specs.Memory.{Kept}
 use Rattle.replay_rig.specs.Puts.{PutView, IsPutOut}
-use Rattle.replay_rig.specs.Rig.{script_uuid}
+use Rattle.replay_rig.specs.Rig.{script_uuid, owner_at}
 
 -- ---- disks
 
@@ -86,9 +86,9 @@ pub record MayMountLeft (geometry : Geometry) (objects : Objects) (disk : DiskSt
   pub log : geometry.log ≡ log_of disk.size
   pub size : 4096 ≤ disk.size
   pub described : HasVolume script_uuid geometry epoch objects
-  pub left : IsLeft script_uuid geometry epoch plain found number (Some objects) disk
+  pub left : IsLeft (owner_at epoch) geometry plain found number (Some objects) disk
   pub synced : HoldsNow IsSynced disk.moments
-  pub low : (value : ℕ) → IsWhyNotLeft script_uuid geometry epoch (Some objects) disk (Worn value) → ⊥
+  pub low : (value : ℕ) → IsWhyNotLeft (owner_at epoch) geometry (Some objects) disk (Worn value) → ⊥
 
 -- the numbered objects past a number were removed, and the others stay
 pub record RemovesNumbers (number : ℕ) (old new : Objects) : Type 0 where
@@ -100,7 +100,7 @@ pub record RemovesNumbers (number : ℕ) (old new : Objects) : Type 0 where
 -- first missing number were removed
 pub record IsMountedVolume (geometry : Geometry) (epoch : ℕ) (objects : Objects) (mounted : MountedState) (after : Objects) :
     Type 0 where
-  pub volume : IsOfVolume script_uuid geometry epoch mounted
+  pub volume : IsOfVolume (owner_at epoch) geometry mounted
   pub described : HasVolume script_uuid geometry epoch after
   pub removed : RemovesNumbers mounted.number objects after
   pub fuse : fuse_of (disk_of mounted).budget ≡ Some None

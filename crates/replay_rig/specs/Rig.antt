@@ -8,6 +8,7 @@ use Rattle.lsvd_device.specs.Medium.{MayLeave}
 use Rattle.lsvd_objstore.specs.Objects.{Objects, found, IsPut}
 use Rattle.object_format.specs.declared.expected.Expected.{Expected}
 use Rattle.object_stream.specs.Replay.{object_name}
+use Rattle.stopped_volume.specs.Device.{CacheOwner, owner_with}
 use Rattle.stopped_volume.specs.Objects.{landed_in, IsCheckpointOf}
 use Rattle.stopped_volume.specs.Super.{HasVolume}
 use Rattle.upload_window.specs.declared.object.OpenObject.{OpenObject}
@@ -48,6 +49,10 @@ rig_of volume objects puts is_stopping lines =
 -- the uuid of the volume of a script
 abbrev pub script_uuid : List ℕ
 script_uuid = 0 ∷ 0 ∷ 0 ∷ 0 ∷ 0 ∷ 0 ∷ 64 ∷ 0 ∷ 128 ∷ 0 ∷ 0 ∷ 0 ∷ 0 ∷ 0 ∷ 0 ∷ 1 ∷ []
+
+-- the owner of a script's cache in an epoch
+abbrev pub owner_at : (epoch : ℕ) → CacheOwner
+owner_at epoch = owner_with script_uuid epoch
 
 -- what is expected of the objects of a plain volume of a script
 abbrev pub expected_of_plain : PlainState → Expected
@@ -100,7 +105,7 @@ pub record ShowsPlain (rig : RigState) (plain : PlainState) : Type 0 where
   pub shows : Shows rig.volume.volume plain
   pub pending : ShowsPending rig.volume.volume.log plain.cache
   pub epoch : ℕ
-  pub own : HasOwnCommits epoch rig.volume.volume
+  pub own : HasOwnCommits (owner_at epoch) rig.volume.volume
   pub described : HasVolume script_uuid plain.geometry epoch rig.objects
   pub begun : epoch ≤ rig.lines
   pub uuid_is : rig.volume.volume.objects.uploads.uuid ≡ script_uuid
@@ -126,14 +131,14 @@ Lands (put ∷ puts) [] old new = new ≡ old
 Lands (put ∷ puts) (letter ∷ letters) old new = (middle : Objects) × LandsAs (letter == 121) put old middle
     × Lands puts letters middle new
 
--- Whatever a stop leaves of the device reads as the last commit of the plain volume or as the unfinished one, in this epoch,
+-- Whatever a stop leaves of the device reads as the last commit of the plain volume or as the unfinished one, of this owner,
 -- wherever the objects end that a mount finds, from the frontier on. And whichever objects under way have landed in its store,
 -- that has the plain volume's objects up to the one before the first missing number, from the frontier on.
-pub record IsKeptByRig (epoch : ℕ) (rig : RigState) (plain : PlainState) : Type 0 where
+pub record IsKeptByRig (owner : CacheOwner) (rig : RigState) (plain : PlainState) : Type 0 where
   pub device : HoldsNow (λ now. (left : List ℕ) → MayLeave now left
       → (found : PlainCommit) × IsFoundCommit found plain.cache.log
       × ((number : ℕ) → frontier_of plain ≤ number → number ≤ plain.window.last
-      → HasCommit (record { uuid = script_uuid; epoch = epoch }) plain found (end_of_object number plain) left))
+      → HasCommit owner plain found (end_of_object number plain) left))
       rig.volume.volume.log.commits.disk.moments
   pub store : (letters : List ℕ) (objects : Objects) → Lands rig.puts letters rig.objects objects
       → HasObjects script_uuid plain (recovered_number (landed_in objects (expected_of_plain plain)) plain) objects

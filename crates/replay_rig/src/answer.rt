@@ -4,7 +4,7 @@ ghost use Rattle.replay_rig.specs.Answers.{SaysRefusal, SaysCounts};
 use batcher::Full;
 use lsvd_objstore::Receipt;
 use std::alloc::AllocError;
-use vol_core::{Refusal, Reply};
+use vol_core::{EntryRefusal, Reply};
 
 /// What a line is answered.
 #[derive(Drop)]
@@ -59,19 +59,19 @@ pub enum Answer {
 }
 
 // Why an entry was not entered, as an answer.
-fn answer_of_refusal(refusal: &Refusal) -> Result<Answer, AllocError>
+fn answer_of_refusal(refusal: &EntryRefusal) -> Result<Answer, AllocError>
     ensures { IfOk result (SaysRefusal refusal.now) }
 {
     match refusal {
-        Refusal::Range => Ok(Answer::Range),
-        Refusal::Full(Full::Sectors(sectors)) => Ok(Answer::BatchFull(*sectors)),
-        Refusal::Full(Full::Entries(count)) => Ok(Answer::EntriesFull(*count)),
-        Refusal::NoRoom { need, free } => Ok(Answer::NoRoom {
+        EntryRefusal::Range => Ok(Answer::Range),
+        EntryRefusal::Full(Full::Sectors(sectors)) => Ok(Answer::BatchFull(*sectors)),
+        EntryRefusal::Full(Full::Entries(count)) => Ok(Answer::EntriesFull(*count)),
+        EntryRefusal::NoRoom { need, free } => Ok(Answer::NoRoom {
             need: *need,
             free: *free,
         }),
-        Refusal::Fault => Ok(Answer::Fault),
-        Refusal::OutOfMemory => Err(AllocError),
+        EntryRefusal::Fault => Ok(Answer::Fault),
+        EntryRefusal::OutOfMemory => Err(AllocError),
     }
 }
 

@@ -11,7 +11,7 @@ ghost use Rattle.vol_mount.specs.Mounting.{MountsStored, MountsLeft};
 ghost use Rattle.vol_recover.specs.Describing.{OfVolume};
 ghost use Rattle.replay_rig.specs.Crash.{FailsNone, IsBlankDisk, IsLeftBy};
 ghost use Rattle.replay_rig.specs.Crash.{IsNewVolume, MayMountStored, MayMountLeft, IsMountedVolume};
-ghost use Rattle.replay_rig.specs.Rig.{script_uuid, LandsAs, Lands};
+ghost use Rattle.replay_rig.specs.Rig.{script_uuid, owner_at, LandsAs, Lands};
 
 use crate::puts::Put;
 use lsvd_base::{Geometry, ObjectBytes};
@@ -132,7 +132,7 @@ pub(crate) fn mount_again(
         IsMountedVolume geometry epoch store.old mounted store.new)) }
     ensures mounts { IfOk result (λ mounted. OfVolume script_uuid (log_of disk.size) (Some store.old)
         (λ geometry epoch.
-        MountsLeft script_uuid geometry epoch (Some store.old) disk mounted)) }
+        MountsLeft (owner_at epoch) geometry (Some store.old) disk mounted)) }
     ensures number { IfOk result (NumbersNextCommit (log_of disk.size) disk) }
 {
     match mount_kept(alloc, disk, store, Uuid::from_bytes(UUID)) {

@@ -12,7 +12,7 @@ ghost use Rattle.read_plan.specs.Plan.{GivesNoOther};
 ghost use Rattle.replay_rig.specs.Puts.{is_put_out, put_of};
 ghost use Rattle.replay_rig.specs.Crash.{IsPutAs};
 ghost use Rattle.replay_rig.specs.Steps.{IsUntouched, StopsAfter, MountsKeptRig, MountsLostRig};
-ghost use Rattle.replay_rig.specs.Rig.{rig_of, ShowsPlain, IsKeptByRig};
+ghost use Rattle.replay_rig.specs.Rig.{rig_of, owner_at, ShowsPlain, IsKeptByRig};
 
 use crate::answer::{Answer, answer_of};
 use crate::crash::{
@@ -310,7 +310,7 @@ impl Rig {
     /// What is so of every volume with its store, as a fact for the proofs of callers. Nothing is done.
     pub fn stands(&self)
         ensures { (plain : PlainState) → (shows : ShowsPlain self.now plain)
-            → IsKeptByRig shows.epoch self.now plain }
+            → IsKeptByRig (owner_at shows.epoch) self.now plain }
     {
         self.volume.is_volume();
     }

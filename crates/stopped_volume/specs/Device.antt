@@ -21,15 +21,18 @@ pub record CacheOwner : Type 0 where
   pub uuid : List ℕ
   pub epoch : ℕ
 
+abbrev pub owner_with : (uuid : List ℕ) → (epoch : ℕ) → CacheOwner
+owner_with uuid epoch = record { uuid = uuid; epoch = epoch }
+
 -- the owner that a commit names
 abbrev pub owner_of : CommitBody → CacheOwner
-owner_of body = record { uuid = body.uuid; epoch = body.epoch }
+owner_of body = owner_with body.uuid body.epoch
 
 -- ---- what it stands for
 
 -- The bytes of a device have the entries of a volume's log from a seq on: some slot is open, and the newest that is has a commit
--- of this volume and this epoch whose tail is not past that seq; the other slots are as between two commits; and the log has
--- records from that tail up to the head, each of an entry in range. Those of entries before the seq are in objects.
+-- of this owner whose tail is not past that seq; the other slots are as between two commits; and the log has records from that
+-- tail up to the head, each of an entry in range. Those of entries before the seq are in objects.
 pub record DeviceStandsFor (owner : CacheOwner) (geometry : Geometry) (left : List ℕ) (seq : ℕ) (entries : List Entry) :
     Type 0 where
   pub number : ℕ
@@ -44,21 +47,22 @@ pub record DeviceStandsFor (owner : CacheOwner) (geometry : Geometry) (left : Li
 
 -- Device and store stand for an image up to the end of the object before the first missing one, and for the entries from there
 -- on. The store has the volume, and the device is its cache in the newest epoch.
-pub record StandFor (volume : Expected) (geometry : Geometry) (epoch : ℕ) (uuid_at : ℕ → Option (List ℕ)) (left : List ℕ)
-    (objects : Objects)
+pub record StandFor (volume : Expected) (geometry : Geometry) (owner : CacheOwner) (uuid_at : ℕ → Option (List ℕ))
+    (left : List ℕ) (objects : Objects)
     (image : Image) (number end : ℕ) (entries : List Entry) : Type 0 where
   pub limits : IsTrue (is_within_limits geometry)
   pub sectors : volume.sectors ≡ geometry.sectors
-  pub described : HasVolume volume.uuid geometry epoch objects
+  pub owned : owner.uuid ≡ volume.uuid
+  pub described : HasVolume volume.uuid geometry owner.epoch objects
   pub store : ObjectsStandFor volume uuid_at objects image number end
-  pub device : DeviceStandsFor (record { uuid = volume.uuid; epoch = epoch }) geometry left end entries
+  pub device : DeviceStandsFor owner geometry left end entries
 
 -- They stand for the first K entries of a history over an opening image: the objects have those up to their end, and the log has
 -- the others.
-pub record StandForFirst (volume : Expected) (geometry : Geometry) (epoch : ℕ) (uuid_at : ℕ → Option (List ℕ)) (left : List ℕ)
-    (objects : Objects)
+pub record StandForFirst (volume : Expected) (geometry : Geometry) (owner : CacheOwner) (uuid_at : ℕ → Option (List ℕ))
+    (left : List ℕ) (objects : Objects)
     (opening : Image) (history : List Entry) (number end kept : ℕ) : Type 0 where
   pub ends : end ≤ kept
   pub taken : kept ≤ length history
-  pub stands : StandFor volume geometry epoch uuid_at left objects (after opening (take end history)) number end
+  pub stands : StandFor volume geometry owner uuid_at left objects (after opening (take end history)) number end
       (drop end (take kept history))

@@ -3,7 +3,7 @@ use Rattle.std.proofs.Common.{◌≡◌, ◌+◌, ◌*◌, ◌++◌, length, tak
 use Rattle.std.proofs.lemmas.List.{take-append-le, drop-append-le, length-drop}
 use Rattle.std.specs.Int.{w32, from_be_bytes}
 use Rattle.lsvd_bytes.specs.Places.{number_at}
-use Rattle.super_format.specs.declared.reason.Reason.TheVariants as reasons
+use Rattle.super_format.specs.declared.reason.SuperReason.TheVariants as reasons
 use Rattle.super_format.specs.Super.{super_bytes, super_in}
 use Rattle.super_format.specs.Epoch.{epoch_bytes}
 use Rattle.super_format.specs.Laws.{SupersHaveOneSpelling, NoSuperBeginsAnother, EpochsHaveOneSpelling, NoEpochBeginsAnother}

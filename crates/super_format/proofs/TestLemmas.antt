@@ -11,8 +11,8 @@ use Rattle.lsvd_base.specs.declared.geometry.Geometry.{Geometry}
 use Rattle.clone_chain.specs.declared.ancestor.Ancestor.{Ancestor}
 use Rattle.clone_chain.specs.Chain.{IsLevelOf, IsNoAncestor, IsChain}
 use Rattle.super_format.specs.declared.super_object.Super.{Super}
-use Rattle.super_format.specs.declared.reason.Reason.{Reason}
-use Rattle.super_format.specs.declared.reason.Reason.TheVariants as reasons
+use Rattle.super_format.specs.declared.reason.SuperReason.{SuperReason}
+use Rattle.super_format.specs.declared.reason.SuperReason.TheVariants as reasons
 use Rattle.super_format.specs.Ancestors.{chain_in}
 use Rattle.super_format.specs.Super.{super_in, geometry_with, keeps_limits, HasNoVolumeTwice, IsSuper}
 use Rattle.super_format.specs.Tests.{code_of, PassesSuperTest, PassesTestsBefore, IsSuperRefusedAs}
@@ -26,7 +26,7 @@ pub super_in-IsSuper : (bytes uuid : List ℕ) (volume : Super) → IsSuper byte
 super_in-IsSuper bytes uuid volume is = ap super_in is.spelled
     ∙ super_again volume is.widths (sizes_fit volume is.may_stand.limits)
 
-pub super_passes : (bytes uuid : List ℕ) (volume : Super) → IsSuper bytes uuid volume → (reason : Reason)
+pub super_passes : (bytes uuid : List ℕ) (volume : Super) → IsSuper bytes uuid volume → (reason : SuperReason)
     → PassesSuperTest bytes uuid reason
 super_passes bytes uuid volume is reasons.Length =
     let counted = ap (number_at w32 44) is.spelled ∙ count_again volume is.widths.uuid (sizes_fit volume is.may_stand.limits) in
@@ -55,7 +55,7 @@ super_if_passes bytes uuid fits passes once =
 
 -- ---- the first test that fails
 
-pub refused_as : (bytes uuid : List ℕ) (reason : Reason) → PassesTestsBefore bytes uuid reason
+pub refused_as : (bytes uuid : List ℕ) (reason : SuperReason) → PassesTestsBefore bytes uuid reason
     → (PassesSuperTest bytes uuid reason → ⊥) → IsSuperRefusedAs bytes uuid reason
 refused_as bytes uuid reason earlier failed = record {
   earlier = earlier;
@@ -64,7 +64,7 @@ refused_as bytes uuid reason earlier failed = record {
 }
 
 -- a reason is told by its number
-reason_of : ℕ → Reason
+reason_of : ℕ → SuperReason
 reason_of zero = reasons.Length
 reason_of (suc zero) = reasons.Length
 reason_of (suc (suc zero)) = reasons.Magic
@@ -73,7 +73,7 @@ reason_of (suc (suc (suc (suc zero)))) = reasons.Uuid
 reason_of (suc (suc (suc (suc (suc zero))))) = reasons.Limits
 reason_of (suc (suc (suc (suc (suc (suc n)))))) = reasons.Ancestors
 
-reason_of-code_of : (reason : Reason) → reason_of (code_of reason) ≡ reason
+reason_of-code_of : (reason : SuperReason) → reason_of (code_of reason) ≡ reason
 unfolding reason_of
 reason_of-code_of reasons.Length = refl
 reason_of-code_of reasons.Magic = refl
@@ -82,10 +82,10 @@ reason_of-code_of reasons.Uuid = refl
 reason_of-code_of reasons.Limits = refl
 reason_of-code_of reasons.Ancestors = refl
 
-same_reason : (a b : Reason) → code_of a ≡ code_of b → a ≡ b
+same_reason : (a b : SuperReason) → code_of a ≡ code_of b → a ≡ b
 same_reason a b same = sym (reason_of-code_of a) ∙ ap reason_of same ∙ reason_of-code_of b
 
-code_is_positive : (reason : Reason) → 0 < code_of reason
+code_is_positive : (reason : SuperReason) → 0 < code_of reason
 code_is_positive reasons.Length = omega arith
 code_is_positive reasons.Magic = omega arith
 code_is_positive reasons.Version = omega arith
@@ -98,7 +98,7 @@ pub none_before : (bytes uuid : List ℕ) → PassesTestsBefore bytes uuid reaso
 none_before bytes uuid other below = absurd (omega (arith, code_is_positive other, below))
 
 -- a test that is passed is one of those before the next
-pub one_more_before : (bytes uuid : List ℕ) (this next : Reason) → code_of next ≡ code_of this + 1
+pub one_more_before : (bytes uuid : List ℕ) (this next : SuperReason) → code_of next ≡ code_of this + 1
     → PassesTestsBefore bytes uuid this
     → PassesSuperTest bytes uuid this → PassesTestsBefore bytes uuid next
 one_more_before bytes uuid this next is earlier passes other below =

@@ -17,8 +17,8 @@ mod writing;
 
 pub use epoch::{BadEpoch, Epoch};
 pub use laws::{a_value_has_one_spelling, no_spelling_begins_another};
-pub use reading::ReadError;
-pub use reason::Reason;
+pub use reading::SuperReadError;
+pub use reason::SuperReason;
 pub use super_object::Super;
 
 // The bytes that a super object begins with.

@@ -2,13 +2,13 @@ ghost use Rattle.std.specs.Prelude.{◌≡◌, ◌+◌, ◌*◌, ◌^◌, ◌≤
 ghost use Rattle.std.specs.Prelude.{drop, codes};
 ghost use Rattle.std.specs.Int.{w32};
 ghost use Rattle.lsvd_bytes.specs.Places.{bytes_at, number_at};
-ghost use Rattle.super_format.specs.declared.reading.ReadError.TheVariants.{BadSuper, OutOfMemory};
-ghost use Rattle.super_format.specs.declared.reason.Reason.TheVariants.{Ancestors};
+ghost use Rattle.super_format.specs.declared.reading.SuperReadError.TheVariants.{BadSuper, OutOfMemory};
+ghost use Rattle.super_format.specs.declared.reason.SuperReason.TheVariants.{Ancestors};
 ghost use Rattle.super_format.specs.Super.{super_in, geometry_with, keeps_limits, IsSuper};
 ghost use Rattle.super_format.specs.Tests.{PassesTestsBefore, IsSuperRefusedAs, IsSuperReason};
 
 use crate::ancestors::{ANCESTOR_BYTES, read_ancestors};
-use crate::reason::Reason;
+use crate::reason::SuperReason;
 use crate::super_object::Super;
 use crate::{
     BATCH_AT, COUNT_AT, HEAD_BYTES, MAGIC, MAX_WRITE_AT, SECTORS_AT, UUID_AT, VERSION, VERSION_AT,
@@ -22,45 +22,45 @@ use uuid::Uuid;
 
 /// Why a super object was not read.
 #[derive(Clone, Copy, Debug, PartialEq, Eq, Error)]
-pub enum ReadError {
+pub enum SuperReadError {
     /// The bytes are no super object of the volume.
     #[error("bad super object: {reason}")]
-    BadSuper { reason: Reason },
+    BadSuper { reason: SuperReason },
     /// There is no memory for the ancestors.
     #[error("out of memory")]
     OutOfMemory,
 }
 
-impl From<Reason> for ReadError {
+impl From<SuperReason> for SuperReadError {
     ghost from_gives = { λ reason e. e ≡ BadSuper reason };
 
-    fn from(reason: Reason) -> ReadError {
-        ReadError::BadSuper { reason }
+    fn from(reason: SuperReason) -> SuperReadError {
+        SuperReadError::BadSuper { reason }
     }
 }
 
-impl From<AllocError> for ReadError {
+impl From<AllocError> for SuperReadError {
     ghost from_gives = { λ _ e. e ≡ OutOfMemory };
 
-    fn from(_e: AllocError) -> ReadError {
-        ReadError::OutOfMemory
+    fn from(_e: AllocError) -> SuperReadError {
+        SuperReadError::OutOfMemory
     }
 }
 
 impl Super {
     /// Reads all bytes of an object as the super object of the volume with this uuid. The error is that
     /// memory ran out, or it comes exactly where they are none, and names the first test that they fail.
-    pub fn read(alloc: Global, bytes: &[u8], uuid: Uuid) -> Result<Super, ReadError>
+    pub fn read(alloc: Global, bytes: &[u8], uuid: Uuid) -> Result<Super, SuperReadError>
         ensures ok { IfOk result (IsSuper bytes.now uuid) }
         ensures refused { IfErr result (IsSuperReason bytes.now uuid) }
     {
         test_head(bytes, uuid)?;
         let ancestors = read_ancestors(alloc, &bytes[HEAD_BYTES..], read_u32(bytes, COUNT_AT))?;
         let Some(chain) = Chain::from_ancestors(ancestors) else {
-            return Err(Reason::Ancestors.into());
+            return Err(SuperReason::Ancestors.into());
         };
         if chain.level_of(uuid).is_some() {
-            return Err(Reason::Ancestors.into());
+            return Err(SuperReason::Ancestors.into());
         }
         let sizes = sizes_in(bytes);
         Ok(Super {
@@ -74,24 +74,24 @@ impl Super {
 }
 
 // Makes each test but that of the ancestors.
-fn test_head(bytes: &[u8], uuid: Uuid) -> Result<(), Reason>
+fn test_head(bytes: &[u8], uuid: Uuid) -> Result<(), SuperReason>
     ensures passed { OnOk result (PassesTestsBefore bytes.now uuid Ancestors) }
     ensures refused { IfErr result (IsSuperRefusedAs bytes.now uuid) }
 {
     if !has_its_length(bytes) {
-        return Err(Reason::Length);
+        return Err(SuperReason::Length);
     }
     if !has_magic(bytes) {
-        return Err(Reason::Magic);
+        return Err(SuperReason::Magic);
     }
     if !has_version(bytes) {
-        return Err(Reason::Version);
+        return Err(SuperReason::Version);
     }
     if !has_uuid(bytes, uuid) {
-        return Err(Reason::Uuid);
+        return Err(SuperReason::Uuid);
     }
     if !keeps_limits(bytes) {
-        return Err(Reason::Limits);
+        return Err(SuperReason::Limits);
     }
     Ok(())
 }

@@ -5,7 +5,7 @@ use thiserror::Error;
 
 /// The first reason for which bytes are no super object of a volume, in the order of the tests.
 #[derive(Clone, Copy, Debug, PartialEq, Eq, Error)]
-pub enum Reason {
+pub enum SuperReason {
     /// There are not 48 bytes, and 24 more for each ancestor that they count.
     #[error("another length than the ancestors make")]
     Length,
@@ -26,18 +26,18 @@ pub enum Reason {
     Ancestors,
 }
 
-impl Reason {
+impl SuperReason {
     /// Its number: 1 for `Length`, up to 6 for `Ancestors`.
     pub fn code(self) -> u32
         ensures { result ≡ code_of self }
     {
         match self {
-            Reason::Length => 1,
-            Reason::Magic => 2,
-            Reason::Version => 3,
-            Reason::Uuid => 4,
-            Reason::Limits => 5,
-            Reason::Ancestors => 6,
+            SuperReason::Length => 1,
+            SuperReason::Magic => 2,
+            SuperReason::Version => 3,
+            SuperReason::Uuid => 4,
+            SuperReason::Limits => 5,
+            SuperReason::Ancestors => 6,
         }
     }
 }

@@ -6,8 +6,8 @@ use Rattle.std.specs.Option.{IsSome}
 use Rattle.std.specs.List.{Contains}
 use Rattle.std.proofs.lemmas.List.Elements.{Contains-append_left, Contains-push, Contains-push_cases}
 use Rattle.lsvd_base.specs.declared.geometry.Geometry.{Geometry}
-use Rattle.lsvd_names.specs.declared.name.Kind.{Kind}
-use Rattle.lsvd_names.specs.declared.name.Kind.TheVariants as kinds
+use Rattle.lsvd_names.specs.declared.name.NameKind.{NameKind}
+use Rattle.lsvd_names.specs.declared.name.NameKind.TheVariants as kinds
 use Rattle.lsvd_names.specs.declared.name.ObjName.{ObjName}
 use Rattle.lsvd_names.specs.Spelling.{IsUuid, IsName}
 use Rattle.lsvd_names.specs.Names.{super_name, epoch_name}
@@ -93,7 +93,7 @@ named_so : (uuid : List ℕ) (name : ObjName) (number : ℕ) → name.uuid ≡ u
     → name ≡ epoch_name uuid number
 named_so uuid name number same kind is =
     ap (λ (u : List ℕ). let other : ObjName = record { uuid = u; kind = name.kind; number = name.number } in other) same
-    ∙ ap (λ (k : Kind). let other : ObjName = record { uuid = uuid; kind = k; number = name.number } in other) kind
+    ∙ ap (λ (k : NameKind). let other : ObjName = record { uuid = uuid; kind = k; number = name.number } in other) kind
     ∙ ap (λ (n : ℕ). epoch_name uuid n) is
 
 module _ (uuid : List ℕ) (names : List ObjName) (is_uuid : IsUuid uuid) (objects : Objects)

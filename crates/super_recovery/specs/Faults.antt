@@ -2,8 +2,8 @@
 use Rattle.std.specs.Prelude.{Bool, true, false, Result, Ok, Err}
 use Rattle.lsvd_objstore.specs.declared.error.StoreError.{StoreError}
 use Rattle.lsvd_objstore.specs.declared.error.StoreError.TheVariants as store
-use Rattle.super_format.specs.declared.reading.ReadError.{ReadError}
-use Rattle.super_format.specs.declared.reading.ReadError.TheVariants as reads
+use Rattle.super_format.specs.declared.reading.SuperReadError.{SuperReadError}
+use Rattle.super_format.specs.declared.reading.SuperReadError.TheVariants as reads
 use Rattle.super_recovery.specs.declared.error.BadSuper.TheVariants as reasons
 use Rattle.super_recovery.specs.declared.error.SuperError.{SuperError}
 use Rattle.super_recovery.specs.declared.error.SuperError.TheVariants as errors
@@ -14,7 +14,7 @@ of_store store.Failed = errors.StoreFault
 of_store store.OutOfMemory = errors.OutOfMemory
 
 -- what an error of a read of a super object is
-abbrev pub of_read : ReadError → SuperError
+abbrev pub of_read : SuperReadError → SuperError
 of_read (reads.BadSuper reason) = errors.BadSuper (reasons.Super reason)
 of_read reads.OutOfMemory = errors.OutOfMemory
 

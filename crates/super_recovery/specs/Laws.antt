@@ -1,8 +1,8 @@
 -- Contract: on which objects it depends what a store says of a volume as a whole, and how it changes.
 use Rattle.std.specs.Prelude.{◌≡◌, ℕ, ◌+◌, ◌<◌, ◌⊎◌, None, List, []}
 use Rattle.lsvd_base.specs.declared.geometry.Geometry.{Geometry}
-use Rattle.lsvd_names.specs.declared.name.Kind.{Kind}
-use Rattle.lsvd_names.specs.declared.name.Kind.TheVariants.{Super, Epoch, Object, Hold}
+use Rattle.lsvd_names.specs.declared.name.NameKind.{NameKind}
+use Rattle.lsvd_names.specs.declared.name.NameKind.TheVariants.{Super, Epoch, Object, Hold}
 use Rattle.lsvd_names.specs.declared.name.ObjName.{ObjName}
 use Rattle.lsvd_names.specs.Names.{super_name, epoch_name}
 use Rattle.lsvd_objstore.specs.Objects.{Objects, found, KeepsOthers, MayBePut, MayBeRemoved}
@@ -29,7 +29,7 @@ abbrev pub SaysTheSame : Type 0
 SaysTheSame = (uuid : List ℕ) (old new : Objects) → KeepsVolume uuid old new → SaysAsBefore uuid old new
 
 -- the kind is neither that of super objects nor that of epochs
-abbrev pub IsOtherKind : Kind → Type 0
+abbrev pub IsOtherKind : NameKind → Type 0
 IsOtherKind Super = ⊥
 IsOtherKind Epoch = ⊥
 IsOtherKind Object = Unit {0}

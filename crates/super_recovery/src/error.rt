@@ -5,7 +5,7 @@ ghost use Rattle.super_recovery.specs.Found.{code_of};
 
 use lsvd_objstore::StoreError;
 use std::alloc::AllocError;
-use super_format::{ReadError, Reason};
+use super_format::{SuperReadError, SuperReason};
 use thiserror::Error;
 
 /// Why a volume was not found in a store, or what was put of it was not.
@@ -30,7 +30,7 @@ pub enum SuperError {
 pub enum BadSuper {
     /// The bytes of the super object are none of the volume, for this reason.
     #[error("bad super object: {0}")]
-    Super(Reason),
+    Super(SuperReason),
     /// The store has no epoch of the volume.
     #[error("the store has no epoch of the volume")]
     NoEpoch,
@@ -63,15 +63,15 @@ impl From<StoreError> for SuperError {
     }
 }
 
-impl From<ReadError> for SuperError {
+impl From<SuperReadError> for SuperError {
     ghost from_gives = { λ error e. e ≡ of_read error };
 
-    fn from(error: ReadError) -> SuperError {
+    fn from(error: SuperReadError) -> SuperError {
         match error {
-            ReadError::BadSuper { reason } => SuperError::BadSuper {
+            SuperReadError::BadSuper { reason } => SuperError::BadSuper {
                 reason: BadSuper::Super(reason),
             },
-            ReadError::OutOfMemory => SuperError::OutOfMemory,
+            SuperReadError::OutOfMemory => SuperError::OutOfMemory,
         }
     }
 }

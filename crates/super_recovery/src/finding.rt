@@ -13,7 +13,7 @@ ghost use Rattle.super_recovery.specs.Found.{IsWhyVolumeRefused};
 
 use crate::error::{BadSuper, SuperError};
 use crate::reading::read_whole;
-use lsvd_names::{Kind, ObjName, a_uuid_has_sixteen_bytes};
+use lsvd_names::{NameKind, ObjName, a_uuid_has_sixteen_bytes};
 use lsvd_objstore::{Receipt, Store, StoreError};
 use std::alloc::Global;
 use super_format::{Epoch, Super};
@@ -135,7 +135,7 @@ fn greatest_with(greatest: Option<u64>, name: &ObjName) -> Option<u64>
     ensures { (names : List ObjName) → IsGreatestIn names greatest
         → IsGreatestIn (names ++ name.now ∷ []) result }
 {
-    if name.kind != Kind::Epoch {
+    if name.kind != NameKind::Epoch {
         return greatest;
     }
     match greatest {

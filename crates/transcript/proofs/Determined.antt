@@ -16,8 +16,8 @@ use Rattle.replay_script.specs.Grammar.{lines_of}
 use Rattle.replay_script.proofs.Decide.{one_command, unknown_unspelled, miscounted_unspelled, misspelt_unspelled}
 use Rattle.replay_script.proofs.Decide.{unknown_or_miscounted, unknown_or_misspelt, miscounted_or_misspelt}
 use Rattle.replay_script.proofs.Runs.{one_run_text}
-use Rattle.transcript.specs.declared.reason.Reason.{Reason}
-use Rattle.transcript.specs.declared.reason.Reason.TheVariants.{UnknownCommand, WordCount, Form, NotAllowed, Letters, TooLong}
+use Rattle.transcript.specs.declared.reason.LineReason.{LineReason}
+use Rattle.transcript.specs.declared.reason.LineReason.TheVariants.{UnknownCommand, WordCount, Form, NotAllowed, Letters, TooLong}
 use Rattle.transcript.specs.Answers.{State, TellsReply, AnswersStep, Answers, IsAllowed, FitsLetters}
 use Rattle.transcript.specs.Transcript.{Ending, Stopped, IsMisplaced, HasUnfitLetters, IsBad, IsAnswered, Transcript}
 use Rattle.transcript.specs.Transcript.{IsTranscript}
@@ -138,7 +138,7 @@ answered_fits (Some plain) (CrashKeep device objects) text next s = s.0
 answered_fits (Some plain) (CrashLost device objects) text next s = s.0
 
 -- a line that is answered is not bad
-answered_not_bad : (state : State) (line answer : List ℕ) (next : State) (reason : Reason) → IsAnswered state line answer next
+answered_not_bad : (state : State) (line answer : List ℕ) (next : State) (reason : LineReason) → IsAnswered state line answer next
     → IsBad state line reason → ⊥
 answered_not_bad state line answer next UnknownCommand s bad = unknown_unspelled line bad.1 s.command s.spelled
 answered_not_bad state line answer next WordCount s bad = miscounted_unspelled line bad.1 s.command s.spelled
@@ -154,7 +154,7 @@ answered_not_bad state line answer next TooLong s long = omega (arith, s.short, 
 
 -- the line of this number is bad, and the script ends there
 abbrev pub StopsAt : ℕ → State → List ℕ → Ending → Type 0
-StopsAt number state line ending = (reason : Reason) × IsBad state line reason × (ending ≡ Stopped number reason)
+StopsAt number state line ending = (reason : LineReason) × IsBad state line reason × (ending ≡ Stopped number reason)
 
 answered_or_bad : (number : ℕ) (state : State) (line answer : List ℕ) (next : State) (ending : Ending)
     → IsAnswered state line answer next
@@ -168,7 +168,7 @@ misplaced_or_unfit state line (command, spelled, disallowed) (other, also, allow
     disallowed (subst P (one_command line other command also spelled) allowed)
 
 -- a line is bad for one reason
-one_reason : (state : State) (line : List ℕ) (a b : Reason) → IsBad state line a → IsBad state line b → a ≡ b
+one_reason : (state : State) (line : List ℕ) (a b : LineReason) → IsBad state line a → IsBad state line b → a ≡ b
 one_reason state line UnknownCommand UnknownCommand p q = refl
 one_reason state line UnknownCommand WordCount p q = absurd (unknown_or_miscounted line p.1 q.1)
 one_reason state line UnknownCommand Form p q = absurd (unknown_or_misspelt line p.1 q.1)

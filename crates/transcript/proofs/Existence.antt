@@ -14,8 +14,8 @@ use Rattle.replay_script.specs.declared.command.Command.TheVariants.{New, Write,
 use Rattle.replay_script.specs.declared.command.Command.TheVariants.{JobFailed, Status, Stop, CrashKeep, CrashLost}
 use Rattle.replay_script.specs.Grammar.{lines_of, SpellsCommand, IsUnknown, HasWrongWordCount, IsMisspelt}
 use Rattle.replay_script.proofs.Decide.{judge_line}
-use Rattle.transcript.specs.declared.reason.Reason.{Reason}
-use Rattle.transcript.specs.declared.reason.Reason.TheVariants.{UnknownCommand, WordCount, Form, NotAllowed, Letters, TooLong}
+use Rattle.transcript.specs.declared.reason.LineReason.{LineReason}
+use Rattle.transcript.specs.declared.reason.LineReason.TheVariants.{UnknownCommand, WordCount, Form, NotAllowed, Letters, TooLong}
 use Rattle.transcript.specs.Letters.{is_dash, fits_writes, kept_by, under_way, fits_objects, landed_by}
 use Rattle.transcript.specs.Answers.{State, AnswersStep, AnswersLook, released_by, text_of_mount, IsAllowed, FitsLetters, Answers}
 use Rattle.transcript.specs.Transcript.{Ending, AllAnswered, Stopped, IsBad, IsAnswered, Transcript, line_after, IsTranscript}
@@ -126,7 +126,8 @@ data LineFate (number : ℕ) (state : State) (line : List ℕ) : Type 0 where
   goes : (answer : List ℕ) (next : State) → IsAnswered state line answer next → LineFate number state line
   stops : (ending : Ending) → StopsAt number state line ending → LineFate number state line
 
-fate_bad : (number : ℕ) (state : State) (line : List ℕ) (reason : Reason) → IsBad state line reason → LineFate number state line
+fate_bad : (number : ℕ) (state : State) (line : List ℕ) (reason : LineReason) → IsBad state line reason
+    → LineFate number state line
 fate_bad number state line reason bad = stops (Stopped number reason) (reason, bad, refl)
 
 fate_spelled : (number : ℕ) (state : State) (line : List ℕ) (command : Command) → length line ≤ 65536 → SpellsCommand line command

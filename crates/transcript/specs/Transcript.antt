@@ -2,14 +2,14 @@
 use Rattle.std.specs.Prelude.{◌≡◌, ℕ, ◌+◌, ◌^◌, ◌<◌, ◌≤◌, ◌⊎◌, None, List, [], ◌∷◌, ◌++◌, ◌==◌, length, take, count_by}
 use Rattle.replay_script.specs.declared.command.Command.{Command}
 use Rattle.replay_script.specs.Grammar.{lines_of, SpellsCommand, IsUnknown, HasWrongWordCount, IsMisspelt}
-use Rattle.transcript.specs.declared.reason.Reason.{Reason}
-use Rattle.transcript.specs.declared.reason.Reason.TheVariants.{UnknownCommand, WordCount, Form, NotAllowed, Letters, TooLong}
+use Rattle.transcript.specs.declared.reason.LineReason.{LineReason}
+use Rattle.transcript.specs.declared.reason.LineReason.TheVariants.{UnknownCommand, WordCount, Form, NotAllowed, Letters, TooLong}
 use Rattle.transcript.specs.Answers.{State, Answers, IsAllowed, FitsLetters}
 
 -- how a script ends: each of its lines is answered, and that is the state after them; or the line of this number is bad
 pub data Ending : Type 0 where
   AllAnswered : State → Ending
-  Stopped : (number : ℕ) → Reason → Ending
+  Stopped : (number : ℕ) → LineReason → Ending
 
 -- ---- bad lines
 
@@ -23,7 +23,7 @@ HasUnfitLetters state line = (command : Command) × SpellsCommand line command �
     × (FitsLetters state command → ⊥)
 
 -- the line is bad for this reason
-abbrev pub IsBad : State → List ℕ → Reason → Type 0
+abbrev pub IsBad : State → List ℕ → LineReason → Type 0
 IsBad state line UnknownCommand = (length line ≤ 65536) × IsUnknown line
 IsBad state line WordCount = (length line ≤ 65536) × HasWrongWordCount line
 IsBad state line Form = (length line ≤ 65536) × IsMisspelt line
@@ -47,7 +47,7 @@ Transcript number state [] text ending = (text ≡ []) × (ending ≡ AllAnswere
 Transcript number state (line ∷ lines) text ending =
     ((answer : List ℕ) × (next : State) × (more : List ℕ) × IsAnswered state line answer next
     × (text ≡ answer ++ 10 ∷ more) × Transcript (number + 1) next lines more ending)
-    ⊎ ((text ≡ []) × ((reason : Reason) × IsBad state line reason × (ending ≡ Stopped number reason)))
+    ⊎ ((text ≡ []) × ((reason : LineReason) × IsBad state line reason × (ending ≡ Stopped number reason)))
 
 -- ---- the whole
 

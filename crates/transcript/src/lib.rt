@@ -11,4 +11,4 @@ mod reason;
 pub use laws::{
     a_transcript_is_determined, each_script_has_a_transcript, what_was_flushed_is_kept,
 };
-pub use reason::Reason;
+pub use reason::LineReason;

@@ -4,7 +4,7 @@ ghost use Rattle.transcript.specs.Reason.{code_of};
 /// Why a line of a script is bad: of the reasons that apply, `TooLong` if it does, and else the first in this
 /// order.
 #[derive(Clone, Copy, Debug, PartialEq, Eq)]
-pub enum Reason {
+pub enum LineReason {
     /// It does not begin with the name of a command.
     UnknownCommand,
     /// It has another number of words than its command.
@@ -21,18 +21,18 @@ pub enum Reason {
     TooLong,
 }
 
-impl Reason {
+impl LineReason {
     /// The number that is told for it.
     pub fn code(self) -> u8
         ensures { result ≡ code_of self }
     {
         match self {
-            Reason::UnknownCommand => 1,
-            Reason::WordCount => 2,
-            Reason::Form => 3,
-            Reason::NotAllowed => 4,
-            Reason::Letters => 5,
-            Reason::TooLong => 6,
+            LineReason::UnknownCommand => 1,
+            LineReason::WordCount => 2,
+            LineReason::Form => 3,
+            LineReason::NotAllowed => 4,
+            LineReason::Letters => 5,
+            LineReason::TooLong => 6,
         }
     }
 }

@@ -15,8 +15,8 @@ use Rattle.object_uploads.specs.Changes.{IsPutDone}
 use Rattle.object_uploads.proofs.OpenLemmas.{started_at, uploads_done}
 use Rattle.obj_log.specs.State.{ObjLogState}
 use Rattle.obj_log.specs.Changes.{IsSame}
-use Rattle.vol_core.specs.declared.reply.Refusal.{Refusal}
-use Rattle.vol_core.specs.declared.reply.Refusal.TheVariants as refusals
+use Rattle.vol_core.specs.declared.reply.EntryRefusal.{EntryRefusal}
+use Rattle.vol_core.specs.declared.reply.EntryRefusal.TheVariants as refusals
 use Rattle.vol_core.specs.declared.reply.Reply.{Reply}
 use Rattle.vol_core.specs.declared.reply.Reply.TheVariants as told
 use Rattle.vol_core.specs.Volume.{VolumeState}
@@ -217,7 +217,7 @@ module _ (entry : Entry) (old : VolumeState) (objects : ObjLogState) (log : LogS
   entry_no_bytes same = entry_bytes (ap (λ (o : ObjLogState). o.uploads.queue.sealed) same)
       (ap (λ (o : ObjLogState). o.uploads.queue.frontier) same)
 
-  refused_keeps_bytes : (why : Refusal) → IsRefusedEntry entry why old.objects objects old.log log
+  refused_keeps_bytes : (why : EntryRefusal) → IsRefusedEntry entry why old.objects objects old.log log
       → KeepsBytes old (with_both objects log old)
   refused_keeps_bytes refusals.Range refused = entry_no_bytes refused.1
   refused_keeps_bytes (refusals.Full full) refused = entry_no_bytes refused.2

@@ -20,6 +20,7 @@ use Rattle.batcher.specs.State.{BatchState}
 use Rattle.cache_log.specs.Log.{LogState, entries_in}
 use Rattle.cache_log.specs.Committed.{IsFormattedLog, first_body}
 use Rattle.obj_log.specs.State.{ObjLogState}
+use Rattle.stopped_volume.specs.Device.{owner_with}
 use Rattle.plain_disk.specs.State.{PlainState, created_volume}
 use Rattle.plain_disk.specs.Valid.{IsPlainVolume}
 use Rattle.plain_disk.proofs.EventLemmas.{created_is}
@@ -100,12 +101,11 @@ created_shows objects log uuid epoch geometry old limits sectors formatted batch
     }
 
 -- its commits are its own
-pub created_own : (objects : ObjLogState) (log : LogState) (bytes : List ℕ) (old : DiskState) → bytes ≡ objects.uploads.uuid
-    → IsFormattedLog bytes 0 0 old log → HasCommitted (record { uuid = objects.uploads.uuid; epoch = 0 })
-    objects.batch.geometry log
-created_own objects log bytes old same is =
-    subst (λ uuid. HasCommitted (record { uuid = uuid; epoch = 0 }) objects.batch.geometry log) same
-    (formatted_has_committed bytes 0 0 objects.batch.geometry old log is)
+pub created_own : (objects : ObjLogState) (log : LogState) (bytes uuid : List ℕ) (old : DiskState) → bytes ≡ uuid
+    → IsFormattedLog bytes 0 0 old log → HasCommitted (owner_with uuid 0) objects.batch.geometry log
+created_own objects log bytes uuid old same is =
+    subst (λ (u : List ℕ). HasCommitted (owner_with u 0) objects.batch.geometry log) same
+    (formatted_has_committed (owner_with bytes 0) 0 objects.batch.geometry old log is)
 
 -- ---- what is pending
 

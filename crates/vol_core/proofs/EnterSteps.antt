@@ -42,8 +42,8 @@ use Rattle.refine_log.specs.Pending.{ShowsPending}
 use Rattle.refine_objects.specs.Laws.{HasCounts}
 use Rattle.refine_objects.proofs.ShowLemmas.{shown_have_counts, shown_with_other_cache, shown_with_other_places, room_shows_same}
 use Rattle.refine_objects.proofs.ShowLemmas.{added_shows_entry}
-use Rattle.vol_core.specs.declared.reply.Refusal.{Refusal}
-use Rattle.vol_core.specs.declared.reply.Refusal.TheVariants as refusals
+use Rattle.vol_core.specs.declared.reply.EntryRefusal.{EntryRefusal}
+use Rattle.vol_core.specs.declared.reply.EntryRefusal.TheVariants as refusals
 use Rattle.vol_core.specs.declared.reply.Reply.{Reply}
 use Rattle.vol_core.specs.declared.reply.Reply.TheVariants as told
 use Rattle.vol_core.specs.Volume.{VolumeState}
@@ -420,7 +420,7 @@ module _ {R : Type 0} (state : R → ReceiptState) (entry : Entry) (old : Volume
       ⊎ IsNoStep (event_of entry) reply plain old (with_both objects log old))
       × NumbersGrow old (with_both objects log old)
 
-  refused_outcome : (back : Entry) (why : Refusal) (objects : ObjLogState) (log : LogState)
+  refused_outcome : (back : Entry) (why : EntryRefusal) (objects : ObjLogState) (log : LogState)
       → IsRefusedEntry entry why old.objects objects old.log log
       → Outcome (told.NotEntered back why) objects log
   refused_outcome back refusals.Range objects log is =

@@ -1,7 +1,6 @@
 -- What a stop keeps at each moment of a step.
 use Rattle.std.proofs.Common.{◌≡◌, ℕ, Bool, true, List, [], refl, sym, ◌∙◌, subst, inl, inr}
 use Rattle.std.specs.Prelude.{Option, Some, None, OnSome, Result, Ok, Err}
-use Rattle.std.proofs.Math.Path.{subst₂}
 use Rattle.lsvd_base.specs.declared.entry.Entry.{Entry}
 use Rattle.lsvd_base.specs.declared.entry.Entry.TheVariants as entries
 use Rattle.lsvd_base.specs.declared.geometry.Geometry.{Geometry}
@@ -17,8 +16,8 @@ use Rattle.object_uploads.specs.Order.{IsUploads}
 use Rattle.refine_objects.proofs.ShowLemmas.{shown_have_counts}
 use Rattle.obj_log.specs.State.{ObjLogState}
 use Rattle.obj_log.specs.Changes.{IsSame}
-use Rattle.vol_core.specs.declared.reply.Refusal.{Refusal}
-use Rattle.vol_core.specs.declared.reply.Refusal.TheVariants as refusals
+use Rattle.vol_core.specs.declared.reply.EntryRefusal.{EntryRefusal}
+use Rattle.vol_core.specs.declared.reply.EntryRefusal.TheVariants as refusals
 use Rattle.plain_disk.specs.State.{PlainState}
 use Rattle.stopped_volume.specs.Device.{CacheOwner}
 use Rattle.plain_disk.specs.declared.log.PlainCommit.{PlainCommit}
@@ -30,7 +29,7 @@ use Rattle.vol_core.specs.declared.reply.Reply.{Reply}
 use Rattle.vol_core.specs.declared.reply.Reply.TheVariants as told
 use Rattle.vol_core.specs.declared.event.Event.{Event}
 use Rattle.vol_core.specs.Volume.{VolumeState}
-use Rattle.vol_core.specs.Stops.{may_commit, MayBeLeftBy, owner_in, HasOwnCommits, KeepsNow, StepKeeps}
+use Rattle.vol_core.specs.Stops.{may_commit, MayBeLeftBy, HasOwnCommits, KeepsNow, StepKeeps}
 use Rattle.vol_core.specs.Shows.{Shows}
 use Rattle.vol_core.specs.Step.{HandsBack, HasItsBytes}
 use Rattle.vol_core.specs.Calls.{CommitsFrom, ComesToLog, IsRefusedEntry, Enters, event_of}
@@ -48,19 +47,21 @@ on_some R (Some x) is = is
 -- ---- a volume that shows a plain one
 
 -- what its log has of the plain volume
-pub shows_stops : (epoch : ℕ) (volume : VolumeState) (plain : PlainState) → IsOnDisk volume.log → HasOwnCommits epoch volume
-    → (shows : Shows volume plain) → ShowsStops (owner_in epoch volume) shows.data_at volume.log plain
-shows_stops epoch volume plain on_disk own shows = record {
+pub shows_stops : (owner : CacheOwner) (volume : VolumeState) (plain : PlainState) → IsOnDisk volume.log
+    → HasOwnCommits owner volume
+    → (shows : Shows volume plain) → ShowsStops owner shows.data_at volume.log plain
+shows_stops owner volume plain on_disk own shows = record {
   valid = shows.valid;
   log_is = shows.log;
   logged = shows.logged;
-  committed = subst (λ geometry. HasCommitted (owner_in epoch volume) geometry volume.log) shows.objects.geometry own;
+  committed = subst (λ geometry. HasCommitted owner geometry volume.log) shows.objects.geometry own;
   on_disk = on_disk;
 }
 
-pub stands_now : (volume : VolumeState) → IsOnDisk volume.log → (epoch : ℕ) → HasOwnCommits epoch volume → KeepsNow epoch volume
-stands_now volume on_disk epoch own plain shows =
-    now_keeps (owner_in epoch volume) shows.data_at volume.log plain (shows_stops epoch volume plain on_disk own shows)
+pub stands_now : (volume : VolumeState) → IsOnDisk volume.log → (owner : CacheOwner) → HasOwnCommits owner volume
+    → KeepsNow owner volume
+stands_now volume on_disk owner own plain shows =
+    now_keeps owner shows.data_at volume.log plain (shows_stops owner volume plain on_disk own shows)
 
 -- ---- nothing is written
 
@@ -82,11 +83,9 @@ pub record IsOfSameVolume (old new : ObjLogState) : Type 0 where
   pub uuid : new.uploads.uuid ≡ old.uploads.uuid
   pub geometry : new.batch.geometry ≡ old.batch.geometry
 
-pub own_after : (epoch : ℕ) (old new : VolumeState) → IsOfSameVolume old.objects new.objects
-    → HasCommitted (owner_in epoch old) old.objects.batch.geometry new.log → HasOwnCommits epoch new
-own_after epoch old new same own =
-    subst₂ (λ uuid geometry. HasCommitted (record { uuid = uuid; epoch = epoch }) geometry new.log) (sym same.uuid)
-    (sym same.geometry) own
+pub own_after : (owner : CacheOwner) (old new : VolumeState) → IsOfSameVolume old.objects new.objects
+    → HasCommitted owner old.objects.batch.geometry new.log → HasOwnCommits owner new
+own_after owner old new same own = subst (λ geometry. HasCommitted owner geometry new.log) (sym same.geometry) own
 
 -- no moment comes after it
 none_since : (owner : CacheOwner) (old new : LogState) (plain : PlainState) (P : PlainCommit → Type 0)
@@ -97,11 +96,11 @@ none_since owner old new plain P moments = on_some _ old.all (record { since = [
 pub still_keeps : {R : Type 0} (event : Event R) (old new : VolumeState) → IsOfSameVolume old.objects new.objects
     → IsStill old.log new.log
     → StepKeeps event old new
-still_keeps event old new same is epoch own = record {
+still_keeps event old new same is owner own = record {
   own =
-      own_after epoch old new same
-      (same_has_committed (owner_in epoch old) old.objects.batch.geometry old.log new.log own is.same is.commits);
-  since = λ plain shows. none_since (owner_in epoch old) old.log new.log plain (MayBeLeftBy event plain) is.moments;
+      own_after owner old new same
+      (same_has_committed owner old.objects.batch.geometry old.log new.log own is.same is.commits);
+  since = λ plain shows. none_since owner old.log new.log plain (MayBeLeftBy event plain) is.moments;
 }
 
 -- the log of a look was read, or nothing was done
@@ -137,13 +136,13 @@ pub flushing_keeps : {R : Type 0} (event : Event R) → may_commit event ≡ tru
     → IsUploads old.objects.uploads.queue old.objects.uploads.window
     → IsOnDisk old.log → end ≡ old.objects.uploads.queue.end → CommitsFrom end is_made old.log log
     → StepKeeps event old (with_log log old)
-flushing_keeps event may old log is_made end uploads on_disk end_is commits epoch own = record {
-  own = commit_owns (owner_in epoch old) old.objects.batch.geometry end is_made old.log log own commits;
+flushing_keeps event may old log is_made end uploads on_disk end_is commits owner own = record {
+  own = commit_owns owner old.objects.batch.geometry end is_made old.log log own commits;
   since = λ plain shows.
       let counts = shown_have_counts shows.data_at old.objects plain uploads shows.valid shows.objects in
-      kept_as (owner_in epoch old) old.log plain (IsFoundOrNext plain) (MayBeLeftBy event plain) log.commits.disk
+      kept_as owner old.log plain (IsFoundOrNext plain) (MayBeLeftBy event plain) log.commits.disk
       (may_leave event plain may)
-      (commit_keeps_stops (owner_in epoch old) shows.data_at old.log plain (shows_stops epoch old plain on_disk own shows) end
+      (commit_keeps_stops owner shows.data_at old.log plain (shows_stops owner old plain on_disk own shows) end
       (end_is ∙ counts.end) is_made log commits);
 }
 
@@ -211,14 +210,13 @@ module _ {R : Type 0} (entry : Entry) (old : VolumeState)
   came_keeps : (result : Result ℕ AppendError) (ready objects : ObjLogState) (log : LogState) → IsDisk log.commits.disk
       → IsOfSameVolume old.objects objects
       → ComesToLog entry result old.objects ready old.log log → StepKeeps event old (with_both objects log old)
-  came_keeps result ready objects log is_disk same comes epoch own =
-      let owner : CacheOwner = owner_in epoch old in
+  came_keeps result ready objects log is_disk same comes owner own =
       let geometry : Geometry = old.objects.batch.geometry in
       let end : ℕ = old.objects.uploads.queue.end in
       let before : LogState = taken_for old.log comes.reserved in
       record {
         own =
-            own_after epoch old (with_both objects log old) same
+            own_after owner old (with_both objects log old) same
             (enter_owns owner geometry entry end result before log comes.in_range
             (reserved_owns owner geometry old.log comes.reserved own) comes.log);
         since = λ plain shows.
@@ -226,11 +224,11 @@ module _ {R : Type 0} (entry : Entry) (old : VolumeState)
             kept_as owner old.log plain (IsFoundOrNext plain) (MayBeLeftBy event plain) log.commits.disk
             (may_leave event plain (entry_may_commit R entry))
             (enter_keeps_stops owner shows.data_at before plain
-            (reserved_stops owner shows.data_at old.log plain comes.reserved (shows_stops epoch old plain on_disk own shows)) end
+            (reserved_stops owner shows.data_at old.log plain comes.reserved (shows_stops owner old plain on_disk own shows)) end
             counts.end entry result log is_disk comes.log);
       }
 
-  refused_keeps : (why : Refusal) (objects : ObjLogState) (log : LogState) → IsDisk log.commits.disk
+  refused_keeps : (why : EntryRefusal) (objects : ObjLogState) (log : LogState) → IsDisk log.commits.disk
       → IsRefusedEntry entry why old.objects objects old.log log
       → StepKeeps event old (with_both objects log old)
   refused_keeps refusals.Range objects log is_disk is = unchanged_keeps event old objects log is.1 is.2

@@ -27,8 +27,8 @@ use Rattle.vol_core.specs.Volume.{SteppedVolume}
 use Rattle.vol_core.specs.Shows.{IsSmall, IsSound}
 use Rattle.vol_core.specs.declared.event.Event.{Event}
 use Rattle.vol_core.specs.declared.event.Event.TheVariants as events
-use Rattle.vol_core.specs.declared.reply.Refusal.{Refusal}
-use Rattle.vol_core.specs.declared.reply.Refusal.TheVariants as refusals
+use Rattle.vol_core.specs.declared.reply.EntryRefusal.{EntryRefusal}
+use Rattle.vol_core.specs.declared.reply.EntryRefusal.TheVariants as refusals
 use Rattle.vol_core.specs.declared.reply.Reply.{Reply}
 use Rattle.vol_core.specs.declared.reply.Reply.TheVariants as replies
 use Rattle.refine_log.specs.Laws.{CostsCommit}
@@ -117,7 +117,7 @@ pub record ComesToLog (entry : Entry) (result : Result ℕ AppendError) (objects
   pub log : EntersLog entry objects.uploads.queue.end result (record old { reserved = reserved }) new
 
 -- why an entry was not entered
-abbrev pub IsRefusedEntry : Entry → Refusal → (objects after : ObjLogState) → (old new : LogState) → Type 0
+abbrev pub IsRefusedEntry : Entry → EntryRefusal → (objects after : ObjLogState) → (old new : LogState) → Type 0
 IsRefusedEntry entry refusals.Range objects after old new = (is_in_range objects.batch.geometry entry ≡ false) × (after ≡ objects)
     × (new ≡ old)
 IsRefusedEntry entry (refusals.Full full) objects after old new =

@@ -7,6 +7,7 @@ use Rattle.lsvd_device.specs.Stop.{HasNow}
 use Rattle.commit_slot.specs.Formatting.{format_cost, format_calls}
 use Rattle.commit_slot.specs.Sequence.{Costs}
 use Rattle.cache_log.specs.Committed.{first_body}
+use Rattle.stopped_volume.specs.Device.{owner_with}
 use Rattle.plain_disk.specs.State.{created_volume}
 use Rattle.refine_log.specs.Fuses.{fuse_in}
 use Rattle.vol_core.specs.Volume.{SteppedVolume}
@@ -20,7 +21,7 @@ pub record IsCreated (uuid : List ℕ) (geometry : Geometry) (stepped : SteppedV
   pub steps : stepped.steps ≡ 0
   pub uuid_is : stepped.volume.objects.uploads.uuid ≡ uuid
   pub number : stepped.volume.log.commits.number ≡ 0
-  pub own : HasOwnCommits 0 stepped.volume
+  pub own : HasOwnCommits (owner_with uuid 0) stepped.volume
   pub shows : Shows stepped.volume (passing (fuse_in stepped.volume.log.commits.disk.budget) (created_volume geometry))
 
 -- the device is formatted, and asked for nothing else

@@ -15,8 +15,8 @@ use Rattle.plain_disk.specs.declared.event.PlannedRead.{PlannedRead}
 use Rattle.vol_core.specs.declared.event.Event.{Event}
 use Rattle.vol_core.specs.declared.event.Event.TheVariants.{Write, Zero, Flush, Look, Release, Seal, TakeJob, JobDone, JobFailed}
 use Rattle.vol_core.specs.declared.event.Event.TheVariants.{Status}
-use Rattle.vol_core.specs.declared.reply.Refusal.{Refusal}
-use Rattle.vol_core.specs.declared.reply.Refusal.TheVariants as refusals
+use Rattle.vol_core.specs.declared.reply.EntryRefusal.{EntryRefusal}
+use Rattle.vol_core.specs.declared.reply.EntryRefusal.TheVariants as refusals
 use Rattle.vol_core.specs.declared.reply.Reply.{Reply}
 use Rattle.vol_core.specs.declared.reply.Reply.TheVariants as told
 use Rattle.vol_core.specs.Volume.{VolumeState}
@@ -54,7 +54,7 @@ Asks state volume Status event = event ≡ events.Status
 -- ---- replies
 
 -- why an entry was not entered is told as the plain volume tells it
-abbrev pub TellsRefusal : Refusal → PlainReply → Type 0
+abbrev pub TellsRefusal : EntryRefusal → PlainReply → Type 0
 TellsRefusal refusals.Range reply = reply ≡ replies.Range
 TellsRefusal (refusals.Full (full.Sectors sectors)) reply = reply ≡ replies.BatchFull sectors
 TellsRefusal (refusals.Full (full.Entries count)) reply = reply ≡ replies.EntriesFull count

@@ -18,7 +18,7 @@ use Rattle.plain_disk.specs.Step.{plain_reply, plain_after}
 use Rattle.refine_log.specs.Fuses.{fuse_in}
 use Rattle.vol_core.specs.declared.event.Event.{Event}
 use Rattle.vol_core.specs.declared.event.Event.TheVariants.{Write, Zero, Flush, Look, Release, Seal, JobDone, JobFailed}
-use Rattle.vol_core.specs.declared.reply.Refusal.TheVariants as refusals
+use Rattle.vol_core.specs.declared.reply.EntryRefusal.TheVariants as refusals
 use Rattle.vol_core.specs.declared.reply.Reply.{Reply}
 use Rattle.vol_core.specs.declared.reply.Reply.TheVariants as told
 use Rattle.vol_core.specs.Volume.{VolumeState, SteppedVolume}

@@ -1,5 +1,5 @@
 -- Contract: what a stop of the device leaves at each moment of a step.
-use Rattle.std.specs.Prelude.{◌≡◌, ℕ, ◌⊎◌, Bool, true, false}
+use Rattle.std.specs.Prelude.{◌≡◌, ◌⊎◌, Bool, true, false}
 use Rattle.stopped_volume.specs.Device.{CacheOwner}
 use Rattle.plain_disk.specs.declared.log.PlainCommit.{PlainCommit}
 use Rattle.plain_disk.specs.State.{PlainState}
@@ -26,28 +26,24 @@ MayBeLeftBy event plain found =
 
 -- ---- what is kept
 
--- a volume as the owner of its cache in an epoch
-abbrev pub owner_in : (epoch : ℕ) → VolumeState → CacheOwner
-owner_in epoch volume = record { uuid = volume.objects.uploads.uuid; epoch = epoch }
-
--- the commits of a volume's log are its own, of this epoch, with entries in range
-abbrev pub HasOwnCommits : (epoch : ℕ) → VolumeState → Type 0
-HasOwnCommits epoch volume = HasCommitted (owner_in epoch volume) volume.objects.batch.geometry volume.log
+-- the commits of a volume's log are of this owner of its cache, with entries in range
+abbrev pub HasOwnCommits : (owner : CacheOwner) → VolumeState → Type 0
+HasOwnCommits owner volume = HasCommitted owner volume.objects.batch.geometry volume.log
 
 -- Whatever a stop leaves of the device now reads as the last commit or as the unfinished one of each plain volume that the volume
 -- shows.
-abbrev pub KeepsNow : (epoch : ℕ) → VolumeState → Type 0
-KeepsNow epoch volume =
+abbrev pub KeepsNow : (owner : CacheOwner) → VolumeState → Type 0
+KeepsNow owner volume =
     (plain : PlainState) → Shows volume plain
-    → StopKeepsNow (owner_in epoch volume) volume.log plain (λ found. IsFoundCommit found plain.cache.log)
+    → StopKeepsNow owner volume.log plain (λ found. IsFoundCommit found plain.cache.log)
 
 -- The same at each moment of a step, of each plain volume that the volume showed before it, and where its event may make a
--- commit, that of all entries that there were; and the commits stay the volume's own.
-pub record KeepsSince {R : Type 0} (event : Event R) (epoch : ℕ) (old new : VolumeState) : Type 0 where
-  pub own : HasOwnCommits epoch new
+-- commit, that of all entries that there were; and the commits stay the owner's.
+pub record KeepsSince {R : Type 0} (event : Event R) (owner : CacheOwner) (old new : VolumeState) : Type 0 where
+  pub own : HasOwnCommits owner new
   pub since : (plain : PlainState) → Shows old plain
-      → StopKeepsSince (owner_in epoch old) old.log plain (MayBeLeftBy event plain) new.log.commits.disk
+      → StopKeepsSince owner old.log plain (MayBeLeftBy event plain) new.log.commits.disk
 
--- so a step keeps it in each epoch
+-- so a step keeps it for each owner
 abbrev pub StepKeeps : {R : Type 0} → Event R → (old new : VolumeState) → Type 0
-StepKeeps event old new = (epoch : ℕ) → HasOwnCommits epoch old → KeepsSince event epoch old new
+StepKeeps event old new = (owner : CacheOwner) → HasOwnCommits owner old → KeepsSince event owner old new

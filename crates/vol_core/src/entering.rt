@@ -5,7 +5,7 @@ ghost use Rattle.obj_log.specs.Changes.{HasRoomToAdd};
 ghost use Rattle.vol_core.specs.Calls.{EntersLog, MayEnter, ComesToLog, IsRefusedEntry, Enters};
 
 use crate::committing::commit;
-use crate::reply::{Refusal, Reply};
+use crate::reply::{EntryRefusal, Reply};
 use cache_log::{AppendError, CacheLog};
 use lsvd_base::{Entry, in_range};
 use lsvd_device::Disk;
@@ -36,7 +36,7 @@ fn append_record<D: Disk, R: Receipt>(
     objects: &mut ObjLog<R>,
     log: &mut CacheLog<D>,
     entry: &Entry,
-) -> Result<u64, Refusal>
+) -> Result<u64, EntryRefusal>
     requires { MayEnter objects.old log.old }
     ensures ok { IfOk result (λ at. ComesToLog entry.now (Ok at) objects.old objects.new log.old log.new) }
     ensures err { IfErr result (λ why. IsRefusedEntry entry.now why objects.old objects.new log.old log.new) }
@@ -45,10 +45,10 @@ fn append_record<D: Disk, R: Receipt>(
 {
     let batch = objects.batch();
     if !in_range(entry, &batch.geometry()) {
-        return Err(Refusal::Range);
+        return Err(EntryRefusal::Range);
     }
     if let Some(full) = batch.full() {
-        return Err(Refusal::Full(full));
+        return Err(EntryRefusal::Full(full));
     }
     objects.reserve()?;
     log.reserve(entry)?;

@@ -19,5 +19,5 @@ mod volume;
 pub use creating::create;
 pub use event::Event;
 pub use reading::a_read_through_the_maps_is_one_of_the_plain_volume;
-pub use reply::{Refusal, Reply};
+pub use reply::{EntryRefusal, Reply};
 pub use volume::Volume;

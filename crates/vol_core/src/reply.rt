@@ -8,7 +8,7 @@ use std::alloc::AllocError;
 
 /// Why an entry was not entered.
 #[derive(Clone, Copy, Debug, PartialEq, Eq)]
-pub enum Refusal {
+pub enum EntryRefusal {
     /// The volume does not take an entry for these sectors.
     Range,
     /// The entries that are in no object are full: an object is to be sealed first.
@@ -22,27 +22,27 @@ pub enum Refusal {
     OutOfMemory,
 }
 
-impl From<AllocError> for Refusal {
+impl From<AllocError> for EntryRefusal {
     ghost use Rattle.std.specs.Prelude.{◌≡◌};
-    ghost use Rattle.vol_core.specs.declared.reply.Refusal.TheVariants.{OutOfMemory};
+    ghost use Rattle.vol_core.specs.declared.reply.EntryRefusal.TheVariants.{OutOfMemory};
 
     ghost from_gives = { λ error refusal. refusal ≡ OutOfMemory };
 
-    fn from(_error: AllocError) -> Refusal {
-        Refusal::OutOfMemory
+    fn from(_error: AllocError) -> EntryRefusal {
+        EntryRefusal::OutOfMemory
     }
 }
 
-impl From<AppendError> for Refusal {
+impl From<AppendError> for EntryRefusal {
     ghost use Rattle.std.specs.Prelude.{◌≡◌};
     ghost use Rattle.vol_core.specs.Refusals.{refusal_of};
 
     ghost from_gives = { λ error refusal. refusal ≡ refusal_of error };
 
-    fn from(error: AppendError) -> Refusal {
+    fn from(error: AppendError) -> EntryRefusal {
         match error {
-            AppendError::NoRoom { need, free } => Refusal::NoRoom { need, free },
-            AppendError::DeviceFault => Refusal::Fault,
+            AppendError::NoRoom { need, free } => EntryRefusal::NoRoom { need, free },
+            AppendError::DeviceFault => EntryRefusal::Fault,
         }
     }
 }
@@ -55,7 +55,7 @@ pub enum Reply<R: Receipt> {
     /// The entry was not entered.
     NotEntered {
         entry: Entry,
-        why: Refusal,
+        why: EntryRefusal,
     },
     /// Each entry so far is durable; the history has this length.
     Flushed(u64),

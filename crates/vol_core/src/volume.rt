@@ -4,6 +4,7 @@ ghost use Rattle.lsvd_base.specs.Limits.{is_within_limits};
 ghost use Rattle.lsvd_device.specs.Device.{IsDisk};
 ghost use Rattle.commit_slot.specs.Lending.{ChangesBudgetAlone};
 ghost use Rattle.cache_log.specs.Committed.{IsOnDisk};
+ghost use Rattle.stopped_volume.specs.Device.{CacheOwner};
 ghost use Rattle.plain_disk.specs.State.{PlainState};
 ghost use Rattle.refine_log.specs.Fuses.{fuse_in};
 ghost use Rattle.vol_core.specs.Volume.{volume_of, with_budget_of};
@@ -144,7 +145,7 @@ impl<D: Disk, R: Receipt> Volume<D, R> {
         ensures is_disk { IsDisk (D.state result) }
         ensures is_volume { IsVolume self }
         ensures on_disk { IsOnDisk self.volume.log }
-        ensures stands { (epoch : ℕ) → HasOwnCommits epoch self.volume → KeepsNow epoch self.volume }
+        ensures stands { (owner : CacheOwner) → HasOwnCommits owner self.volume → KeepsNow owner self.volume }
     {
         let Volume {
             objects,

@@ -5,8 +5,8 @@ use Rattle.std.specs.Option.{IsSome, is_some}
 use Rattle.std.specs.List.{Contains}
 use Rattle.std.proofs.lemmas.Bool.{cases_lt}
 use Rattle.lsvd_base.specs.declared.geometry.Geometry.{Geometry}
-use Rattle.lsvd_names.specs.declared.name.Kind.{Kind}
-use Rattle.lsvd_names.specs.declared.name.Kind.TheVariants.{Object}
+use Rattle.lsvd_names.specs.declared.name.NameKind.{NameKind}
+use Rattle.lsvd_names.specs.declared.name.NameKind.TheVariants.{Object}
 use Rattle.lsvd_names.specs.declared.name.ObjName.{ObjName}
 use Rattle.lsvd_names.specs.Names.{numbered_name}
 use Rattle.lsvd_objstore.specs.Objects.{Objects, found, Lists}
@@ -25,7 +25,7 @@ named_so : (uuid : List ℕ) (name : ObjName) (number : ℕ) → name.uuid ≡ u
     → name ≡ numbered_name uuid number
 named_so uuid name number same kind is =
     ap (λ (u : List ℕ). let other : ObjName = record { uuid = u; kind = name.kind; number = name.number } in other) same
-    ∙ ap (λ (k : Kind). let other : ObjName = record { uuid = uuid; kind = k; number = name.number } in other) kind
+    ∙ ap (λ (k : NameKind). let other : ObjName = record { uuid = uuid; kind = k; number = name.number } in other) kind
     ∙ ap (λ (n : ℕ). numbered_name uuid n) is
 
 module _ (uuid : List ℕ) (geometry : Geometry) (objects : Objects) (list : ObjLogState) (checkpoint : ℕ) (names : List ObjName)

@@ -23,7 +23,7 @@ use Rattle.cache_log.specs.Log.{LogState, entries_in}
 use Rattle.cache_log.specs.Opening.{AreRecordsInRange}
 use Rattle.cache_log.specs.Laws.{MayBeRead}
 use Rattle.cache_log.proofs.ForCallers.{have_one_list}
-use Rattle.stopped_volume.specs.Device.{CacheOwner}
+use Rattle.stopped_volume.specs.Device.{CacheOwner, owner_with}
 use Rattle.plain_disk.specs.declared.log.PlainCommit.{PlainCommit}
 use Rattle.plain_disk.specs.State.{PlainState}
 use Rattle.refine_log.specs.Stops.{entries_past, HasCommit}
@@ -91,7 +91,7 @@ since_synced P now past moments holds (inr synced) = record { since = after_sync
 
 -- its sizes are these, that of its log too
 pub left_sizes : (uuid : List ℕ) (geometry : Geometry) (epoch : ℕ) (plain : PlainState) (found : PlainCommit) (number : ℕ)
-    (told : Option Objects) (old : DiskState) → IsLeft uuid geometry epoch plain found number told old
+    (told : Option Objects) (old : DiskState) → IsLeft (owner_with uuid epoch) geometry plain found number told old
     → plain.geometry ≡ geometry
 left_sizes uuid geometry epoch plain found number told old left =
     ap (λ log. sizes_with log plain.geometry) left.log_is ∙ sym left.stored.sizes
@@ -99,12 +99,12 @@ left_sizes uuid geometry epoch plain found number told old left =
 module _ (uuid : List ℕ) (geometry : Geometry) (epoch : ℕ) (plain : PlainState) (found : PlainCommit) (number : ℕ)
     (told : Option Objects) (old : DiskState)
     (size : log_start ≤ old.size) (sectors : geometry.log ≡ log_of old.size) (is_disk : IsDisk old)
-    (left : IsLeft uuid geometry epoch plain found number told old) where
+    (left : IsLeft (owner_with uuid epoch) geometry plain found number told old) where
   abbrev count : ℕ
   count = end_of_object number plain
 
   abbrev owner : CacheOwner
-  owner = record { uuid = uuid; epoch = epoch }
+  owner = owner_with uuid epoch
 
   pub newest : HasNewest (λ now. HasCommit owner plain found count now.bytes) old.moments
   newest = newest_of (λ now. HasCommit owner plain found count now.bytes) old.moments left.device
@@ -143,7 +143,7 @@ module _ (uuid : List ℕ) (geometry : Geometry) (epoch : ℕ) (plain : PlainSta
   -- ---- the log that is opened on it
 
   module _ (end : ℕ) (log : LogState) (limits : IsTrue (is_within_limits geometry))
-      (opened : IsOpenedOf uuid geometry epoch end old log) where
+      (opened : IsOpenedOf (owner_with uuid epoch) geometry end old log) where
     abbrev commits : CommitsState
     commits = opened.commits
 

@@ -22,7 +22,7 @@ use Rattle.cache_log.specs.Log.{LogState, AreRowsOf, IsTrimmed}
 use Rattle.cache_log.specs.Opening.{AreRecordsInRange, AreRowsInRange, IsOpenedLog, entry_count}
 use Rattle.upload_window.specs.Window.{WindowState}
 use Rattle.obj_log.specs.State.{ObjLogState}
-use Rattle.stopped_volume.specs.Device.{CacheOwner}
+use Rattle.stopped_volume.specs.Device.{CacheOwner, owner_with}
 use Rattle.plain_disk.specs.declared.log.PlainCommit.{PlainCommit}
 use Rattle.plain_disk.specs.Log.{PlainLog}
 use Rattle.plain_disk.specs.State.{PlainState, history_length}
@@ -88,13 +88,14 @@ module _ (uuid : List ℕ) (geometry : Geometry) (epoch : ℕ) (list : ObjLogSta
     (old : DiskState) (log : LogState)
     (limits : IsTrue (is_within_limits geometry)) (size : log_start ≤ old.size) (sectors : geometry.log ≡ log_of old.size)
     (is_disk : IsDisk old)
-    (is : IsRecovered uuid geometry list checkpoint) (opened : IsOpenedOf uuid geometry epoch list.uploads.queue.end old log)
+    (is : IsRecovered uuid geometry list checkpoint)
+    (opened : IsOpenedOf (owner_with uuid epoch) geometry list.uploads.queue.end old log)
     (from : IfSome told (λ o. IsRecoveredFrom uuid geometry o list checkpoint)) where
   abbrev end : ℕ
   end = list.uploads.queue.end
 
   abbrev owner : CacheOwner
-  owner = record { uuid = uuid; epoch = epoch }
+  owner = owner_with uuid epoch
 
   abbrev body : CommitBody
   body = opened.commits.body
@@ -102,7 +103,8 @@ module _ (uuid : List ℕ) (geometry : Geometry) (epoch : ℕ) (list : ObjLogSta
   abbrev of_log : PlainLog
   of_log = committed_at end (log_found geometry.log body log.rows)
 
-  module _ (plain : PlainState) (found : PlainCommit) (number : ℕ) (left : IsLeft uuid geometry epoch plain found number told old)
+  module _ (plain : PlainState) (found : PlainCommit) (number : ℕ)
+      (left : IsLeft owner geometry plain found number told old)
     where
       of : (o : Objects) × IsListOf uuid geometry plain number o list checkpoint
       of = list_of uuid geometry plain number told list checkpoint limits is from left.stored
@@ -160,7 +162,7 @@ module _ (uuid : List ℕ) (geometry : Geometry) (epoch : ℕ) (list : ObjLogSta
           (load_keeps uuid geometry epoch plain found number told old size sectors is_disk left log.commits.disk opened.settled)
           (subst (λ m. HoldsSince K m new.moments) moments keeps)
 
-  pub completing_keeps : (new : DiskState) → IsDisk new → LeavesFrom end log new → KeepsLeft uuid geometry epoch told old new
+  pub completing_keeps : (new : DiskState) → IsDisk new → LeavesFrom end log new → KeepsLeft owner geometry told old new
   completing_keeps new new_is_disk leaves = λ plain found number left synced. keeps_left plain found number left new new_is_disk
       leaves
 
@@ -172,14 +174,15 @@ pub passes_left : (uuid : List ℕ) (geometry : Geometry) (epoch : ℕ) (list : 
     → IsRecovered uuid geometry list checkpoint → IfSome told (λ o. IsRecoveredFrom uuid geometry o list checkpoint)
     → HasExtent uuid geometry told greatest list.uploads.queue.end → list.uploads.window.last ≤ greatest
     → (epoch < max_number) × (greatest < max_number)
-    → (opened : IsOpenedOf uuid geometry epoch list.uploads.queue.end old log)
-    → PassesLeft uuid geometry epoch told old list.uploads.window.last
+    → (opened : IsOpenedOf (owner_with uuid epoch) geometry list.uploads.queue.end old log)
+    → PassesLeft (owner_with uuid epoch) geometry told old list.uploads.window.last
     (max list.uploads.queue.end opened.commits.body.head.seq)
 passes_left uuid geometry epoch list checkpoint greatest told old log is from extent less low opened =
     let end : ℕ = list.uploads.queue.end in
     let entries : ℕ = max end opened.commits.body.head.seq in
     let most = low.1 in
-    let P : ℕ → CommitBody → Type 0 = λ n b. IsOwnCommit uuid epoch end b × (n < max_number) × (entries ≡ max end b.head.seq) in
+    let P : ℕ → CommitBody → Type 0 =
+    λ n b. IsOwnCommit (owner_with uuid epoch) end b × (n < max_number) × (entries ≡ max end b.head.seq) in
     record {
       good = good_up_to uuid geometry told list checkpoint (omega (arith, less, most)) is from;
       greatest = greatest;
@@ -204,7 +207,7 @@ passes_left uuid geometry epoch list checkpoint greatest told old log is from ex
 -- ---- its calls
 
 pub completing_costs : (uuid : List ℕ) (geometry : Geometry) (epoch end : ℕ) (old new : DiskState) (log : LogState) (made : Bool)
-    → IsOpenedOf uuid geometry epoch end old log
+    → IsOpenedOf (owner_with uuid epoch) geometry end old log
     → MakesAtMost (again_cost (length log.rows)) made log.commits.disk new → CostsMount geometry.log made old new
 completing_costs uuid geometry epoch end old new log made opened again =
     let seqs = opened.up_to.opened.rows.seqs in
@@ -217,12 +220,13 @@ completing_costs uuid geometry epoch end old new log made opened again =
 module _ (uuid : List ℕ) (geometry : Geometry) (epoch : ℕ) (list : ObjLogState) (checkpoint : ℕ) (old : DiskState)
     (log new : LogState) (objects : ObjLogState)
     (limits : IsTrue (is_within_limits geometry)) (is : IsRecovered uuid geometry list checkpoint)
-    (opened : IsOpenedOf uuid geometry epoch list.uploads.queue.end old log) (done : IsCompleted list log new objects) where
+    (opened : IsOpenedOf (owner_with uuid epoch) geometry list.uploads.queue.end old log)
+    (done : IsCompleted list log new objects) where
   abbrev end_is : ℕ
   end_is = list.uploads.queue.end
 
   abbrev own_cache : CacheOwner
-  own_cache = record { uuid = uuid; epoch = epoch }
+  own_cache = owner_with uuid epoch
 
   abbrev found_log : PlainLog
   found_log = committed_at end_is (log_found geometry.log opened.commits.body log.rows)
@@ -336,7 +340,7 @@ module _ (uuid : List ℕ) (geometry : Geometry) (epoch : ℕ) (list : ObjLogSta
       let whole = count_is in
       omega (arith, first, entries, whole)
 
-  pub kept_of_volume : IsOfVolume uuid geometry epoch (mounted_of objects new checkpoint)
+  pub kept_of_volume : IsOfVolume (owner_with uuid epoch) geometry (mounted_of objects new checkpoint)
   kept_of_volume =
       let first = opened_has_committed own_cache geometry opened.commits log opened.is_of opened.up_to.finished
       opened.up_to.opened in
@@ -348,9 +352,7 @@ module _ (uuid : List ℕ) (geometry : Geometry) (epoch : ℕ) (list : ObjLogSta
         uuid_is = uuid_is;
         geometry_is = geometry_is;
         steps = refl;
-        own =
-            subst (λ u. HasCommitted (record { uuid = u; epoch = epoch }) objects.batch.geometry new) (sym uuid_is)
-            (subst (λ g. HasCommitted own_cache g new) (sym geometry_is) own);
+        own = subst (λ g. HasCommitted own_cache g new) (sym geometry_is) own;
         last = refl;
         acknowledged = ap (λ (w : WindowState). w.objects) added.window ∙ ap (λ (w : WindowState). w.objects) is.list.window;
         plans = refl;
@@ -369,7 +371,7 @@ module _ (uuid : List ℕ) (geometry : Geometry) (epoch : ℕ) (list : ObjLogSta
 
   module _ (told : Option Objects) (size : log_start ≤ old.size) (sectors : geometry.log ≡ log_of old.size) (is_disk : IsDisk old)
       (from : IfSome told (λ o. IsRecoveredFrom uuid geometry o list checkpoint)) where
-    pub mounts_left : MountsLeft uuid geometry epoch told old (mounted_of objects new checkpoint)
+    pub mounts_left : MountsLeft (owner_with uuid epoch) geometry told old (mounted_of objects new checkpoint)
     mounts_left = λ plain found number left.
         let of = (list_of uuid geometry plain number told list checkpoint limits is from left.stored).1 in
         let rest : PlainState = mounted_without geometry.log number plain in

@@ -14,7 +14,7 @@ use Rattle.cache_log.specs.declared.row.Row.{Row}
 use Rattle.cache_log.specs.Rows.{log_start}
 use Rattle.cache_log.specs.Opening.{AreRecordsInRange, IsBadRecord}
 use Rattle.obj_log.specs.State.{ObjLogState}
-use Rattle.stopped_volume.specs.Device.{CacheOwner, owner_of}
+use Rattle.stopped_volume.specs.Device.{CacheOwner, owner_of, owner_with}
 use Rattle.plain_disk.specs.declared.log.PlainCommit.{PlainCommit}
 use Rattle.plain_disk.specs.State.{PlainState}
 use Rattle.vol_mount.specs.declared.error.MountError.{MountError}
@@ -33,12 +33,12 @@ use Rattle.vol_mount.proofs.FoundLemmas.{reads_one, at_newest, left_sizes, newes
 
 -- nothing was done to the device
 pub keeps_same : (uuid : List ℕ) (geometry : Geometry) (epoch : ℕ) (told : Option Objects) (old : DiskState)
-    → KeepsLeft uuid geometry epoch told old old
+    → KeepsLeft (owner_with uuid epoch) geometry told old old
 keeps_same uuid geometry epoch told old = λ plain found number left synced. record { since = []; moments = refl; each = tt }
 
 pub refuses_none_too : (uuid : List ℕ) (geometry : Geometry) (epoch : ℕ) (told : Option Objects) (old : DiskState)
     (error : MountError)
-    → RefusesNoneStored uuid geometry told error → RefusesNoneLeft uuid geometry epoch told old error
+    → RefusesNoneStored uuid geometry told error → RefusesNoneLeft (owner_with uuid epoch) geometry told old error
 refuses_none_too uuid geometry epoch told old error none = λ plain found number left. none plain number left.stored
 
 -- ---- a call failed
@@ -63,14 +63,14 @@ device_faulted Passes geometry OutOfMemory old new fault passes = inr (inr passe
 
 pub faults_refuse_no_left : (error : MountError) (uuid : List ℕ) (geometry : Geometry) (epoch : ℕ) (told : Option Objects)
     (old : DiskState) → IsFault error
-    → RefusesNoneLeft uuid geometry epoch told old error
+    → RefusesNoneLeft (owner_with uuid epoch) geometry told old error
 faults_refuse_no_left error uuid geometry epoch told old fault = λ plain found number left. faults_refuse_none error fault
 
 -- ---- the log was not opened
 
 -- no call of the store failed
 pub opens_without_store : (error : MountError) (uuid : List ℕ) (geometry : Geometry) (epoch end greatest : ℕ) (old : DiskState)
-    → IsWhyNotOpened uuid geometry epoch end greatest old error
+    → IsWhyNotOpened (owner_with uuid epoch) geometry end greatest old error
     → is_store_fault_of error ≡ false
 opens_without_store NoVolume uuid geometry epoch end greatest old why = absurd why
 opens_without_store (BadSuper reason) uuid geometry epoch end greatest old why = absurd why
@@ -114,11 +114,12 @@ device_opened Passes geometry error old new leaves = inr (device_too Passes geom
 module _ (uuid : List ℕ) (geometry : Geometry) (epoch : ℕ) (told : Option Objects) (old : DiskState) (size : log_start ≤ old.size)
     (sectors : geometry.log ≡ log_of old.size) (is_disk : IsDisk old) where
   -- whatever a stop left meanwhile reads as the commit of each plain volume that was left
-  pub opening_keeps : (new : DiskState) → LeavesSettled old new → KeepsLeft uuid geometry epoch told old new
+  pub opening_keeps : (new : DiskState) → LeavesSettled old new → KeepsLeft (owner_with uuid epoch) geometry told old new
   opening_keeps new settled = λ plain found number left synced.
       load_keeps uuid geometry epoch plain found number told old size sectors is_disk left new settled
 
-  module _ (plain : PlainState) (found : PlainCommit) (number : ℕ) (left : IsLeft uuid geometry epoch plain found number told old)
+  module _ (plain : PlainState) (found : PlainCommit) (number : ℕ)
+      (left : IsLeft (owner_with uuid epoch) geometry plain found number told old)
     where
       -- the device reads as the commit of the plain volume alone
       reads_as_left : (P : ℕ → CommitBody → Type 0) → ReadsAsCommitOf geometry P old
@@ -163,7 +164,7 @@ module _ (uuid : List ℕ) (geometry : Geometry) (epoch : ℕ) (told : Option Ob
           (is : IsRecovered uuid geometry list checkpoint)
           (from : IfSome told (λ o. IsRecoveredFrom uuid geometry o list checkpoint)) where
         abbrev Past : ℕ → CommitBody → Type 0
-        Past n b = (owner_of b ≡ record { uuid = uuid; epoch = epoch }) × (list.uploads.queue.end < b.tail.seq)
+        Past n b = (owner_of b ≡ owner_with uuid epoch) × (list.uploads.queue.end < b.tail.seq)
 
         begins_before : ReadsAsCommitOf geometry Past old → ⊥
         begins_before reads =
@@ -173,7 +174,7 @@ module _ (uuid : List ℕ) (geometry : Geometry) (epoch : ℕ) (told : Option Ob
             let end = (list_of uuid geometry plain number told list checkpoint limits is from left.stored).1.end_is in
             absurd (omega (arith, past, tail, end))
 
-        refuses_not : (error : MountError) (greatest : ℕ) → IsWhyNotOpened uuid geometry epoch list.uploads.queue.end
+        refuses_not : (error : MountError) (greatest : ℕ) → IsWhyNotOpened (owner_with uuid epoch) geometry list.uploads.queue.end
             greatest old error
             → refuses error ≡ false
         refuses_not NoVolume greatest why = absurd why
@@ -193,7 +194,7 @@ module _ (uuid : List ℕ) (geometry : Geometry) (epoch : ℕ) (told : Option Ob
             absurd (why.1 (sym stale.1 ∙ ap (λ (owner : CacheOwner). owner.epoch) has.is_of))
         refuses_not (BadRecord seq reason) greatest (inl past) = absurd (begins_before past.2)
         refuses_not (BadRecord seq reason) greatest (inr bad) =
-            absurd (has_records (λ n b. IsOwnCommit uuid epoch list.uploads.queue.end b) seq reason bad)
+            absurd (has_records (λ n b. IsOwnCommit (owner_with uuid epoch) list.uploads.queue.end b) seq reason bad)
         refuses_not (Worn value) greatest why = refl
         refuses_not StoreFault greatest why = refl
         refuses_not DeviceFault greatest why = refl
@@ -202,7 +203,7 @@ module _ (uuid : List ℕ) (geometry : Geometry) (epoch : ℕ) (told : Option Ob
   pub opening_refuses_none : IsTrue (is_within_limits geometry) → (list : ObjLogState) (checkpoint : ℕ)
       → IsRecovered uuid geometry list checkpoint
       → IfSome told (λ o. IsRecoveredFrom uuid geometry o list checkpoint) → (error : MountError) (greatest : ℕ)
-      → IsWhyNotOpened uuid geometry epoch list.uploads.queue.end greatest old error
-      → RefusesNoneLeft uuid geometry epoch told old error
+      → IsWhyNotOpened (owner_with uuid epoch) geometry list.uploads.queue.end greatest old error
+      → RefusesNoneLeft (owner_with uuid epoch) geometry told old error
   opening_refuses_none limits list checkpoint is from error greatest why = λ plain found number left.
       refuses_not plain found number left limits list checkpoint is from error greatest why

@@ -15,6 +15,7 @@ use Rattle.cache_log.specs.Rows.{AreNumbered}
 use Rattle.cache_log.specs.Log.{LogState, AreRowsOf, entries_in}
 use Rattle.cache_log.specs.Committed.{IsFormattedLog}
 use Rattle.obj_log.specs.State.{ObjLogState}
+use Rattle.stopped_volume.specs.Device.{owner_with}
 use Rattle.plain_disk.specs.Log.{empty_from}
 use Rattle.plain_disk.specs.Cache.{PlainCache, cache_with}
 use Rattle.plain_disk.specs.State.{PlainState}
@@ -103,16 +104,14 @@ module _ (uuid : List ℕ) (geometry : Geometry) (epoch : ℕ) (list : ObjLogSta
       let number = formatted.commits.same_number in
       record { entries = omega (arith, first, rows, low); objects = omega (arith, last); commits = omega (arith, number) }
 
-  pub lost_of_volume : IsOfVolume uuid geometry epoch (mounted_of list log checkpoint)
+  pub lost_of_volume : IsOfVolume (owner_with uuid epoch) geometry (mounted_of list log checkpoint)
   lost_of_volume =
-      let own = formatted_has_committed uuid epoch end geometry old log formatted in
+      let own = formatted_has_committed (owner_with uuid epoch) end geometry old log formatted in
       record {
         uuid_is = is.list.uuid_is;
         geometry_is = is.list.geometry_is;
         steps = refl;
-        own =
-            subst (λ u. HasCommitted (record { uuid = u; epoch = epoch }) list.batch.geometry log) (sym is.list.uuid_is)
-            (subst (λ g. HasCommitted (record { uuid = uuid; epoch = epoch }) g log) (sym is.list.geometry_is) own);
+        own = subst (λ g. HasCommitted (owner_with uuid epoch) g log) (sym is.list.geometry_is) own;
         last = refl;
         acknowledged = ap (λ (w : WindowState). w.objects) is.list.window;
         plans = refl;

@@ -28,7 +28,7 @@ use Rattle.vol_mount.specs.declared.error.MountError.{MountError}
 use Rattle.vol_mount.specs.declared.error.MountError.TheVariants.{NoVolume, BadSuper, HasAncestors, NoCheckpoint, BadObject}
 use Rattle.vol_mount.specs.declared.error.MountError.TheVariants.{NotData, NoSlot, WrongVolume, StaleCache, BadRecord, Worn}
 use Rattle.vol_mount.specs.declared.error.MountError.TheVariants.{StoreFault, DeviceFault, OutOfMemory}
-use Rattle.stopped_volume.specs.Device.{owner_of}
+use Rattle.stopped_volume.specs.Device.{owner_of, owner_with}
 use Rattle.vol_mount.specs.Refusals.{of_load, of_open, ReadsAsCommitOf, ReadsWhole, IsBadLeftLog, IsOwnCommit, IsFirstGreat}
 use Rattle.vol_mount.specs.Refusals.{IsWhyNotOpened, is_device_fault}
 use Rattle.vol_mount.specs.Leaving.{IsButLoaded, KeepsCommit, MayLeaveDevice}
@@ -43,7 +43,7 @@ use Rattle.vol_mount.proofs.CostLemmas.{opened_calls, costs_load, costs_open}
 module _ (uuid : List ℕ) (geometry : Geometry) (epoch end greatest : ℕ) (old : DiskState)
     (sectors : geometry.log ≡ log_of old.size) where
   load_fails : (error : LoadError) (new : DiskState) → FailsToLoad error old new → IsButLoaded old new
-      → IsNotOpened uuid geometry epoch end greatest (of_load error) old new
+      → IsNotOpened (owner_with uuid epoch) geometry end greatest (of_load error) old new
   load_fails (load_errors.NoSlot log) new fails loaded = record {
     why = (fails.0 ∙ sym sectors, subst (λ n. HoldsNow (λ now. ReadsNone n now.bytes) old.moments) (sym sectors) fails.1);
     settled = loaded.settled;
@@ -55,9 +55,9 @@ module _ (uuid : List ℕ) (geometry : Geometry) (epoch end greatest : ℕ) (old
 
   pub not_loaded : (error : LoadError) (result : MountError) (new : DiskState) → result ≡ of_load error
       → FailsToLoad error old new → IsCrashSafeLoad old new → LeavesSettled old new
-      → IsNotOpened uuid geometry epoch end greatest result old new
+      → IsNotOpened (owner_with uuid epoch) geometry end greatest result old new
   not_loaded error result new is fails safe settled =
-      subst (λ r. IsNotOpened uuid geometry epoch end greatest r old new) (sym is)
+      subst (λ r. IsNotOpened (owner_with uuid epoch) geometry end greatest r old new) (sym is)
       (load_fails error new fails (record { safe = safe; settled = settled }))
 
   -- ---- they were loaded
@@ -104,8 +104,8 @@ module _ (uuid : List ℕ) (geometry : Geometry) (epoch end greatest : ℕ) (old
 
     -- the commit is refused
     why_refused : (error : MountError) (new : DiskState) → KeepsCommit geometry old new
-        → IsWhyRefusedCommit uuid epoch end commits.body error
-        → IsWhyNotOpened uuid geometry epoch end greatest old error × (not (is_device_fault error) ≡ true)
+        → IsWhyRefusedCommit (owner_with uuid epoch) end commits.body error
+        → IsWhyNotOpened (owner_with uuid epoch) geometry end greatest old error × (not (is_device_fault error) ≡ true)
         × MayLeaveDevice ⊥ geometry error old new
     why_refused NoVolume new keeps why = absurd why
     why_refused (BadSuper reason) new keeps why = absurd why
@@ -122,7 +122,7 @@ module _ (uuid : List ℕ) (geometry : Geometry) (epoch end greatest : ℕ) (old
       inl (
         why.0,
         why.1,
-        reads_as (λ number body. (owner_of body ≡ record { uuid = uuid; epoch = epoch }) × (end < body.tail.seq))
+        reads_as (λ number body. (owner_of body ≡ owner_with uuid epoch) × (end < body.tail.seq))
             (why.2, why.3),
       ),
       refl,
@@ -134,8 +134,8 @@ module _ (uuid : List ℕ) (geometry : Geometry) (epoch end greatest : ℕ) (old
     why_refused OutOfMemory new keeps why = absurd why
 
     pub not_taken : (error : MountError) (new : DiskState) → new ≡ commits.disk
-        → IsWhyRefusedCommit uuid epoch end commits.body error
-        → IsNotOpened uuid geometry epoch end greatest error old new
+        → IsWhyRefusedCommit (owner_with uuid epoch) end commits.body error
+        → IsNotOpened (owner_with uuid epoch) geometry end greatest error old new
     not_taken error new same why =
         let moments : new.moments ≡ commits.disk.moments = ap (λ (d : DiskState). d.moments) same in
         let is = why_refused error new (keeps_on new (ap (λ (d : DiskState). d.size) same) moments) why in
@@ -150,18 +150,18 @@ module _ (uuid : List ℕ) (geometry : Geometry) (epoch end greatest : ℕ) (old
 
     -- ---- the commit is taken
 
-    module _ (own : IsOwnCommit uuid epoch end commits.body) where
+    module _ (own : IsOwnCommit (owner_with uuid epoch) end commits.body) where
       -- the log is not opened
       bad_left : (seq : ℕ) (reason : Reason)
           → IsBadLog geometry commits.body commits.disk.moments (open_errors.BadRecord seq reason)
-          → IsBadLeftLog geometry (λ number body. IsOwnCommit uuid epoch end body) old seq reason
+          → IsBadLeftLog geometry (λ number body. IsOwnCommit (owner_with uuid epoch) end body) old seq reason
       bad_left seq reason bad =
           let B : List ℕ → Type 0 = λ bytes.
           IsBadRecord geometry commits.body seq reason bytes
           × ((rows : List Row) → AreRecordsInRange geometry commits.body rows bytes → ⊥) in
           now_with (λ now. Reads geometry.log now.bytes commits.body commits.number) (λ now. B now.bytes)
           (λ now. (number : ℕ) × (body : CommitBody) × Reads geometry.log now.bytes body number
-          × IsOwnCommit uuid epoch end body × IsBadRecord geometry body seq reason now.bytes
+          × IsOwnCommit (owner_with uuid epoch) end body × IsBadRecord geometry body seq reason now.bytes
           × ((rows : List Row) → AreRecordsInRange geometry body rows now.bytes → ⊥)) old.moments
           (λ now reads is. (commits.number, commits.body, reads, own, is.0, is.1)) read_is
           (bad_before geometry commits.body seq reason old.moments commits.disk.moments safe.log_area bad)
@@ -169,7 +169,7 @@ module _ (uuid : List ℕ) (geometry : Geometry) (epoch end greatest : ℕ) (old
       open_fails : (error : OpenError) (new : CommitsState)
           → IsBadLog geometry commits.body commits.disk.moments error
           → AreReadOnly (2 * entry_count commits.body) (opens_without_fault error) commits new
-          → IsNotOpened uuid geometry epoch end greatest (of_open error) old new.disk
+          → IsNotOpened (owner_with uuid epoch) geometry end greatest (of_open error) old new.disk
       open_fails (open_errors.BadRecord seq reason) new bad reads = record {
         why = inr (bad_left seq reason bad);
         settled = settled_on new.disk reads.moments;
@@ -198,10 +198,10 @@ module _ (uuid : List ℕ) (geometry : Geometry) (epoch end greatest : ℕ) (old
       pub not_opened : (error : OpenError) (result : MountError) (after : CommitsState) (new : DiskState)
           → result ≡ of_open error → new ≡ after.disk → IsBadLog geometry commits.body commits.disk.moments error
           → AreReadOnly (2 * entry_count commits.body) (opens_without_fault error) commits after
-          → IsNotOpened uuid geometry epoch end greatest result old new
+          → IsNotOpened (owner_with uuid epoch) geometry end greatest result old new
       not_opened error result after new is same bad reads =
-          subst (λ disk. IsNotOpened uuid geometry epoch end greatest result old disk) (sym same)
-          (subst (λ r. IsNotOpened uuid geometry epoch end greatest r old after.disk) (sym is)
+          subst (λ disk. IsNotOpened (owner_with uuid epoch) geometry end greatest result old disk) (sym same)
+          (subst (λ r. IsNotOpened (owner_with uuid epoch) geometry end greatest r old after.disk) (sym is)
           (open_fails error after bad reads))
 
       -- ---- it was opened
@@ -231,12 +231,12 @@ module _ (uuid : List ℕ) (geometry : Geometry) (epoch end greatest : ℕ) (old
         -- and is worn out
         pub worn_left : (value count : ℕ) (new : DiskState) → new ≡ log.commits.disk → count ≡ max end (next_seq log)
             → IsFirstGreat (log.commits.number ∷ epoch ∷ greatest ∷ count ∷ []) value
-            → IsNotOpened uuid geometry epoch end greatest (Worn value) old new
+            → IsNotOpened (owner_with uuid epoch) geometry end greatest (Worn value) old new
         worn_left value count new same count_is which =
             let P : ℕ → ℕ → Type 0 = λ n k. IsFirstGreat (n ∷ epoch ∷ greatest ∷ k ∷ []) value in
             let moments : new.moments ≡ commits.disk.moments = ap (λ (d : DiskState). d.moments) same ∙ is.only.moments in
             record {
-              why = reads_whole (λ number body. P number (max end body.head.seq) × IsOwnCommit uuid epoch end body)
+              why = reads_whole (λ number body. P number (max end body.head.seq) × IsOwnCommit (owner_with uuid epoch) end body)
                   (subst₂ P number_is (count_is ∙ ap (max end) seq_is) which, own);
               settled = settled_on new moments;
               device = keeps_on new (ap (λ (d : DiskState). d.size) same ∙ is.only.reads.calls.size) moments;
@@ -248,7 +248,7 @@ module _ (uuid : List ℕ) (geometry : Geometry) (epoch end greatest : ℕ) (old
         -- or has small numbers
         pub opened_of : (count : ℕ) → MayStand commits.body (log_of commits.disk.size) → count ≡ max end (next_seq log)
             → All (λ number. number < max_number) (log.commits.number ∷ epoch ∷ greatest ∷ count ∷ [])
-            → IsOpenedOf uuid geometry epoch end old log
+            → IsOpenedOf (owner_with uuid epoch) geometry end old log
         opened_of count stands count_is low =
             let size : log_of commits.disk.size ≡ geometry.log = ap log_of load.calls.size ∙ sym sectors in
             record {

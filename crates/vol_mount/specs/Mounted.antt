@@ -1,9 +1,10 @@
 -- Contract: what is seen of a volume that was mounted.
-use Rattle.std.specs.Prelude.{◌≡◌, ℕ, ◌+◌, List, []}
+use Rattle.std.specs.Prelude.{◌≡◌, ℕ, ◌+◌, []}
 use Rattle.lsvd_base.specs.declared.geometry.Geometry.{Geometry}
 use Rattle.lsvd_device.specs.Device.{DiskState, HoldsNow}
 use Rattle.commit_body.specs.declared.body.CommitBody.{CommitBody}
 use Rattle.commit_slot.specs.Slots.{Reads}
+use Rattle.stopped_volume.specs.Device.{CacheOwner}
 use Rattle.plain_disk.specs.State.{PlainState, history_length}
 use Rattle.refine_log.specs.Fuses.{fuse_in}
 use Rattle.vol_core.specs.Volume.{SteppedVolume}
@@ -27,13 +28,13 @@ NumbersNextCommit log old mounted =
     HoldsNow (λ now. (number : ℕ) (body : CommitBody) → Reads log now.bytes body number
     → mounted.volume.volume.log.commits.number ≡ number + 1) old.moments
 
--- It is the volume that was asked for, has made no step, and its commits are its own, in this epoch. Each of its objects is
--- acknowledged, and no plan of a read is out.
-pub record IsOfVolume (uuid : List ℕ) (geometry : Geometry) (epoch : ℕ) (mounted : MountedState) : Type 0 where
-  pub uuid_is : mounted.volume.volume.objects.uploads.uuid ≡ uuid
+-- It is the volume that was asked for, has made no step, and its commits are of this owner, which has its uuid. Each of its
+-- objects is acknowledged, and no plan of a read is out.
+pub record IsOfVolume (owner : CacheOwner) (geometry : Geometry) (mounted : MountedState) : Type 0 where
+  pub uuid_is : mounted.volume.volume.objects.uploads.uuid ≡ owner.uuid
   pub geometry_is : mounted.volume.volume.objects.batch.geometry ≡ geometry
   pub steps : mounted.volume.steps ≡ 0
-  pub own : HasOwnCommits epoch mounted.volume.volume
+  pub own : HasOwnCommits owner mounted.volume.volume
   pub last : mounted.number ≡ mounted.volume.volume.objects.uploads.window.last
   pub acknowledged : mounted.volume.volume.objects.uploads.window.objects ≡ []
   pub plans : mounted.volume.volume.pins ≡ []

@@ -6,6 +6,7 @@ use Rattle.lsvd_device.specs.Device.{DiskState, HoldsNow, HoldsSince}
 use Rattle.lsvd_device.specs.Memory.{IsSynced}
 use Rattle.lsvd_device.specs.Stop.{HasNow}
 use Rattle.lsvd_objstore.specs.Objects.{Objects}
+use Rattle.stopped_volume.specs.Device.{CacheOwner}
 use Rattle.plain_disk.specs.declared.log.PlainCommit.{PlainCommit}
 use Rattle.plain_disk.specs.State.{PlainState}
 use Rattle.plain_disk.specs.Valid.{IsPlainVolume}
@@ -37,20 +38,19 @@ MountsStored uuid geometry objects mounted =
 
 -- ---- with the cache
 
--- Device and store have a plain volume in an epoch: the store its objects up to a number, and the device, whose log is as long as
--- the volume's, reads as this commit of that log.
-pub record IsLeft (uuid : List ℕ) (geometry : Geometry) (epoch : ℕ) (plain : PlainState) (found : PlainCommit) (number : ℕ)
+-- Device and store have a plain volume of this owner: the store its objects up to a number, and the device, whose log is as long
+-- as the volume's, reads as this commit of that log.
+pub record IsLeft (owner : CacheOwner) (geometry : Geometry) (plain : PlainState) (found : PlainCommit) (number : ℕ)
     (objects : Option Objects)
     (disk : DiskState) : Type 0 where
-  pub stored : IsStored uuid geometry plain number objects
+  pub stored : IsStored owner.uuid geometry plain number objects
   pub log_is : plain.geometry.log ≡ geometry.log
-  pub device : HasNow (λ now. HasCommit (record { uuid = uuid; epoch = epoch }) plain found (end_of_object number plain)
-      now.bytes) disk.moments
+  pub device : HasNow (λ now. HasCommit owner plain found (end_of_object number plain) now.bytes) disk.moments
 
 -- whichever plain volume they have, the mount makes of it what one with the cache is to make
-abbrev pub MountsLeft : (uuid : List ℕ) → Geometry → (epoch : ℕ) → Option Objects → DiskState → MountedState → Type 0
-MountsLeft uuid geometry epoch objects disk mounted =
-    (plain : PlainState) (found : PlainCommit) (number : ℕ) → IsLeft uuid geometry epoch plain found number objects disk
+abbrev pub MountsLeft : (owner : CacheOwner) → Geometry → Option Objects → DiskState → MountedState → Type 0
+MountsLeft owner geometry objects disk mounted =
+    (plain : PlainState) (found : PlainCommit) (number : ℕ) → IsLeft owner geometry plain found number objects disk
     → IsMountOf (mounted_with found number plain) number mounted
 
 -- ---- stops
@@ -58,11 +58,11 @@ MountsLeft uuid geometry epoch objects disk mounted =
 -- Where nothing was pending on the device, whatever a stop leaves of it at each moment of the mount reads as the commit that was
 -- found of the plain volume, or as that of the volume which the mount makes of it. A mount of the one or of the other makes the
 -- same.
-abbrev pub KeepsLeft : (uuid : List ℕ) → Geometry → (epoch : ℕ) → Option Objects → (old new : DiskState) → Type 0
-KeepsLeft uuid geometry epoch objects old new =
-    (plain : PlainState) (found : PlainCommit) (number : ℕ) → IsLeft uuid geometry epoch plain found number objects old
+abbrev pub KeepsLeft : (owner : CacheOwner) → Geometry → Option Objects → (old new : DiskState) → Type 0
+KeepsLeft owner geometry objects old new =
+    (plain : PlainState) (found : PlainCommit) (number : ℕ) → IsLeft owner geometry plain found number objects old
     → HoldsNow IsSynced old.moments
-    → HoldsSince (StopKeepsMount (record { uuid = uuid; epoch = epoch }) plain found number) old.moments new.moments
+    → HoldsSince (StopKeepsMount owner plain found number) old.moments new.moments
 
 -- ---- completeness
 
@@ -71,7 +71,7 @@ abbrev pub RefusesNoneStored : (uuid : List ℕ) → Geometry → Option Objects
 RefusesNoneStored uuid geometry objects error =
     (plain : PlainState) (number : ℕ) → IsStored uuid geometry plain number objects → refuses error ≡ false
 
-abbrev pub RefusesNoneLeft : (uuid : List ℕ) → Geometry → (epoch : ℕ) → Option Objects → DiskState → MountError → Type 0
-RefusesNoneLeft uuid geometry epoch objects disk error =
-    (plain : PlainState) (found : PlainCommit) (number : ℕ) → IsLeft uuid geometry epoch plain found number objects disk
+abbrev pub RefusesNoneLeft : (owner : CacheOwner) → Geometry → Option Objects → DiskState → MountError → Type 0
+RefusesNoneLeft owner geometry objects disk error =
+    (plain : PlainState) (found : PlainCommit) (number : ℕ) → IsLeft owner geometry plain found number objects disk
     → refuses error ≡ false

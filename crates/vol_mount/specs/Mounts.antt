@@ -6,6 +6,7 @@ use Rattle.lsvd_device.specs.Device.{DiskState, IsDisk, HoldsNow}
 use Rattle.lsvd_device.specs.Memory.{IsSynced}
 use Rattle.lsvd_objstore.specs.Objects.{Objects}
 use Rattle.lsvd_objstore.specs.Store.{StoreState, Becomes}
+use Rattle.stopped_volume.specs.Device.{CacheOwner, owner_with}
 use Rattle.object_recovery.specs.Checkpoints.{expected_of}
 use Rattle.object_recovery.specs.Recovery.{RemovesAllPast, MayRemovePast}
 use Rattle.vol_mount.specs.declared.error.MountError.{MountError}
@@ -20,20 +21,20 @@ use Rattle.vol_mount.specs.Costs.{CostsMount, CostsNewLog, FailsToFormat}
 -- ---- with the cache
 
 -- all tests of store and device are passed, where bytes are told
-abbrev pub PassesAll : (Tells : Type 0) → (uuid : List ℕ) → Geometry → (epoch : ℕ) → Option Objects → DiskState → Type 0
-PassesAll Tells uuid geometry epoch objects disk =
-    Tells → (number : ℕ) × (entries : ℕ) × PassesLeft uuid geometry epoch objects disk number entries
+abbrev pub PassesAll : (Tells : Type 0) → (owner : CacheOwner) → Geometry → Option Objects → DiskState → Type 0
+PassesAll Tells owner geometry objects disk =
+    Tells → (number : ℕ) × (entries : ℕ) × PassesLeft owner geometry objects disk number entries
 
 -- A mount with the cache made the volume that was asked for, whose store and device pass all tests: of each plain volume that
 -- they have, what such a mount is to make. The objects past the first missing number are removed, and the device has one commit
 -- more, on which nothing is pending. A stop meanwhile leaves the commit that was found, or that of the volume which is made.
-pub record MakesWithCache (Tells : Type 0) (uuid : List ℕ) (geometry : Geometry) (epoch : ℕ) (old new : Option Objects)
+pub record MakesWithCache (Tells : Type 0) (owner : CacheOwner) (geometry : Geometry) (old new : Option Objects)
     (disk : DiskState) (mounted : MountedState) : Type 0 where
-  pub volume : IsOfVolume uuid geometry epoch mounted
-  pub passes : Tells → PassesLeft uuid geometry epoch old disk mounted.number mounted.entries
-  pub mounts : Tells → MountsLeft uuid geometry epoch old disk mounted
-  pub removed : Becomes (RemovesAllPast uuid mounted.number) old new
-  pub stops : Tells → KeepsLeft uuid geometry epoch old disk (disk_of mounted)
+  pub volume : IsOfVolume owner geometry mounted
+  pub passes : Tells → PassesLeft owner geometry old disk mounted.number mounted.entries
+  pub mounts : Tells → MountsLeft owner geometry old disk mounted
+  pub removed : Becomes (RemovesAllPast owner.uuid mounted.number) old new
+  pub stops : Tells → KeepsLeft owner geometry old disk (disk_of mounted)
   pub costs : CostsMount geometry.log true disk (disk_of mounted)
   pub synced : HoldsNow IsSynced (disk_of mounted).moments
   pub number : NumbersNextCommit geometry.log disk mounted
@@ -41,23 +42,22 @@ pub record MakesWithCache (Tells : Type 0) (uuid : List ℕ) (geometry : Geometr
 -- It gave none: the error has its cause and refuses no plain volume that store and device have. One that is no fault leaves the
 -- objects as they were, and each leaves them without some past the first missing number at most. The device keeps its commit,
 -- and a stop meanwhile that, or the commit of the volume which the mount was to make.
-pub record LeavesWithCache (Tells : Type 0) (uuid : List ℕ) (geometry : Geometry) (epoch : ℕ) (old new : Option Objects)
+pub record LeavesWithCache (Tells : Type 0) (owner : CacheOwner) (geometry : Geometry) (old new : Option Objects)
     (disk left : DiskState) (error : MountError) : Type 0 where
-  pub why : Tells → IsWhyNotLeft uuid geometry epoch old disk error
-  pub no_refusal : Tells → RefusesNoneLeft uuid geometry epoch old disk error
+  pub why : Tells → IsWhyNotLeft owner geometry old disk error
+  pub no_refusal : Tells → RefusesNoneLeft owner geometry old disk error
   pub store : (IsFault error → ⊥) → new ≡ old
-  pub some : Becomes (MayRemovePast Tells (expected_of uuid geometry)) old new
-  pub device : LeavesDevice (PassesAll Tells uuid geometry epoch old disk) geometry error disk left
-  pub stops : Tells → KeepsLeft uuid geometry epoch old disk left
+  pub some : Becomes (MayRemovePast Tells (expected_of owner.uuid geometry)) old new
+  pub device : LeavesDevice (PassesAll Tells owner geometry old disk) geometry error disk left
+  pub stops : Tells → KeepsLeft owner geometry old disk left
   pub costs : CostsMount geometry.log (not (is_device_fault error)) disk left
   pub is_disk : IsDisk left
 
 -- so a mount with the cache ends, and a call of the store that failed was counted once
-pub record MountsWithCache {D : Type 0} (state : D → DiskState) (Tells : Type 0) (uuid : List ℕ) (geometry : Geometry) (epoch : ℕ)
+pub record MountsWithCache {D : Type 0} (state : D → DiskState) (Tells : Type 0) (owner : CacheOwner) (geometry : Geometry)
     (disk : DiskState) (old new : StoreState) (result : Result MountedState (D × MountError)) : Type 0 where
-  pub made : IfOk result (MakesWithCache Tells uuid geometry epoch old.objects new.objects disk)
-  pub none : IfErr result (λ error. LeavesWithCache Tells uuid geometry epoch old.objects new.objects disk (state error.0)
-      error.1)
+  pub made : IfOk result (MakesWithCache Tells owner geometry old.objects new.objects disk)
+  pub none : IfErr result (λ error. LeavesWithCache Tells owner geometry old.objects new.objects disk (state error.0) error.1)
   pub faults : Counts (ends_by_store_fault result) old.faults new.faults
 
 -- ---- without it
@@ -67,7 +67,7 @@ pub record MountsWithCache {D : Type 0} (state : D → DiskState) (Tells : Type 
 -- put, and the device was formatted: its commit has the number 0, and nothing is pending.
 pub record MakesWithoutCache (Tells : Type 0) (uuid : List ℕ) (geometry : Geometry) (epoch : ℕ) (old new : Option Objects)
     (disk : DiskState) (mounted : MountedState) : Type 0 where
-  pub volume : IsOfVolume uuid geometry (epoch + 1) mounted
+  pub volume : IsOfVolume (owner_with uuid (epoch + 1)) geometry mounted
   pub passes : Tells → PassesStored uuid geometry epoch old mounted.number mounted.entries
   pub mounts : Tells → MountsStored uuid geometry old mounted
   pub begun : Becomes (BeginsEpoch uuid mounted.number (epoch + 1)) old new

@@ -4,6 +4,7 @@ use Rattle.std.specs.List.{AllByRecursion}
 use Rattle.lsvd_base.specs.declared.geometry.Geometry.{Geometry}
 use Rattle.lsvd_device.specs.Device.{DiskState}
 use Rattle.lsvd_objstore.specs.Objects.{Objects}
+use Rattle.stopped_volume.specs.Device.{CacheOwner}
 use Rattle.object_recovery.specs.Checkpoints.{expected_of}
 use Rattle.object_recovery.specs.Judging.{HaveLanded}
 use Rattle.object_recovery.specs.Recovery.{IsLastLanded, AreAllGood}
@@ -37,15 +38,15 @@ pub record PassesStored (uuid : List ℕ) (geometry : Geometry) (epoch : ℕ) (o
 
 -- ---- with the device
 
--- Store and device pass for a mount with the cache: the objects are good up to a number. The device reads as a commit of the
--- volume in this epoch, whose tail is not past their end and which has its records up to the head. So many entries are up to the
+-- Store and device pass for a mount with the cache: the objects are good up to a number. The device reads as a commit of
+-- this owner, whose tail is not past their end and which has its records up to the head. So many entries are up to the
 -- later of the two, and no number is too great.
-pub record PassesLeft (uuid : List ℕ) (geometry : Geometry) (epoch : ℕ) (objects : Option Objects) (disk : DiskState)
+pub record PassesLeft (owner : CacheOwner) (geometry : Geometry) (objects : Option Objects) (disk : DiskState)
     (number entries : ℕ) : Type 0 where
-  pub good : IfSome objects (AreGoodUpTo uuid geometry number)
+  pub good : IfSome objects (AreGoodUpTo owner.uuid geometry number)
   pub greatest : ℕ
   pub end : ℕ
-  pub extent : HasExtent uuid geometry objects greatest end
-  pub low : AreNotWorn (epoch ∷ greatest ∷ entries ∷ [])
-  pub device : ReadsWhole geometry (λ commit body. IsOwnCommit uuid epoch end body × (commit < max_number)
+  pub extent : HasExtent owner.uuid geometry objects greatest end
+  pub low : AreNotWorn (owner.epoch ∷ greatest ∷ entries ∷ [])
+  pub device : ReadsWhole geometry (λ commit body. IsOwnCommit owner end body × (commit < max_number)
       × (entries ≡ max end body.head.seq)) disk

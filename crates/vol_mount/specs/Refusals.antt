@@ -16,11 +16,11 @@ use Rattle.cache_log.specs.declared.row.Row.{Row}
 use Rattle.cache_log.specs.Opening.{AreRecordsInRange, IsBadRecord}
 use Rattle.cache_log.specs.declared.error.OpenError.{OpenError}
 use Rattle.cache_log.specs.declared.error.OpenError.TheVariants as open_errors
-use Rattle.cache_log.specs.declared.error.ReadError.{ReadError}
-use Rattle.cache_log.specs.declared.error.ReadError.TheVariants as read_errors
+use Rattle.cache_log.specs.declared.error.LogReadError.{LogReadError}
+use Rattle.cache_log.specs.declared.error.LogReadError.TheVariants as read_errors
 use Rattle.object_stream.specs.Stream.{Stream, end_at}
 use Rattle.stopped_volume.specs.Objects.{landed_in}
-use Rattle.stopped_volume.specs.Device.{owner_of}
+use Rattle.stopped_volume.specs.Device.{CacheOwner, owner_of}
 use Rattle.super_recovery.specs.declared.error.SuperError.{SuperError}
 use Rattle.super_recovery.specs.declared.error.SuperError.TheVariants as supers
 use Rattle.object_recovery.specs.declared.error.RecoverError.{RecoverError}
@@ -50,7 +50,7 @@ of_open (open_errors.BadRecord seq reason) = BadRecord seq reason
 of_open open_errors.DeviceFault = DeviceFault
 of_open open_errors.OutOfMemory = OutOfMemory
 
-abbrev pub of_read : ReadError → MountError
+abbrev pub of_read : LogReadError → MountError
 of_read read_errors.DeviceFault = DeviceFault
 of_read read_errors.OutOfMemory = OutOfMemory
 
@@ -89,9 +89,9 @@ IsBadLeftLog geometry P disk seq reason =
     × IsBadRecord geometry body seq reason now.bytes × ((rows : List Row) → AreRecordsInRange geometry body rows now.bytes → ⊥))
     disk.moments
 
--- a commit is of a volume in an epoch, and its tail is not past an end
-abbrev pub IsOwnCommit : (uuid : List ℕ) → (epoch end : ℕ) → CommitBody → Type 0
-IsOwnCommit uuid epoch end body = (owner_of body ≡ record { uuid = uuid; epoch = epoch }) × (body.tail.seq ≤ end)
+-- a commit is of this owner, and its tail is not past an end
+abbrev pub IsOwnCommit : (owner : CacheOwner) → (end : ℕ) → CommitBody → Type 0
+IsOwnCommit owner end body = (owner_of body ≡ owner) × (body.tail.seq ≤ end)
 
 -- ---- numbers that are too great
 
@@ -147,33 +147,32 @@ IsWhyLost uuid geometry epoch objects error = IsWhyNotStored uuid geometry objec
 -- are in this order: a slot is open; the commit that the device reads as is of this volume, and in this epoch; its tail is not
 -- past the end; the log has its records; and none of the numbers is too great: that of the commit, the epoch, the greatest number
 -- of an object, and the count of all entries.
-abbrev pub IsWhyNotOpened : (uuid : List ℕ) → Geometry → (epoch end greatest : ℕ) → DiskState → MountError → Type 0
-IsWhyNotOpened uuid geometry epoch end greatest disk (NoSlot log) =
+abbrev pub IsWhyNotOpened : (owner : CacheOwner) → Geometry → (end greatest : ℕ) → DiskState → MountError → Type 0
+IsWhyNotOpened owner geometry end greatest disk (NoSlot log) =
     (log ≡ geometry.log) × HoldsNow (λ now. ReadsNone geometry.log now.bytes) disk.moments
-IsWhyNotOpened uuid geometry epoch end greatest disk (WrongVolume found) =
-    ReadsAsCommitOf geometry (λ number body. (body.uuid ≡ found) × (found ≡ uuid → ⊥)) disk
-IsWhyNotOpened uuid geometry epoch end greatest disk (StaleCache cache store) =
-    (store ≡ epoch) × (cache ≡ epoch → ⊥)
-    × ReadsAsCommitOf geometry (λ number body. (body.uuid ≡ uuid) × (body.epoch ≡ cache)) disk
-IsWhyNotOpened uuid geometry epoch end greatest disk (BadRecord seq reason) =
+IsWhyNotOpened owner geometry end greatest disk (WrongVolume found) =
+    ReadsAsCommitOf geometry (λ number body. (body.uuid ≡ found) × (found ≡ owner.uuid → ⊥)) disk
+IsWhyNotOpened owner geometry end greatest disk (StaleCache cache store) =
+    (store ≡ owner.epoch) × (cache ≡ owner.epoch → ⊥)
+    × ReadsAsCommitOf geometry (λ number body. (body.uuid ≡ owner.uuid) × (body.epoch ≡ cache)) disk
+IsWhyNotOpened owner geometry end greatest disk (BadRecord seq reason) =
     ((seq ≡ end) × (reason ≡ reasons.Seq)
-    × ReadsAsCommitOf geometry (λ number body. (owner_of body ≡ record { uuid = uuid; epoch = epoch }) × (end < body.tail.seq))
-    disk)
-    ⊎ IsBadLeftLog geometry (λ number body. IsOwnCommit uuid epoch end body) disk seq reason
-IsWhyNotOpened uuid geometry epoch end greatest disk (Worn value) =
-    ReadsWhole geometry (λ number body. IsFirstGreat (number ∷ epoch ∷ greatest ∷ max end body.head.seq ∷ []) value
-    × IsOwnCommit uuid epoch end body) disk
-IsWhyNotOpened uuid geometry epoch end greatest disk DeviceFault = Unit {0}
-IsWhyNotOpened uuid geometry epoch end greatest disk OutOfMemory = Unit {0}
-IsWhyNotOpened uuid geometry epoch end greatest disk error = ⊥
+    × ReadsAsCommitOf geometry (λ number body. (owner_of body ≡ owner) × (end < body.tail.seq)) disk)
+    ⊎ IsBadLeftLog geometry (λ number body. IsOwnCommit owner end body) disk seq reason
+IsWhyNotOpened owner geometry end greatest disk (Worn value) =
+    ReadsWhole geometry (λ number body. IsFirstGreat (number ∷ owner.epoch ∷ greatest ∷ max end body.head.seq ∷ []) value
+    × IsOwnCommit owner end body) disk
+IsWhyNotOpened owner geometry end greatest disk DeviceFault = Unit {0}
+IsWhyNotOpened owner geometry end greatest disk OutOfMemory = Unit {0}
+IsWhyNotOpened owner geometry end greatest disk error = ⊥
 
 -- why a mount with the cache gives none: the objects are refused, or they are good and the device is refused
-abbrev pub IsWhyNotLeft : (uuid : List ℕ) → Geometry → (epoch : ℕ) → Option Objects → DiskState → MountError → Type 0
-IsWhyNotLeft uuid geometry epoch objects disk error =
-    IsWhyNotStored uuid geometry objects error
-    ⊎ (HasGoodObjects uuid geometry objects
-    × ((greatest : ℕ) × (end : ℕ) × HasExtent uuid geometry objects greatest end
-    × IsWhyNotOpened uuid geometry epoch end greatest disk error))
+abbrev pub IsWhyNotLeft : (owner : CacheOwner) → Geometry → Option Objects → DiskState → MountError → Type 0
+IsWhyNotLeft owner geometry objects disk error =
+    IsWhyNotStored owner.uuid geometry objects error
+    ⊎ (HasGoodObjects owner.uuid geometry objects
+    × ((greatest : ℕ) × (end : ℕ) × HasExtent owner.uuid geometry objects greatest end
+    × IsWhyNotOpened owner geometry end greatest disk error))
 
 -- the error refuses what device or store have
 abbrev pub refuses : MountError → Bool

@@ -18,7 +18,7 @@ use Rattle.cache_log.specs.Rows.{AreNumbered}
 use Rattle.cache_log.specs.Log.{LogState, AreRowsOf, IsTrimmed}
 use Rattle.cache_log.specs.Opening.{AreRecordsInRange, IsOpenedLog, entry_count}
 use Rattle.cache_log.specs.Committed.{body_of, HasSameList, IsReleased, LeavesEntriesSince}
-use Rattle.stopped_volume.specs.Device.{owner_of}
+use Rattle.stopped_volume.specs.Device.{CacheOwner, owner_of}
 use Rattle.obj_log.specs.State.{ObjLogState}
 use Rattle.object_recovery.specs.Checkpoints.{expected_of, IsNewestWithEnd}
 use Rattle.object_recovery.specs.Places.{HasPlacesInside}
@@ -102,32 +102,32 @@ pub record IsOpenedUpTo (geometry : Geometry) (end : ℕ) (commits : CommitsStat
   pub number : commits.number < max_number
   pub count : max end commits.body.head.seq < max_number
 
--- the commits are those that a device reads as, and are of the volume in this epoch
-pub record IsOpenedOf (uuid : List ℕ) (geometry : Geometry) (epoch end : ℕ) (old : DiskState) (log : LogState) : Type 0 where
+-- the commits are those that a device reads as, and are of this owner
+pub record IsOpenedOf (owner : CacheOwner) (geometry : Geometry) (end : ℕ) (old : DiskState) (log : LogState) : Type 0 where
   pub commits : CommitsState
   pub read : HoldsNow (λ now. Reads geometry.log now.bytes commits.body commits.number) old.moments
   pub records : HoldsNow (λ now. AreRecordsInRange geometry commits.body log.rows now.bytes) old.moments
-  pub is_of : owner_of commits.body ≡ record { uuid = uuid; epoch = epoch }
+  pub is_of : owner_of commits.body ≡ owner
   pub up_to : IsOpenedUpTo geometry end commits log
   pub settled : LeavesSettled old log.commits.disk
   pub calls : MakesAtMost (open_cost (entry_count commits.body)) true old log.commits.disk
 
 -- a log was not opened, where the objects have this end, and no greater number than this
-pub record IsNotOpened (uuid : List ℕ) (geometry : Geometry) (epoch end greatest : ℕ) (error : MountError) (old new : DiskState) :
+pub record IsNotOpened (owner : CacheOwner) (geometry : Geometry) (end greatest : ℕ) (error : MountError) (old new : DiskState) :
     Type 0 where
-  pub why : IsWhyNotOpened uuid geometry epoch end greatest old error
+  pub why : IsWhyNotOpened owner geometry end greatest old error
   pub settled : LeavesSettled old new
   pub device : MayLeaveDevice ⊥ geometry error old new
   pub costs : CostsMount geometry.log (not (is_device_fault error)) old new
 
--- why the last commit is not that of a volume in this epoch whose objects have this end
-abbrev pub IsWhyRefusedCommit : (uuid : List ℕ) → (epoch end : ℕ) → CommitBody → MountError → Type 0
-IsWhyRefusedCommit uuid epoch end body (WrongVolume found) = (body.uuid ≡ found) × (found ≡ uuid → ⊥)
-IsWhyRefusedCommit uuid epoch end body (StaleCache cache store) =
-    (body.uuid ≡ uuid) × (body.epoch ≡ cache) × (store ≡ epoch) × (cache ≡ epoch → ⊥)
-IsWhyRefusedCommit uuid epoch end body (BadRecord seq reason) =
-    (seq ≡ end) × (reason ≡ reasons.Seq) × (owner_of body ≡ record { uuid = uuid; epoch = epoch }) × (end < body.tail.seq)
-IsWhyRefusedCommit uuid epoch end body error = ⊥
+-- why the last commit is not that of this owner, whose objects have this end
+abbrev pub IsWhyRefusedCommit : (owner : CacheOwner) → (end : ℕ) → CommitBody → MountError → Type 0
+IsWhyRefusedCommit owner end body (WrongVolume found) = (body.uuid ≡ found) × (found ≡ owner.uuid → ⊥)
+IsWhyRefusedCommit owner end body (StaleCache cache store) =
+    (body.uuid ≡ owner.uuid) × (body.epoch ≡ cache) × (store ≡ owner.epoch) × (cache ≡ owner.epoch → ⊥)
+IsWhyRefusedCommit owner end body (BadRecord seq reason) =
+    (seq ≡ end) × (reason ≡ reasons.Seq) × (owner_of body ≡ owner) × (end < body.tail.seq)
+IsWhyRefusedCommit owner end body error = ⊥
 
 -- ---- completing
 

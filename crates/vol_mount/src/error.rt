@@ -2,7 +2,7 @@ ghost use Rattle.std.specs.Prelude.{◌≡◌};
 ghost use Rattle.vol_mount.specs.declared.error.MountError.TheVariants as mount_errors;
 ghost use Rattle.vol_mount.specs.Refusals.{of_recovery, of_super, of_load, of_open, of_read};
 
-use cache_log::{OpenError, ReadError};
+use cache_log::{LogReadError, OpenError};
 use commit_slot::LoadError;
 use log_record::Reason;
 use lsvd_fault::Failed;
@@ -117,13 +117,13 @@ impl From<OpenError> for MountError {
     }
 }
 
-impl From<ReadError> for MountError {
+impl From<LogReadError> for MountError {
     ghost from_gives = { λ error e. e ≡ of_read error };
 
-    fn from(error: ReadError) -> MountError {
+    fn from(error: LogReadError) -> MountError {
         match error {
-            ReadError::DeviceFault => MountError::DeviceFault,
-            ReadError::OutOfMemory => MountError::OutOfMemory,
+            LogReadError::DeviceFault => MountError::DeviceFault,
+            LogReadError::OutOfMemory => MountError::OutOfMemory,
         }
     }
 }

@@ -6,6 +6,7 @@ ghost use Rattle.lsvd_objstore.specs.Store.{Becomes};
 ghost use Rattle.commit_slot.specs.Slots.{log_of};
 ghost use Rattle.commit_slot.specs.Commits.{CommitsState};
 ghost use Rattle.commit_slot.specs.Loading.{MakesAtMost};
+ghost use Rattle.stopped_volume.specs.Device.{owner_with};
 ghost use Rattle.stopped_volume.specs.Store.{TellsBytes};
 ghost use Rattle.object_recovery.specs.Recovery.{IsPastOf, RemovesAllPast};
 ghost use Rattle.object_recovery.specs.Removal.{Removes};
@@ -67,8 +68,8 @@ pub fn mount_with_cache<D: Disk, S: Store>(
     requires is_disk { IsDisk (D.state disk) }
     requires size { 4096 ≤ (D.state disk).size }
     requires log { geometry.log ≡ log_of (D.state disk).size }
-    ensures { MountsWithCache D.state (TellsBytes S.Receipt.state) uuid geometry epoch (D.state disk)
-        (S.state store.old) (S.state store.new) result }
+    ensures { MountsWithCache D.state (TellsBytes S.Receipt.state) (owner_with uuid epoch) geometry
+        (D.state disk) (S.state store.old) (S.state store.new) result }
 {
     let recovered = match recover_list(alloc, store, uuid, geometry) {
         Ok(recovered) => recovered,

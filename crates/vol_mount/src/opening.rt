@@ -3,7 +3,7 @@ ghost use Rattle.lsvd_base.specs.Limits.{is_within_limits};
 ghost use Rattle.lsvd_device.specs.Device.{IsDisk};
 ghost use Rattle.commit_body.specs.Body.{MayStand};
 ghost use Rattle.commit_slot.specs.Slots.{log_of};
-ghost use Rattle.stopped_volume.specs.Device.{owner_of};
+ghost use Rattle.stopped_volume.specs.Device.{owner_of, owner_with};
 ghost use Rattle.vol_core.specs.Shows.{max_number};
 ghost use Rattle.vol_mount.specs.Steps.{IsOpenedOf, IsNotOpened, IsWhyRefusedCommit};
 
@@ -45,12 +45,12 @@ pub(crate) fn open_log<D: Disk>(
     requires is_disk { IsDisk (D.state disk) }
     requires size { 4096 ≤ (D.state disk).size }
     requires log { known.now.geometry.log ≡ log_of (D.state disk).size }
-    ensures ok { IfOk result (IsOpenedOf known.now.uuid known.now.geometry known.now.epoch known.now.end
-        (D.state disk)) }
+    ensures ok { IfOk result (IsOpenedOf (owner_with known.now.uuid known.now.epoch) known.now.geometry
+        known.now.end (D.state disk)) }
     ensures low { OnOk result ((known.now.epoch < max_number) × (known.now.greatest < max_number)) }
     ensures err { IfErr result (λ error.
-        IsNotOpened known.now.uuid known.now.geometry known.now.epoch known.now.end known.now.greatest error.1
-        (D.state disk) (D.state error.0)) }
+        IsNotOpened (owner_with known.now.uuid known.now.epoch) known.now.geometry known.now.end
+        known.now.greatest error.1 (D.state disk) (D.state error.0)) }
     ensures is_disk { IfErr result (λ error. IsDisk (D.state error.0)) }
 {
     let commits = match Commits::load(disk) {
@@ -74,12 +74,9 @@ pub(crate) fn open_log<D: Disk>(
 // Why the last commit is not that of this volume in its newest epoch, or its log begins past the end of the
 // volume's objects.
 fn refusal_of<D: Disk>(commits: &Commits<D>, known: &Known) -> Option<MountError>
-    ensures none { IfNone result ((owner_of commits.now.body ≡ record {
-      uuid = known.now.uuid;
-      epoch = known.now.epoch;
-    })
+    ensures none { IfNone result ((owner_of commits.now.body ≡ owner_with known.now.uuid known.now.epoch)
         × (commits.now.body.tail.seq ≤ known.now.end)) }
-    ensures some { IfSome result (IsWhyRefusedCommit known.now.uuid known.now.epoch known.now.end
+    ensures some { IfSome result (IsWhyRefusedCommit (owner_with known.now.uuid known.now.epoch) known.now.end
         commits.now.body) }
     ensures may_stand { MayStand commits.now.body (log_of commits.now.disk.size) }
 {

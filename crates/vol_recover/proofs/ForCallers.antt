@@ -14,6 +14,7 @@ use Rattle.commit_slot.specs.Slots.{log_of}
 use Rattle.cache_log.specs.Reads.{reads_cost}
 use Rattle.cache_log.proofs.ForCallers.{nothing_taken}
 use Rattle.object_format.specs.declared.expected.Expected.{Expected}
+use Rattle.stopped_volume.specs.Device.{owner_with}
 use Rattle.object_recovery.specs.Checkpoints.{expected_of}
 use Rattle.object_recovery.specs.Removal.{Removes}
 use Rattle.object_recovery.specs.Recovery.{IsPastOf, RemovesAllPast, MayRemovePast}
@@ -40,7 +41,7 @@ use Rattle.vol_recover.proofs.Results.{none_changed}
 abbrev pub IsOfSomeVolume : (uuid : List ℕ) → (log : ℕ) → MountedState → Type 0
 IsOfSomeVolume uuid log mounted =
     (geometry : Geometry) × (epoch : ℕ) × (geometry.log ≡ log) × IsTrue (is_within_limits geometry)
-    × IsOfVolume uuid geometry epoch mounted
+    × IsOfVolume (owner_with uuid epoch) geometry mounted
 
 -- objects of a volume past some number were removed, or none, and nothing else changed
 abbrev pub RemovesSome : (uuid : List ℕ) → (old new : Objects) → Type 0
@@ -61,12 +62,13 @@ FailsToFormatIn uuid is_fault old new = (epoch : ℕ) × FailsToFormat uuid epoc
 pub record IsMadeKept (Tells : Type 0) (uuid : List ℕ) (disk : DiskState) (old new : StoreState) (mounted : MountedState) :
     Type 0 where
   pub some_volume : IsOfSomeVolume uuid (log_of disk.size) mounted
-  pub volume : Tells → OfVolume uuid (log_of disk.size) old.objects (λ geometry epoch. IsOfVolume uuid geometry epoch mounted)
+  pub volume : Tells → OfVolume uuid (log_of disk.size) old.objects
+      (λ geometry epoch. IsOfVolume (owner_with uuid epoch) geometry mounted)
   pub mounts : Tells → OfVolume uuid (log_of disk.size) old.objects
-      (λ geometry epoch. MountsLeft uuid geometry epoch old.objects disk mounted)
+      (λ geometry epoch. MountsLeft (owner_with uuid epoch) geometry old.objects disk mounted)
   pub removed : Becomes (RemovesAllPast uuid mounted.number) old.objects new.objects
   pub stops : Tells → OfVolume uuid (log_of disk.size) old.objects
-      (λ geometry epoch. KeepsLeft uuid geometry epoch old.objects disk (disk_of mounted))
+      (λ geometry epoch. KeepsLeft (owner_with uuid epoch) geometry old.objects disk (disk_of mounted))
   pub costs : CostsMount (log_of disk.size) true disk (disk_of mounted)
   pub synced : HoldsNow IsSynced (disk_of mounted).moments
   pub number : NumbersNextCommit (log_of disk.size) disk mounted
@@ -76,17 +78,18 @@ pub record IsMadeKept (Tells : Type 0) (uuid : List ℕ) (disk : DiskState) (old
 pub record IsNotKept (Tells : Type 0) (uuid : List ℕ) (disk left : DiskState) (old new : StoreState) (error : MountError) :
     Type 0 where
   pub why : Tells → IsWhyOf uuid (log_of disk.size) old.objects
-      (λ geometry epoch. IsWhyNotLeft uuid geometry epoch old.objects disk) error
+      (λ geometry epoch. IsWhyNotLeft (owner_with uuid epoch) geometry old.objects disk) error
   pub why_volume : Tells → OfVolume uuid (log_of disk.size) old.objects
-      (λ geometry epoch. IsWhyFor uuid old.objects (λ g e. IsWhyNotLeft uuid g e old.objects disk) geometry epoch error)
+      (λ geometry epoch. IsWhyFor uuid old.objects (λ g e. IsWhyNotLeft (owner_with uuid e) g old.objects disk) geometry epoch
+      error)
   pub no_refusal : Tells → OfVolume uuid (log_of disk.size) old.objects
-      (λ geometry epoch. RefusesNoneLeft uuid geometry epoch old.objects disk error)
+      (λ geometry epoch. RefusesNoneLeft (owner_with uuid epoch) geometry old.objects disk error)
   pub store : (IsFault error → ⊥) → new.objects ≡ old.objects
   pub left_is : Tells → OfVolume uuid (log_of disk.size) old.objects
       (λ geometry epoch. Becomes (MayRemovePast Tells (expected_of uuid geometry)) old.objects new.objects)
   pub some : Becomes (RemovesSome uuid) old.objects new.objects
   pub stops : Tells → OfVolume uuid (log_of disk.size) old.objects
-      (λ geometry epoch. KeepsLeft uuid geometry epoch old.objects disk left)
+      (λ geometry epoch. KeepsLeft (owner_with uuid epoch) geometry old.objects disk left)
   pub costs : CostsMount (log_of disk.size) (not (is_device_fault error)) disk left
   pub faults : Counts (is_store_fault_of error) old.faults new.faults
   pub is_disk : IsDisk left
@@ -96,7 +99,7 @@ pub record IsMadeLost (Tells : Type 0) (uuid : List ℕ) (disk : DiskState) (old
     Type 0 where
   pub some_volume : IsOfSomeVolume uuid (log_of disk.size) mounted
   pub volume : Tells → OfVolume uuid (log_of disk.size) old.objects
-      (λ geometry epoch. IsOfVolume uuid geometry (epoch + 1) mounted)
+      (λ geometry epoch. IsOfVolume (owner_with uuid (epoch + 1)) geometry mounted)
   pub mounts : Tells → OfVolume uuid (log_of disk.size) old.objects
       (λ geometry epoch. MountsStored uuid geometry old.objects mounted)
   pub begun : Tells → OfVolume uuid (log_of disk.size) old.objects
@@ -235,9 +238,9 @@ module _ {D : Type 0} (state : D → DiskState) (Tells : Type 0) (uuid : List �
   -- ---- device and store are as they were
 
   module _ (left : DiskState) (error : MountError) (all : LeavesAll disk left old new error) where
-    keeps_same : (geometry : Geometry) (epoch : ℕ) → KeepsLeft uuid geometry epoch objects disk left
+    keeps_same : (geometry : Geometry) (epoch : ℕ) → KeepsLeft (owner_with uuid epoch) geometry objects disk left
     keeps_same geometry epoch =
-        subst (λ d. KeepsLeft uuid geometry epoch objects disk d) (sym all.device)
+        subst (λ d. KeepsLeft (owner_with uuid epoch) geometry objects disk d) (sym all.device)
         (λ plain found number had synced. record { since = []; moments = refl; each = tt })
 
     costs_none : CostsMount log (not (is_device_fault error)) disk left
@@ -311,13 +314,13 @@ module _ {D : Type 0} (state : D → DiskState) (Tells : Type 0) (uuid : List �
 
       not_kept_fitted : IsNotKept Tells uuid disk left old new error
       not_kept_fitted =
-          let Why : Geometry → ℕ → MountError → Type 0 = λ g e. IsWhyNotLeft uuid g e objects disk in
+          let Why : Geometry → ℕ → MountError → Type 0 = λ g e. IsWhyNotLeft (owner_with uuid e) g objects disk in
           let because = λ (tells : Tells). why_for Why (λ stored. inl stored) (why tells) in
           record {
             why = λ tells. inr (geometry, epoch, is.log_is, is.says tells, because tells);
             why_volume = λ tells. of_unfit (λ g e. IsWhyFor uuid objects Why g e error) tells (because tells);
             no_refusal = λ tells.
-                of_unfit (λ g e. RefusesNoneLeft uuid g e objects disk error) tells
+                of_unfit (λ g e. RefusesNoneLeft (owner_with uuid e) g objects disk error) tells
                 (λ plain found number had. fits_none uuid geometry objects error unfit plain number had.stored);
             store = λ no. all.objects;
             left_is = λ tells g e log_is has. left_all (expected_of uuid g);
@@ -352,16 +355,18 @@ module _ {D : Type 0} (state : D → DiskState) (Tells : Type 0) (uuid : List �
     of_fit : (P : Geometry → ℕ → Type 0) → Tells → P geometry epoch → OfVolume uuid log objects P
     of_fit P tells so = of_volume uuid log objects geometry epoch P (is.same tells) so
 
-    made_with_cache : (mounted : MountedState) → MountsWithCache state Tells uuid geometry epoch disk old new (Ok mounted)
+    made_with_cache : (mounted : MountedState)
+        → MountsWithCache state Tells (owner_with uuid epoch) geometry disk old new (Ok mounted)
         → IsMadeKept Tells uuid disk old new mounted
     made_with_cache mounted mounts =
         let made = mounts.made in
         record {
           some_volume = (geometry, epoch, is.log_is, limits, made.volume);
-          volume = λ tells. of_fit (λ g e. IsOfVolume uuid g e mounted) tells made.volume;
-          mounts = λ tells. of_fit (λ g e. MountsLeft uuid g e objects disk mounted) tells (made.mounts tells);
+          volume = λ tells. of_fit (λ g e. IsOfVolume (owner_with uuid e) g mounted) tells made.volume;
+          mounts = λ tells. of_fit (λ g e. MountsLeft (owner_with uuid e) g objects disk mounted) tells (made.mounts tells);
           removed = made.removed;
-          stops = λ tells. of_fit (λ g e. KeepsLeft uuid g e objects disk (disk_of mounted)) tells (made.stops tells);
+          stops = λ tells.
+              of_fit (λ g e. KeepsLeft (owner_with uuid e) g objects disk (disk_of mounted)) tells (made.stops tells);
           costs = subst (λ n. CostsMount n true disk (disk_of mounted)) is.log_is made.costs;
           synced = made.synced;
           number = subst (λ n. NumbersNextCommit n disk mounted) is.log_is made.number;
@@ -369,23 +374,24 @@ module _ {D : Type 0} (state : D → DiskState) (Tells : Type 0) (uuid : List �
         }
 
     none_with_cache : (left : D) (error : MountError)
-        → MountsWithCache state Tells uuid geometry epoch disk old new (Err (left, error))
+        → MountsWithCache state Tells (owner_with uuid epoch) geometry disk old new (Err (left, error))
         → IsNotKept Tells uuid disk (state left) old new error
     none_with_cache left error mounts =
         let none = mounts.none in
-        let Why : Geometry → ℕ → MountError → Type 0 = λ g e. IsWhyNotLeft uuid g e objects disk in
+        let Why : Geometry → ℕ → MountError → Type 0 = λ g e. IsWhyNotLeft (owner_with uuid e) g objects disk in
         let volume = expected_of uuid geometry in
         record {
           why = λ tells. inr (geometry, epoch, is.log_is, is.says tells, inr (none.why tells));
           why_volume = λ tells. of_fit (λ g e. IsWhyFor uuid objects Why g e error) tells (inr (none.why tells));
-          no_refusal = λ tells. of_fit (λ g e. RefusesNoneLeft uuid g e objects disk error) tells (none.no_refusal tells);
+          no_refusal = λ tells.
+              of_fit (λ g e. RefusesNoneLeft (owner_with uuid e) g objects disk error) tells (none.no_refusal tells);
           store = none.store;
           left_is = λ tells.
               of_fit (λ g e. Becomes (MayRemovePast Tells (expected_of uuid g)) objects new.objects) tells none.some;
           some =
               becomes_so (MayRemovePast Tells volume) (RemovesSome uuid) objects new.objects (removes_some Tells volume)
               none.some;
-          stops = λ tells. of_fit (λ g e. KeepsLeft uuid g e objects disk (state left)) tells (none.stops tells);
+          stops = λ tells. of_fit (λ g e. KeepsLeft (owner_with uuid e) g objects disk (state left)) tells (none.stops tells);
           costs = subst (λ n. CostsMount n (not (is_device_fault error)) disk (state left)) is.log_is none.costs;
           faults = mounts.faults;
           is_disk = none.is_disk;
@@ -397,7 +403,7 @@ module _ {D : Type 0} (state : D → DiskState) (Tells : Type 0) (uuid : List �
         let made = mounts.made in
         record {
           some_volume = (geometry, epoch + 1, is.log_is, limits, made.volume);
-          volume = λ tells. of_fit (λ g e. IsOfVolume uuid g (e + 1) mounted) tells made.volume;
+          volume = λ tells. of_fit (λ g e. IsOfVolume (owner_with uuid (e + 1)) g mounted) tells made.volume;
           mounts = λ tells. of_fit (λ g e. MountsStored uuid g objects mounted) tells (made.mounts tells);
           begun = λ tells.
               of_fit (λ g e. Becomes (BeginsEpoch uuid mounted.number (e + 1)) objects new.objects) tells made.begun;
@@ -436,7 +442,7 @@ module _ {D : Type 0} (state : D → DiskState) (Tells : Type 0) (uuid : List �
 
   made_kept_by : (mounted : MountedState)
       → IsMounting state Tells uuid disk old new (Ok mounted)
-      (λ geometry epoch. MountsWithCache state Tells uuid geometry epoch disk old new (Ok mounted))
+      (λ geometry epoch. MountsWithCache state Tells (owner_with uuid epoch) geometry disk old new (Ok mounted))
       → IsMadeKept Tells uuid disk old new mounted
   made_kept_by mounted (inl before) = absurd before
   made_kept_by mounted (inr (geometry, epoch, is, inl before)) = absurd before.1
@@ -448,7 +454,7 @@ module _ {D : Type 0} (state : D → DiskState) (Tells : Type 0) (uuid : List �
 
   not_kept_by : (left : D) (error : MountError)
       → IsMounting state Tells uuid disk old new (Err (left, error))
-      (λ geometry epoch. MountsWithCache state Tells uuid geometry epoch disk old new (Err (left, error)))
+      (λ geometry epoch. MountsWithCache state Tells (owner_with uuid epoch) geometry disk old new (Err (left, error)))
       → IsNotKept Tells uuid disk (state left) old new error
   not_kept_by left error (inl before) = not_kept_described (state left) error before.1 before.0
   not_kept_by left error (inr (geometry, epoch, is, inl before)) =

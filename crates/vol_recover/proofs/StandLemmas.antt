@@ -128,7 +128,9 @@ created_stands uuid geometry stepped objects created has =
     (has.2 stepped.volume.objects.uploads)
 
 pub mounted_with_stands : MountedWithStands
-mounted_with_stands uuid epoch plain found number old new disk mounted is_uuid may mounts removed =
+mounted_with_stands owner plain found number old new disk mounted is_uuid may mounts removed =
+    let uuid : List ℕ = owner.uuid in
+    let epoch : ℕ = owner.epoch in
     let is = mounts plain found number may.left in
     let all : RemovesAllPast uuid number old new = subst (λ n. RemovesAllPast uuid n old new) is.number_is removed in
     let has = removal_keeps_up_to uuid number old new all.removes epoch plain may.volume in

@@ -12,7 +12,7 @@ use Rattle.object_stream.specs.Landed.{Numbers}
 use Rattle.object_stream.proofs.LandedLemmas.{one_first_missing}
 use Rattle.commit_slot.proofs.Passing.{passes_as}
 use Rattle.upload_window.specs.Window.{WindowState}
-use Rattle.stopped_volume.specs.Device.{CacheOwner}
+use Rattle.stopped_volume.specs.Device.{CacheOwner, owner_with}
 use Rattle.stopped_volume.specs.Objects.{landed_in}
 use Rattle.plain_disk.specs.declared.log.PlainCommit.{PlainCommit}
 use Rattle.plain_disk.specs.State.{PlainState, stream_in, frontier_of, frontier_end}
@@ -33,7 +33,7 @@ use Rattle.refine_store.specs.Stored.{HasVolumeUpTo}
 use Rattle.refine_store.proofs.LeftLemmas.{left_has_objects, left_has_volume}
 use Rattle.refine_store.proofs.StandLemmas.{puts_in, without_is_left}
 use Rattle.vol_core.specs.Shows.{IsVolume}
-use Rattle.vol_core.specs.Stops.{MayBeLeftBy, owner_in}
+use Rattle.vol_core.specs.Stops.{MayBeLeftBy}
 use Rattle.vol_core.specs.Volume.{SteppedVolume}
 use Rattle.vol_mount.specs.Epochs.{BeginsEpoch}
 use Rattle.vol_recover.specs.Standing.{StandsWithStore, MayMountWithout, StopMayMount, StopLeavesStore, StopLeavesBoth}
@@ -48,7 +48,7 @@ module _ (stepped : SteppedVolume) (epoch : ℕ) (plain : PlainState) (objects :
   uuid = stepped.volume.objects.uploads.uuid
 
   abbrev owner : CacheOwner
-  owner = owner_in epoch stepped.volume
+  owner = owner_with stepped.volume.objects.uploads.uuid epoch
 
   abbrev number : ℕ
   number = recovered_number (landed_in objects (expected_of uuid plain.geometry)) plain
@@ -100,7 +100,7 @@ module _ (stepped : SteppedVolume) (epoch : ℕ) (plain : PlainState) (objects :
     found_now (now ∷ past) may =
         let commit = keeps now.bytes may in (commit.0, commit.1, commit.2 (end_of_object number plain) ends_from)
 
-    pub stop_may_mount : StopMayMount uuid epoch plain P objects medium
+    pub stop_may_mount : StopMayMount owner plain P objects medium
     stop_may_mount = λ disk may.
         let commit = found_now disk.moments may in (
           commit.0,
@@ -133,8 +133,8 @@ now_as P Q (now ∷ past) follows holds = follows now holds
 pub stop_leaves_both : StopLeavesBoth
 stop_leaves_both stepped epoch plain objects is keeps with_store =
     let P : PlainCommit → Type 0 = λ found. IsFoundCommit found plain.cache.log in
-    now_as (StopKeeps (owner_in epoch stepped.volume) plain P)
-    (StopMayMount stepped.volume.objects.uploads.uuid epoch plain P objects) stepped.volume.log.commits.disk.moments
+    now_as (StopKeeps (owner_with stepped.volume.objects.uploads.uuid epoch) plain P)
+    (StopMayMount (owner_with stepped.volume.objects.uploads.uuid epoch) plain P objects) stepped.volume.log.commits.disk.moments
     (stop_may_mount stepped epoch plain objects is with_store P) (keeps plain with_store.shows)
 
 -- what follows from one fact, where a value is told
@@ -145,13 +145,13 @@ as_told P Q (Some x) follows is = follows is
 pub step_leaves_both : {R : Type 0} (state : R → ReceiptState) → StepLeavesBoth state
 step_leaves_both state event reply old new epoch plain objects is own step with_store =
     let P : PlainCommit → Type 0 = MayBeLeftBy event plain in
-    let Keeps : Medium → Type 0 = StopKeeps (owner_in epoch old.volume) plain P in
-    let May : Medium → Type 0 = StopMayMount old.volume.objects.uploads.uuid epoch plain P objects in
+    let Keeps : Medium → Type 0 = StopKeeps (owner_with old.volume.objects.uploads.uuid epoch) plain P in
+    let May : Medium → Type 0 = StopMayMount (owner_with old.volume.objects.uploads.uuid epoch) plain P objects in
     let before = old.volume.log.commits.disk.moments in
     let after = new.volume.log.commits.disk.moments in
     as_told (HoldsSince Keeps before after) (HoldsSince May before after) old.volume.log.all
     (passes_as Keeps May before after (stop_may_mount old epoch plain objects is with_store P))
-    ((step.step.stops epoch own).since plain with_store.shows)
+    ((step.step.stops (owner_with old.volume.objects.uploads.uuid epoch) own).since plain with_store.shows)
 
 -- ---- removals that were stopped
 
@@ -200,9 +200,8 @@ module _ (owner : CacheOwner) (plain : PlainState) (found : PlainCommit) (number
   found_or_made medium keeps (now ∷ past) may = keeps now.bytes may
 
 pub stopped_with_cache : StoppedWithCache
-stopped_with_cache uuid epoch plain found number old new disk left medium may removed keeps is_left =
-    let owner : CacheOwner = record { uuid = uuid; epoch = epoch } in
-    let volume = may_remove_keeps uuid epoch plain number old new may.volume removed in
+stopped_with_cache owner plain found number old new disk left medium may removed keeps is_left =
+    let volume = may_remove_keeps owner.uuid owner.epoch plain number old new may.volume removed in
     let stored = may.left.stored in
     elim (found_or_made owner plain found number medium keeps left.moments is_left) [
       | inl found_there ↦
@@ -222,7 +221,7 @@ stopped_with_cache uuid epoch plain found number old new disk left medium may re
           })
       | inr made_there ↦
           let has = bytes_now (HasCommit owner plain found (end_of_object number plain)) disk.moments may.left.device in
-          let is = mounted_is_stored uuid owner plain found number new has.0 stored.valid volume.objects_are has.1 in
+          let is = mounted_is_stored owner.uuid owner plain found number new has.0 stored.valid volume.objects_are has.1 in
           inr (record {
             left = record {
               stored = record {

@@ -7,6 +7,7 @@ use Rattle.lsvd_device.specs.Device.{DiskState, IsDisk}
 use Rattle.lsvd_objstore.specs.Objects.{Objects}
 use Rattle.lsvd_objstore.specs.Store.{StoreState}
 use Rattle.commit_slot.specs.Slots.{log_of}
+use Rattle.stopped_volume.specs.Device.{owner_with}
 use Rattle.vol_mount.specs.declared.error.MountError.{MountError}
 use Rattle.vol_mount.specs.Mounted.{MountedState}
 use Rattle.vol_mount.specs.Mounts.{MountsWithCache, MountsWithoutCache}
@@ -72,7 +73,7 @@ IsMounting state Tells uuid disk old new result Mounts =
 pub record MountsKept {D : Type 0} (state : D → DiskState) (Tells : Type 0) (uuid : List ℕ) (disk : DiskState)
     (old new : StoreState) (result : Result MountedState (D × MountError)) : Type 0 where
   pub is : IsMounting state Tells uuid disk old new result
-      (λ geometry epoch. MountsWithCache state Tells uuid geometry epoch disk old new result)
+      (λ geometry epoch. MountsWithCache state Tells (owner_with uuid epoch) geometry disk old new result)
 
 -- The same without its cache.
 pub record MountsLost {D : Type 0} (state : D → DiskState) (Tells : Type 0) (uuid : List ℕ) (disk : DiskState)

@@ -9,6 +9,7 @@ use Rattle.lsvd_device.specs.Stop.{HasNow}
 use Rattle.lsvd_names.specs.Spelling.{IsUuid}
 use Rattle.lsvd_objstore.specs.Objects.{Objects}
 use Rattle.lsvd_objstore.specs.Store.{ReceiptState}
+use Rattle.stopped_volume.specs.Device.{CacheOwner, owner_with}
 use Rattle.stopped_volume.specs.Objects.{landed_in}
 use Rattle.plain_disk.specs.declared.log.PlainCommit.{PlainCommit}
 use Rattle.plain_disk.specs.State.{PlainState, created_volume}
@@ -54,17 +55,17 @@ pub record MayMountWithout (uuid : List ℕ) (log epoch : ℕ) (plain : PlainSta
   pub volume : HasVolumeUpTo uuid epoch plain number objects
 
 -- and with it: the device reads as this commit of the plain volume
-pub record MayMountWith (uuid : List ℕ) (epoch : ℕ) (plain : PlainState) (found : PlainCommit) (number : ℕ) (objects : Objects)
+pub record MayMountWith (owner : CacheOwner) (plain : PlainState) (found : PlainCommit) (number : ℕ) (objects : Objects)
     (disk : DiskState) : Type 0 where
-  pub left : IsLeft uuid plain.geometry epoch plain found number (Some objects) disk
-  pub volume : HasVolumeUpTo uuid epoch plain number objects
+  pub left : IsLeft owner plain.geometry plain found number (Some objects) disk
+  pub volume : HasVolumeUpTo owner.uuid owner.epoch plain number objects
 
 -- whatever a stop leaves of a medium, a device that has it may be mounted with these objects: it reads as a commit with P
-abbrev pub StopMayMount : (uuid : List ℕ) → (epoch : ℕ) → PlainState → (P : PlainCommit → Type 0) → Objects → Medium → Type 0
-StopMayMount uuid epoch plain P objects medium =
+abbrev pub StopMayMount : (owner : CacheOwner) → PlainState → (P : PlainCommit → Type 0) → Objects → Medium → Type 0
+StopMayMount owner plain P objects medium =
     (disk : DiskState) → HasNow (λ now. MayLeave medium now.bytes) disk.moments
     → (found : PlainCommit) × P found
-    × MayMountWith uuid epoch plain found (recovered_number (landed_in objects (expected_of uuid plain.geometry)) plain) objects
+    × MayMountWith owner plain found (recovered_number (landed_in objects (expected_of owner.uuid plain.geometry)) plain) objects
     disk
 
 -- ---- creations and mounts
@@ -78,11 +79,11 @@ CreatedStands =
 -- one that was mounted with its cache does in the epoch that there was
 abbrev pub MountedWithStands : Type 0
 MountedWithStands =
-    (uuid : List ℕ) (epoch : ℕ) (plain : PlainState) (found : PlainCommit) (number : ℕ) (old new : Objects) (disk : DiskState)
+    (owner : CacheOwner) (plain : PlainState) (found : PlainCommit) (number : ℕ) (old new : Objects) (disk : DiskState)
     (mounted : MountedState)
-    → IsUuid uuid → MayMountWith uuid epoch plain found number old disk
-    → MountsLeft uuid plain.geometry epoch (Some old) disk mounted → RemovesAllPast uuid mounted.number old new
-    → IsMadeWithStore uuid epoch (mounted_with found number plain) mounted.volume.volume new
+    → IsUuid owner.uuid → MayMountWith owner plain found number old disk
+    → MountsLeft owner plain.geometry (Some old) disk mounted → RemovesAllPast owner.uuid mounted.number old new
+    → IsMadeWithStore owner.uuid owner.epoch (mounted_with found number plain) mounted.volume.volume new
 
 -- and one without it in the next epoch
 abbrev pub MountedWithoutStands : Type 0
@@ -110,19 +111,21 @@ StopLeavesStore =
 abbrev pub StopLeavesBoth : Type 0
 StopLeavesBoth =
     (stepped : SteppedVolume) (epoch : ℕ) (plain : PlainState) (objects : Objects) → IsVolume stepped
-    → KeepsNow epoch stepped.volume → StandsWithStore stepped.volume.objects.uploads.uuid epoch plain stepped.volume objects
-    → HoldsNow (StopMayMount stepped.volume.objects.uploads.uuid epoch plain (λ found. IsFoundCommit found plain.cache.log)
-    objects) stepped.volume.log.commits.disk.moments
+    → KeepsNow (owner_with stepped.volume.objects.uploads.uuid epoch) stepped.volume
+    → StandsWithStore stepped.volume.objects.uploads.uuid epoch plain stepped.volume objects
+    → HoldsNow (StopMayMount (owner_with stepped.volume.objects.uploads.uuid epoch) plain
+    (λ found. IsFoundCommit found plain.cache.log) objects) stepped.volume.log.commits.disk.moments
 
 -- So it is at each moment of a step, of the plain volume before it: the device reads as a commit that a stop may leave in the
 -- midst of a step of this event.
 abbrev pub StepLeavesBoth : {R : Type 0} → (R → ReceiptState) → Type 0
 StepLeavesBoth {R} state =
     (event : Event R) (reply : Reply R) (old new : SteppedVolume) (epoch : ℕ) (plain : PlainState) (objects : Objects)
-    → IsVolume old → HasOwnCommits epoch old.volume → CountedStep state event reply old new
+    → IsVolume old → HasOwnCommits (owner_with old.volume.objects.uploads.uuid epoch) old.volume
+    → CountedStep state event reply old new
     → StandsWithStore old.volume.objects.uploads.uuid epoch plain old.volume objects
-    → OnSome old.volume.log.all (HoldsSince (StopMayMount old.volume.objects.uploads.uuid epoch plain (MayBeLeftBy event plain)
-    objects) old.volume.log.commits.disk.moments new.volume.log.commits.disk.moments)
+    → OnSome old.volume.log.all (HoldsSince (StopMayMount (owner_with old.volume.objects.uploads.uuid epoch) plain
+    (MayBeLeftBy event plain) objects) old.volume.log.commits.disk.moments new.volume.log.commits.disk.moments)
 
 -- ---- a mount that is stopped
 
@@ -130,13 +133,13 @@ StepLeavesBoth {R} state =
 -- as that which the mount was to make. Either makes the same.
 abbrev pub StoppedWithCache : Type 0
 StoppedWithCache =
-    (uuid : List ℕ) (epoch : ℕ) (plain : PlainState) (found : PlainCommit) (number : ℕ) (old new : Objects)
+    (owner : CacheOwner) (plain : PlainState) (found : PlainCommit) (number : ℕ) (old new : Objects)
     (disk left : DiskState) (medium : Medium)
-    → MayMountWith uuid epoch plain found number old disk → MayRemovePast (Unit {0}) (expected_of uuid plain.geometry) old new
-    → StopKeepsMount (record { uuid = uuid; epoch = epoch }) plain found number medium
+    → MayMountWith owner plain found number old disk → MayRemovePast (Unit {0}) (expected_of owner.uuid plain.geometry) old new
+    → StopKeepsMount owner plain found number medium
     → HasNow (λ now. MayLeave medium now.bytes) left.moments
-    → MayMountWith uuid epoch plain found number new left
-    ⊎ MayMountWith uuid epoch (mounted_with found number plain) (mounted_with found number plain).cache.log.last number new left
+    → MayMountWith owner plain found number new left
+    ⊎ MayMountWith owner (mounted_with found number plain) (mounted_with found number plain).cache.log.last number new left
 
 -- What one without the cache leaves may be mounted without it again: as the same plain volume, or in the next epoch as that which
 -- the mount was to make. This makes the same.

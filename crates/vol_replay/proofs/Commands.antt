@@ -19,11 +19,11 @@ use Rattle.replay_script.specs.RunText.{IsRunText}
 use Rattle.transcript.specs.Letters.{is_dash, fits_writes, fates_of, kept_by, under_way, fits_objects, landed_by}
 use Rattle.transcript.specs.Answers.{State, TellsReply, AnswersStep, released_by, FitKept, FitLost, AnswersOn, IsNew}
 use Rattle.transcript.specs.Answers.{text_of_mount}
-use Rattle.transcript.specs.declared.reason.Reason.TheVariants.{NotAllowed, Letters}
+use Rattle.transcript.specs.declared.reason.LineReason.TheVariants.{NotAllowed, Letters}
 use Rattle.replay_rig.specs.declared.answer.Answer.{Answer}
 use Rattle.replay_rig.specs.declared.answer.Answer.TheVariants as answers
-use Rattle.vol_replay.specs.declared.line.Refusal.{Refusal}
-use Rattle.vol_replay.specs.declared.line.Refusal.TheVariants.{Bad}
+use Rattle.vol_replay.specs.declared.line.LineRefusal.{LineRefusal}
+use Rattle.vol_replay.specs.declared.line.LineRefusal.TheVariants.{Bad}
 use Rattle.replay_rig.specs.Answers.{SaysReply}
 use Rattle.vol_replay.specs.Answers.{TellsAnswer}
 use Rattle.replay_rig.specs.Steps.{AnswersEvent, AnswersRead, FailsPut, StopsAfter, IsMountTold, MountsKeptRig, MountsLostRig}
@@ -290,14 +290,14 @@ no_crash (commands.Stop calls) keep lost = refl
 -- ---- where there is none
 
 -- what the first command is answered
-abbrev pub FirstAnswered : Command → Result (RigState × Answer) Refusal → Type 0
+abbrev pub FirstAnswered : Command → Result (RigState × Answer) LineRefusal → Type 0
 FirstAnswered command result = IfOk result (λ made. AnswersCommand command made.1 None (Some made.0))
 
-pub first_made : (command : Command) (geometry : Geometry) (result made : Result (RigState × Answer) Refusal) → result ≡ made
+pub first_made : (command : Command) (geometry : Geometry) (result made : Result (RigState × Answer) LineRefusal) → result ≡ made
     → command ≡ commands.New geometry → FirstAnswered (commands.New geometry) made → FirstAnswered command result
 first_made command geometry result made same is answers =
     subst (λ r. FirstAnswered command r) (sym same) (subst (λ c. FirstAnswered c made) (sym is) answers)
 
-pub first_refused : (command : Command) (result : Result (RigState × Answer) Refusal) (refusal : Refusal) → result ≡ Err refusal
-    → FirstAnswered command result
+pub first_refused : (command : Command) (result : Result (RigState × Answer) LineRefusal) (refusal : LineRefusal)
+    → result ≡ Err refusal → FirstAnswered command result
 first_refused command result refusal is = subst (FirstAnswered command) (sym is) tt

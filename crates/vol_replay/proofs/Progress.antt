@@ -4,7 +4,7 @@ use Rattle.std.proofs.Common.{append_assoc, append-nil}
 use Rattle.std.specs.Prelude.{Option, None}
 use Rattle.std.proofs.lemmas.List.{take-append-drop}
 use Rattle.replay_script.specs.Grammar.{lines_of}
-use Rattle.transcript.specs.declared.reason.Reason.{Reason}
+use Rattle.transcript.specs.declared.reason.LineReason.{LineReason}
 use Rattle.transcript.specs.Answers.{State}
 use Rattle.transcript.specs.Transcript.{Ending, AllAnswered, Stopped, Transcript, IsAnswered, IsBad, IsFrontOfTranscript}
 use Rattle.transcript.proofs.Determined.{StopsAt}
@@ -161,7 +161,7 @@ written_done old mid new script pending rest number rig result short r none (inr
     )
 
 -- a line is bad, and the answers before it are handed over
-pub written_stopped : (old mid new : Option (List ℕ)) (script pending rest line after : List ℕ) (number : ℕ) (reason : Reason)
+pub written_stopped : (old mid new : Option (List ℕ)) (script pending rest line after : List ℕ) (number : ℕ) (reason : LineReason)
     (rig : Option RigState)
     (result : Outcome) → length script ≤ 2 ^ 24 → IsRunning old mid script pending rest number rig
     → lines_of rest ≡ line ∷ lines_of after

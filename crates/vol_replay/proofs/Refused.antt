@@ -5,16 +5,16 @@ use Rattle.replay_script.specs.declared.command.Command.{Command}
 use Rattle.replay_script.specs.Grammar.{SpellsCommand}
 use Rattle.transcript.specs.Answers.{State}
 use Rattle.transcript.specs.Transcript.{IsBad}
-use Rattle.transcript.specs.declared.reason.Reason.{Reason}
-use Rattle.transcript.specs.declared.reason.Reason.TheVariants.{UnknownCommand, WordCount, Form, NotAllowed, Letters, TooLong}
+use Rattle.transcript.specs.declared.reason.LineReason.{LineReason}
+use Rattle.transcript.specs.declared.reason.LineReason.TheVariants.{UnknownCommand, WordCount, Form, NotAllowed, Letters, TooLong}
 use Rattle.replay_rig.specs.declared.answer.Answer.{Answer}
 use Rattle.replay_rig.specs.Rig.{RigState}
-use Rattle.vol_replay.specs.declared.line.Refusal.{Refusal}
-use Rattle.vol_replay.specs.declared.line.Refusal.TheVariants.{Bad, OutOfMemory}
+use Rattle.vol_replay.specs.declared.line.LineRefusal.{LineRefusal}
+use Rattle.vol_replay.specs.declared.line.LineRefusal.TheVariants.{Bad, OutOfMemory}
 use Rattle.vol_replay.specs.Answers.{TellsAnswer}
 use Rattle.vol_replay.specs.Lines.{IsUnfit, IsUnanswered, EndsUnanswered, AnswersCommand, AnswersLine}
 
-bad_line : (state : State) (line : List ℕ) (command : Command) (reason : Reason) → length line ≤ 65536
+bad_line : (state : State) (line : List ℕ) (command : Command) (reason : LineReason) → length line ≤ 65536
     → SpellsCommand line command
     → IsUnfit state command reason → IsBad state line reason
 bad_line state line command UnknownCommand short spelled unfit = absurd unfit
@@ -24,7 +24,7 @@ bad_line state line command NotAllowed short spelled unfit = (short, (command, s
 bad_line state line command Letters short spelled unfit = (short, (command, spelled, unfit.0, unfit.1))
 bad_line state line command TooLong short spelled unfit = absurd unfit
 
-refused_line : (line : List ℕ) (command : Command) (rig : Option RigState) (before after : List ℕ) (refusal : Refusal)
+refused_line : (line : List ℕ) (command : Command) (rig : Option RigState) (before after : List ℕ) (refusal : LineRefusal)
     → length line ≤ 65536
     → SpellsCommand line command → after ≡ before → IsUnanswered rig command refusal
     → EndsUnanswered line rig before after refusal
@@ -33,7 +33,7 @@ refused_line line command rig before after (Bad reason) short spelled same h =
 refused_line line command rig before after OutOfMemory short spelled same h = tt
 
 pub refused_as : {T : Type 0} (line : List ℕ) (command : Command) (rig : Option RigState) (before after : List ℕ)
-    (result : Result T Refusal)
+    (result : Result T LineRefusal)
     → length line ≤ 65536 → SpellsCommand line command → after ≡ before → IfErr result (IsUnanswered rig command)
     → IfErr result (EndsUnanswered line rig before after)
 refused_as line command rig before after (Ok done) short spelled same h = tt

@@ -7,8 +7,8 @@ use Rattle.std.proofs.lemmas.Bool.{cases_lt}
 use Rattle.std.proofs.lemmas.List.{take-append-le}
 use Rattle.vol_replay.specs.declared.outcome.Outcome.{Outcome}
 use Rattle.vol_replay.specs.declared.outcome.Outcome.TheVariants.{Done, BadLine, ReadFault, WriteFault, OutOfMemory}
-use Rattle.transcript.specs.declared.reason.Reason.{Reason}
-use Rattle.transcript.specs.declared.reason.Reason.TheVariants.{TooLong}
+use Rattle.transcript.specs.declared.reason.LineReason.{LineReason}
+use Rattle.transcript.specs.declared.reason.LineReason.TheVariants.{TooLong}
 use Rattle.lsvd_fault.specs.Faults.{Counts, CountsOne}
 use Rattle.lsvd_fault.proofs.Streams.{appends_nothing}
 use Rattle.transcript.specs.Transcript.{Ending, AllAnswered, Stopped, IsTranscript, IsFrontOfTranscript, line_after}
@@ -39,7 +39,7 @@ one_counted (Ok x) e before now counts = cc
 one_counted (Err x) e before now counts = counts
 
 -- answers that were handed over before a bad line end by no fault of reading
-pub bad_line_is_told : (old new : Option (List ℕ)) (answers : List ℕ) (number : ℕ) (reason : Reason) (result : Outcome)
+pub bad_line_is_told : (old new : Option (List ℕ)) (answers : List ℕ) (number : ℕ) (reason : LineReason) (result : Outcome)
     → IsHandedOver old new answers (BadLine number reason) result → result ≡ ReadFault → ⊥
 bad_line_is_told old new answers number reason result (inl e) is =
     (let f : BadLine number reason ≡ ReadFault = sym e.0 ∙ is in cc)

@@ -5,13 +5,13 @@ use Rattle.replay_script.specs.declared.command.Command.{Command}
 use Rattle.replay_script.specs.declared.command.Command.TheVariants as commands
 use Rattle.replay_script.specs.declared.error.LineError.{LineError}
 use Rattle.replay_script.specs.declared.error.LineError.TheVariants as line_errors
-use Rattle.transcript.specs.declared.reason.Reason.{Reason}
-use Rattle.transcript.specs.declared.reason.Reason.TheVariants.{UnknownCommand, WordCount, Form, NotAllowed, Letters, TooLong}
+use Rattle.transcript.specs.declared.reason.LineReason.{LineReason}
+use Rattle.transcript.specs.declared.reason.LineReason.TheVariants.{UnknownCommand, WordCount, Form, NotAllowed, Letters, TooLong}
 use Rattle.transcript.specs.Answers.{State, Answers, IsAllowed, FitsLetters}
 use Rattle.transcript.specs.Transcript.{IsBad, IsAnswered}
 use Rattle.replay_rig.specs.declared.answer.Answer.{Answer}
-use Rattle.vol_replay.specs.declared.line.Refusal.{Refusal}
-use Rattle.vol_replay.specs.declared.line.Refusal.TheVariants.{Bad, OutOfMemory}
+use Rattle.vol_replay.specs.declared.line.LineRefusal.{LineRefusal}
+use Rattle.vol_replay.specs.declared.line.LineRefusal.TheVariants.{Bad, OutOfMemory}
 use Rattle.vol_replay.specs.declared.outcome.Outcome.{Outcome}
 use Rattle.vol_replay.specs.declared.outcome.Outcome.TheVariants as outcomes
 use Rattle.vol_replay.specs.Answers.{TellsAnswer}
@@ -42,7 +42,7 @@ pub record AnswersCommand (command : Command) (answer : Answer) (old new : Optio
   pub by : (state : State) → AnswersIn command answer old new state
 
 -- why a state does not answer a command
-abbrev pub IsUnfit : State → Command → Reason → Type 0
+abbrev pub IsUnfit : State → Command → LineReason → Type 0
 IsUnfit state command UnknownCommand = ⊥
 IsUnfit state command WordCount = ⊥
 IsUnfit state command Form = ⊥
@@ -51,7 +51,7 @@ IsUnfit state command Letters = IsAllowed state command × (FitsLetters state co
 IsUnfit state command TooLong = ⊥
 
 -- a command was not answered, since no state that the rig showed answers it, or since memory ran out
-abbrev pub IsUnanswered : Option RigState → Command → Refusal → Type 0
+abbrev pub IsUnanswered : Option RigState → Command → LineRefusal → Type 0
 IsUnanswered old command (Bad reason) = (state : State) → ShowsState old state → IsUnfit state command reason
 IsUnanswered old command OutOfMemory = Unit {0}
 
@@ -64,13 +64,13 @@ pub record AnswersLine (line : List ℕ) (old new : Option RigState) (before aft
       × (after ≡ before ++ (answer ++ 10 ∷ []))
 
 -- the line was not answered: a bad one left the answers as they were
-abbrev pub EndsUnanswered : List ℕ → Option RigState → (before after : List ℕ) → Refusal → Type 0
+abbrev pub EndsUnanswered : List ℕ → Option RigState → (before after : List ℕ) → LineRefusal → Type 0
 EndsUnanswered line old before after (Bad reason) = (after ≡ before)
     × ((state : State) → ShowsState old state → IsBad state line reason)
 EndsUnanswered line old before after OutOfMemory = Unit {0}
 
 -- how the error that a line gives is told
-abbrev pub refusal_of : LineError → Refusal
+abbrev pub refusal_of : LineError → LineRefusal
 refusal_of line_errors.UnknownCommand = Bad UnknownCommand
 refusal_of line_errors.WordCount = Bad WordCount
 refusal_of line_errors.Form = Bad Form

@@ -16,4 +16,4 @@ mod text;
 pub use outcome::Outcome;
 pub use replay_rig::Rig;
 pub use run::replay;
-pub use transcript::Reason;
+pub use transcript::LineReason;

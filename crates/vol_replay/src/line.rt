@@ -3,7 +3,7 @@ ghost use Rattle.lsvd_base.specs.Limits.{is_within_limits};
 ghost use Rattle.replay_script.specs.Grammar.{Fits};
 ghost use Rattle.vol_replay.specs.Lines.{AnswersCommand, IsUnanswered, AnswersLine, EndsUnanswered, is_crash};
 ghost use Rattle.vol_replay.specs.Lines.{refusal_of, lines_answered};
-ghost use Rattle.vol_replay.specs.declared.line.Refusal.TheVariants as refusals;
+ghost use Rattle.vol_replay.specs.declared.line.LineRefusal.TheVariants as refusals;
 
 use crate::letters::{fates_of, fits_objects, fits_writes, is_dash};
 use crate::text::push_answer;
@@ -11,38 +11,38 @@ use lsvd_base::Geometry;
 use replay_rig::{Answer, Rig};
 use replay_script::{Command, LINE_LIMIT, LineError, command_of};
 use std::alloc::{AllocError, Global};
-use transcript::Reason;
+use transcript::LineReason;
 
 /// Why a line was not answered.
 #[derive(Clone, Copy, Debug, PartialEq, Eq)]
-pub(crate) enum Refusal {
-    Bad(Reason),
+pub(crate) enum LineRefusal {
+    Bad(LineReason),
     OutOfMemory,
 }
 
-impl From<AllocError> for Refusal {
+impl From<AllocError> for LineRefusal {
     ghost from_gives = { λ _ e. e ≡ refusals.OutOfMemory };
 
-    fn from(_: AllocError) -> Refusal {
-        Refusal::OutOfMemory
+    fn from(_: AllocError) -> LineRefusal {
+        LineRefusal::OutOfMemory
     }
 }
 
-impl From<LineError> for Refusal {
+impl From<LineError> for LineRefusal {
     ghost from_gives = { λ error e. e ≡ refusal_of error };
 
-    fn from(error: LineError) -> Refusal {
+    fn from(error: LineError) -> LineRefusal {
         match error {
-            LineError::UnknownCommand => Refusal::Bad(Reason::UnknownCommand),
-            LineError::WordCount => Refusal::Bad(Reason::WordCount),
-            LineError::Form => Refusal::Bad(Reason::Form),
-            LineError::OutOfMemory => Refusal::OutOfMemory,
+            LineError::UnknownCommand => LineRefusal::Bad(LineReason::UnknownCommand),
+            LineError::WordCount => LineRefusal::Bad(LineReason::WordCount),
+            LineError::Form => LineRefusal::Bad(LineReason::Form),
+            LineError::OutOfMemory => LineRefusal::OutOfMemory,
         }
     }
 }
 
 // Tells the device of a volume to stop.
-fn stop(rig: &mut Rig, calls: u64) -> Result<Answer, Refusal>
+fn stop(rig: &mut Rig, calls: u64) -> Result<Answer, LineRefusal>
     requires { rig.old.lines < 2 ^ 40 }
     ensures ok { IfOk result (λ answer. AnswersCommand (Command.Stop calls) answer (Some rig.old)
         (Some rig.new)) }
@@ -50,13 +50,13 @@ fn stop(rig: &mut Rig, calls: u64) -> Result<Answer, Refusal>
     ensures lines { rig.new.lines ≤ rig.old.lines + 1 }
 {
     if rig.is_stopping() {
-        return Err(Refusal::Bad(Reason::NotAllowed));
+        return Err(LineRefusal::Bad(LineReason::NotAllowed));
     }
     Ok(rig.stop(calls))
 }
 
 // Makes the put of an object.
-fn finish_put(alloc: Global, rig: &mut Rig, number: u64) -> Result<Answer, Refusal>
+fn finish_put(alloc: Global, rig: &mut Rig, number: u64) -> Result<Answer, LineRefusal>
     requires { rig.old.lines < 2 ^ 40 }
     ensures ok { IfOk result (λ answer. AnswersCommand (Command.JobDone number) answer (Some rig.old)
         (Some rig.new)) }
@@ -64,13 +64,13 @@ fn finish_put(alloc: Global, rig: &mut Rig, number: u64) -> Result<Answer, Refus
     ensures lines { rig.new.lines ≤ rig.old.lines + 1 }
 {
     if !rig.is_out(number) {
-        return Err(Refusal::Bad(Reason::NotAllowed));
+        return Err(LineRefusal::Bad(LineReason::NotAllowed));
     }
     Ok(rig.finish_put(alloc, number)?)
 }
 
 // Fails the put of an object.
-fn fail_put(rig: &mut Rig, number: u64) -> Result<Answer, Refusal>
+fn fail_put(rig: &mut Rig, number: u64) -> Result<Answer, LineRefusal>
     requires { rig.old.lines < 2 ^ 40 }
     ensures ok { IfOk result (λ answer. AnswersCommand (Command.JobFailed number) answer (Some rig.old)
         (Some rig.new)) }
@@ -78,7 +78,7 @@ fn fail_put(rig: &mut Rig, number: u64) -> Result<Answer, Refusal>
     ensures lines { rig.new.lines ≤ rig.old.lines + 1 }
 {
     if !rig.is_out(number) {
-        return Err(Refusal::Bad(Reason::NotAllowed));
+        return Err(LineRefusal::Bad(LineReason::NotAllowed));
     }
     Ok(rig.fail_put(number)?)
 }
@@ -89,7 +89,7 @@ fn crash_keep(
     rig: Rig,
     device: &[u8],
     objects: &[u8],
-) -> Result<(Rig, Answer), Refusal>
+) -> Result<(Rig, Answer), LineRefusal>
     requires { rig.lines < 2 ^ 40 }
     ensures ok { IfOk result (λ made. AnswersCommand (Command.CrashKeep device.now objects.now) made.1
         (Some rig) (Some made.0)) }
@@ -99,13 +99,13 @@ fn crash_keep(
     let pending = rig.pending();
     if !fits_writes(pending, device) || !fits_objects(rig.under_way(), objects) {
         drop(rig);
-        return Err(Refusal::Bad(Reason::Letters));
+        return Err(LineRefusal::Bad(LineReason::Letters));
     }
     let fates = match fates_of(alloc, device, pending) {
         Ok(fates) => fates,
         Err(AllocError) => {
             drop(rig);
-            return Err(Refusal::OutOfMemory);
+            return Err(LineRefusal::OutOfMemory);
         }
     };
     Ok(rig.crash_keep(alloc, &fates, objects)?)
@@ -117,7 +117,7 @@ fn crash_lost(
     rig: Rig,
     device: &[u8],
     objects: &[u8],
-) -> Result<(Rig, Answer), Refusal>
+) -> Result<(Rig, Answer), LineRefusal>
     requires { rig.lines < 2 ^ 40 }
     ensures ok { IfOk result (λ made. AnswersCommand (Command.CrashLost device.now objects.now) made.1
         (Some rig) (Some made.0)) }
@@ -126,13 +126,19 @@ fn crash_lost(
 {
     if !is_dash(device) || !fits_objects(rig.under_way(), objects) {
         drop(rig);
-        return Err(Refusal::Bad(Reason::Letters));
+        return Err(LineRefusal::Bad(LineReason::Letters));
     }
     Ok(rig.crash_lost(alloc, objects)?)
 }
 
 // Writes one byte to sectors.
-fn write(alloc: Global, rig: &mut Rig, lba: u64, sectors: u64, byte: u8) -> Result<Answer, Refusal>
+fn write(
+    alloc: Global,
+    rig: &mut Rig,
+    lba: u64,
+    sectors: u64,
+    byte: u8,
+) -> Result<Answer, LineRefusal>
     requires { rig.old.lines < 2 ^ 40 }
     ensures ok { IfOk result (λ answer. AnswersCommand (Command.Write lba sectors byte) answer
         (Some rig.old) (Some rig.new)) }
@@ -143,7 +149,7 @@ fn write(alloc: Global, rig: &mut Rig, lba: u64, sectors: u64, byte: u8) -> Resu
 }
 
 // Zeroes sectors.
-fn zero(rig: &mut Rig, lba: u64, sectors: u64) -> Result<Answer, Refusal>
+fn zero(rig: &mut Rig, lba: u64, sectors: u64) -> Result<Answer, LineRefusal>
     requires { rig.old.lines < 2 ^ 40 }
     ensures ok { IfOk result (λ answer. AnswersCommand (Command.Zero lba sectors) answer (Some rig.old)
         (Some rig.new)) }
@@ -154,7 +160,7 @@ fn zero(rig: &mut Rig, lba: u64, sectors: u64) -> Result<Answer, Refusal>
 }
 
 // Reads sectors.
-fn read(alloc: Global, rig: &mut Rig, lba: u64, sectors: u64) -> Result<Answer, Refusal>
+fn read(alloc: Global, rig: &mut Rig, lba: u64, sectors: u64) -> Result<Answer, LineRefusal>
     requires { rig.old.lines < 2 ^ 40 }
     ensures ok { IfOk result (λ answer. AnswersCommand (Command.Read lba sectors) answer (Some rig.old)
         (Some rig.new)) }
@@ -165,7 +171,7 @@ fn read(alloc: Global, rig: &mut Rig, lba: u64, sectors: u64) -> Result<Answer, 
 }
 
 // Makes each entry so far durable.
-fn flush(rig: &mut Rig) -> Result<Answer, Refusal>
+fn flush(rig: &mut Rig) -> Result<Answer, LineRefusal>
     requires { rig.old.lines < 2 ^ 40 }
     ensures ok { IfOk result (λ answer. AnswersCommand Command.Flush answer (Some rig.old)
         (Some rig.new)) }
@@ -176,7 +182,7 @@ fn flush(rig: &mut Rig) -> Result<Answer, Refusal>
 }
 
 // Seals the next object.
-fn seal(rig: &mut Rig) -> Result<Answer, Refusal>
+fn seal(rig: &mut Rig) -> Result<Answer, LineRefusal>
     requires { rig.old.lines < 2 ^ 40 }
     ensures ok { IfOk result (λ answer. AnswersCommand Command.Seal answer (Some rig.old)
         (Some rig.new)) }
@@ -187,7 +193,7 @@ fn seal(rig: &mut Rig) -> Result<Answer, Refusal>
 }
 
 // Begins the put of the lowest ready object.
-fn begin_put(rig: &mut Rig) -> Result<Answer, Refusal>
+fn begin_put(rig: &mut Rig) -> Result<Answer, LineRefusal>
     requires { rig.old.lines < 2 ^ 40 }
     ensures ok { IfOk result (λ answer. AnswersCommand Command.TakeJob answer (Some rig.old)
         (Some rig.new)) }
@@ -198,7 +204,7 @@ fn begin_put(rig: &mut Rig) -> Result<Answer, Refusal>
 }
 
 // Tells the counts.
-fn status(rig: &mut Rig) -> Result<Answer, Refusal>
+fn status(rig: &mut Rig) -> Result<Answer, LineRefusal>
     requires { rig.old.lines < 2 ^ 40 }
     ensures ok { IfOk result (λ answer. AnswersCommand Command.Status answer (Some rig.old)
         (Some rig.new)) }
@@ -210,7 +216,7 @@ fn status(rig: &mut Rig) -> Result<Answer, Refusal>
 
 // Answers a command that is one step of a volume: all but a crash (a condition), and `new`, which is not
 // allowed where there is one.
-fn answer_step(alloc: Global, rig: &mut Rig, command: Command) -> Result<Answer, Refusal>
+fn answer_step(alloc: Global, rig: &mut Rig, command: Command) -> Result<Answer, LineRefusal>
     requires lines { rig.old.lines < 2 ^ 40 }
     requires goes_on { is_crash command ≡ false }
     ensures ok { IfOk result (λ answer. AnswersCommand command answer (Some rig.old) (Some rig.new)) }
@@ -228,14 +234,14 @@ fn answer_step(alloc: Global, rig: &mut Rig, command: Command) -> Result<Answer,
         Command::JobFailed { number } => fail_put(rig, number),
         Command::Status => status(rig),
         Command::Stop { calls } => stop(rig, calls),
-        Command::New(_) => Err(Refusal::Bad(Reason::NotAllowed)),
-        Command::CrashKeep { .. } => Err(Refusal::Bad(Reason::NotAllowed)),
-        Command::CrashLost { .. } => Err(Refusal::Bad(Reason::NotAllowed)),
+        Command::New(_) => Err(LineRefusal::Bad(LineReason::NotAllowed)),
+        Command::CrashKeep { .. } => Err(LineRefusal::Bad(LineReason::NotAllowed)),
+        Command::CrashLost { .. } => Err(LineRefusal::Bad(LineReason::NotAllowed)),
     }
 }
 
 // The same, with the volume that is left.
-fn go_on(alloc: Global, mut rig: Rig, command: Command) -> Result<(Rig, Answer), Refusal>
+fn go_on(alloc: Global, mut rig: Rig, command: Command) -> Result<(Rig, Answer), LineRefusal>
     requires lines { rig.lines < 2 ^ 40 }
     requires goes_on { is_crash command ≡ false }
     ensures ok { IfOk result (λ made. AnswersCommand command made.1 (Some rig) (Some made.0)) }
@@ -253,7 +259,7 @@ fn go_on(alloc: Global, mut rig: Rig, command: Command) -> Result<(Rig, Answer),
 
 // Answers a command where there is a volume, which is left then. After a line that is not answered there is
 // none.
-fn answer_on(alloc: Global, rig: Rig, command: Command) -> Result<(Rig, Answer), Refusal>
+fn answer_on(alloc: Global, rig: Rig, command: Command) -> Result<(Rig, Answer), LineRefusal>
     requires { rig.lines < 2 ^ 40 }
     ensures ok { IfOk result (λ made. AnswersCommand command made.1 (Some rig) (Some made.0)) }
     ensures refused { IfErr result (IsUnanswered (Some rig) command) }
@@ -271,7 +277,7 @@ fn answer_on(alloc: Global, rig: Rig, command: Command) -> Result<(Rig, Answer),
 }
 
 // Makes the volume.
-fn create(alloc: Global, geometry: Geometry) -> Result<(Rig, Answer), Refusal>
+fn create(alloc: Global, geometry: Geometry) -> Result<(Rig, Answer), LineRefusal>
     requires { IsTrue (is_within_limits geometry) }
     ensures ok { IfOk result (λ made. AnswersCommand (Command.New geometry) made.1 None (Some made.0)) }
     ensures refused { IfErr result (IsUnanswered None (Command.New geometry)) }
@@ -282,7 +288,7 @@ fn create(alloc: Global, geometry: Geometry) -> Result<(Rig, Answer), Refusal>
 }
 
 // Answers the first command: it makes the volume.
-fn answer_first(alloc: Global, command: Command) -> Result<(Rig, Answer), Refusal>
+fn answer_first(alloc: Global, command: Command) -> Result<(Rig, Answer), LineRefusal>
     requires { Fits command }
     ensures ok { IfOk result (λ made. AnswersCommand command made.1 None (Some made.0)) }
     ensures refused { IfErr result (IsUnanswered None command) }
@@ -290,7 +296,7 @@ fn answer_first(alloc: Global, command: Command) -> Result<(Rig, Answer), Refusa
 {
     match command {
         Command::New(geometry) => create(alloc, geometry),
-        _ => Err(Refusal::Bad(Reason::NotAllowed)),
+        _ => Err(LineRefusal::Bad(LineReason::NotAllowed)),
     }
 }
 
@@ -300,7 +306,7 @@ fn answer_command(
     alloc: Global,
     rig: Option<Rig>,
     command: Command,
-) -> Result<(Rig, Answer), Refusal>
+) -> Result<(Rig, Answer), LineRefusal>
     requires fits { Fits command }
     requires lines { lines_answered rig < 2 ^ 40 }
     ensures ok { IfOk result (λ made. AnswersCommand command made.1 rig (Some made.0)) }
@@ -318,7 +324,7 @@ fn answer_in_place(
     alloc: Global,
     rig: &mut Option<Rig>,
     command: Command,
-) -> Result<Answer, Refusal>
+) -> Result<Answer, LineRefusal>
     requires fits { Fits command }
     requires lines { lines_answered rig.old < 2 ^ 40 }
     ensures ok { IfOk result (λ answer. AnswersCommand command answer rig.old rig.new) }
@@ -338,14 +344,14 @@ pub(crate) fn answer_line(
     rig: &mut Option<Rig>,
     line: &[u8],
     answers: &mut Vec<u8>,
-) -> Result<(), Refusal>
+) -> Result<(), LineRefusal>
     requires { lines_answered rig.old < 2 ^ 40 }
     ensures ok { OnOk result (AnswersLine line.now rig.old rig.new answers.old.items answers.new.items) }
     ensures refused { IfErr result (EndsUnanswered line.now rig.old answers.old.items answers.new.items) }
     ensures lines { lines_answered rig.new ≤ lines_answered rig.old + 1 }
 {
     if line.len() > LINE_LIMIT {
-        return Err(Refusal::Bad(Reason::TooLong));
+        return Err(LineRefusal::Bad(LineReason::TooLong));
     }
     let command = command_of(alloc, line)?;
     let answer = answer_in_place(alloc, rig, command)?;

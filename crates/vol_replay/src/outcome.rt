@@ -1,5 +1,5 @@
 use replay_rig::Rig;
-use transcript::Reason;
+use transcript::LineReason;
 
 /// How a replay ended.
 #[derive(Drop)]
@@ -7,7 +7,7 @@ pub enum Outcome {
     /// Each line was answered. The rig is as the last line left it; there is none for a script without lines.
     Done(Option<Rig>),
     /// The lines before this one, counted from 1, were answered.
-    BadLine { number: u64, reason: Reason },
+    BadLine { number: u64, reason: LineReason },
     /// The source failed, and nothing was run.
     ReadFault,
     /// The sink failed, and took a front of the transcript.

@@ -5,12 +5,12 @@ ghost use Rattle.vol_replay.specs.Lines.{TakesFront, MovesOn, IsHandedOver};
 ghost use Rattle.vol_replay.specs.Written.{IsOutcomeOf, AreAllAnswered, ends_by_read_fault};
 ghost use Rattle.vol_replay.specs.Written.{ends_by_write_fault};
 
-use crate::line::{Refusal, answer_line};
+use crate::line::{LineRefusal, answer_line};
 use crate::outcome::Outcome;
 use lsvd_fault::{Failed, ReadError, Sink, Source, read_past_limit, write_all};
 use replay_script::{SCRIPT_LIMIT, line_number, split_line};
 use std::alloc::Global;
-use transcript::Reason;
+use transcript::LineReason;
 
 // The answers are handed to the sink each time that there are this many bytes of them.
 const BATCH: usize = 65_536;
@@ -45,7 +45,7 @@ fn run_script<O: Sink>(alloc: Global, script: &[u8], sink: &mut O) -> Outcome
     if script.len() > SCRIPT_LIMIT {
         Outcome::BadLine {
             number: line_number(script, SCRIPT_LIMIT),
-            reason: Reason::TooLong,
+            reason: LineReason::TooLong,
         }
     } else {
         run_lines(alloc, script, sink)
@@ -68,12 +68,12 @@ fn run_lines<O: Sink>(alloc: Global, script: &[u8], sink: &mut O) -> Outcome
         let (line, after) = split_line(rest);
         match answer_line(alloc, &mut rig, line, &mut answers) {
             Ok(()) => {}
-            Err(Refusal::Bad(reason)) => {
+            Err(LineRefusal::Bad(reason)) => {
                 drop(rig);
                 let outcome = Outcome::BadLine { number, reason };
                 return hand_over(sink, answers.as_slice(), outcome);
             }
-            Err(Refusal::OutOfMemory) => {
+            Err(LineRefusal::OutOfMemory) => {
                 drop(rig);
                 return Outcome::OutOfMemory;
             }

@@ -9,6 +9,7 @@ use Rattle.lsvd_objstore.specs.Store.{StoreState, ReceiptState, Becomes}
 use Rattle.commit_slot.specs.Slots.{log_of}
 use Rattle.command_line.specs.Create.{sizes_of}
 use Rattle.command_line.specs.declared.serve.ServeRequest.{ServeRequest}
+use Rattle.stopped_volume.specs.Device.{owner_with}
 use Rattle.stopped_volume.specs.Store.{TellsBytes}
 use Rattle.stopped_volume.specs.Super.{HasVolume}
 use Rattle.plain_disk.specs.State.{PlainState, created_volume, history_length}
@@ -63,7 +64,8 @@ same_length plain after is =
 
 -- a volume that stood with its store was served and drained, and was let go
 module _ {R : Type 0} (state : R → ReceiptState) (epoch : ℕ) (made : PlainState) (first last closing : Moment)
-    (objects : Objects) (told : first.store.objects ≡ Some objects) (own : HasOwnCommits epoch first.volume.volume)
+    (objects : Objects) (told : first.store.objects ≡ Some objects)
+    (own : HasOwnCommits (owner_with first.volume.volume.objects.uploads.uuid epoch) first.volume.volume)
     (with_store : IsMadeWithStore first.volume.volume.objects.uploads.uuid epoch made first.volume.volume objects)
     (added : List Entry) (grows : Grows added first last) (entries : ℕ) (drains : Drains state entries last closing)
     (let_go : IsLetGo closing.volume) where
@@ -79,7 +81,8 @@ module _ {R : Type 0} (state : R → ReceiptState) (epoch : ℕ) (made : PlainSt
   same_uuid : closing.volume.volume.objects.uploads.uuid ≡ uuid
   same_uuid = drains.calls.steps.sizes.uuid ∙ grows.sizes.uuid
 
-  pub serves_whole : (whole : LeavesWhole uuid epoch added made closing.store.objects closing.volume.volume.log.commits.disk)
+  pub serves_whole : (whole : LeavesWhole (owner_with uuid epoch) added made closing.store.objects
+      closing.volume.volume.log.commits.disk)
       × (entries ≡ history_length whole.after)
   serves_whole =
       let (middle, middle_shows, middle_goes, middle_stands) = grows.stands shown with_store.shows in
@@ -96,7 +99,9 @@ module _ {R : Type 0} (state : R → ReceiptState) (epoch : ℕ) (made : PlainSt
       let its_uuid : List ℕ = closing.volume.volume.objects.uploads.uuid in
       let stands_now : StandsWithStore its_uuid epoch after closing.volume.volume left.0 =
       record { shows = shows; stands = stands } in
-      let own_now = drains.calls.steps.own epoch (grows.own epoch own) in
+      let own_now : HasOwnCommits (owner_with its_uuid epoch) closing.volume.volume =
+      subst (λ (u : List ℕ). HasOwnCommits (owner_with u epoch) closing.volume.volume) (sym same_uuid)
+      (drains.calls.steps.own (owner_with uuid epoch) (grows.own (owner_with uuid epoch) own)) in
       let in_objects = drained_in_objects its_uuid epoch after closing.volume.volume left.0 stands_now drains.drained in
       let disk : DiskState = closing.volume.volume.log.commits.disk in (
         record {
@@ -105,7 +110,7 @@ module _ {R : Type 0} (state : R → ReceiptState) (epoch : ℕ) (made : PlainSt
           left = left.0;
           told = left.1;
           whole =
-              subst (λ u. IsLeftWhole u epoch after left.0 disk) same_uuid
+              subst (λ (u : List ℕ). IsLeftWhole (owner_with u epoch) after left.0 disk) same_uuid
               (is_left_whole closing.volume epoch after left.0 let_go own_now stands_now in_objects);
         },
         drains.count middle middle_shows ∙ same_length middle after goes,
@@ -126,15 +131,17 @@ created_is_whole request uuid disk disk_left before after new_to creates =
     created_stands uuid (sizes_of request) creates.volume left created has in
     let its_store : StandsWithStore volume.objects.uploads.uuid 0 shown volume left =
     subst (λ u. StandsWithStore u 0 shown volume left) (sym created.uuid_is) with_store in
-    let whole = is_left_whole creates.volume 0 shown left creates.let_go created.own its_store (omega arith) in
+    let its_own : HasOwnCommits (owner_with volume.objects.uploads.uuid 0) volume =
+    subst (λ (u : List ℕ). HasOwnCommits (owner_with u 0) volume) (sym created.uuid_is) created.own in
+    let whole = is_left_whole creates.volume 0 shown left creates.let_go its_own its_store (omega arith) in
     record {
       after = shown;
       goes_on = goes_on_from [] volume.log.commits.disk made shown (goes_on_nothing shown);
       left = left;
       told = told;
       whole =
-          subst (λ (d : DiskState). IsLeftWhole uuid 0 shown left d) (sym creates.disk_is)
-          (subst (λ u. IsLeftWhole u 0 shown left volume.log.commits.disk) created.uuid_is whole);
+          subst (λ (d : DiskState). IsLeftWhole (owner_with uuid 0) shown left d) (sym creates.disk_is)
+          (subst (λ (u : List ℕ). IsLeftWhole (owner_with u 0) shown left volume.log.commits.disk) created.uuid_is whole);
     }
 
 -- ---- a run of `serve`
@@ -148,7 +155,7 @@ module _ {D R L K : Type 0} (disk_state : D → DiskState) (receipt_state : R �
     -- what clients and a drain make of the volume that was mounted
     served_is_whole : (epoch : ℕ) (made : PlainState) (objects : Objects) → serves.mid.objects ≡ Some objects
         → serves.mounted.volume.volume.objects.uploads.uuid ≡ request.volume
-        → HasOwnCommits epoch serves.mounted.volume.volume
+        → HasOwnCommits (owner_with request.volume epoch) serves.mounted.volume.volume
         → IsMadeWithStore request.volume epoch made serves.mounted.volume.volume objects
         → ServesWhole serves epoch made
     served_is_whole epoch made objects told uuid_is own with_store =
@@ -159,9 +166,11 @@ module _ {D R L K : Type 0} (disk_state : D → DiskState) (receipt_state : R �
         let added : List Entry = grown.0.0 in
         let its_store : IsMadeWithStore volume.objects.uploads.uuid epoch made volume objects =
         subst (λ u. IsMadeWithStore u epoch made volume objects) (sym uuid_is) with_store in
+        let its_own : HasOwnCommits (owner_with volume.objects.uploads.uuid epoch) volume =
+        subst (λ (u : List ℕ). HasOwnCommits (owner_with u epoch) volume) (sym uuid_is) own in
         let whole =
-        serves_whole receipt_state epoch made first by.last (moment_of serves.closing store_left) objects told own its_store added
-        grown.0.1 by.entries by.drains serves.let_go in
+        serves_whole receipt_state epoch made first by.last (moment_of serves.closing store_left) objects told its_own its_store
+        added grown.0.1 by.entries by.drains serves.let_go in
         let leaves = whole.0 in
         let disk_is : serves.closing.volume.log.commits.disk ≡ disk_left = sym serves.disk_is in
         record {
@@ -173,9 +182,9 @@ module _ {D R L K : Type 0} (disk_state : D → DiskState) (receipt_state : R �
             left = leaves.left;
             told = leaves.told;
             whole =
-                subst (λ (d : DiskState). IsLeftWhole request.volume epoch leaves.after leaves.left d) disk_is
-                (subst (λ u. IsLeftWhole u epoch leaves.after leaves.left serves.closing.volume.log.commits.disk) uuid_is
-                leaves.whole);
+                subst (λ (d : DiskState). IsLeftWhole (owner_with request.volume epoch) leaves.after leaves.left d) disk_is
+                (subst (λ (u : List ℕ). IsLeftWhole (owner_with u epoch) leaves.after leaves.left
+                serves.closing.volume.log.commits.disk) uuid_is leaves.whole);
           };
           count = whole.1;
         }
@@ -190,14 +199,14 @@ module _ {D R L K : Type 0} (disk_state : D → DiskState) (receipt_state : R �
       let has : IsSomeAnd store.objects (HasVolume uuid plain.geometry epoch) =
       subst (λ (o : Option Objects). IsSomeAnd o (HasVolume uuid plain.geometry epoch)) (sym told) may.volume.described in
       let volume = mount.volume tells plain.geometry epoch log_is has in
-      let mounts : MountsLeft uuid plain.geometry epoch (Some objects) disk serves.mounted =
-      subst (λ (o : Option Objects). MountsLeft uuid plain.geometry epoch o disk serves.mounted) told
+      let mounts : MountsLeft (owner_with uuid epoch) plain.geometry (Some objects) disk serves.mounted =
+      subst (λ (o : Option Objects). MountsLeft (owner_with uuid epoch) plain.geometry o disk serves.mounted) told
       (mount.mounts tells plain.geometry epoch log_is has) in
       let (left, left_told, removed) =
       told_after (RemovesAllPast uuid serves.mounted.number) store.objects serves.mid.objects objects told mount.removed in
       served_is_whole request links disk disk_left store store_left old new serves epoch _ left left_told volume.uuid_is
       volume.own
-      (mounted_with_stands uuid epoch plain found number objects left disk serves.mounted is_uuid may mounts removed)
+      (mounted_with_stands (owner_with uuid epoch) plain found number objects left disk serves.mounted is_uuid may mounts removed)
 
   pub served_without_is_whole : ServedWithoutIsWhole disk_state receipt_state listener_state coming link_state
   served_without_is_whole request links disk disk_left store store_left old new epoch plain number objects tells is_uuid lost told

@@ -9,6 +9,7 @@ use Rattle.log_room.specs.Room.{Room}
 use Rattle.object_stream.specs.Landed.{Numbers}
 use Rattle.object_stream.specs.Stream.{end_at, last_number}
 use Rattle.upload_window.specs.Window.{WindowState, below_lowest}
+use Rattle.stopped_volume.specs.Device.{owner_with}
 use Rattle.stopped_volume.specs.Objects.{landed_in}
 use Rattle.plain_disk.specs.declared.log.PlainCommit.{PlainCommit}
 use Rattle.plain_disk.specs.State.{PlainState, stream_in, history_length, frontier_of}
@@ -72,7 +73,7 @@ now_as P Q [] follows holds = tt
 now_as P Q (now ∷ past) follows holds = follows now holds
 
 module _ (stepped : SteppedVolume) (epoch : ℕ) (plain : PlainState) (objects : Objects) (let_go : IsLetGo stepped)
-    (own : HasOwnCommits epoch stepped.volume)
+    (own : HasOwnCommits (owner_with stepped.volume.objects.uploads.uuid epoch) stepped.volume)
     (with_store : StandsWithStore stepped.volume.objects.uploads.uuid epoch plain stepped.volume objects)
     (in_objects : history_length plain ≤ end_of_object (number_found stepped.volume.objects.uploads.uuid plain objects) plain)
   where
@@ -88,7 +89,7 @@ module _ (stepped : SteppedVolume) (epoch : ℕ) (plain : PlainState) (objects :
     comes_back : (found : PlainCommit) → ComesBackWith uuid plain objects found
     comes_back found = whole_at (max (end_of_object number plain) found.head.seq) (omega (arith, in_objects))
 
-    pub is_left_whole : IsLeftWhole uuid epoch plain objects stepped.volume.log.commits.disk
+    pub is_left_whole : IsLeftWhole (owner_with uuid epoch) plain objects stepped.volume.log.commits.disk
     is_left_whole =
         let IsFound : PlainCommit → Type 0 = λ found. IsFoundCommit found plain.cache.log in
         record {
@@ -98,9 +99,11 @@ module _ (stepped : SteppedVolume) (epoch : ℕ) (plain : PlainState) (objects :
             whole_at (end_of_object number plain) in_objects,
           );
           with_cache =
-              now_as (StopMayMount uuid epoch plain IsFound objects)
-              (StopMayMount uuid epoch plain (ComesBackWith uuid plain objects) objects) stepped.volume.log.commits.disk.moments
+              now_as (StopMayMount (owner_with uuid epoch) plain IsFound objects)
+              (StopMayMount (owner_with uuid epoch) plain (ComesBackWith uuid plain objects) objects)
+              stepped.volume.log.commits.disk.moments
               (λ medium may disk is_left.
               let mount = may disk is_left in (mount.0, comes_back mount.0, mount.2))
-              (stop_leaves_both stepped epoch plain objects let_go.is_volume (let_go.keeps epoch own) with_store);
+              (stop_leaves_both stepped epoch plain objects let_go.is_volume (let_go.keeps (owner_with uuid epoch) own)
+              with_store);
         }

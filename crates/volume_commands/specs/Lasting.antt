@@ -10,6 +10,7 @@ use Rattle.commit_slot.specs.Slots.{log_of}
 use Rattle.command_line.specs.Create.{sizes_of}
 use Rattle.command_line.specs.declared.create.CreateRequest.{CreateRequest}
 use Rattle.command_line.specs.declared.serve.ServeRequest.{ServeRequest}
+use Rattle.stopped_volume.specs.Device.{CacheOwner, owner_with}
 use Rattle.stopped_volume.specs.Objects.{landed_in}
 use Rattle.stopped_volume.specs.Store.{TellsBytes}
 use Rattle.plain_disk.specs.declared.log.PlainCommit.{PlainCommit}
@@ -44,20 +45,20 @@ ComesBackWith uuid plain objects found = (mounted_with found (number_found uuid 
 
 -- A plain volume is left whole: of these objects it comes back without the cache, on each log within the limits, and with
 -- whatever a stop leaves of the disk.
-pub record IsLeftWhole (uuid : List ℕ) (epoch : ℕ) (plain : PlainState) (objects : Objects) (disk : DiskState) : Type 0 where
+pub record IsLeftWhole (owner : CacheOwner) (plain : PlainState) (objects : Objects) (disk : DiskState) : Type 0 where
   pub log_is : plain.geometry.log ≡ log_of disk.size
   pub without : (log : ℕ) → IsTrue (is_within_limits (sizes_with log plain.geometry))
-      → ComesBackWithout uuid epoch plain objects log
-  pub with_cache : HoldsNow (StopMayMount uuid epoch plain (ComesBackWith uuid plain objects) objects) disk.moments
+      → ComesBackWithout owner.uuid owner.epoch plain objects log
+  pub with_cache : HoldsNow (StopMayMount owner plain (ComesBackWith owner.uuid plain objects) objects) disk.moments
 
 -- These entries were added to a plain volume, and what it became is left whole, by a store that tells its objects.
-pub record LeavesWhole (uuid : List ℕ) (epoch : ℕ) (added : List Entry) (plain : PlainState) (objects : Option Objects)
+pub record LeavesWhole (owner : CacheOwner) (added : List Entry) (plain : PlainState) (objects : Option Objects)
     (disk : DiskState) : Type 0 where
   pub after : PlainState
   pub goes_on : GoesOn added plain after
   pub left : Objects
   pub told : objects ≡ Some left
-  pub whole : IsLeftWhole uuid epoch after left disk
+  pub whole : IsLeftWhole owner after left disk
 
 -- So a run of `serve` leaves what its mount made, with the entries that its clients added; and it told how many that has.
 pub record ServesWhole {D R L K : Type 0} {disk_state : D → DiskState} {receipt_state : R → ReceiptState}
@@ -68,7 +69,7 @@ pub record ServesWhole {D R L K : Type 0} {disk_state : D → DiskState} {receip
     new) (epoch : ℕ) (made : PlainState) : Type 0 where
   pub added : List Entry
   pub grows : Grows added (moment_of serves.mounted.volume serves.mid) serves.serves.last
-  pub leaves : LeavesWhole request.volume epoch added made store_left.objects disk_left
+  pub leaves : LeavesWhole (owner_with request.volume epoch) added made store_left.objects disk_left
   pub count : serves.serves.entries ≡ history_length leaves.after
 
 -- ---- laws
@@ -79,7 +80,7 @@ abbrev pub CreatedIsWhole : Type 0
 CreatedIsWhole =
     (request : CreateRequest) (uuid : List ℕ) (disk disk_left : DiskState) (before : Objects) (after : Option Objects)
     → IsNewTo uuid before → CreatesOn request uuid disk disk_left (Some before) after
-    → LeavesWhole uuid 0 [] (created_volume (sizes_of request)) after disk_left
+    → LeavesWhole (owner_with uuid 0) [] (created_volume (sizes_of request)) after disk_left
 
 -- Where disk and store may be mounted with each other, a run of `serve` with the cache leaves what the mount made of them whole,
 -- with the entries that clients added, in the same epoch.
@@ -89,7 +90,7 @@ ServedWithIsWhole {D} {R} {L} {K} disk_state receipt_state listener_state coming
     (request : ServeRequest) (links : Option (List K)) (disk disk_left : DiskState) (store store_left : StoreState)
     (old new : Option (List ℕ)) (epoch : ℕ) (plain : PlainState) (found : PlainCommit) (number : ℕ) (objects : Objects)
     → TellsBytes receipt_state → IsUuid request.volume → request.is_lost ≡ false → store.objects ≡ Some objects
-    → plain.geometry.log ≡ log_of disk.size → MayMountWith request.volume epoch plain found number objects disk
+    → plain.geometry.log ≡ log_of disk.size → MayMountWith (owner_with request.volume epoch) plain found number objects disk
     → (serves : ServesOn disk_state receipt_state listener_state coming link_state request links disk disk_left store store_left
     old new)
     → ServesWhole serves epoch (mounted_with found number plain)

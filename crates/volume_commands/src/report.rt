@@ -5,7 +5,7 @@ use crate::refusal::Refusal;
 use arrayvec::ArrayString;
 use itoa::Buffer;
 use lsvd_fault::{Sink, write_all};
-use transcript::Reason;
+use transcript::LineReason;
 
 /// How a run of the program ended.
 #[derive(Clone, Copy, Debug, PartialEq, Eq)]
@@ -17,7 +17,7 @@ pub enum Report {
     /// The words are no command line of the program.
     Usage,
     /// This line of the script, counted from 1, is bad.
-    BadLine { number: u64, reason: Reason },
+    BadLine { number: u64, reason: LineReason },
     /// The volume is not created or not mounted, for this reason.
     Refused(Refusal),
     /// Memory ran out.
@@ -67,7 +67,7 @@ pub(crate) fn tell_line<E: Sink>(err: &mut E, line: &[u8])
 const LINE_BYTES: usize = 64;
 
 // The line that tells a bad line, as one write.
-fn tell_bad_line<E: Sink>(err: &mut E, number: u64, reason: Reason)
+fn tell_bad_line<E: Sink>(err: &mut E, number: u64, reason: LineReason)
     ensures told { IsTold (E.contents err.old) (E.contents err.new) (E.faults err.old) (E.faults err.new)
         (line_of (Report.BadLine number reason)) }
 {

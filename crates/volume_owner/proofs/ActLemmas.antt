@@ -15,7 +15,7 @@ use Rattle.lsvd_objstore.specs.Store.{StoreState, ReceiptState, Put, IsAskedOnce
 use Rattle.object_uploads.specs.State.{JobState}
 use Rattle.vol_core.specs.declared.event.Event.{Event}
 use Rattle.vol_core.specs.declared.event.Event.TheVariants as asks
-use Rattle.vol_core.specs.declared.reply.Refusal.TheVariants as refusals
+use Rattle.vol_core.specs.declared.reply.EntryRefusal.TheVariants as refusals
 use Rattle.vol_core.specs.declared.reply.Reply.{Reply}
 use Rattle.vol_core.specs.declared.reply.Reply.TheVariants as told
 use Rattle.vol_core.specs.Volume.{VolumeState, SteppedVolume}

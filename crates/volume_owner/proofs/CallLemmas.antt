@@ -81,7 +81,7 @@ nothing_call state most volume store = quiet_call state most [] volume volume st
     (record {
       adds = λ plain shows. (plain, shows, goes_on_nothing plain);
       sizes = record { geometry = refl; uuid = refl };
-      own = λ epoch own. own;
+      own = λ owner own. own;
       steps = omega arith;
     }) refl
 

@@ -16,8 +16,8 @@ use Rattle.plain_disk.specs.State.{PlainState, history_length, unsealed_entries}
 use Rattle.plain_disk.specs.Entries.{enter_reply, after_entering}
 use Rattle.plain_disk.specs.Step.{plain_reply, plain_after}
 use Rattle.refine_log.specs.Fuses.{fuse_in}
-use Rattle.vol_core.specs.declared.reply.Refusal.{Refusal}
-use Rattle.vol_core.specs.declared.reply.Refusal.TheVariants as refusals
+use Rattle.vol_core.specs.declared.reply.EntryRefusal.{EntryRefusal}
+use Rattle.vol_core.specs.declared.reply.EntryRefusal.TheVariants as refusals
 use Rattle.vol_core.specs.declared.reply.Reply.{Reply}
 use Rattle.vol_core.specs.declared.reply.Reply.TheVariants as told
 use Rattle.vol_core.specs.Volume.{VolumeState, SteppedVolume}
@@ -166,7 +166,7 @@ none_or_some : (n : ℕ) → (n ≡ 0) ⊎ (0 < n)
 none_or_some zero = inl refl
 none_or_some (suc n) = inr (omega arith)
 
-again_is_other : (R : Type 0) (back : Entry) (why : Refusal) → is_again why ≡ true
+again_is_other : (R : Type 0) (back : Entry) (why : EntryRefusal) → is_again why ≡ true
     → lacks_memory {R = R} (told.NotEntered back why) ≡ true → ⊥
 again_is_other R back refusals.Range again lacks = cc
 again_is_other R back (refusals.Full why) again lacks = cc
@@ -174,7 +174,7 @@ again_is_other R back (refusals.NoRoom needed left) again lacks = cc
 again_is_other R back refusals.Fault again lacks = cc
 again_is_other R back refusals.OutOfMemory again lacks = cc
 
-again_tells : (why : Refusal) (reply : PlainReply) (count : ℕ) → is_again why ≡ true → TellsRefusal why reply
+again_tells : (why : EntryRefusal) (reply : PlainReply) (count : ℕ) → is_again why ≡ true → TellsRefusal why reply
     → (reply ≡ replies.Entered count) ⊎ (reply ≡ replies.Fault) → ⊥
 again_tells refusals.Range reply count again tells is = cc
 again_tells (refusals.Full (full.Sectors sectors)) reply count again tells (inl is) = cc
@@ -197,7 +197,7 @@ module _ {R : Type 0} (state : R → ReceiptState) (entry : Entry) (reply : Repl
           | inr o ↦ absurd (o.other count is)
         ];
     sizes = of.step.sizes;
-    own = λ epoch own. (of.step.stops epoch own).own;
+    own = λ owner own. (of.step.stops owner own).own;
     steps = omega (arith, of.count);
   }
 
@@ -223,7 +223,7 @@ module _ {R : Type 0} (state : R → ReceiptState) (entry : Entry) (reply : Repl
           | inr o ↦ (o.after, o.shows, o.goes)
         ];
     sizes = of.step.sizes;
-    own = λ epoch own. (of.step.stops epoch own).own;
+    own = λ owner own. (of.step.stops owner own).own;
     steps = omega (arith, of.count);
   }
 
@@ -237,7 +237,7 @@ module _ {R : Type 0} (state : R → ReceiptState) (entry : Entry) (reply : Repl
       ]
 
   -- one that may be tried again leaves what is left to help with, and there is some
-  pub again_work : (plain : PlainState) (back : Entry) (why : Refusal) → Shows old.volume plain
+  pub again_work : (plain : PlainState) (back : Entry) (why : EntryRefusal) → Shows old.volume plain
       → is_in_range old.volume.objects.batch.geometry entry ≡ true
       → reply ≡ told.NotEntered back why → is_again why ≡ true → (0 < work_of new.volume)
       × (work_of new.volume ≡ work_of old.volume)
@@ -287,7 +287,8 @@ module _ {R : Type 0} (state : R → ReceiptState) (entry : Entry) (reply : Repl
         | inr o ↦ absurd (o.count count is)
       ]
 
-  back_is : (entry back : Entry) (why : Refusal) → HandsBack (event_of {R = R} entry) (told.NotEntered back why) → back ≡ entry
+  back_is : (entry back : Entry) (why : EntryRefusal) → HandsBack (event_of {R = R} entry) (told.NotEntered back why)
+      → back ≡ entry
   back_is (entries.Write lba body) back why hands = hands
   back_is (entries.Zero lba sectors) back why hands = hands
 

@@ -2,8 +2,8 @@
 use Rattle.std.proofs.Common.{◌≡◌, ℕ, ◌⊎◌, inl, inr, Bool, true, false, [], refl, sym, ap, subst}
 use Rattle.std.specs.Prelude.{None, Result, Err, IsOkUnless}
 use Rattle.lsvd_base.specs.declared.entry.Entry.{Entry}
-use Rattle.vol_core.specs.declared.reply.Refusal.{Refusal}
-use Rattle.vol_core.specs.declared.reply.Refusal.TheVariants as refusals
+use Rattle.vol_core.specs.declared.reply.EntryRefusal.{EntryRefusal}
+use Rattle.vol_core.specs.declared.reply.EntryRefusal.TheVariants as refusals
 use Rattle.vol_core.specs.declared.reply.Reply.{Reply}
 use Rattle.vol_core.specs.declared.reply.Reply.TheVariants as told
 use Rattle.object_uploads.specs.State.{JobState}
@@ -17,7 +17,7 @@ use Rattle.volume_owner.specs.declared.error.OwnerError.TheVariants as errors
 use Rattle.volume_owner.specs.Helping.{entered_by, attempt_failed}
 
 -- an entry may be tried again
-abbrev pub is_again : Refusal → Bool
+abbrev pub is_again : EntryRefusal → Bool
 is_again (refusals.Full why) = true
 is_again (refusals.NoRoom needed left) = true
 is_again why = false
@@ -27,7 +27,7 @@ pub record IsOther {R : Type 0} (reply : Reply R) : Type 0 where
   pub other : (count : ℕ) → reply ≡ told.Entered count → ⊥
   pub none : (entry : Entry) → entered_by entry (attempt_in reply) ≡ []
   pub fault : attempt_failed (attempt_in reply) ≡ tells_fault reply
-  pub again : (back : Entry) → attempt_in reply ≡ Again back → (why : Refusal) × (reply ≡ told.NotEntered back why)
+  pub again : (back : Entry) → attempt_in reply ≡ Again back → (why : EntryRefusal) × (reply ≡ told.NotEntered back why)
       × (is_again why ≡ true)
   pub count : (count : ℕ) → attempt_in reply ≡ Entered count → ⊥
 

@@ -6,7 +6,7 @@ use Rattle.std.proofs.lemmas.Bool.{cases_eq, cases_lt}
 use Rattle.lsvd_base.specs.Image.{blank}
 use Rattle.lsvd_base.specs.declared.geometry.Geometry.{Geometry}
 use Rattle.lsvd_names.specs.declared.name.ObjName.{ObjName}
-use Rattle.lsvd_names.specs.declared.name.Kind.{Kind}
+use Rattle.lsvd_names.specs.declared.name.NameKind.{NameKind}
 use Rattle.lsvd_names.specs.Names.{super_name, epoch_name, numbered_name}
 use Rattle.lsvd_objstore.specs.Objects.{Objects, found, IsPut, KeepsOthers}
 use Rattle.object_recovery.specs.Checkpoints.{expected_of}
@@ -180,7 +180,7 @@ bytes_at_are (suc index) (one ∷ sealed) xs ys first second = bytes_at_are inde
 abbrev number_in : ObjName → ℕ
 number_in name = name.number
 
-abbrev kind_in : ObjName → Kind
+abbrev kind_in : ObjName → NameKind
 kind_in name = name.kind
 
 other_number : (uuid : List ℕ) (a b : ℕ) → (a ≡ b → ⊥) → numbered_name uuid a ≡ numbered_name uuid b → ⊥

@@ -115,7 +115,7 @@ pub makes_then : (m n : ℕ) (added : List Entry) (old mid new : SteppedVolume) 
 makes_then m n added old mid new first second = record {
   adds = adds_then added old.volume mid.volume new.volume first.adds second.adds;
   sizes = same_sizes old.volume mid.volume new.volume first.sizes second.sizes;
-  own = λ epoch own. second.own epoch (first.own epoch own);
+  own = λ owner own. second.own owner (first.own owner own);
   steps = omega (arith, first.steps, second.steps);
 }
 
@@ -209,6 +209,6 @@ pub quiet_makes : {R : Type 0} (state : R → ReceiptState) (event : Event R) (r
 quiet_makes state event reply old new quiet of = record {
   adds = λ plain shows. quiet_after state event reply plain old.volume new.volume quiet shows (of.step.step plain shows);
   sizes = of.step.sizes;
-  own = λ epoch own. (of.step.stops epoch own).own;
+  own = λ owner own. (of.step.stops owner own).own;
   steps = omega (arith, of.count);
 }

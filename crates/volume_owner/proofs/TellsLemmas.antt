@@ -7,8 +7,8 @@ use Rattle.batcher.specs.declared.full.Full.TheVariants as full
 use Rattle.plain_disk.specs.declared.event.PlainReply.{PlainReply}
 use Rattle.plain_disk.specs.declared.event.PlainReply.TheVariants as replies
 use Rattle.plain_disk.specs.declared.event.PlannedRead.{PlannedRead}
-use Rattle.vol_core.specs.declared.reply.Refusal.{Refusal}
-use Rattle.vol_core.specs.declared.reply.Refusal.TheVariants as refusals
+use Rattle.vol_core.specs.declared.reply.EntryRefusal.{EntryRefusal}
+use Rattle.vol_core.specs.declared.reply.EntryRefusal.TheVariants as refusals
 use Rattle.vol_core.specs.declared.reply.Reply.{Reply}
 use Rattle.vol_core.specs.declared.reply.Reply.TheVariants as told
 use Rattle.vol_core.specs.Volume.{VolumeState}
@@ -16,7 +16,7 @@ use Rattle.vol_core.specs.Events.{Tells, TellsRefusal}
 use Rattle.vol_core.specs.Step.{tells_fault}
 
 -- that an entry was entered
-tells_entered_refusal : (why : Refusal) (count : ℕ) → TellsRefusal why (replies.Entered count) → ⊥
+tells_entered_refusal : (why : EntryRefusal) (count : ℕ) → TellsRefusal why (replies.Entered count) → ⊥
 tells_entered_refusal refusals.Range count tells = cc
 tells_entered_refusal (refusals.Full (full.Sectors sectors)) count tells = cc
 tells_entered_refusal (refusals.Full (full.Entries entries)) count tells = cc
@@ -46,7 +46,7 @@ tells_entered state volume told.Fault count tells = let bad : ⊥ = cc in absurd
 tells_entered state volume told.OutOfMemory count tells = absurd tells
 
 -- that all is durable
-tells_flushed_refusal : (why : Refusal) (count : ℕ) → TellsRefusal why (replies.Flushed count) → ⊥
+tells_flushed_refusal : (why : EntryRefusal) (count : ℕ) → TellsRefusal why (replies.Flushed count) → ⊥
 tells_flushed_refusal refusals.Range count tells = cc
 tells_flushed_refusal (refusals.Full (full.Sectors sectors)) count tells = cc
 tells_flushed_refusal (refusals.Full (full.Entries entries)) count tells = cc
@@ -76,7 +76,7 @@ tells_flushed state volume told.Fault count tells = let bad : ⊥ = cc in absurd
 tells_flushed state volume told.OutOfMemory count tells = absurd tells
 
 -- that a put began
-tells_taken_refusal : (why : Refusal) (number : ℕ) → TellsRefusal why (replies.Taken number) → ⊥
+tells_taken_refusal : (why : EntryRefusal) (number : ℕ) → TellsRefusal why (replies.Taken number) → ⊥
 tells_taken_refusal refusals.Range number tells = cc
 tells_taken_refusal (refusals.Full (full.Sectors sectors)) number tells = cc
 tells_taken_refusal (refusals.Full (full.Entries entries)) number tells = cc
@@ -106,7 +106,7 @@ tells_taken state volume told.Fault number tells = let bad : ⊥ = cc in absurd 
 tells_taken state volume told.OutOfMemory number tells = absurd tells
 
 -- that an object was sealed
-tells_sealed_refusal : (why : Refusal) (number : ℕ) → TellsRefusal why (replies.Sealed number) → ⊥
+tells_sealed_refusal : (why : EntryRefusal) (number : ℕ) → TellsRefusal why (replies.Sealed number) → ⊥
 tells_sealed_refusal refusals.Range number tells = cc
 tells_sealed_refusal (refusals.Full (full.Sectors sectors)) number tells = cc
 tells_sealed_refusal (refusals.Full (full.Entries entries)) number tells = cc
@@ -136,7 +136,7 @@ tells_sealed state volume told.Fault number tells = let bad : ⊥ = cc in absurd
 tells_sealed state volume told.OutOfMemory number tells = absurd tells
 
 -- that a read was planned
-tells_planned_refusal : (why : Refusal) (read : PlannedRead) → TellsRefusal why (replies.Planned read) → ⊥
+tells_planned_refusal : (why : EntryRefusal) (read : PlannedRead) → TellsRefusal why (replies.Planned read) → ⊥
 tells_planned_refusal refusals.Range read tells = cc
 tells_planned_refusal (refusals.Full (full.Sectors sectors)) read tells = cc
 tells_planned_refusal (refusals.Full (full.Entries entries)) read tells = cc

@@ -8,6 +8,7 @@ use Rattle.lsvd_objstore.specs.Objects.{Objects, found}
 use Rattle.lsvd_objstore.specs.Store.{StoreState, ReceiptState, Becomes}
 use Rattle.plain_disk.specs.Sectors.{sectors_at}
 use Rattle.plain_disk.specs.State.{PlainState, history_length, image_now}
+use Rattle.stopped_volume.specs.Device.{CacheOwner}
 use Rattle.vol_core.specs.Volume.{VolumeState, SteppedVolume}
 use Rattle.vol_core.specs.Shows.{Shows}
 use Rattle.vol_core.specs.Step.{HasSameSizes}
@@ -73,7 +74,7 @@ KeepsOtherNames uuid old new = (name : ObjName) → ((number : ℕ) → name ≡
 pub record MakesSteps (most : ℕ) (added : List Entry) (old new : SteppedVolume) : Type 0 where
   pub adds : Adds added old.volume new.volume
   pub sizes : HasSameSizes old.volume new.volume
-  pub own : (epoch : ℕ) → HasOwnCommits epoch old.volume → HasOwnCommits epoch new.volume
+  pub own : (owner : CacheOwner) → HasOwnCommits owner old.volume → HasOwnCommits owner new.volume
   pub steps : new.steps ≤ old.steps + most
 
 -- A call is made of acts: of steps of a volume, of puts of its objects into a store, each of which is out, and of gets; the

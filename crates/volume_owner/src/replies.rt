@@ -6,7 +6,7 @@ use lsvd_base::Entry;
 use lsvd_objstore::Receipt;
 use object_uploads::Job;
 use read_plan::Plan;
-use vol_core::{Refusal, Reply};
+use vol_core::{EntryRefusal, Reply};
 
 /// What came of one attempt to enter an entry.
 #[derive(Drop)]
@@ -29,12 +29,12 @@ pub(crate) fn attempt_of<R: Receipt>(reply: Reply<R>) -> Attempt
     match reply {
         Reply::Entered(count) => Attempt::Entered(count),
         Reply::NotEntered { entry, why } => match why {
-            Refusal::Full(_) | Refusal::NoRoom { .. } => Attempt::Again(entry),
-            Refusal::Fault => {
+            EntryRefusal::Full(_) | EntryRefusal::NoRoom { .. } => Attempt::Again(entry),
+            EntryRefusal::Fault => {
                 drop(entry);
                 Attempt::Failed
             }
-            Refusal::Range | Refusal::OutOfMemory => {
+            EntryRefusal::Range | EntryRefusal::OutOfMemory => {
                 drop(entry);
                 Attempt::OutOfMemory
             }
@@ -68,7 +68,7 @@ pub(crate) fn plan_of<R: Receipt>(reply: Reply<R>) -> Result<Plan<R>, OwnerError
         Reply::Planned(plan) => Ok(plan),
         Reply::NotEntered {
             entry,
-            why: Refusal::Fault,
+            why: EntryRefusal::Fault,
         } => {
             drop(entry);
             Err(OwnerError::Eio)

@@ -8,8 +8,8 @@ use Rattle.nbd_session.specs.declared.session.SessionEnd.{SessionEnd}
 use Rattle.volume_owner.specs.Acts.{Moment}
 use Rattle.nbd_session.specs.History.{Grows, LeavesRoom}
 use Rattle.nbd_session.specs.Session.{LinkBytes, IsSession, export_of}
-use Rattle.volume_server.specs.declared.next.Next.{Next}
-use Rattle.volume_server.specs.declared.next.Next.TheVariants.{Served, NoLink, Failed}
+use Rattle.volume_server.specs.declared.next.NextClient.{NextClient}
+use Rattle.volume_server.specs.declared.next.NextClient.TheVariants.{Served, NoLink, Failed}
 use Rattle.volume_server.specs.declared.serving.Lane.{Lane}
 use Rattle.volume_server.specs.declared.serving.LaneEnd.{LaneEnd}
 use Rattle.volume_server.specs.declared.serving.LaneEnd.TheVariants as ends
@@ -23,7 +23,7 @@ pub record ListenerState : Type 0 where
   pub faults : ℕ
 
 -- it gave the next client, or is closed, or failed
-abbrev pub GivesNext : {K : Type 0} → Next K → ListenerState → ListenerState → Type 0
+abbrev pub GivesNext : {K : Type 0} → NextClient K → ListenerState → ListenerState → Type 0
 GivesNext (Served link end) old new = new ≡ record old { given = counted_with old.given 1 }
 GivesNext NoLink old new = new ≡ record old { closed = true }
 GivesNext Failed old new = (new.given ≡ old.given) × (new.closed ≡ old.closed) × CountsOne old.faults new.faults
@@ -69,7 +69,7 @@ pub record IsClient {R K : Type 0} (state : R → ReceiptState) (told : K → Co
   pub sent : HasSentAll last.held (told link).faults last.faults
 
 -- the client that came was served, or none came, and nothing becomes of the volume
-abbrev pub ServesNext : {R K : Type 0} → (R → ReceiptState) → (K → ConnectionState) → Next K → (coming left : Option (List K))
+abbrev pub ServesNext : {R K : Type 0} → (R → ReceiptState) → (K → ConnectionState) → NextClient K → (coming left : Option (List K))
     → (old new : Moment) → Type 0
 ServesNext state told (Served link end) coming left old new = IsClient state told end (told link) coming left old new
 ServesNext state told NoLink coming left old new = AreNone coming left × (new ≡ old)

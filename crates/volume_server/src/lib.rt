@@ -11,5 +11,5 @@ mod next;
 mod serving;
 
 pub use laws::clients_add_to_one_history;
-pub use next::{Next, serve_next};
+pub use next::{NextClient, serve_next};
 pub use serving::{Closing, Lane, LaneEnd, serve_lane, serve_volume};

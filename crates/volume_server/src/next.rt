@@ -10,7 +10,7 @@ use volume_owner::Owner;
 
 /// What came of waiting for the next client.
 #[derive(Drop)]
-pub enum Next<K: Connection + Drop> {
+pub enum NextClient<K: Connection + Drop> {
     /// It came on this link, and was served until its session ended so.
     Served(K, SessionEnd),
     /// None comes any more: the listener is closed.
@@ -27,7 +27,7 @@ pub fn serve_next<D: Disk, R: Receipt, S: Store<Receipt = R>, L: Listener>(
     owner: &mut Owner<D, R>,
     listener: &mut L,
     store: &mut S,
-) -> Next<L::Link>
+) -> NextClient<L::Link>
     ensures next { GivesNext result (record {
       given = L.given listener.old;
       closed = L.closed listener.old;
@@ -50,11 +50,11 @@ pub fn serve_next<D: Disk, R: Receipt, S: Store<Receipt = R>, L: Listener>(
 {
     let mut link = match listener.accept() {
         Ok(Some(link)) => link,
-        Ok(None) => return Next::NoLink,
-        Err(_) => return Next::Failed,
+        Ok(None) => return NextClient::NoLink,
+        Err(_) => return NextClient::Failed,
     };
     let end = serve_client(alloc, owner, &mut link, store);
-    Next::Served(link, end)
+    NextClient::Served(link, end)
 }
 
 // Serves a client until its session ends, and sends then what its link still holds back.

@@ -2,7 +2,7 @@ ghost use Rattle.std.specs.Prelude.{◌≡◌};
 ghost use Rattle.volume_owner.specs.Owner.{IsIdle};
 ghost use Rattle.volume_server.specs.Serving.{GivesClients, EndsLane, AreClients};
 
-use crate::next::{Next, serve_next};
+use crate::next::{NextClient, serve_next};
 use lsvd_device::Disk;
 use lsvd_listen::Listener;
 use lsvd_objstore::{Receipt, Store};
@@ -71,9 +71,9 @@ pub fn serve_lane<D: Disk, R: Receipt, S: Store<Receipt = R>, L: Listener>(
 {
     for served in 0..share {
         let end = match serve_next(alloc, owner, listener, store) {
-            Next::Served(_, _) => continue,
-            Next::NoLink => LaneEnd::Closed,
-            Next::Failed => LaneEnd::Failed,
+            NextClient::Served(_, _) => continue,
+            NextClient::NoLink => LaneEnd::Closed,
+            NextClient::Failed => LaneEnd::Failed,
         };
         return Lane { served, end };
     }

@@ -12,7 +12,7 @@ use read_plan::Plan;
 use std::alloc::Global;
 use test_output::TestError;
 use uuid::Uuid;
-use vol_core::{Event, Refusal, Reply, Volume, create};
+use vol_core::{EntryRefusal, Event, Reply, Volume, create};
 
 /// The volume of the rows.
 pub const GEOMETRY: Geometry = Geometry {
@@ -264,13 +264,13 @@ fn other_answer_of(reply: &Reply<MemReceipt>) -> Answer {
 }
 
 // Why an entry was not entered.
-fn refusal_of(why: Refusal) -> Answer {
+fn refusal_of(why: EntryRefusal) -> Answer {
     match why {
-        Refusal::Range => Answer::Range,
-        Refusal::Full(Full::Sectors(sectors)) => Answer::BatchFull(sectors),
-        Refusal::Full(Full::Entries(entries)) => Answer::EntriesFull(entries),
-        Refusal::NoRoom { need, free } => Answer::NoRoom { need, free },
-        Refusal::Fault => Answer::Fault,
-        Refusal::OutOfMemory => Answer::OutOfMemory,
+        EntryRefusal::Range => Answer::Range,
+        EntryRefusal::Full(Full::Sectors(sectors)) => Answer::BatchFull(sectors),
+        EntryRefusal::Full(Full::Entries(entries)) => Answer::EntriesFull(entries),
+        EntryRefusal::NoRoom { need, free } => Answer::NoRoom { need, free },
+        EntryRefusal::Fault => Answer::Fault,
+        EntryRefusal::OutOfMemory => Answer::OutOfMemory,
     }
 }

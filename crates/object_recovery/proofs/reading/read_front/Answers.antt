@@ -3,7 +3,7 @@ use Rattle.object_format.specs.Layout.{front_sectors}
 use Rattle.object_format.specs.Header.{IsObjectHeader}
 use Rattle.object_format.specs.Object.{IsObject}
 use Rattle.object_format.specs.Tests.{IsObjectReason}
-use Rattle.object_format.specs.declared.rows_reading.ReadError.TheVariants.{Bad}
+use Rattle.object_format.specs.declared.rows_reading.RowsReadError.TheVariants.{Bad}
 use Rattle.object_recovery.specs.declared.error.RecoverError.TheVariants.{BadObject}
 use Rattle.object_recovery.specs.Read.{AreFirstOf, IsWhyNotRead}
 use Rattle.object_recovery.proofs.ReadLemmas.{why_no_checkpoint, why_no_rows, read_as, longer_header}

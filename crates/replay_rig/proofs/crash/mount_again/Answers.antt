@@ -2,6 +2,7 @@ use Rattle.std.proofs.Common.{◌≡◌, ℕ, List, refl, subst, sym, ◌∙◌}
 use Rattle.std.specs.Prelude.{Some}
 use Rattle.lsvd_objstore.specs.Store.{Becomes}
 use Rattle.commit_slot.specs.Slots.{log_of}
+use Rattle.stopped_volume.specs.Device.{owner_with}
 use Rattle.object_recovery.specs.Recovery.{RemovesAllPast}
 use Rattle.vol_mount.specs.declared.error.MountError.TheVariants.{OutOfMemory}
 use Rattle.vol_mount.specs.Mounted.{IsOfVolume, disk_of}
@@ -23,9 +24,10 @@ prove-unreachable-requires c =
     let e = not_kept _ _ _ _ _ _ c.in-Err.failed.0 error c.in-Err.ensures in
     let may = c.requires.may in
     let why = subst (λ (u : List ℕ). OfVolume u (log_of disk.size) old (λ g n.
-    IsWhyFor u old (λ h m. IsWhyNotLeft u h m old disk) g n error)) uuid
+    IsWhyFor u old (λ h m. IsWhyNotLeft (owner_with u m) h old disk) g n error)) uuid
     (e.why_volume (λ receipt. refl)) in
-    let none = subst (λ (u : List ℕ). OfVolume u (log_of disk.size) old (λ g n. RefusesNoneLeft u g n old disk error)) uuid
+    let none =
+    subst (λ (u : List ℕ). OfVolume u (log_of disk.size) old (λ g n. RefusesNoneLeft (owner_with u n) g old disk error)) uuid
     (e.no_refusal (λ receipt. refl)) in
     let lacks : error ≡ OutOfMemory =
     only_memory_left may.0 c.args.store.now disk c.in-Err.failed.0 error c.requires.fails_none may.1 why none e.costs
@@ -45,10 +47,11 @@ returns-in-Ok-clause-ok c =
     let e = made_kept _ _ _ _ _ _ mounted c.in-Ok.ensures in
     let may = c.requires.may in
     mounted_again may.0 disk mounted old new c.requires.fails_none may.1
-    (subst (λ (u : List ℕ). OfVolume u (log_of disk.size) (Some old) (λ g n. IsOfVolume u g n mounted)) uuid
+    (subst (λ (u : List ℕ). OfVolume u (log_of disk.size) (Some old) (λ g n. IsOfVolume (owner_with u n) g mounted)) uuid
     (e.volume (λ receipt. refl)))
     (subst (λ (u : List ℕ). Becomes (RemovesAllPast u mounted.number) (Some old) (Some new)) uuid e.removed)
-    (subst (λ (u : List ℕ). OfVolume u (log_of disk.size) (Some old) (λ g n. KeepsLeft u g n (Some old) disk (disk_of mounted)))
+    (subst (λ (u : List ℕ). OfVolume u (log_of disk.size) (Some old)
+    (λ g n. KeepsLeft (owner_with u n) g (Some old) disk (disk_of mounted)))
     uuid
     (e.stops (λ receipt. refl))) e.costs e.synced
 
@@ -57,7 +60,7 @@ returns-in-Ok-clause-mounts c =
     let uuid : c.from_bytes.result ≡ script_uuid = c.from_bytes.ensures in
     let disk = c.args.disk in
     let old = Some c.args.store.now in
-    subst (λ (u : List ℕ). OfVolume u (log_of disk.size) old (λ g n. MountsLeft u g n old disk c.in-Ok.mounted)) uuid
+    subst (λ (u : List ℕ). OfVolume u (log_of disk.size) old (λ g n. MountsLeft (owner_with u n) g old disk c.in-Ok.mounted)) uuid
     ((made_kept _ _ _ _ _ _ c.in-Ok.mounted c.in-Ok.ensures).mounts (λ receipt. refl))
 
 pub returns-in-Ok-clause-number : goal.returns-in-Ok-clause-number

@@ -2,6 +2,7 @@ use Rattle.std.proofs.Common.{◌≡◌, ℕ, ◌+◌, true, List, refl, subst, 
 use Rattle.std.specs.Prelude.{Some}
 use Rattle.lsvd_objstore.specs.Store.{Becomes}
 use Rattle.commit_slot.specs.Slots.{log_of}
+use Rattle.stopped_volume.specs.Device.{owner_with}
 use Rattle.vol_mount.specs.declared.error.MountError.TheVariants.{OutOfMemory}
 use Rattle.vol_mount.specs.Costs.{CostsNewLog}
 use Rattle.vol_mount.specs.Epochs.{BeginsEpoch}
@@ -46,7 +47,7 @@ returns-in-Ok-clause-ok c =
     let new = c.mount_lost.new.store in
     let e = made_lost _ _ _ _ _ _ mounted c.in-Ok.ensures in
     mounted_anew disk mounted old new c.requires.fails_none c.requires.blank
-    (subst (λ (u : List ℕ). OfVolume u (log_of disk.size) (Some old) (λ g n. IsOfVolume u g (n + 1) mounted)) uuid
+    (subst (λ (u : List ℕ). OfVolume u (log_of disk.size) (Some old) (λ g n. IsOfVolume (owner_with u (n + 1)) g mounted)) uuid
     (e.volume (λ receipt. refl)))
     (subst (λ (u : List ℕ). OfVolume u (log_of disk.size) (Some old) (λ g n. Becomes (BeginsEpoch u mounted.number (n + 1))
     (Some old) (Some new))) uuid

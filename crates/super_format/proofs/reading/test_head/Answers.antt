@@ -1,6 +1,6 @@
 use Rattle.std.proofs.Common.{◌≡◌, Bool, false, IsTrue, sym, ◌∙◌}
 use Rattle.std.proofs.lemmas.Bool.{both_ways}
-use Rattle.super_format.specs.declared.reason.Reason.TheVariants as reasons
+use Rattle.super_format.specs.declared.reason.SuperReason.TheVariants as reasons
 use Rattle.super_format.proofs.TestLemmas.{refused_as, none_before, before_magic, before_version, before_uuid, before_limits}
 use Rattle.super_format.proofs.TestLemmas.{before_ancestors}
 use Rattle.super_format.proofs.reading.test_head.Goals as goal

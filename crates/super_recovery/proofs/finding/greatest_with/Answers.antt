@@ -1,6 +1,6 @@
 use Rattle.std.proofs.Common.{◌≡◌, ◌<◌, sym, subst, rules}
 use Rattle.std.specs.Prelude.{IfSome}
-use Rattle.lsvd_names.specs.declared.name.Kind.TheVariants as kinds
+use Rattle.lsvd_names.specs.declared.name.NameKind.TheVariants as kinds
 use Rattle.super_recovery.specs.Found.{IsGreatestIn}
 use Rattle.super_recovery.proofs.FindLemmas.{with_other, with_lower, with_greater}
 use Rattle.super_recovery.proofs.finding.greatest_with.Goals as goal

@@ -1,4 +1,5 @@
-use Rattle.std.proofs.Common.{rules, ◌≡◌, length, subst, sym, refl, ◌∙◌, []}
+use Rattle.std.proofs.Common.{rules, ◌≡◌, length, subst, sym, refl, []}
+use Rattle.stopped_volume.specs.Device.{owner_with}
 use Rattle.plain_disk.specs.State.{created_volume}
 use Rattle.refine_log.specs.Fuses.{fuse_in}
 use Rattle.refine_log.specs.Pending.{ShowsPending}
@@ -20,12 +21,11 @@ shows g c =
     c.in_ok-log.ensures.ok
     e.batch e.window e.frontier e.end e.sealed e.settled e.log
 
-own : (g : given.Over) (c : After-new-objects g) → HasOwnCommits 0 (volume_of c.new-objects.result c.in_ok-log.log [] 1)
+own : (g : given.Over) (c : After-new-objects g)
+    → HasOwnCommits (owner_with c.args.uuid 0) (volume_of c.new-objects.result c.in_ok-log.log [] 1)
 own g c =
-    let e = c.new-objects.ensures in
-    created_own c.new-objects.result c.in_ok-log.log c.into_bytes.result (g.D.Disk.state c.args.disk) (c.into_bytes.ensures
-    ∙ sym e.uuid)
-    c.in_ok-log.ensures.ok
+    created_own c.new-objects.result c.in_ok-log.log c.into_bytes.result c.args.uuid (g.D.Disk.state c.args.disk)
+    c.into_bytes.ensures c.in_ok-log.ensures.ok
 
 pub new-requires-clause-shows : goal.new-requires-clause-shows
 new-requires-clause-shows g c = (_, shows g c)

@@ -5,6 +5,7 @@ use Rattle.lsvd_fault.specs.Faults.{Counts}
 use Rattle.lsvd_device.specs.Device.{IsDisk}
 use Rattle.lsvd_objstore.specs.Store.{Becomes}
 use Rattle.obj_log.specs.State.{ObjLogState}
+use Rattle.stopped_volume.specs.Device.{owner_with}
 use Rattle.plain_disk.specs.State.{PlainState}
 use Rattle.stopped_volume.specs.Store.{TellsBytes}
 use Rattle.object_recovery.specs.Removal.{Removes}
@@ -60,10 +61,10 @@ returns-in-Err g c =
 -- ---- the log was not opened
 
 not_opened : (g : given.Over) (c : In-Err-open_log g)
-    → IsNotOpened c.args.uuid c.args.geometry c.args.epoch c.in-Ok.recovered.log.uploads.queue.end c.greatest_number.result
-    c.in-Err-open_log.refused.1 (g.D.Disk.state c.args.disk) (g.D.Disk.state c.in-Err-open_log.refused.0)
+    → IsNotOpened (owner_with c.args.uuid c.args.epoch) c.args.geometry c.in-Ok.recovered.log.uploads.queue.end
+    c.greatest_number.result c.in-Err-open_log.refused.1 (g.D.Disk.state c.args.disk) (g.D.Disk.state c.in-Err-open_log.refused.0)
 not_opened g c =
-    subst (λ end. IsNotOpened c.args.uuid c.args.geometry c.args.epoch end c.greatest_number.result
+    subst (λ end. IsNotOpened (owner_with c.args.uuid c.args.epoch) c.args.geometry end c.greatest_number.result
     c.in-Err-open_log.refused.1 (g.D.Disk.state c.args.disk) (g.D.Disk.state c.in-Err-open_log.refused.0))
     (c.end.ensures ∙ ap (λ (l : ObjLogState). l.uploads.queue.end) c.log.ensures) c.in-Err-open_log.ensures.err
 
@@ -104,7 +105,9 @@ returns-in-Err-open_log g c =
             refused.why;
         store = λ none. same;
         some = may_leave_same Tells uuid geometry old.objects new.objects same;
-        device = device_opened (PassesAll Tells uuid geometry epoch old.objects disk) geometry error disk left refused.device;
+        device =
+            device_opened (PassesAll Tells (owner_with uuid epoch) geometry old.objects disk) geometry error disk left
+            refused.device;
         stops = λ tells.
             opening_keeps uuid geometry epoch old.objects disk c.requires.size c.requires.log c.requires.is_disk left
             refused.settled;
@@ -117,10 +120,11 @@ returns-in-Err-open_log g c =
 -- ---- it was opened
 
 opened : (g : given.Over) (c : In-Ok-open_log g)
-    → IsOpenedOf c.args.uuid c.args.geometry c.args.epoch c.in-Ok.recovered.log.uploads.queue.end (g.D.Disk.state c.args.disk)
-    c.in-Ok-open_log.log
+    → IsOpenedOf (owner_with c.args.uuid c.args.epoch) c.args.geometry c.in-Ok.recovered.log.uploads.queue.end
+    (g.D.Disk.state c.args.disk) c.in-Ok-open_log.log
 opened g c =
-    subst (λ end. IsOpenedOf c.args.uuid c.args.geometry c.args.epoch end (g.D.Disk.state c.args.disk) c.in-Ok-open_log.log)
+    subst (λ end. IsOpenedOf (owner_with c.args.uuid c.args.epoch) c.args.geometry end (g.D.Disk.state c.args.disk)
+    c.in-Ok-open_log.log)
     (c.end.ensures ∙ ap (λ (l : ObjLogState). l.uploads.queue.end) c.log.ensures) c.in-Ok-open_log.ensures.ok
 
 list_low : (g : given.Over) (c : In-Ok-open_log g) → c.in-Ok.recovered.log.uploads.window.last < max_number
@@ -130,7 +134,7 @@ list_low g c =
     omega (arith, less, low)
 
 passes : (g : given.Over) (c : In-Ok-open_log g) → TellsBytes g.S.Receipt.Receipt.state
-    → PassesLeft c.args.uuid c.args.geometry c.args.epoch (g.S.Store.state c.args.store.now).objects
+    → PassesLeft (owner_with c.args.uuid c.args.epoch) c.args.geometry (g.S.Store.state c.args.store.now).objects
     (g.D.Disk.state c.args.disk) c.in-Ok.recovered.log.uploads.window.last
     (max c.in-Ok.recovered.log.uploads.queue.end (opened g c).commits.body.head.seq)
 passes g c tells =
@@ -179,10 +183,10 @@ returns-in-Err-complete g c =
             (becomes_from (Removes (IsPastOf uuid last)) old.objects middle.objects new.objects
             (same_objects old middle c.in-Ok.ensures.unchanged) some);
         device =
-            device_faulted (PassesAll Tells uuid geometry epoch old.objects disk) geometry error disk left fault
+            device_faulted (PassesAll Tells (owner_with uuid epoch) geometry old.objects disk) geometry error disk left fault
             (λ tells. (last, max list.uploads.queue.end log.commits.body.head.seq, passes g before tells));
         stops = λ tells.
-            subst (λ d. KeepsLeft uuid geometry epoch old.objects disk d) (sym c.into_disk.ensures.same)
+            subst (λ d. KeepsLeft (owner_with uuid epoch) geometry old.objects disk d) (sym c.into_disk.ensures.same)
             (completing_keeps uuid geometry epoch list checkpoint old.objects disk c.in-Ok-open_log.log c.requires.limits
             c.requires.size c.requires.log c.requires.is_disk c.in-Ok.ensures.list log (c.in-Ok.ensures.told tells)
             c.complete.new.log.commits.disk (subst IsDisk c.into_disk.ensures.same c.into_disk.ensures.is_disk)
@@ -250,11 +254,12 @@ returns-in-Ok-complete g c =
     (same_objects old middle c.in-Ok.ensures.unchanged)
     (subst (λ u. Becomes (RemovesAllPast u list.uploads.window.last) middle.objects new.objects) is.list.uuid_is
     c.in-Ok-complete.ensures.removed) in
-    let made : MakesWithCache Tells uuid geometry epoch old.objects new.objects disk (mounted_of objects log checkpoint) =
+    let made : MakesWithCache Tells (owner_with uuid epoch) geometry old.objects new.objects disk
+    (mounted_of objects log checkpoint) =
     record {
       volume = kept_of_volume uuid geometry epoch list checkpoint disk before log objects limits is is_open done;
       passes = λ tells.
-          subst₂ (λ n k. PassesLeft uuid geometry epoch old.objects disk n k) (sym number) (sym entries)
+          subst₂ (λ n k. PassesLeft (owner_with uuid epoch) geometry old.objects disk n k) (sym number) (sym entries)
           (passes g at.In-Ok-open_log tells);
       mounts = λ tells.
           mounts_left uuid geometry epoch list checkpoint disk before log objects limits is is_open done old.objects
@@ -271,8 +276,8 @@ returns-in-Ok-complete g c =
     } in
     record {
       made =
-          subst (MakesWithCache Tells uuid geometry epoch old.objects new.objects disk) (sym (assembled g at.After-assemble))
-          made;
+          subst (MakesWithCache Tells (owner_with uuid epoch) geometry old.objects new.objects disk)
+          (sym (assembled g at.After-assemble)) made;
       none = tt;
       faults = c.in-Ok-complete.ensures.faults ∙ c.in-Ok.ensures.faults;
     }

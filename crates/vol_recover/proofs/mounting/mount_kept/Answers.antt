@@ -4,6 +4,7 @@ use Rattle.lsvd_base.specs.declared.geometry.Geometry.{Geometry}
 use Rattle.lsvd_fault.specs.Faults.{Counts}
 use Rattle.lsvd_objstore.specs.Store.{StoreState}
 use Rattle.commit_slot.specs.Slots.{log_of}
+use Rattle.stopped_volume.specs.Device.{owner_with}
 use Rattle.stopped_volume.specs.Store.{TellsBytes}
 use Rattle.object_recovery.proofs.FindLemmas.{same_store}
 use Rattle.vol_mount.specs.Mounts.{MountsWithCache}
@@ -109,8 +110,8 @@ returns g c =
             described g (goal.at.returns g c).In-Ok,
             inr (
               sym c.if-not-is_within_limits.ensures,
-              subst (λ s. MountsWithCache g.D.Disk.state (TellsBytes g.S.Receipt.Receipt.state) c.args.uuid geometry epoch
-                  (g.D.Disk.state c.args.disk) s new c.mount_with_cache.result) same c.mount_with_cache.ensures,
+              subst (λ s. MountsWithCache g.D.Disk.state (TellsBytes g.S.Receipt.Receipt.state) (owner_with c.args.uuid epoch)
+                  geometry (g.D.Disk.state c.args.disk) s new c.mount_with_cache.result) same c.mount_with_cache.ensures,
             ),
           );
     }

@@ -1,7 +1,7 @@
 use Rattle.std.proofs.Common.{sym, subst}
 use Rattle.std.specs.Prelude.{Some}
-use Rattle.transcript.specs.declared.reason.Reason.TheVariants.{NotAllowed}
-use Rattle.vol_replay.specs.declared.line.Refusal.TheVariants.{Bad}
+use Rattle.transcript.specs.declared.reason.LineReason.TheVariants.{NotAllowed}
+use Rattle.vol_replay.specs.declared.line.LineRefusal.TheVariants.{Bad}
 use Rattle.vol_replay.specs.Lines.{IsUnanswered}
 use Rattle.vol_replay.proofs.Commands.{new_not_allowed}
 use Rattle.vol_replay.proofs.line.answer_step.Goals as goal

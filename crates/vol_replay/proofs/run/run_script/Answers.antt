@@ -1,6 +1,6 @@
 use Rattle.std.proofs.Common.{ℕ, [], inr, refl, ap}
 use Rattle.lsvd_fault.proofs.Streams.{appends_nothing}
-use Rattle.transcript.specs.declared.reason.Reason.TheVariants.{TooLong}
+use Rattle.transcript.specs.declared.reason.LineReason.TheVariants.{TooLong}
 use Rattle.transcript.specs.Transcript.{Stopped, line_after}
 use Rattle.vol_replay.proofs.run.run_script.Goals as goal
 

@@ -9,7 +9,7 @@ use Rattle.lsvd_device.specs.Device.{HoldsNow}
 use Rattle.commit_body.specs.declared.body.Mark.{Mark}
 use Rattle.commit_slot.specs.Commits.{CommitsState}
 use Rattle.log_room.specs.Room.{Room}
-use Rattle.cache_log.specs.declared.error.ReadError.{ReadError}
+use Rattle.cache_log.specs.declared.error.LogReadError.{LogReadError}
 use Rattle.cache_log.specs.declared.row.Row.{Row}
 use Rattle.cache_log.specs.Rows.{position_of, record_size, entry_of}
 use Rattle.cache_log.specs.Reads.{AreReadOnly, reads_without_fault}
@@ -21,7 +21,7 @@ use Rattle.cache_log.proofs.CommittedLemmas.{view_of}
 use Rattle.cache_log.proofs.log.CacheLog.entries_from.Goals as goal
 
 -- whatever was answered, the device was read alone
-still_log : {T : Type 0} (r : Result T ReadError) (most : ℕ) (place : Room) (mark : Mark) (held rows : List Row)
+still_log : {T : Type 0} (r : Result T LogReadError) (most : ℕ) (place : Room) (mark : Mark) (held rows : List Row)
     (old new : CommitsState) → OnOk r (AreReadOnly most true old new)
     → IfErr r (λ e. AreReadOnly most (reads_without_fault e) old new) → IsLog place mark held rows old
     → IsLog place mark held rows new
@@ -89,7 +89,7 @@ kept_entries place mark held rows old new reserved same = record {
   first = refl;
 }
 
-read_ok : {T : Type 0} (r : Result T ReadError) (most limit : ℕ) (place : Room) (mark : Mark) (held rows : List Row)
+read_ok : {T : Type 0} (r : Result T LogReadError) (most limit : ℕ) (place : Room) (mark : Mark) (held rows : List Row)
     (old new : CommitsState) (reserved : ℕ) → most ≡ limit → OnOk r (AreReadOnly most true old new)
     → OnOk r (IsReadOnly limit true (view_of place mark held rows old reserved) (view_of place mark held rows new reserved))
 read_ok (Ok x) most limit place mark held rows old new reserved same only = record {
@@ -98,7 +98,7 @@ read_ok (Ok x) most limit place mark held rows old new reserved same only = reco
 }
 read_ok (Err e) most limit place mark held rows old new reserved same only = tt
 
-read_err : {T : Type 0} (r : Result T ReadError) (most limit : ℕ) (place : Room) (mark : Mark) (held rows : List Row)
+read_err : {T : Type 0} (r : Result T LogReadError) (most limit : ℕ) (place : Room) (mark : Mark) (held rows : List Row)
     (old new : CommitsState) (reserved : ℕ) → most ≡ limit
     → IfErr r (λ e. AreReadOnly most (reads_without_fault e) old new)
     → IfErr r (λ e. IsReadOnly limit (reads_without_fault e) (view_of place mark held rows old reserved)

@@ -1,7 +1,7 @@
 use Rattle.std.proofs.Common.{length, sym, ◌∙◌, ap, subst, arith}
 use Rattle.std.proofs.lemmas.List.{take_rest, length-drop}
 use Rattle.clone_chain.specs.Chain.{IsChain}
-use Rattle.super_format.specs.declared.reason.Reason.TheVariants as reasons
+use Rattle.super_format.specs.declared.reason.SuperReason.TheVariants as reasons
 use Rattle.super_format.specs.Tests.{IsSuperReason}
 use Rattle.super_format.proofs.TestLemmas.{HasRead, refused_as_no_chain, refused_as_own, super_is_read}
 use Rattle.super_format.proofs.super_object.Super.read.Goals.{In_ok-ancestors, In-Some}

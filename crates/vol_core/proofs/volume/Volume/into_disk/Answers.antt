@@ -1,5 +1,6 @@
-use Rattle.std.proofs.Common.{ℕ, subst}
+use Rattle.std.proofs.Common.{subst}
 use Rattle.cache_log.specs.Committed.{IsOnDisk}
+use Rattle.stopped_volume.specs.Device.{CacheOwner}
 use Rattle.vol_core.specs.Volume.{SteppedVolume, volume_of}
 use Rattle.vol_core.specs.Shows.{IsVolume}
 use Rattle.vol_core.specs.Stops.{HasOwnCommits, KeepsNow}
@@ -16,5 +17,5 @@ returns-clause-on_disk g c =
 pub returns-clause-stands : goal.returns-clause-stands
 returns-clause-stands g c =
     let inside = c.self.inside in
-    subst (λ (s : SteppedVolume). (epoch : ℕ) → HasOwnCommits epoch s.volume → KeepsNow epoch s.volume) c.self.view_is
+    subst (λ (s : SteppedVolume). (owner : CacheOwner) → HasOwnCommits owner s.volume → KeepsNow owner s.volume) c.self.view_is
     (stands_now (volume_of inside.objects inside.log inside.pins inside.checkpoint) c.into_disk.ensures.on_disk)
