@@ -12,7 +12,7 @@ use Rattle.volume_server.specs.Serving.{ListenerState, ConnectionState}
 use Rattle.volume_commands.specs.Creating.{Creates, RefusesToCreate}
 use Rattle.volume_commands.specs.Mounting.{Serves, RefusesFor}
 use Rattle.volume_commands.specs.World.{Places}
-use Rattle.volume_commands.specs.declared.refusal.Refusal.{Refusal}
+use Rattle.refusals.specs.declared.refusal.Refusal.{Refusal}
 use Rattle.volume_commands.specs.declared.report.Report.{Report}
 use Rattle.volume_commands.specs.declared.report.Report.TheVariants.{Done, Refused}
 use Rattle.command_run.specs.Run.{Reaches}

@@ -20,7 +20,7 @@ use Rattle.volume_commands.specs.Creating.{TellsCreation, Creates, RefusesToCrea
 use Rattle.volume_commands.specs.Mounting.{Serves, RefusesFor}
 use Rattle.volume_commands.specs.Serving.{TellsServing}
 use Rattle.volume_commands.specs.World.{Places, CountsOneOf, CountsNone}
-use Rattle.volume_commands.specs.declared.refusal.Refusal.{Refusal}
+use Rattle.refusals.specs.declared.refusal.Refusal.{Refusal}
 use Rattle.volume_commands.specs.declared.report.Report.{Report}
 use Rattle.volume_commands.specs.declared.report.Report.TheVariants.{Done, Fault, Usage, BadLine, Refused, Memory}
 

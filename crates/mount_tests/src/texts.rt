@@ -3,38 +3,43 @@ use crate::bytes::OTHER;
 use log_record::Reason;
 use object_format::BadObject;
 use object_recovery::RecoverError;
+use refusals::{BadSuper, Refusal};
 use super_format::SuperReason;
-use super_recovery::{BadSuper, SuperError};
+use super_recovery::SuperError;
 use test_output::TestError;
 use uuid::Uuid;
 use vol_mount::MountError;
 use vol_recover::CreateError;
 
-const MOUNTS: [MountError; 15] = [
-    MountError::NoVolume,
-    MountError::BadSuper {
+const REFUSALS: [Refusal; 13] = [
+    Refusal::NoVolume,
+    Refusal::BadSuper {
         reason: BadSuper::BadEpoch { number: 4 },
     },
-    MountError::BadSuper {
+    Refusal::BadSuper {
         reason: BadSuper::NoEpoch,
     },
-    MountError::BadSuper {
+    Refusal::BadSuper {
         reason: BadSuper::Super(SuperReason::Magic),
     },
-    MountError::HasAncestors { count: 2 },
-    MountError::NoCheckpoint,
-    MountError::BadObject {
+    Refusal::HasAncestors { count: 2 },
+    Refusal::NoCheckpoint,
+    Refusal::BadObject {
         number: 3,
         reason: BadObject::Seqs,
     },
-    MountError::NotData { number: 4 },
-    MountError::NoSlot { log: 9 },
-    MountError::StaleCache { cache: 1, store: 3 },
-    MountError::BadRecord {
+    Refusal::NotData { number: 4 },
+    Refusal::NoSlot { log: 9 },
+    Refusal::StaleCache { cache: 1, store: 3 },
+    Refusal::BadRecord {
         seq: 5,
         reason: Reason::Seq,
     },
-    MountError::Worn { value: 1 << 60 },
+    Refusal::Exists,
+    Refusal::Worn { value: 1 << 60 },
+];
+
+const FAULTS: [MountError; 3] = [
     MountError::StoreFault,
     MountError::DeviceFault,
     MountError::OutOfMemory,
@@ -79,11 +84,14 @@ pub fn tell_all(rt: &HostRuntime) -> Result<(), TestError> {
 }
 
 fn tell_mounts(rt: &HostRuntime) -> Result<(), TestError> {
-    for error in MOUNTS {
+    for refusal in REFUSALS {
+        println!(rt; "{}", MountError::Refused(refusal))?;
+    }
+    for error in FAULTS {
         println!(rt; "{error}")?;
     }
     let found = Uuid::from_bytes(OTHER);
-    println!(rt; "{}", MountError::WrongVolume { found })?;
+    println!(rt; "{}", MountError::Refused(Refusal::WrongVolume { found }))?;
     Ok(())
 }
 

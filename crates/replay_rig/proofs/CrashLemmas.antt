@@ -41,11 +41,9 @@ use Rattle.vol_core.specs.Creating.{IsCreated, CostsFormat, CanFormat}
 use Rattle.vol_core.proofs.CreateLemmas.{format_covered}
 use Rattle.vol_recover.specs.declared.creating.CreateError.{CreateError}
 use Rattle.vol_recover.specs.declared.creating.CreateError.TheVariants as create_errors
+use Rattle.refusals.specs.declared.refusal.Refusal.TheVariants.{Worn}
 use Rattle.vol_mount.specs.declared.error.MountError.{MountError}
-use Rattle.vol_mount.specs.declared.error.MountError.TheVariants.{NoVolume, BadSuper, HasAncestors, NoCheckpoint, BadObject}
-use Rattle.vol_mount.specs.declared.error.MountError.TheVariants.{NotData, NoSlot}
-use Rattle.vol_mount.specs.declared.error.MountError.TheVariants.{WrongVolume, StaleCache, BadRecord, Worn, StoreFault}
-use Rattle.vol_mount.specs.declared.error.MountError.TheVariants.{DeviceFault, OutOfMemory}
+use Rattle.vol_mount.specs.declared.error.MountError.TheVariants.{Refused, StoreFault, DeviceFault, OutOfMemory}
 use Rattle.vol_mount.specs.Costs.{mount_cost, CostsMount}
 use Rattle.vol_mount.specs.Costs as mounts
 use Rattle.vol_mount.specs.Epochs.{BeginsEpoch}
@@ -208,28 +206,10 @@ pub only_memory_left : (geometry : Geometry) (objects : Objects) (disk left : Di
     disk error)
     → CostsMount (log_of disk.size) (not (is_device_fault error)) disk left → Counts (is_store_fault_of error) 0 0
     → error ≡ OutOfMemory
-only_memory_left geometry objects disk left NoVolume fails may why none costs counts =
-    absurd (no_refusal_left geometry objects disk NoVolume may none refl)
-only_memory_left geometry objects disk left (BadSuper reason) fails may why none costs counts =
-    absurd (no_refusal_left geometry objects disk (BadSuper reason) may none refl)
-only_memory_left geometry objects disk left (HasAncestors count) fails may why none costs counts =
-    absurd (no_refusal_left geometry objects disk (HasAncestors count) may none refl)
-only_memory_left geometry objects disk left NoCheckpoint fails may why none costs counts =
-    absurd (no_refusal_left geometry objects disk NoCheckpoint may none refl)
-only_memory_left geometry objects disk left (BadObject number reason) fails may why none costs counts =
-    absurd (no_refusal_left geometry objects disk (BadObject number reason) may none refl)
-only_memory_left geometry objects disk left (NotData number) fails may why none costs counts =
-    absurd (no_refusal_left geometry objects disk (NotData number) may none refl)
-only_memory_left geometry objects disk left (NoSlot log) fails may why none costs counts =
-    absurd (no_refusal_left geometry objects disk (NoSlot log) may none refl)
-only_memory_left geometry objects disk left (WrongVolume uuid) fails may why none costs counts =
-    absurd (no_refusal_left geometry objects disk (WrongVolume uuid) may none refl)
-only_memory_left geometry objects disk left (StaleCache cache store) fails may why none costs counts =
-    absurd (no_refusal_left geometry objects disk (StaleCache cache store) may none refl)
-only_memory_left geometry objects disk left (BadRecord seq reason) fails may why none costs counts =
-    absurd (no_refusal_left geometry objects disk (BadRecord seq reason) may none refl)
-only_memory_left geometry objects disk left (Worn value) fails may why none costs counts =
+only_memory_left geometry objects disk left (Refused (Worn value)) fails may why none costs counts =
     absurd (elim (why geometry may.epoch may.log may.described) [ inl unfit ↦ unfit.1 | inr worn ↦ may.low value worn ])
+only_memory_left geometry objects disk left (Refused refusal) fails may why none costs counts =
+    absurd (no_refusal_left geometry objects disk (Refused refusal) may none refl)
 only_memory_left geometry objects disk left StoreFault fails may why none costs counts = absurd (no_fault counts)
 only_memory_left geometry objects disk left DeviceFault fails may why none costs counts =
     absurd (let made = (mounts_all (log_of disk.size) false disk left fails costs).0 in cc)
@@ -347,28 +327,10 @@ pub only_memory_anew : (geometry : Geometry) (objects : Objects) (disk left : Di
     (λ g epoch. IsWhyFor script_uuid (Some objects) (λ h e. IsWhyLost script_uuid h e (Some objects)) g epoch error)
     → OfVolume script_uuid (log_of disk.size) (Some objects) (λ g epoch. RefusesNoneStored script_uuid g (Some objects) error)
     → FailsToFormatIn script_uuid (is_device_fault error) disk left → Counts (is_store_fault_of error) 0 0 → error ≡ OutOfMemory
-only_memory_anew geometry objects disk left NoVolume fails log_is may why none format counts =
-    absurd (no_refusal_stored geometry (log_of disk.size) objects NoVolume log_is may none refl)
-only_memory_anew geometry objects disk left (BadSuper reason) fails log_is may why none format counts =
-    absurd (no_refusal_stored geometry (log_of disk.size) objects (BadSuper reason) log_is may none refl)
-only_memory_anew geometry objects disk left (HasAncestors count) fails log_is may why none format counts =
-    absurd (no_refusal_stored geometry (log_of disk.size) objects (HasAncestors count) log_is may none refl)
-only_memory_anew geometry objects disk left NoCheckpoint fails log_is may why none format counts =
-    absurd (no_refusal_stored geometry (log_of disk.size) objects NoCheckpoint log_is may none refl)
-only_memory_anew geometry objects disk left (BadObject number reason) fails log_is may why none format counts =
-    absurd (no_refusal_stored geometry (log_of disk.size) objects (BadObject number reason) log_is may none refl)
-only_memory_anew geometry objects disk left (NotData number) fails log_is may why none format counts =
-    absurd (no_refusal_stored geometry (log_of disk.size) objects (NotData number) log_is may none refl)
-only_memory_anew geometry objects disk left (NoSlot log) fails log_is may why none format counts =
-    absurd (no_refusal_stored geometry (log_of disk.size) objects (NoSlot log) log_is may none refl)
-only_memory_anew geometry objects disk left (WrongVolume uuid) fails log_is may why none format counts =
-    absurd (no_refusal_stored geometry (log_of disk.size) objects (WrongVolume uuid) log_is may none refl)
-only_memory_anew geometry objects disk left (StaleCache cache store) fails log_is may why none format counts =
-    absurd (no_refusal_stored geometry (log_of disk.size) objects (StaleCache cache store) log_is may none refl)
-only_memory_anew geometry objects disk left (BadRecord seq reason) fails log_is may why none format counts =
-    absurd (no_refusal_stored geometry (log_of disk.size) objects (BadRecord seq reason) log_is may none refl)
-only_memory_anew geometry objects disk left (Worn value) fails log_is may why none format counts =
+only_memory_anew geometry objects disk left (Refused (Worn value)) fails log_is may why none format counts =
     absurd (elim (why geometry may.epoch log_is may.described) [ inl unfit ↦ unfit.1 | inr worn ↦ may.low value worn ])
+only_memory_anew geometry objects disk left (Refused refusal) fails log_is may why none format counts =
+    absurd (no_refusal_stored geometry (log_of disk.size) objects (Refused refusal) log_is may none refl)
 only_memory_anew geometry objects disk left StoreFault fails log_is may why none format counts = absurd (no_fault counts)
 only_memory_anew geometry objects disk left DeviceFault fails log_is may why none format counts =
     absurd (let made = (makes_all format_cost false disk left fails format.1.calls.calls).0 in cc)

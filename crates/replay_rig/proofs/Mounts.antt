@@ -46,7 +46,8 @@ use Rattle.vol_core.specs.Step.{passing}
 use Rattle.vol_mount.specs.Mounted.{MountedState, disk_of, IsMountOf, NumbersNextCommit}
 use Rattle.vol_recover.specs.Describing.{OfVolume}
 use Rattle.vol_mount.specs.Mounting.{IsStored, IsLeft, MountsStored, MountsLeft}
-use Rattle.vol_mount.specs.declared.error.MountError.TheVariants.{Worn}
+use Rattle.refusals.specs.declared.refusal.Refusal.TheVariants.{Worn}
+use Rattle.vol_mount.specs.declared.error.MountError.TheVariants.{Refused}
 use Rattle.vol_mount.specs.Refusals.{IsFirstGreat, IsExtent, IsOwnCommit, IsWhyNotLeft}
 use Rattle.transcript.specs.Letters.{landed_by}
 use Rattle.replay_rig.specs.declared.answer.Answer.{Answer}
@@ -210,7 +211,7 @@ module _ (rig : RigState) (plain : PlainState) (fates : List Fate) (letters : Li
       (omega (arith, least, commits, few), omega (arith, same, head, entries, few))
 
   none_worn : rig.lines < 2 ^ 40 → (value : ℕ)
-      → IsWhyNotLeft (owner_at h.epoch) plain.geometry (Some new) left (Worn value) → ⊥
+      → IsWhyNotLeft (owner_at h.epoch) plain.geometry (Some new) left (Refused (Worn value)) → ⊥
   none_worn few value (inl stored) = absurd stored
   none_worn few value (inr (good, (greatest, end, extent, reads))) =
       let has = has_commit.0 in

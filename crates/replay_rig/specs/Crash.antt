@@ -20,7 +20,8 @@ use Rattle.vol_core.specs.Volume.{SteppedVolume}
 use Rattle.vol_core.specs.Creating.{IsCreated}
 use Rattle.vol_mount.specs.Mounted.{MountedState, disk_of, IsOfVolume}
 use Rattle.vol_mount.specs.Mounting.{IsStored, IsLeft}
-use Rattle.vol_mount.specs.declared.error.MountError.TheVariants.{Worn}
+use Rattle.refusals.specs.declared.refusal.Refusal.TheVariants.{Worn}
+use Rattle.vol_mount.specs.declared.error.MountError.TheVariants.{Refused}
 use Rattle.vol_mount.specs.Refusals.{IsWornStored, IsWhyNotLeft}
 use Rattle.lsvd_objstore.specs.Memory.{Kept}
 use Rattle.replay_rig.specs.Puts.{PutView, IsPutOut}
@@ -88,7 +89,7 @@ pub record MayMountLeft (geometry : Geometry) (objects : Objects) (disk : DiskSt
   pub described : HasVolume script_uuid geometry epoch objects
   pub left : IsLeft (owner_at epoch) geometry plain found number (Some objects) disk
   pub synced : HoldsNow IsSynced disk.moments
-  pub low : (value : ℕ) → IsWhyNotLeft (owner_at epoch) geometry (Some objects) disk (Worn value) → ⊥
+  pub low : (value : ℕ) → IsWhyNotLeft (owner_at epoch) geometry (Some objects) disk (Refused (Worn value)) → ⊥
 
 -- the numbered objects past a number were removed, and the others stay
 pub record RemovesNumbers (number : ℕ) (old new : Objects) : Type 0 where

@@ -15,7 +15,7 @@ use Rattle.lsvd_objstore.specs.Objects.{Objects, found, Lists}
 use Rattle.super_format.specs.declared.super_object.Super.{Super}
 use Rattle.super_format.specs.Super.{IsSuper}
 use Rattle.stopped_volume.specs.Super.{HasSuper, HasNewestEpoch, HasVolume}
-use Rattle.super_recovery.specs.declared.error.BadSuper.TheVariants as reasons
+use Rattle.refusals.specs.declared.bad_super.BadSuper.TheVariants as reasons
 use Rattle.super_recovery.specs.declared.error.SuperError.{SuperError}
 use Rattle.super_recovery.specs.declared.error.SuperError.TheVariants as errors
 use Rattle.super_recovery.specs.declared.finding.FoundVolume.{FoundVolume}

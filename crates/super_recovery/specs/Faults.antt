@@ -4,7 +4,7 @@ use Rattle.lsvd_objstore.specs.declared.error.StoreError.{StoreError}
 use Rattle.lsvd_objstore.specs.declared.error.StoreError.TheVariants as store
 use Rattle.super_format.specs.declared.reading.SuperReadError.{SuperReadError}
 use Rattle.super_format.specs.declared.reading.SuperReadError.TheVariants as reads
-use Rattle.super_recovery.specs.declared.error.BadSuper.TheVariants as reasons
+use Rattle.refusals.specs.declared.bad_super.BadSuper.TheVariants as reasons
 use Rattle.super_recovery.specs.declared.error.SuperError.{SuperError}
 use Rattle.super_recovery.specs.declared.error.SuperError.TheVariants as errors
 

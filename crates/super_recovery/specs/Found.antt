@@ -11,11 +11,9 @@ use Rattle.super_format.specs.declared.epoch.Epoch.{Epoch}
 use Rattle.super_format.specs.declared.super_object.Super.{Super}
 use Rattle.super_format.specs.Epoch.{IsEpoch}
 use Rattle.super_format.specs.Super.{geometry_with}
-use Rattle.super_format.specs.Tests as super_tests
 use Rattle.super_format.specs.Tests.{IsSuperRefusedAs}
 use Rattle.stopped_volume.specs.Super.{HasSuper, HasNewestEpoch, HasVolume}
-use Rattle.super_recovery.specs.declared.error.BadSuper.{BadSuper}
-use Rattle.super_recovery.specs.declared.error.BadSuper.TheVariants as reasons
+use Rattle.refusals.specs.declared.bad_super.BadSuper.TheVariants as reasons
 use Rattle.super_recovery.specs.declared.error.SuperError.{SuperError}
 use Rattle.super_recovery.specs.declared.error.SuperError.TheVariants as errors
 use Rattle.super_recovery.specs.declared.finding.FoundVolume.{FoundVolume}
@@ -66,12 +64,6 @@ pub record HasBadEpoch (uuid : List ℕ) (number : ℕ) (objects : Objects) : Ty
   pub newest : (other : ℕ) → number < other → other < 2 ^ 64 → found objects (epoch_name uuid other) ≡ None
 
 -- ---- reasons
-
--- the number of a reason, in the order of the tests
-abbrev pub code_of : BadSuper → ℕ
-code_of (reasons.Super reason) = super_tests.code_of reason
-code_of reasons.NoEpoch = 7
-code_of (reasons.BadEpoch number) = 8
 
 -- why no newest epoch was read
 abbrev pub IsWhyNoEpoch : (uuid : List ℕ) → Objects → SuperError → Type 0

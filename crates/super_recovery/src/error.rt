@@ -1,11 +1,11 @@
 ghost use Rattle.std.specs.Prelude.{◌≡◌};
 ghost use Rattle.super_recovery.specs.declared.error.SuperError.TheVariants as errors;
 ghost use Rattle.super_recovery.specs.Faults.{of_store, of_read};
-ghost use Rattle.super_recovery.specs.Found.{code_of};
 
 use lsvd_objstore::StoreError;
+use refusals::BadSuper;
 use std::alloc::AllocError;
-use super_format::{SuperReadError, SuperReason};
+use super_format::SuperReadError;
 use thiserror::Error;
 
 /// Why a volume was not found in a store, or what was put of it was not.
@@ -23,33 +23,6 @@ pub enum SuperError {
     /// Memory ran out.
     #[error("out of memory")]
     OutOfMemory,
-}
-
-/// The first reason for which what a store says of a volume is refused, in the order of the tests.
-#[derive(Clone, Copy, Debug, PartialEq, Eq, Error)]
-pub enum BadSuper {
-    /// The bytes of the super object are none of the volume, for this reason.
-    #[error("bad super object: {0}")]
-    Super(SuperReason),
-    /// The store has no epoch of the volume.
-    #[error("the store has no epoch of the volume")]
-    NoEpoch,
-    /// The epoch with the greatest number, which is this one, has bytes that are no epoch of that number.
-    #[error("bad epoch {number}")]
-    BadEpoch { number: u64 },
-}
-
-impl BadSuper {
-    /// Its number: that of the reason, 1 to 6, for `Super`, 7 for `NoEpoch`, 8 for `BadEpoch`.
-    pub fn code(self) -> u32
-        ensures { result ≡ code_of self }
-    {
-        match self {
-            BadSuper::Super(reason) => reason.code(),
-            BadSuper::NoEpoch => 7,
-            BadSuper::BadEpoch { .. } => 8,
-        }
-    }
 }
 
 impl From<StoreError> for SuperError {

@@ -11,10 +11,11 @@ ghost use Rattle.super_recovery.specs.Faults.{ends_by_fault, IsNoAnswer};
 ghost use Rattle.super_recovery.specs.Found.{HasEpoch, IsGreatestIn, IsFound, IsVolumeRefused, IsWhyNoEpoch};
 ghost use Rattle.super_recovery.specs.Found.{IsWhyVolumeRefused};
 
-use crate::error::{BadSuper, SuperError};
+use crate::error::SuperError;
 use crate::reading::read_whole;
 use lsvd_names::{NameKind, ObjName, a_uuid_has_sixteen_bytes};
 use lsvd_objstore::{Receipt, Store, StoreError};
+use refusals::BadSuper;
 use std::alloc::Global;
 use super_format::{Epoch, Super};
 use uuid::Uuid;

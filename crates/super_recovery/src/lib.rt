@@ -3,8 +3,8 @@
 //!
 //! Its contract: the volume that is found is the one whose super object the store has, with its newest epoch,
 //! and a volume that the store has is never refused. Finding changes nothing. A put is that of one super
-//! object or of one epoch, and no other object is changed. It stands on `lsvd_objstore` for the store, and on
-//! `super_format` for the bytes of both.
+//! object or of one epoch, and no other object is changed. It stands on `lsvd_objstore` for the store, on
+//! `super_format` for the bytes of both, and on `refusals` for what is bad of them.
 #![tactic(auto)]
 
 mod error;
@@ -13,7 +13,7 @@ mod laws;
 mod putting;
 mod reading;
 
-pub use error::{BadSuper, SuperError};
+pub use error::SuperError;
 pub use finding::{FoundVolume, find_volume, has_super};
 pub use laws::{
     a_next_epoch_is_begun, a_store_has_one_volume, a_volume_is_created, other_objects_say_nothing,

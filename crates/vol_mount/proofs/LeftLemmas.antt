@@ -17,10 +17,9 @@ use Rattle.obj_log.specs.State.{ObjLogState}
 use Rattle.stopped_volume.specs.Device.{CacheOwner, owner_of, owner_with}
 use Rattle.plain_disk.specs.declared.log.PlainCommit.{PlainCommit}
 use Rattle.plain_disk.specs.State.{PlainState}
+use Rattle.refusals.specs.declared.refusal.Refusal.TheVariants.{NoVolume, NoSlot, WrongVolume, StaleCache, BadRecord, Worn}
 use Rattle.vol_mount.specs.declared.error.MountError.{MountError}
-use Rattle.vol_mount.specs.declared.error.MountError.TheVariants.{NoVolume, BadSuper, HasAncestors, NoCheckpoint, BadObject}
-use Rattle.vol_mount.specs.declared.error.MountError.TheVariants.{NotData, NoSlot, WrongVolume, StaleCache, BadRecord, Worn}
-use Rattle.vol_mount.specs.declared.error.MountError.TheVariants.{StoreFault, DeviceFault, OutOfMemory}
+use Rattle.vol_mount.specs.declared.error.MountError.TheVariants.{Refused, StoreFault, DeviceFault, OutOfMemory}
 use Rattle.vol_mount.specs.Mounting.{IsLeft, KeepsLeft, RefusesNoneStored, RefusesNoneLeft}
 use Rattle.vol_mount.specs.Refusals.{ReadsAsCommitOf, IsBadLeftLog, IsOwnCommit, IsWhyNotOpened, IsFault, refuses}
 use Rattle.vol_mount.specs.Refusals.{is_store_fault_of}
@@ -46,17 +45,7 @@ refuses_none_too uuid geometry epoch told old error none = λ plain found number
 -- the device may be left so after all tests were passed
 pub device_faulted : (Passes : Type 0) (geometry : Geometry) (error : MountError) (old new : DiskState) → IsFault error → Passes
     → LeavesDevice Passes geometry error old new
-device_faulted Passes geometry NoVolume old new fault passes = absurd fault
-device_faulted Passes geometry (BadSuper reason) old new fault passes = absurd fault
-device_faulted Passes geometry (HasAncestors count) old new fault passes = absurd fault
-device_faulted Passes geometry NoCheckpoint old new fault passes = absurd fault
-device_faulted Passes geometry (BadObject number reason) old new fault passes = absurd fault
-device_faulted Passes geometry (NotData number) old new fault passes = absurd fault
-device_faulted Passes geometry (NoSlot log) old new fault passes = absurd fault
-device_faulted Passes geometry (WrongVolume found) old new fault passes = absurd fault
-device_faulted Passes geometry (StaleCache cache store) old new fault passes = absurd fault
-device_faulted Passes geometry (BadRecord seq reason) old new fault passes = absurd fault
-device_faulted Passes geometry (Worn value) old new fault passes = absurd fault
+device_faulted Passes geometry (Refused refusal) old new fault passes = absurd fault
 device_faulted Passes geometry StoreFault old new fault passes = inr passes
 device_faulted Passes geometry DeviceFault old new fault passes = inr (inr passes)
 device_faulted Passes geometry OutOfMemory old new fault passes = inr (inr passes)
@@ -72,17 +61,7 @@ faults_refuse_no_left error uuid geometry epoch told old fault = λ plain found 
 pub opens_without_store : (error : MountError) (uuid : List ℕ) (geometry : Geometry) (epoch end greatest : ℕ) (old : DiskState)
     → IsWhyNotOpened (owner_with uuid epoch) geometry end greatest old error
     → is_store_fault_of error ≡ false
-opens_without_store NoVolume uuid geometry epoch end greatest old why = absurd why
-opens_without_store (BadSuper reason) uuid geometry epoch end greatest old why = absurd why
-opens_without_store (HasAncestors count) uuid geometry epoch end greatest old why = absurd why
-opens_without_store NoCheckpoint uuid geometry epoch end greatest old why = absurd why
-opens_without_store (BadObject number reason) uuid geometry epoch end greatest old why = absurd why
-opens_without_store (NotData number) uuid geometry epoch end greatest old why = absurd why
-opens_without_store (NoSlot log) uuid geometry epoch end greatest old why = refl
-opens_without_store (WrongVolume found) uuid geometry epoch end greatest old why = refl
-opens_without_store (StaleCache cache store) uuid geometry epoch end greatest old why = refl
-opens_without_store (BadRecord seq reason) uuid geometry epoch end greatest old why = refl
-opens_without_store (Worn value) uuid geometry epoch end greatest old why = refl
+opens_without_store (Refused refusal) uuid geometry epoch end greatest old why = refl
 opens_without_store StoreFault uuid geometry epoch end greatest old why = absurd why
 opens_without_store DeviceFault uuid geometry epoch end greatest old why = refl
 opens_without_store OutOfMemory uuid geometry epoch end greatest old why = refl
@@ -90,17 +69,8 @@ opens_without_store OutOfMemory uuid geometry epoch end greatest old why = refl
 -- and the device was left so before all tests were passed
 device_too : (Passes : Type 0) (geometry : Geometry) (error : MountError) (old new : DiskState)
     → MayLeaveDevice ⊥ geometry error old new → MayLeaveDevice Passes geometry error old new
-device_too Passes geometry NoVolume old new leaves = absurd leaves
-device_too Passes geometry (BadSuper reason) old new leaves = absurd leaves
-device_too Passes geometry (HasAncestors count) old new leaves = absurd leaves
-device_too Passes geometry NoCheckpoint old new leaves = absurd leaves
-device_too Passes geometry (BadObject number reason) old new leaves = absurd leaves
-device_too Passes geometry (NotData number) old new leaves = absurd leaves
-device_too Passes geometry (NoSlot log) old new leaves = leaves
-device_too Passes geometry (WrongVolume found) old new leaves = leaves
-device_too Passes geometry (StaleCache cache store) old new leaves = leaves
-device_too Passes geometry (BadRecord seq reason) old new leaves = leaves
-device_too Passes geometry (Worn value) old new leaves = leaves
+device_too Passes geometry (Refused NoVolume) old new leaves = absurd leaves
+device_too Passes geometry (Refused refusal) old new leaves = leaves
 device_too Passes geometry StoreFault old new leaves = absurd leaves
 device_too Passes geometry DeviceFault old new (inl loaded) = inl loaded
 device_too Passes geometry DeviceFault old new (inr passes) = absurd passes
@@ -177,25 +147,20 @@ module _ (uuid : List ℕ) (geometry : Geometry) (epoch : ℕ) (told : Option Ob
         refuses_not : (error : MountError) (greatest : ℕ) → IsWhyNotOpened (owner_with uuid epoch) geometry list.uploads.queue.end
             greatest old error
             → refuses error ≡ false
-        refuses_not NoVolume greatest why = absurd why
-        refuses_not (BadSuper reason) greatest why = absurd why
-        refuses_not (HasAncestors count) greatest why = absurd why
-        refuses_not NoCheckpoint greatest why = absurd why
-        refuses_not (BadObject n reason) greatest why = absurd why
-        refuses_not (NotData n) greatest why = absurd why
-        refuses_not (NoSlot log) greatest why = absurd (reads_some why.1)
-        refuses_not (WrongVolume other) greatest why =
+        refuses_not (Refused (NoSlot log)) greatest why = absurd (reads_some why.1)
+        refuses_not (Refused (WrongVolume other)) greatest why =
             let wrong = reads_as_left (λ n b. (b.uuid ≡ other) × (other ≡ uuid → ⊥)) why in
             let has = has_commit uuid geometry epoch plain found number told old size sectors is_disk left in
             absurd (wrong.1 (sym wrong.0 ∙ ap (λ (owner : CacheOwner). owner.uuid) has.is_of))
-        refuses_not (StaleCache cache store) greatest why =
+        refuses_not (Refused (StaleCache cache store)) greatest why =
             let stale = reads_as_left (λ n b. (b.uuid ≡ uuid) × (b.epoch ≡ cache)) why.2 in
             let has = has_commit uuid geometry epoch plain found number told old size sectors is_disk left in
             absurd (why.1 (sym stale.1 ∙ ap (λ (owner : CacheOwner). owner.epoch) has.is_of))
-        refuses_not (BadRecord seq reason) greatest (inl past) = absurd (begins_before past.2)
-        refuses_not (BadRecord seq reason) greatest (inr bad) =
+        refuses_not (Refused (BadRecord seq reason)) greatest (inl past) = absurd (begins_before past.2)
+        refuses_not (Refused (BadRecord seq reason)) greatest (inr bad) =
             absurd (has_records (λ n b. IsOwnCommit (owner_with uuid epoch) list.uploads.queue.end b) seq reason bad)
-        refuses_not (Worn value) greatest why = refl
+        refuses_not (Refused (Worn value)) greatest why = refl
+        refuses_not (Refused refusal) greatest why = absurd why
         refuses_not StoreFault greatest why = refl
         refuses_not DeviceFault greatest why = refl
         refuses_not OutOfMemory greatest why = refl

@@ -1,8 +1,8 @@
 -- For `open_log`: a log that was opened, and why one was not.
-use Rattle.std.proofs.Common.{◌≡◌, ℕ, ◌+◌, ◌*◌, ◌<◌, true, false, List, [], ◌∷◌, length, refl, sym, ◌∙◌, ap, subst, inl, inr}
+use Rattle.std.proofs.Common.{◌≡◌, ℕ, ◌+◌, ◌*◌, ◌<◌, true, false, List, [], ◌∷◌, length, sym, ◌∙◌, ap, subst, inl, inr}
 use Rattle.std.proofs.Common.{arith}
 use Rattle.std.proofs.Math.Path.{subst₂}
-use Rattle.std.specs.Prelude.{not, max}
+use Rattle.std.specs.Prelude.{max}
 use Rattle.std.specs.List.{All}
 use Rattle.lsvd_base.specs.declared.geometry.Geometry.{Geometry}
 use Rattle.lsvd_device.specs.Device.{DiskState, HoldsNow, HoldsSince}
@@ -24,13 +24,13 @@ use Rattle.cache_log.specs.Reads.{AreReadOnly, opens_without_fault}
 use Rattle.cache_log.specs.Opening.{AreRecordsInRange, IsBadRecord, IsBadLog, IsOpenedLog, entry_count}
 use Rattle.cache_log.specs.Log.{LogState, next_seq}
 use Rattle.vol_core.specs.Shows.{max_number}
+use Rattle.refusals.specs.declared.refusal.Refusal.{Refusal}
+use Rattle.refusals.specs.declared.refusal.Refusal.TheVariants.{WrongVolume, StaleCache, BadRecord, Worn}
 use Rattle.vol_mount.specs.declared.error.MountError.{MountError}
-use Rattle.vol_mount.specs.declared.error.MountError.TheVariants.{NoVolume, BadSuper, HasAncestors, NoCheckpoint, BadObject}
-use Rattle.vol_mount.specs.declared.error.MountError.TheVariants.{NotData, NoSlot, WrongVolume, StaleCache, BadRecord, Worn}
-use Rattle.vol_mount.specs.declared.error.MountError.TheVariants.{StoreFault, DeviceFault, OutOfMemory}
+use Rattle.vol_mount.specs.declared.error.MountError.TheVariants.{Refused}
 use Rattle.stopped_volume.specs.Device.{owner_of, owner_with}
 use Rattle.vol_mount.specs.Refusals.{of_load, of_open, ReadsAsCommitOf, ReadsWhole, IsBadLeftLog, IsOwnCommit, IsFirstGreat}
-use Rattle.vol_mount.specs.Refusals.{IsWhyNotOpened, is_device_fault}
+use Rattle.vol_mount.specs.Refusals.{IsWhyNotOpened}
 use Rattle.vol_mount.specs.Leaving.{IsButLoaded, KeepsCommit, MayLeaveDevice}
 use Rattle.vol_mount.specs.Costs.{open_cost, CostsMount}
 use Rattle.vol_mount.specs.Steps.{IsOpenedOf, IsNotOpened, IsWhyRefusedCommit}
@@ -103,21 +103,14 @@ module _ (uuid : List ℕ) (geometry : Geometry) (epoch end greatest : ℕ) (old
     }
 
     -- the commit is refused
-    why_refused : (error : MountError) (new : DiskState) → KeepsCommit geometry old new
-        → IsWhyRefusedCommit (owner_with uuid epoch) end commits.body error
-        → IsWhyNotOpened (owner_with uuid epoch) geometry end greatest old error × (not (is_device_fault error) ≡ true)
-        × MayLeaveDevice ⊥ geometry error old new
-    why_refused NoVolume new keeps why = absurd why
-    why_refused (BadSuper reason) new keeps why = absurd why
-    why_refused (HasAncestors count) new keeps why = absurd why
-    why_refused NoCheckpoint new keeps why = absurd why
-    why_refused (BadObject number reason) new keeps why = absurd why
-    why_refused (NotData number) new keeps why = absurd why
-    why_refused (NoSlot log) new keeps why = absurd why
+    why_refused : (refusal : Refusal) (new : DiskState) → KeepsCommit geometry old new
+        → IsWhyRefusedCommit (owner_with uuid epoch) end commits.body refusal
+        → IsWhyNotOpened (owner_with uuid epoch) geometry end greatest old (Refused refusal)
+        × MayLeaveDevice ⊥ geometry (Refused refusal) old new
     why_refused (WrongVolume found) new keeps why =
-        (reads_as (λ number body. (body.uuid ≡ found) × (found ≡ uuid → ⊥)) why, refl, keeps)
+        (reads_as (λ number body. (body.uuid ≡ found) × (found ≡ uuid → ⊥)) why, keeps)
     why_refused (StaleCache cache store) new keeps why =
-        ((why.2, why.3, reads_as (λ number body. (body.uuid ≡ uuid) × (body.epoch ≡ cache)) (why.0, why.1)), refl, keeps)
+        ((why.2, why.3, reads_as (λ number body. (body.uuid ≡ uuid) × (body.epoch ≡ cache)) (why.0, why.1)), keeps)
     why_refused (BadRecord seq reason) new keeps why = (
       inl (
         why.0,
@@ -125,27 +118,21 @@ module _ (uuid : List ℕ) (geometry : Geometry) (epoch end greatest : ℕ) (old
         reads_as (λ number body. (owner_of body ≡ owner_with uuid epoch) × (end < body.tail.seq))
             (why.2, why.3),
       ),
-      refl,
       keeps,
     )
-    why_refused (Worn value) new keeps why = absurd why
-    why_refused StoreFault new keeps why = absurd why
-    why_refused DeviceFault new keeps why = absurd why
-    why_refused OutOfMemory new keeps why = absurd why
+    why_refused refusal new keeps why = absurd why
 
-    pub not_taken : (error : MountError) (new : DiskState) → new ≡ commits.disk
-        → IsWhyRefusedCommit (owner_with uuid epoch) end commits.body error
-        → IsNotOpened (owner_with uuid epoch) geometry end greatest error old new
-    not_taken error new same why =
+    pub not_taken : (refusal : Refusal) (new : DiskState) → new ≡ commits.disk
+        → IsWhyRefusedCommit (owner_with uuid epoch) end commits.body refusal
+        → IsNotOpened (owner_with uuid epoch) geometry end greatest (Refused refusal) old new
+    not_taken refusal new same why =
         let moments : new.moments ≡ commits.disk.moments = ap (λ (d : DiskState). d.moments) same in
-        let is = why_refused error new (keeps_on new (ap (λ (d : DiskState). d.size) same) moments) why in
+        let is = why_refused refusal new (keeps_on new (ap (λ (d : DiskState). d.size) same) moments) why in
         record {
           why = is.0;
           settled = settled_on new moments;
-          device = is.2;
-          costs =
-              subst (λ made. CostsMount geometry.log made old new) (sym is.1)
-              (costs_load geometry true old new (subst (MakesAtMost load_cost true old) (sym same) load));
+          device = is.1;
+          costs = costs_load geometry true old new (subst (MakesAtMost load_cost true old) (sym same) load);
         }
 
     -- ---- the commit is taken
@@ -231,7 +218,7 @@ module _ (uuid : List ℕ) (geometry : Geometry) (epoch end greatest : ℕ) (old
         -- and is worn out
         pub worn_left : (value count : ℕ) (new : DiskState) → new ≡ log.commits.disk → count ≡ max end (next_seq log)
             → IsFirstGreat (log.commits.number ∷ epoch ∷ greatest ∷ count ∷ []) value
-            → IsNotOpened (owner_with uuid epoch) geometry end greatest (Worn value) old new
+            → IsNotOpened (owner_with uuid epoch) geometry end greatest (Refused (Worn value)) old new
         worn_left value count new same count_is which =
             let P : ℕ → ℕ → Type 0 = λ n k. IsFirstGreat (n ∷ epoch ∷ greatest ∷ k ∷ []) value in
             let moments : new.moments ≡ commits.disk.moments = ap (λ (d : DiskState). d.moments) same ∙ is.only.moments in

@@ -22,10 +22,9 @@ use Rattle.refine_mount.specs.Rest.{IsAtRest}
 use Rattle.refine_mount.proofs.RestLemmas.{mounted_is_at_rest, recovered_shows_objects}
 use Rattle.refine_objects.specs.Shows.{ShowsObjects}
 use Rattle.vol_core.specs.Shows.{max_number}
+use Rattle.refusals.specs.declared.refusal.Refusal.TheVariants.{NoCheckpoint, Worn}
 use Rattle.vol_mount.specs.declared.error.MountError.{MountError}
-use Rattle.vol_mount.specs.declared.error.MountError.TheVariants.{NoVolume, BadSuper, HasAncestors, NoCheckpoint, BadObject}
-use Rattle.vol_mount.specs.declared.error.MountError.TheVariants.{NotData, NoSlot, WrongVolume, StaleCache, BadRecord, Worn}
-use Rattle.vol_mount.specs.declared.error.MountError.TheVariants.{StoreFault, DeviceFault, OutOfMemory}
+use Rattle.vol_mount.specs.declared.error.MountError.TheVariants.{Refused, StoreFault, DeviceFault, OutOfMemory}
 use Rattle.vol_mount.specs.Mounting.{IsStored, RefusesNoneStored}
 use Rattle.vol_mount.specs.Refusals.{of_recovery, IsWhyNotStored, IsWhyLost, HasGoodObjects, IsFault, refuses, is_device_fault}
 use Rattle.vol_mount.specs.Refusals.{is_store_fault_of}
@@ -102,7 +101,7 @@ IsToldNewest uuid geometry objects checkpoint =
 -- a checkpoint with the number 0 is the only one
 pub only_none : (uuid : List ℕ) (geometry : Geometry) (objects : Option Objects) (checkpoint : ℕ) → checkpoint ≡ 0
     → IsToldNewest uuid geometry objects checkpoint
-    → IsWhyNotStored uuid geometry objects NoCheckpoint
+    → IsWhyNotStored uuid geometry objects (Refused NoCheckpoint)
 only_none uuid geometry None checkpoint none newest = tt
 only_none uuid geometry (Some objects) checkpoint none newest = λ number more end owned is.
     let most = newest.1.newest number end owned is in
@@ -126,7 +125,7 @@ checkpoint_is uuid geometry plain number objects checkpoint end limits newest si
 pub only_none_refuses : (uuid : List ℕ) (geometry : Geometry) (objects : Option Objects) (checkpoint : ℕ)
     → IsTrue (is_within_limits geometry)
     → checkpoint ≡ 0
-    → IsToldNewest uuid geometry objects checkpoint → RefusesNoneStored uuid geometry objects NoCheckpoint
+    → IsToldNewest uuid geometry objects checkpoint → RefusesNoneStored uuid geometry objects (Refused NoCheckpoint)
 only_none_refuses uuid geometry None checkpoint limits none newest = λ plain number stored. absurd stored.objects_are
 only_none_refuses uuid geometry (Some objects) checkpoint limits none newest = λ plain number stored.
     let is = checkpoint_is uuid geometry plain number objects checkpoint newest.0 limits newest.1 stored.sizes
@@ -243,34 +242,14 @@ removal_faults recovery.OutOfMemory is = tt
 
 -- a fault refuses nothing
 pub faults_refuse_none : (error : MountError) → IsFault error → refuses error ≡ false
-faults_refuse_none NoVolume is = absurd is
-faults_refuse_none (BadSuper reason) is = absurd is
-faults_refuse_none (HasAncestors count) is = absurd is
-faults_refuse_none NoCheckpoint is = absurd is
-faults_refuse_none (BadObject number reason) is = absurd is
-faults_refuse_none (NotData number) is = absurd is
-faults_refuse_none (NoSlot log) is = absurd is
-faults_refuse_none (WrongVolume found) is = absurd is
-faults_refuse_none (StaleCache cache store) is = absurd is
-faults_refuse_none (BadRecord seq reason) is = absurd is
-faults_refuse_none (Worn value) is = absurd is
+faults_refuse_none (Refused refusal) is = absurd is
 faults_refuse_none StoreFault is = refl
 faults_refuse_none DeviceFault is = refl
 faults_refuse_none OutOfMemory is = refl
 
 pub why_faulted : (error : MountError) (uuid : List ℕ) (geometry : Geometry) (objects : Option Objects) → IsFault error
     → IsWhyNotStored uuid geometry objects error
-why_faulted NoVolume uuid geometry objects is = absurd is
-why_faulted (BadSuper reason) uuid geometry objects is = absurd is
-why_faulted (HasAncestors count) uuid geometry objects is = absurd is
-why_faulted NoCheckpoint uuid geometry objects is = absurd is
-why_faulted (BadObject number reason) uuid geometry objects is = absurd is
-why_faulted (NotData number) uuid geometry objects is = absurd is
-why_faulted (NoSlot log) uuid geometry objects is = absurd is
-why_faulted (WrongVolume found) uuid geometry objects is = absurd is
-why_faulted (StaleCache cache store) uuid geometry objects is = absurd is
-why_faulted (BadRecord seq reason) uuid geometry objects is = absurd is
-why_faulted (Worn value) uuid geometry objects is = absurd is
+why_faulted (Refused refusal) uuid geometry objects is = absurd is
 why_faulted StoreFault uuid geometry objects is = tt
 why_faulted DeviceFault uuid geometry objects is = tt
 why_faulted OutOfMemory uuid geometry objects is = tt
@@ -278,20 +257,8 @@ why_faulted OutOfMemory uuid geometry objects is = tt
 -- why a volume is not mounted without its cache, by its objects
 pub why_lost_too : (error : MountError) (uuid : List ℕ) (geometry : Geometry) (epoch : ℕ) (objects : Option Objects)
     → IsWhyNotStored uuid geometry objects error → IsWhyLost uuid geometry epoch objects error
-why_lost_too NoVolume uuid geometry epoch objects why = absurd why
-why_lost_too (BadSuper reason) uuid geometry epoch objects why = absurd why
-why_lost_too (HasAncestors count) uuid geometry epoch objects why = absurd why
-why_lost_too NoCheckpoint uuid geometry epoch objects why = why
-why_lost_too (BadObject number reason) uuid geometry epoch objects why = why
-why_lost_too (NotData number) uuid geometry epoch objects why = why
-why_lost_too (NoSlot log) uuid geometry epoch objects why = absurd why
-why_lost_too (WrongVolume found) uuid geometry epoch objects why = absurd why
-why_lost_too (StaleCache cache store) uuid geometry epoch objects why = absurd why
-why_lost_too (BadRecord seq reason) uuid geometry epoch objects why = absurd why
-why_lost_too (Worn value) uuid geometry epoch objects why = absurd why
-why_lost_too StoreFault uuid geometry epoch objects why = tt
-why_lost_too DeviceFault uuid geometry epoch objects why = tt
-why_lost_too OutOfMemory uuid geometry epoch objects why = tt
+why_lost_too (Refused (Worn value)) uuid geometry epoch objects why = absurd why
+why_lost_too error uuid geometry epoch objects why = why
 
 -- an error that is passed on was counted as such
 pub counts_on : (e : MountError) (error : RecoverError) (old middle new : ℕ) → e ≡ of_recovery error → middle ≡ old

@@ -7,9 +7,9 @@ use Rattle.lsvd_device.specs.Memory.{IsSynced}
 use Rattle.commit_slot.specs.Commits.{IsCommit, LeavesNow}
 use Rattle.commit_slot.specs.LogArea.{MakesLogAreaDurable}
 use Rattle.commit_slot.specs.Loading.{IsCrashSafeLoad, LeavesSettled}
+use Rattle.refusals.specs.declared.refusal.Refusal.TheVariants.{NoSlot, WrongVolume, StaleCache, BadRecord, Worn}
 use Rattle.vol_mount.specs.declared.error.MountError.{MountError}
-use Rattle.vol_mount.specs.declared.error.MountError.TheVariants.{NoSlot, WrongVolume, StaleCache, BadRecord, Worn, StoreFault}
-use Rattle.vol_mount.specs.declared.error.MountError.TheVariants.{DeviceFault, OutOfMemory}
+use Rattle.vol_mount.specs.declared.error.MountError.TheVariants.{Refused, StoreFault, DeviceFault, OutOfMemory}
 use Rattle.vol_mount.specs.Refusals.{ReadsAsCommitOf}
 
 -- A device was no more than loaded. Where nothing was pending on it, a stop at each moment since leaves the commit that it read
@@ -29,11 +29,11 @@ pub record KeepsCommit (geometry : Geometry) (old new : DiskState) : Type 0 wher
 -- What an error may leave of a device that is not as it was. One that is refused keeps its commit, and one without an open slot
 -- was but synced. A fault may also come after all tests were passed.
 abbrev pub MayLeaveDevice : (Passes : Type 0) → Geometry → MountError → (old new : DiskState) → Type 0
-MayLeaveDevice Passes geometry (NoSlot log) old new = new.moments ≡ moments_after after_sync old.moments
-MayLeaveDevice Passes geometry (WrongVolume found) old new = KeepsCommit geometry old new
-MayLeaveDevice Passes geometry (StaleCache cache store) old new = KeepsCommit geometry old new
-MayLeaveDevice Passes geometry (BadRecord seq reason) old new = KeepsCommit geometry old new
-MayLeaveDevice Passes geometry (Worn value) old new = KeepsCommit geometry old new
+MayLeaveDevice Passes geometry (Refused (NoSlot log)) old new = new.moments ≡ moments_after after_sync old.moments
+MayLeaveDevice Passes geometry (Refused (WrongVolume found)) old new = KeepsCommit geometry old new
+MayLeaveDevice Passes geometry (Refused (StaleCache cache store)) old new = KeepsCommit geometry old new
+MayLeaveDevice Passes geometry (Refused (BadRecord seq reason)) old new = KeepsCommit geometry old new
+MayLeaveDevice Passes geometry (Refused (Worn value)) old new = KeepsCommit geometry old new
 MayLeaveDevice Passes geometry StoreFault old new = Passes
 MayLeaveDevice Passes geometry DeviceFault old new = IsButLoaded old new ⊎ Passes
 MayLeaveDevice Passes geometry OutOfMemory old new = KeepsCommit geometry old new ⊎ Passes

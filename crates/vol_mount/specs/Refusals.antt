@@ -21,6 +21,8 @@ use Rattle.cache_log.specs.declared.error.LogReadError.TheVariants as read_error
 use Rattle.object_stream.specs.Stream.{Stream, end_at}
 use Rattle.stopped_volume.specs.Objects.{landed_in}
 use Rattle.stopped_volume.specs.Device.{CacheOwner, owner_of}
+use Rattle.refusals.specs.declared.refusal.Refusal.TheVariants.{NoVolume, BadSuper, NoCheckpoint, BadObject, NotData, NoSlot}
+use Rattle.refusals.specs.declared.refusal.Refusal.TheVariants.{WrongVolume, StaleCache, BadRecord, Worn}
 use Rattle.super_recovery.specs.declared.error.SuperError.{SuperError}
 use Rattle.super_recovery.specs.declared.error.SuperError.TheVariants as supers
 use Rattle.object_recovery.specs.declared.error.RecoverError.{RecoverError}
@@ -28,25 +30,23 @@ use Rattle.object_recovery.specs.declared.error.RecoverError.TheVariants as reco
 use Rattle.object_recovery.specs.Checkpoints.{expected_of, IsNoCheckpoint}
 use Rattle.object_recovery.specs.Recovery.{HasDataUpTo, IsPastOf, IsRecoveryRefused, AreAllGood}
 use Rattle.vol_mount.specs.declared.error.MountError.{MountError}
-use Rattle.vol_mount.specs.declared.error.MountError.TheVariants.{NoVolume, BadSuper, NoCheckpoint, BadObject}
-use Rattle.vol_mount.specs.declared.error.MountError.TheVariants.{NotData, NoSlot, WrongVolume, StaleCache, BadRecord, Worn}
-use Rattle.vol_mount.specs.declared.error.MountError.TheVariants.{StoreFault, DeviceFault, OutOfMemory}
+use Rattle.vol_mount.specs.declared.error.MountError.TheVariants.{Refused, StoreFault, DeviceFault, OutOfMemory}
 
 -- ---- the errors of the steps
 
 abbrev pub of_recovery : RecoverError → MountError
-of_recovery recovery.NoCheckpoint = NoCheckpoint
-of_recovery (recovery.BadObject number reason) = BadObject number reason
-of_recovery (recovery.NotData number) = NotData number
+of_recovery recovery.NoCheckpoint = Refused NoCheckpoint
+of_recovery (recovery.BadObject number reason) = Refused (BadObject number reason)
+of_recovery (recovery.NotData number) = Refused (NotData number)
 of_recovery recovery.StoreFault = StoreFault
 of_recovery recovery.OutOfMemory = OutOfMemory
 
 abbrev pub of_load : LoadError → MountError
-of_load (load_errors.NoSlot log) = NoSlot log
+of_load (load_errors.NoSlot log) = Refused (NoSlot log)
 of_load load_errors.DeviceFault = DeviceFault
 
 abbrev pub of_open : OpenError → MountError
-of_open (open_errors.BadRecord seq reason) = BadRecord seq reason
+of_open (open_errors.BadRecord seq reason) = Refused (BadRecord seq reason)
 of_open open_errors.DeviceFault = DeviceFault
 of_open open_errors.OutOfMemory = OutOfMemory
 
@@ -55,8 +55,8 @@ of_read read_errors.DeviceFault = DeviceFault
 of_read read_errors.OutOfMemory = OutOfMemory
 
 abbrev pub of_super : SuperError → MountError
-of_super supers.NoVolume = NoVolume
-of_super (supers.BadSuper reason) = BadSuper reason
+of_super supers.NoVolume = Refused NoVolume
+of_super (supers.BadSuper reason) = Refused (BadSuper reason)
 of_super supers.StoreFault = StoreFault
 of_super supers.OutOfMemory = OutOfMemory
 
@@ -122,11 +122,11 @@ IsWornStored uuid geometry epoch objects value =
 
 -- why the objects of a store are refused, where receipts tell what they stand for; the objects of a volume have numbers from 1 on
 abbrev pub IsWhyNotStored : (uuid : List ℕ) → Geometry → Option Objects → MountError → Type 0
-IsWhyNotStored uuid geometry objects NoCheckpoint =
+IsWhyNotStored uuid geometry objects (Refused NoCheckpoint) =
     IfSome objects (λ objects. (number : ℕ) → 0 < number → IsNoCheckpoint (expected_of uuid geometry) objects number)
-IsWhyNotStored uuid geometry objects (BadObject number reason) =
+IsWhyNotStored uuid geometry objects (Refused (BadObject number reason)) =
     IfSome objects (λ objects. IsRecoveryRefused (expected_of uuid geometry) objects (recovery.BadObject number reason))
-IsWhyNotStored uuid geometry objects (NotData number) =
+IsWhyNotStored uuid geometry objects (Refused (NotData number)) =
     IfSome objects (λ objects. IsRecoveryRefused (expected_of uuid geometry) objects (recovery.NotData number))
 IsWhyNotStored uuid geometry objects StoreFault = Unit {0}
 IsWhyNotStored uuid geometry objects DeviceFault = Unit {0}
@@ -135,12 +135,12 @@ IsWhyNotStored uuid geometry objects error = ⊥
 
 -- the objects are good, but the log of a device does not fit the volume, whose sectors are told
 abbrev pub IsUnfitting : (uuid : List ℕ) → Geometry → Option Objects → MountError → Type 0
-IsUnfitting uuid geometry objects (NoSlot log) = HasGoodObjects uuid geometry objects × (log ≡ geometry.log)
+IsUnfitting uuid geometry objects (Refused (NoSlot log)) = HasGoodObjects uuid geometry objects × (log ≡ geometry.log)
 IsUnfitting uuid geometry objects error = ⊥
 
 -- why a mount without the cache gives none
 abbrev pub IsWhyLost : (uuid : List ℕ) → Geometry → (epoch : ℕ) → Option Objects → MountError → Type 0
-IsWhyLost uuid geometry epoch objects (Worn value) = IsWornStored uuid geometry epoch objects value
+IsWhyLost uuid geometry epoch objects (Refused (Worn value)) = IsWornStored uuid geometry epoch objects value
 IsWhyLost uuid geometry epoch objects error = IsWhyNotStored uuid geometry objects error
 
 -- Why a device is refused, where the objects have this end, and no greater number than this. The tests before have passed, which
@@ -148,18 +148,18 @@ IsWhyLost uuid geometry epoch objects error = IsWhyNotStored uuid geometry objec
 -- past the end; the log has its records; and none of the numbers is too great: that of the commit, the epoch, the greatest number
 -- of an object, and the count of all entries.
 abbrev pub IsWhyNotOpened : (owner : CacheOwner) → Geometry → (end greatest : ℕ) → DiskState → MountError → Type 0
-IsWhyNotOpened owner geometry end greatest disk (NoSlot log) =
+IsWhyNotOpened owner geometry end greatest disk (Refused (NoSlot log)) =
     (log ≡ geometry.log) × HoldsNow (λ now. ReadsNone geometry.log now.bytes) disk.moments
-IsWhyNotOpened owner geometry end greatest disk (WrongVolume found) =
+IsWhyNotOpened owner geometry end greatest disk (Refused (WrongVolume found)) =
     ReadsAsCommitOf geometry (λ number body. (body.uuid ≡ found) × (found ≡ owner.uuid → ⊥)) disk
-IsWhyNotOpened owner geometry end greatest disk (StaleCache cache store) =
+IsWhyNotOpened owner geometry end greatest disk (Refused (StaleCache cache store)) =
     (store ≡ owner.epoch) × (cache ≡ owner.epoch → ⊥)
     × ReadsAsCommitOf geometry (λ number body. (body.uuid ≡ owner.uuid) × (body.epoch ≡ cache)) disk
-IsWhyNotOpened owner geometry end greatest disk (BadRecord seq reason) =
+IsWhyNotOpened owner geometry end greatest disk (Refused (BadRecord seq reason)) =
     ((seq ≡ end) × (reason ≡ reasons.Seq)
     × ReadsAsCommitOf geometry (λ number body. (owner_of body ≡ owner) × (end < body.tail.seq)) disk)
     ⊎ IsBadLeftLog geometry (λ number body. IsOwnCommit owner end body) disk seq reason
-IsWhyNotOpened owner geometry end greatest disk (Worn value) =
+IsWhyNotOpened owner geometry end greatest disk (Refused (Worn value)) =
     ReadsWhole geometry (λ number body. IsFirstGreat (number ∷ owner.epoch ∷ greatest ∷ max end body.head.seq ∷ []) value
     × IsOwnCommit owner end body) disk
 IsWhyNotOpened owner geometry end greatest disk DeviceFault = Unit {0}
@@ -176,18 +176,14 @@ IsWhyNotLeft owner geometry objects disk error =
 
 -- the error refuses what device or store have
 abbrev pub refuses : MountError → Bool
-refuses (Worn value) = false
-refuses StoreFault = false
-refuses DeviceFault = false
-refuses OutOfMemory = false
-refuses error = true
+refuses (Refused (Worn value)) = false
+refuses (Refused why) = true
+refuses error = false
 
 -- a call failed, or memory ran out
 abbrev pub IsFault : MountError → Type 0
-IsFault StoreFault = Unit {0}
-IsFault DeviceFault = Unit {0}
-IsFault OutOfMemory = Unit {0}
-IsFault error = ⊥
+IsFault (Refused why) = ⊥
+IsFault error = Unit {0}
 
 -- a call of the device failed, or one of the store
 abbrev pub is_device_fault : MountError → Bool

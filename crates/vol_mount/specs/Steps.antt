@@ -25,10 +25,11 @@ use Rattle.object_recovery.specs.Places.{HasPlacesInside}
 use Rattle.object_recovery.specs.Judging.{HaveLanded}
 use Rattle.object_recovery.specs.Recovery.{IsListUpTo, IsNoLonger, IsRecoveredOf, AreAllGood}
 use Rattle.refine_mount.specs.Mounted.{data_in, AddsEntries}
+use Rattle.refusals.specs.declared.refusal.Refusal.{Refusal}
+use Rattle.refusals.specs.declared.refusal.Refusal.TheVariants.{WrongVolume, StaleCache, BadRecord}
 use Rattle.vol_core.specs.Volume.{volume_of}
 use Rattle.vol_core.specs.Shows.{max_number}
 use Rattle.vol_mount.specs.declared.error.MountError.{MountError}
-use Rattle.vol_mount.specs.declared.error.MountError.TheVariants.{WrongVolume, StaleCache, BadRecord}
 use Rattle.vol_mount.specs.Mounted.{MountedState}
 use Rattle.vol_mount.specs.Mounting.{RefusesNoneStored}
 use Rattle.vol_mount.specs.Passing.{PassesStored}
@@ -121,13 +122,13 @@ pub record IsNotOpened (owner : CacheOwner) (geometry : Geometry) (end greatest 
   pub costs : CostsMount geometry.log (not (is_device_fault error)) old new
 
 -- why the last commit is not that of this owner, whose objects have this end
-abbrev pub IsWhyRefusedCommit : (owner : CacheOwner) → (end : ℕ) → CommitBody → MountError → Type 0
+abbrev pub IsWhyRefusedCommit : (owner : CacheOwner) → (end : ℕ) → CommitBody → Refusal → Type 0
 IsWhyRefusedCommit owner end body (WrongVolume found) = (body.uuid ≡ found) × (found ≡ owner.uuid → ⊥)
 IsWhyRefusedCommit owner end body (StaleCache cache store) =
     (body.uuid ≡ owner.uuid) × (body.epoch ≡ cache) × (store ≡ owner.epoch) × (cache ≡ owner.epoch → ⊥)
 IsWhyRefusedCommit owner end body (BadRecord seq reason) =
     (seq ≡ end) × (reason ≡ reasons.Seq) × (owner_of body ≡ owner) × (end < body.tail.seq)
-IsWhyRefusedCommit owner end body error = ⊥
+IsWhyRefusedCommit owner end body refusal = ⊥
 
 -- ---- completing
 

@@ -10,6 +10,7 @@ use crate::error::MountError;
 use crate::recovery::recover_list;
 use lsvd_base::Geometry;
 use lsvd_objstore::{Receipt, Store};
+use refusals::Refusal;
 use std::alloc::Global;
 use uuid::Uuid;
 
@@ -33,7 +34,7 @@ pub fn refuse_log<S: Store>(
     match recover_list(alloc, store, uuid, Geometry { log, ..geometry }) {
         Ok(recovered) => {
             drop(recovered);
-            MountError::NoSlot { log: geometry.log }
+            MountError::Refused(Refusal::NoSlot { log: geometry.log })
         }
         Err(error) => error,
     }

@@ -6,8 +6,8 @@
 //! commit that the cache reads as, if that are more. One without the cache makes the entries of the objects,
 //! in the next epoch. Objects past the first missing number are removed. Whenever the device stops meanwhile,
 //! the same is left, and the volume may be mounted again. What is refused is left as it was. It stands on
-//! `object_recovery` for the objects, on `super_recovery` for epochs, on `cache_log` for the log, and on
-//! `vol_core` for the volume.
+//! `object_recovery` for the objects, on `super_recovery` for epochs, on `cache_log` for the log, on
+//! `vol_core` for the volume, and on `refusals` for why a volume is refused.
 #![tactic(auto)]
 
 mod adding;

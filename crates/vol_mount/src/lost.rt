@@ -20,6 +20,7 @@ use lsvd_base::Geometry;
 use lsvd_device::Disk;
 use lsvd_objstore::Store;
 use obj_log::ObjLog;
+use refusals::Refusal;
 use std::alloc::Global;
 use super_recovery::put_epoch;
 use uuid::Uuid;
@@ -120,7 +121,7 @@ fn recover_alone<S: Store>(
     let numbers = [epoch, recovered.greatest_number(), recovered.log().end()];
     if let Some(value) = worn_number(&numbers) {
         drop(recovered);
-        return Err(MountError::Worn { value });
+        return Err(MountError::Refused(Refusal::Worn { value }));
     }
     if let Err(error) = recovered.remove_past(alloc, store) {
         drop(recovered);

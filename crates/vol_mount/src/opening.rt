@@ -14,6 +14,7 @@ use commit_slot::Commits;
 use log_record::Reason;
 use lsvd_base::Geometry;
 use lsvd_device::Disk;
+use refusals::Refusal;
 use std::alloc::Global;
 use uuid::Uuid;
 
@@ -57,8 +58,8 @@ pub(crate) fn open_log<D: Disk>(
         Ok(commits) => commits,
         Err((disk, error)) => return Err((disk, error.into())),
     };
-    if let Some(error) = refusal_of(&commits, known) {
-        return Err((commits.into_disk(), error));
+    if let Some(refusal) = refusal_of(&commits, known) {
+        return Err((commits.into_disk(), MountError::Refused(refusal)));
     }
     let log = match CacheLog::open(alloc, commits, &known.geometry) {
         Ok(log) => log,
@@ -67,13 +68,16 @@ pub(crate) fn open_log<D: Disk>(
     let count = known.end.max(log.next_seq());
     match worn_number(&[log.number(), known.epoch, known.greatest, count]) {
         None => Ok(log),
-        Some(value) => Err((log.into_disk(), MountError::Worn { value })),
+        Some(value) => Err((
+            log.into_disk(),
+            MountError::Refused(Refusal::Worn { value }),
+        )),
     }
 }
 
 // Why the last commit is not that of this volume in its newest epoch, or its log begins past the end of the
 // volume's objects.
-fn refusal_of<D: Disk>(commits: &Commits<D>, known: &Known) -> Option<MountError>
+fn refusal_of<D: Disk>(commits: &Commits<D>, known: &Known) -> Option<Refusal>
     ensures none { IfNone result ((owner_of commits.now.body ≡ owner_with known.now.uuid known.now.epoch)
         × (commits.now.body.tail.seq ≤ known.now.end)) }
     ensures some { IfSome result (IsWhyRefusedCommit (owner_with known.now.uuid known.now.epoch) known.now.end
@@ -83,15 +87,15 @@ fn refusal_of<D: Disk>(commits: &Commits<D>, known: &Known) -> Option<MountError
     let body = commits.body();
     let found = Uuid::from_bytes(body.uuid);
     if found != known.uuid {
-        return Some(MountError::WrongVolume { found });
+        return Some(Refusal::WrongVolume { found });
     }
     let (cache, store) = (body.epoch, known.epoch);
     if cache != store {
-        return Some(MountError::StaleCache { cache, store });
+        return Some(Refusal::StaleCache { cache, store });
     }
     if known.end < body.tail.seq {
         let (seq, reason) = (known.end, Reason::Seq);
-        return Some(MountError::BadRecord { seq, reason });
+        return Some(Refusal::BadRecord { seq, reason });
     }
     None
 }

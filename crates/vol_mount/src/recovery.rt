@@ -12,6 +12,7 @@ use crate::error::MountError;
 use lsvd_base::Geometry;
 use lsvd_objstore::Store;
 use object_recovery::{Recovered, recover};
+use refusals::Refusal;
 use std::alloc::Global;
 use uuid::Uuid;
 
@@ -40,7 +41,7 @@ pub(crate) fn recover_list<S: Store>(
     let recovered = recover(alloc, store, uuid, geometry)?;
     if recovered.checkpoint() == 0 {
         drop(recovered);
-        return Err(MountError::NoCheckpoint);
+        return Err(MountError::Refused(Refusal::NoCheckpoint));
     }
     Ok(recovered)
 }

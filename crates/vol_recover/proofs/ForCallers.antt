@@ -20,10 +20,9 @@ use Rattle.object_recovery.specs.Removal.{Removes}
 use Rattle.object_recovery.specs.Recovery.{IsPastOf, RemovesAllPast, MayRemovePast}
 use Rattle.object_recovery.proofs.RemovalLemmas.{becomes_so}
 use Rattle.super_recovery.specs.Put.{PutsEpoch}
+use Rattle.refusals.specs.declared.refusal.Refusal.TheVariants.{NoVolume, BadSuper, HasAncestors, Worn}
 use Rattle.vol_mount.specs.declared.error.MountError.{MountError}
-use Rattle.vol_mount.specs.declared.error.MountError.TheVariants.{NoVolume, BadSuper, HasAncestors, NoCheckpoint, BadObject}
-use Rattle.vol_mount.specs.declared.error.MountError.TheVariants.{NotData, NoSlot, WrongVolume, StaleCache, BadRecord, Worn}
-use Rattle.vol_mount.specs.declared.error.MountError.TheVariants.{StoreFault, DeviceFault, OutOfMemory}
+use Rattle.vol_mount.specs.declared.error.MountError.TheVariants.{Refused, StoreFault, DeviceFault, OutOfMemory}
 use Rattle.vol_mount.specs.Costs.{IsEntryCount, CostsMount, CostsNewLog, FailsToFormat}
 use Rattle.vol_mount.specs.Epochs.{BeginsEpoch, MayBeginEpoch}
 use Rattle.vol_mount.specs.Mounted.{MountedState, IsOfVolume, disk_of, NumbersNextCommit}
@@ -186,17 +185,10 @@ costs_nothing log error disk none =
 -- a volume that the store has is not refused as a whole: that ended by a fault
 why_stored : (error : MountError) (uuid : List ℕ) (geometry : Geometry) (objects : Option Objects)
     → IsWhyNotDescribed uuid objects error → refuses error ≡ false → IsWhyNotStored uuid geometry objects error
-why_stored NoVolume uuid geometry objects why not = (let none : ⊥ = cc in absurd none)
-why_stored (BadSuper reason) uuid geometry objects why not = (let none : ⊥ = cc in absurd none)
-why_stored (HasAncestors count) uuid geometry objects why not = (let none : ⊥ = cc in absurd none)
-why_stored NoCheckpoint uuid geometry objects why not = absurd why
-why_stored (BadObject number reason) uuid geometry objects why not = absurd why
-why_stored (NotData number) uuid geometry objects why not = absurd why
-why_stored (NoSlot log) uuid geometry objects why not = absurd why
-why_stored (WrongVolume found) uuid geometry objects why not = absurd why
-why_stored (StaleCache cache store) uuid geometry objects why not = absurd why
-why_stored (BadRecord seq reason) uuid geometry objects why not = absurd why
-why_stored (Worn value) uuid geometry objects why not = absurd why
+why_stored (Refused NoVolume) uuid geometry objects why not = (let none : ⊥ = cc in absurd none)
+why_stored (Refused (BadSuper reason)) uuid geometry objects why not = (let none : ⊥ = cc in absurd none)
+why_stored (Refused (HasAncestors count)) uuid geometry objects why not = (let none : ⊥ = cc in absurd none)
+why_stored (Refused refusal) uuid geometry objects why not = absurd why
 why_stored StoreFault uuid geometry objects why not = tt
 why_stored DeviceFault uuid geometry objects why not = absurd why
 why_stored OutOfMemory uuid geometry objects why not = tt
@@ -204,20 +196,8 @@ why_stored OutOfMemory uuid geometry objects why not = tt
 -- why the objects are refused is why a mount without the cache gives none
 why_lost : (error : MountError) (uuid : List ℕ) (geometry : Geometry) (epoch : ℕ) (objects : Option Objects)
     → IsWhyNotStored uuid geometry objects error → IsWhyLost uuid geometry epoch objects error
-why_lost NoVolume uuid geometry epoch objects why = absurd why
-why_lost (BadSuper reason) uuid geometry epoch objects why = absurd why
-why_lost (HasAncestors count) uuid geometry epoch objects why = absurd why
-why_lost NoCheckpoint uuid geometry epoch objects why = why
-why_lost (BadObject number reason) uuid geometry epoch objects why = why
-why_lost (NotData number) uuid geometry epoch objects why = why
-why_lost (NoSlot log) uuid geometry epoch objects why = absurd why
-why_lost (WrongVolume found) uuid geometry epoch objects why = absurd why
-why_lost (StaleCache cache store) uuid geometry epoch objects why = absurd why
-why_lost (BadRecord seq reason) uuid geometry epoch objects why = absurd why
-why_lost (Worn value) uuid geometry epoch objects why = absurd why
-why_lost StoreFault uuid geometry epoch objects why = tt
-why_lost DeviceFault uuid geometry epoch objects why = tt
-why_lost OutOfMemory uuid geometry epoch objects why = tt
+why_lost (Refused (Worn value)) uuid geometry epoch objects why = absurd why
+why_lost error uuid geometry epoch objects why = why
 
 not_both : (b : Bool) → b ≡ false → b ≡ true → ⊥
 not_both b is_false is_true = cc

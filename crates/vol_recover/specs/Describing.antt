@@ -8,8 +8,9 @@ use Rattle.super_format.specs.Super.{geometry_with}
 use Rattle.stopped_volume.specs.Super.{HasSuper, HasNewestEpoch, HasVolume}
 use Rattle.super_recovery.specs.declared.error.SuperError.TheVariants as supers
 use Rattle.super_recovery.specs.Found.{IsVolumeRefused}
+use Rattle.refusals.specs.declared.refusal.Refusal.TheVariants.{NoVolume, BadSuper, HasAncestors}
 use Rattle.vol_mount.specs.declared.error.MountError.{MountError}
-use Rattle.vol_mount.specs.declared.error.MountError.TheVariants.{NoVolume, BadSuper, HasAncestors, StoreFault, OutOfMemory}
+use Rattle.vol_mount.specs.declared.error.MountError.TheVariants.{Refused, StoreFault, OutOfMemory}
 use Rattle.vol_mount.specs.Refusals.{IsUnfitting}
 
 -- Whatever volume the store has, with these sizes on a device whose log has so many sectors, and in this newest epoch.
@@ -32,10 +33,10 @@ pub record SaysVolume (uuid : List ℕ) (geometry : Geometry) (epoch : ℕ) (obj
 
 -- why the volume as a whole is refused, where receipts tell what they stand for
 abbrev pub IsWhyNotDescribed : (uuid : List ℕ) → Option Objects → MountError → Type 0
-IsWhyNotDescribed uuid objects NoVolume = IfSome objects (λ objects. IsVolumeRefused uuid objects supers.NoVolume)
-IsWhyNotDescribed uuid objects (BadSuper reason) =
+IsWhyNotDescribed uuid objects (Refused NoVolume) = IfSome objects (λ objects. IsVolumeRefused uuid objects supers.NoVolume)
+IsWhyNotDescribed uuid objects (Refused (BadSuper reason)) =
     IfSome objects (λ objects. IsVolumeRefused uuid objects (supers.BadSuper reason))
-IsWhyNotDescribed uuid objects (HasAncestors count) =
+IsWhyNotDescribed uuid objects (Refused (HasAncestors count)) =
     IfSome objects (λ objects. (volume : Super) × HasSuper uuid volume objects × (volume.chain ≡ [] → ⊥)
     × (count ≡ length volume.chain))
 IsWhyNotDescribed uuid objects StoreFault = Unit {0}

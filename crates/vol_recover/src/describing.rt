@@ -10,6 +10,7 @@ ghost use Rattle.vol_recover.specs.Describing.{OfVolume, SaysVolume, IsWhyNotDes
 
 use lsvd_base::Geometry;
 use lsvd_objstore::{Receipt, Store};
+use refusals::Refusal;
 use std::alloc::Global;
 use super_recovery::find_volume;
 use uuid::Uuid;
@@ -51,7 +52,7 @@ pub(crate) fn describe<S: Store>(
     let found = find_volume(alloc, store, uuid)?;
     let count = found.volume.chain.count();
     if 0 < count {
-        return Err(MountError::HasAncestors { count });
+        return Err(MountError::Refused(Refusal::HasAncestors { count }));
     }
     Ok(Described {
         geometry: found.volume.geometry(log),

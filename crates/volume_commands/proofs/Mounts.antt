@@ -1,17 +1,16 @@
 -- What a mount of `serve` made or left, with the cache or without it.
-use Rattle.std.proofs.Common.{◌≡◌, ℕ, List, Bool, true, false}
+use Rattle.std.proofs.Common.{◌≡◌, ℕ, List, Bool, true, false, ap}
 use Rattle.std.specs.Prelude.{Ok, Err}
 use Rattle.lsvd_device.specs.Device.{DiskState}
 use Rattle.lsvd_objstore.specs.Store.{StoreState, ReceiptState}
 use Rattle.stopped_volume.specs.Store.{TellsBytes}
 use Rattle.commit_slot.specs.Slots.{log_of}
 use Rattle.vol_mount.specs.Mounted.{MountedState}
-use Rattle.vol_mount.specs.Refusals.{IsFault}
 use Rattle.vol_mount.specs.declared.error.MountError.{MountError}
 use Rattle.vol_mount.specs.declared.error.MountError.TheVariants as mounts
 use Rattle.vol_recover.proofs.ForCallers.{IsOfSomeVolume, made_kept, made_lost, not_kept, not_lost}
 use Rattle.volume_commands.specs.declared.error.CommandError.TheVariants as errors
-use Rattle.volume_commands.specs.declared.refusal.Refusal.{Refusal}
+use Rattle.refusals.specs.declared.refusal.Refusal.{Refusal}
 use Rattle.volume_commands.specs.Mounting.{MountEnds}
 use Rattle.volume_commands.specs.Serving.{of_mount}
 use Rattle.volume_commands.specs.World.{IsConstant}
@@ -46,29 +45,20 @@ fault_counts_none disk_state store_state receipt_state false uuid first left old
     mount_counts_none (λ disk. (disk_state disk).faults) (λ store. (store_state store).faults) first left old new error
     (cost_counts _ error (disk_state first) (disk_state left) none.costs) none.faults is disks stores
 
--- a refusal is no fault
-not_fault : (error : MountError) (why : Refusal) → of_mount error ≡ errors.Refused why → IsFault error → ⊥
-not_fault mounts.StoreFault why is fault = let bad : ⊥ = cc in bad
-not_fault mounts.DeviceFault why is fault = let bad : ⊥ = cc in bad
-not_fault mounts.OutOfMemory why is fault = let bad : ⊥ = cc in bad
-not_fault mounts.NoVolume why is fault = fault
-not_fault (mounts.BadSuper reason) why is fault = fault
-not_fault (mounts.HasAncestors count) why is fault = fault
-not_fault mounts.NoCheckpoint why is fault = fault
-not_fault (mounts.BadObject number reason) why is fault = fault
-not_fault (mounts.NotData number) why is fault = fault
-not_fault (mounts.NoSlot log) why is fault = fault
-not_fault (mounts.WrongVolume found) why is fault = fault
-not_fault (mounts.StaleCache cache store) why is fault = fault
-not_fault (mounts.BadRecord seq reason) why is fault = fault
-not_fault (mounts.Worn value) why is fault = fault
+-- what a command is refused for is what the mount was
+pub refusal_is : (error : MountError) (why : Refusal) → of_mount error ≡ errors.Refused why → error ≡ mounts.Refused why
+refusal_is (mounts.Refused refusal) why is =
+    let told : errors.Refused refusal ≡ errors.Refused why = is in
+    let same : refusal ≡ why = cc in ap (λ r. mounts.Refused r) same
+refusal_is mounts.StoreFault why is = (let bad : ⊥ = cc in absurd bad)
+refusal_is mounts.DeviceFault why is = (let bad : ⊥ = cc in absurd bad)
+refusal_is mounts.OutOfMemory why is = (let bad : ⊥ = cc in absurd bad)
 
--- so it left the objects
+-- a mount that was refused left the objects
 pub refusal_keeps : {D R : Type 0} (disk_state : D → DiskState) (receipt_state : R → ReceiptState) (is_lost : Bool)
-    (uuid : List ℕ) (disk : DiskState) (left : D) (old new : StoreState) (error : MountError) (why : Refusal)
-    → of_mount error ≡ errors.Refused why
-    → MountEnds disk_state receipt_state is_lost uuid disk old new (Err (left, error)) → new.objects ≡ old.objects
-refusal_keeps disk_state receipt_state true uuid disk left old new error why is ends =
-    (not_lost disk_state (TellsBytes receipt_state) uuid disk old new left error ends).store (not_fault error why is)
-refusal_keeps disk_state receipt_state false uuid disk left old new error why is ends =
-    (not_kept disk_state (TellsBytes receipt_state) uuid disk old new left error ends).store (not_fault error why is)
+    (uuid : List ℕ) (disk : DiskState) (left : D) (old new : StoreState) (why : Refusal)
+    → MountEnds disk_state receipt_state is_lost uuid disk old new (Err (left, mounts.Refused why)) → new.objects ≡ old.objects
+refusal_keeps disk_state receipt_state true uuid disk left old new why ends =
+    (not_lost disk_state (TellsBytes receipt_state) uuid disk old new left (mounts.Refused why) ends).store (λ fault. fault)
+refusal_keeps disk_state receipt_state false uuid disk left old new why ends =
+    (not_kept disk_state (TellsBytes receipt_state) uuid disk old new left (mounts.Refused why) ends).store (λ fault. fault)

@@ -6,7 +6,7 @@ use Rattle.lsvd_objstore.specs.Store.{StoreState, ReceiptState}
 use Rattle.command_line.specs.declared.serve.ServeRequest.{ServeRequest}
 use Rattle.volume_server.specs.Serving.{ListenerState, ConnectionState}
 use Rattle.volume_commands.specs.declared.error.CommandError.{CommandError}
-use Rattle.volume_commands.specs.declared.refusal.Refusal.{Refusal}
+use Rattle.refusals.specs.declared.refusal.Refusal.{Refusal}
 use Rattle.volume_commands.specs.Mounting.{RefusesIn, ServesOn, ServesCache}
 
 -- what follows of something that a command has done follows where it has done it

@@ -27,7 +27,7 @@ use Rattle.volume_server.specs.declared.serving.LaneEnd.TheVariants as lanes
 use Rattle.volume_server.specs.Serving.{ListenerState, ClosesAs}
 use Rattle.volume_commands.specs.declared.error.CommandError.{CommandError}
 use Rattle.volume_commands.specs.declared.error.CommandError.TheVariants as errors
-use Rattle.volume_commands.specs.declared.refusal.Refusal.{Refusal}
+use Rattle.refusals.specs.declared.refusal.Refusal.{Refusal}
 use Rattle.volume_commands.specs.Creating.{of_world}
 use Rattle.volume_commands.specs.declared.world.WorldError.{WorldError}
 use Rattle.volume_commands.specs.declared.world.WorldError.TheVariants as worlds
@@ -102,26 +102,7 @@ mount_counts_none disk_faults store_faults first last old new mounts.StoreFault 
     stands_still store_faults old new stores store
 mount_counts_none disk_faults store_faults first last old new mounts.DeviceFault disk store is disks stores =
     stands_still disk_faults first last disks (disk refl)
-mount_counts_none disk_faults store_faults first last old new mounts.NoVolume disk store is disks stores = let bad : ⊥ = cc in bad
-mount_counts_none disk_faults store_faults first last old new (mounts.BadSuper reason) disk store is disks stores =
-    let bad : ⊥ = cc in bad
-mount_counts_none disk_faults store_faults first last old new (mounts.HasAncestors count) disk store is disks stores =
-    let bad : ⊥ = cc in bad
-mount_counts_none disk_faults store_faults first last old new mounts.NoCheckpoint disk store is disks stores =
-    let bad : ⊥ = cc in bad
-mount_counts_none disk_faults store_faults first last old new (mounts.BadObject number reason) disk store is disks stores =
-    let bad : ⊥ = cc in bad
-mount_counts_none disk_faults store_faults first last old new (mounts.NotData number) disk store is disks stores =
-    let bad : ⊥ = cc in bad
-mount_counts_none disk_faults store_faults first last old new (mounts.NoSlot log) disk store is disks stores =
-    let bad : ⊥ = cc in bad
-mount_counts_none disk_faults store_faults first last old new (mounts.WrongVolume found) disk store is disks stores =
-    let bad : ⊥ = cc in bad
-mount_counts_none disk_faults store_faults first last old new (mounts.StaleCache cache current) disk store is disks stores =
-    let bad : ⊥ = cc in bad
-mount_counts_none disk_faults store_faults first last old new (mounts.BadRecord seq reason) disk store is disks stores =
-    let bad : ⊥ = cc in bad
-mount_counts_none disk_faults store_faults first last old new (mounts.Worn value) disk store is disks stores =
+mount_counts_none disk_faults store_faults first last old new (mounts.Refused why) disk store is disks stores =
     let bad : ⊥ = cc in bad
 mount_counts_none disk_faults store_faults first last old new mounts.OutOfMemory disk store is disks stores =
     let bad : ⊥ = cc in bad

@@ -14,7 +14,7 @@ use Rattle.volume_server.specs.declared.serving.LaneEnd.{LaneEnd}
 use Rattle.volume_server.specs.declared.serving.LaneEnd.TheVariants as lanes
 use Rattle.volume_commands.specs.declared.error.CommandError.{CommandError}
 use Rattle.volume_commands.specs.declared.error.CommandError.TheVariants as errors
-use Rattle.volume_commands.specs.declared.refusal.Refusal.{Refusal}
+use Rattle.refusals.specs.declared.refusal.Refusal.{Refusal}
 use Rattle.volume_commands.specs.Mounting.{Drains, ServesMounted}
 use Rattle.volume_commands.specs.Serving.{mounted_line, writes_line, serving_text, AppendsFront, IsServingFront, TellsServed}
 use Rattle.volume_commands.specs.Serving.{judged}

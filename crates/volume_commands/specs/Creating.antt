@@ -21,8 +21,8 @@ use Rattle.vol_recover.specs.declared.creating.CreateError.{CreateError}
 use Rattle.vol_recover.specs.declared.creating.CreateError.TheVariants as create_errors
 use Rattle.volume_commands.specs.declared.error.CommandError.{CommandError}
 use Rattle.volume_commands.specs.declared.error.CommandError.TheVariants as errors
-use Rattle.volume_commands.specs.declared.refusal.Refusal.{Refusal}
-use Rattle.volume_commands.specs.declared.refusal.Refusal.TheVariants as refusals
+use Rattle.refusals.specs.declared.refusal.Refusal.{Refusal}
+use Rattle.refusals.specs.declared.refusal.Refusal.TheVariants as reasons
 use Rattle.volume_commands.specs.declared.report.Report.{Report}
 use Rattle.volume_commands.specs.declared.report.Report.TheVariants.{Done, Fault, Usage, BadLine, Refused, Memory}
 use Rattle.volume_commands.specs.declared.world.WorldError.{WorldError}
@@ -44,7 +44,7 @@ of_look error = errors.Fault
 
 -- and one of a creation
 abbrev pub of_creation : CreateError → CommandError
-of_creation create_errors.Exists = errors.Refused refusals.Exists
+of_creation create_errors.Exists = errors.Refused reasons.Exists
 of_creation create_errors.StoreFault = errors.Fault
 of_creation create_errors.DeviceFault = errors.Fault
 of_creation create_errors.OutOfMemory = errors.OutOfMemory
@@ -92,7 +92,7 @@ pub record CreatesFor (tells : Bool) (request : CreateRequest) (uuid : List ℕ)
 -- A volume is not created, since a store has a super object of it; its objects stay. Where it tells them, the cache is as it was.
 pub record IsThere (uuid : List ℕ) (why : Refusal) (before after : Option Objects) (stood stands : Option DiskState) :
     Type 0 where
-  pub is : why ≡ refusals.Exists
+  pub is : why ≡ reasons.Exists
   pub exists : IfSome before (λ objects. IsSome (found objects (super_name uuid)))
   pub same : after ≡ before
   pub cache : IfSome before (λ objects. stands ≡ stood)
@@ -121,7 +121,7 @@ TellsCreation request Done old new = (uuid : List ℕ) × IsUuidFor request uuid
 TellsCreation request Fault old new =
     (new ≡ old) ⊎ ((uuid : List ℕ) × IsUuidFor request uuid
     × ((n : ℕ) × (n ≤ length (created_line uuid)) × Appends old new (take n (created_line uuid))))
-TellsCreation request (Refused why) old new = (why ≡ refusals.Exists) × (new ≡ old)
+TellsCreation request (Refused why) old new = (why ≡ reasons.Exists) × (new ≡ old)
 TellsCreation request Memory old new = new ≡ old
 TellsCreation request Usage old new = ⊥
 TellsCreation request (BadLine number reason) old new = ⊥

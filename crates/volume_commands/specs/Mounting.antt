@@ -8,6 +8,7 @@ use Rattle.command_line.specs.declared.serve.ServeRequest.{ServeRequest}
 use Rattle.stopped_volume.specs.Store.{TellsBytes}
 use Rattle.vol_core.specs.Volume.{SteppedVolume}
 use Rattle.vol_mount.specs.declared.error.MountError.{MountError}
+use Rattle.vol_mount.specs.declared.error.MountError.TheVariants.{Refused}
 use Rattle.vol_mount.specs.Mounted.{MountedState}
 use Rattle.vol_recover.specs.Admitting.{IsWhyNotAdmitted}
 use Rattle.vol_recover.specs.Mounting.{MountsKept, MountsLost}
@@ -17,10 +18,9 @@ use Rattle.nbd_session.specs.Exchanges.{Calls}
 use Rattle.volume_server.specs.Serving.{ListenerState, ConnectionState, GivesClients, EndsLane, AreClients}
 use Rattle.volume_server.specs.declared.serving.Lane.{Lane}
 use Rattle.volume_server.specs.declared.serving.LaneEnd.TheVariants as ends
-use Rattle.volume_commands.specs.declared.error.CommandError.TheVariants as errors
-use Rattle.volume_commands.specs.declared.refusal.Refusal.{Refusal}
+use Rattle.refusals.specs.declared.refusal.Refusal.{Refusal}
 use Rattle.volume_commands.specs.Closing.{IsLetGo}
-use Rattle.volume_commands.specs.Serving.{of_mount, serving_text}
+use Rattle.volume_commands.specs.Serving.{serving_text}
 use Rattle.volume_commands.specs.World.{Places, where_told, bytes_with, IsGiven}
 
 -- ---- the cache
@@ -49,18 +49,16 @@ MountEnds state receipt_state false uuid disk old new result =
 
 -- ---- refusals
 
--- A refusal before the cache is made anew is told for such an error alone: the volume does not take the log that it is to have.
+-- A refusal is told before the cache is made anew for this alone: the volume does not take the log that it is to have.
 abbrev pub IsWhyBefore : ServeRequest → Option Objects → Refusal → Type 0
 IsWhyBefore request objects why =
-    (log : ℕ) × (log_anew request ≡ Some log) × (error : MountError) × (of_mount error ≡ errors.Refused why)
-    × IsWhyNotAdmitted request.volume log objects error
+    (log : ℕ) × (log_anew request ≡ Some log) × IsWhyNotAdmitted request.volume log objects (Refused why)
 
 -- The volume that is asked for was refused by its mount of this disk and this store, which left them so.
-pub record RefusesOn {D R : Type 0} (disk_state : D → DiskState) (receipt_state : R → ReceiptState) (request : ServeRequest)
-    (disk : DiskState) (disk_left : D) (store store_left : StoreState) (why : Refusal) : Type 0 where
-  pub error : MountError
-  pub is : of_mount error ≡ errors.Refused why
-  pub ends : MountEnds disk_state receipt_state request.is_lost request.volume disk store store_left (Err (disk_left, error))
+abbrev pub RefusesOn : {D R : Type 0} → (D → DiskState) → (R → ReceiptState) → ServeRequest → DiskState → (disk_left : D)
+    → (store store_left : StoreState) → Refusal → Type 0
+RefusesOn disk_state receipt_state request disk disk_left store store_left why =
+    MountEnds disk_state receipt_state request.is_lost request.volume disk store store_left (Err (disk_left, Refused why))
 
 -- It was refused so of the disk that stood at its path or was made anew, which stands there as the mount left it.
 pub record RefusesCache {D R : Type 0} (tells : Bool) (disk_state : D → DiskState) (receipt_state : R → ReceiptState)

@@ -1,9 +1,6 @@
 -- Contract: what a run of `serve` says.
 use Rattle.std.specs.Prelude.{◌≡◌, ◌^◌, ◌≤◌, ℕ, IfSome, List, ◌++◌, Option, Result, Ok, Err, codes, decimal, length, take}
 use Rattle.std.specs.Io.KnownBytes.{Appends}
-use Rattle.object_format.specs.Tests.{code_of as object_code}
-use Rattle.log_record.specs.Tests.{code_of as record_code}
-use Rattle.super_recovery.specs.Found.{code_of as super_code}
 use Rattle.command_line.specs.declared.serve.ServeRequest.{ServeRequest}
 use Rattle.vol_mount.specs.declared.error.MountError.{MountError}
 use Rattle.vol_mount.specs.declared.error.MountError.TheVariants as mounts
@@ -13,7 +10,6 @@ use Rattle.volume_server.specs.declared.serving.LaneEnd.{LaneEnd}
 use Rattle.volume_server.specs.declared.serving.LaneEnd.TheVariants as lanes
 use Rattle.volume_commands.specs.declared.error.CommandError.{CommandError}
 use Rattle.volume_commands.specs.declared.error.CommandError.TheVariants as errors
-use Rattle.volume_commands.specs.declared.refusal.Refusal.TheVariants as refusals
 use Rattle.volume_commands.specs.declared.report.Report.{Report}
 use Rattle.volume_commands.specs.declared.report.Report.TheVariants.{Done, Fault, Usage, BadLine, Refused, Memory}
 
@@ -25,19 +21,9 @@ HasLogLength request = IfSome request.log (λ log. log ≤ 2 ^ 31)
 
 -- ---- errors
 
--- what an error of a mount is to a command. A copied object is of a kind that is not mounted yet, as one of an unknown kind is
+-- what an error of a mount is to a command
 abbrev pub of_mount : MountError → CommandError
-of_mount mounts.NoVolume = errors.Refused refusals.NoVolume
-of_mount (mounts.BadSuper reason) = errors.Refused (refusals.BadSuper (super_code reason))
-of_mount (mounts.HasAncestors count) = errors.Refused (refusals.TooDeep count)
-of_mount mounts.NoCheckpoint = errors.Refused refusals.NoCheckpoint
-of_mount (mounts.BadObject number reason) = errors.Refused (refusals.BadObject number (object_code reason))
-of_mount (mounts.NotData number) = errors.Refused (refusals.BadObject number 3)
-of_mount (mounts.NoSlot log) = errors.Refused (refusals.NoSlot log)
-of_mount (mounts.WrongVolume found) = errors.Refused (refusals.WrongVolume found)
-of_mount (mounts.StaleCache cache store) = errors.Refused (refusals.StaleCache cache store)
-of_mount (mounts.BadRecord seq reason) = errors.Refused (refusals.BadRecord seq (record_code reason))
-of_mount (mounts.Worn value) = errors.Refused (refusals.Worn value)
+of_mount (mounts.Refused why) = errors.Refused why
 of_mount mounts.StoreFault = errors.Fault
 of_mount mounts.DeviceFault = errors.Fault
 of_mount mounts.OutOfMemory = errors.OutOfMemory

@@ -10,13 +10,13 @@ ghost use Rattle.volume_commands.specs.Serving.{mounted_line, writes_line, Appen
 ghost use Rattle.volume_commands.specs.World.{IsConstant};
 
 use crate::error::CommandError;
-use crate::refusal::Refusal;
 use arrayvec::ArrayString;
 use itoa::Buffer;
 use lsvd_device::Disk;
 use lsvd_fault::{Failed, Sink, write_all};
 use lsvd_listen::Listener;
 use lsvd_objstore::Store;
+use refusals::Refusal;
 use std::alloc::Global;
 use vol_core::Volume;
 use vol_recover::Mounted;

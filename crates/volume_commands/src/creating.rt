@@ -15,7 +15,6 @@ ghost use Rattle.volume_commands.specs.World.{GivesBack, IsGivenBack};
 
 use crate::closing::let_go;
 use crate::error::CommandError;
-use crate::refusal::Refusal;
 use crate::report::Report;
 use crate::world::World;
 use arrayvec::ArrayString;
@@ -25,6 +24,7 @@ use lsvd_base::SECTOR_BYTES;
 use lsvd_device::Disk;
 use lsvd_fault::{Failed, Sink, write_all};
 use lsvd_objstore::Store;
+use refusals::Refusal;
 use std::alloc::Global;
 use super_recovery::has_super;
 use uuid::{Builder, Uuid};

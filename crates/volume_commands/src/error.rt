@@ -3,22 +3,25 @@ ghost use Rattle.volume_commands.specs.declared.error.CommandError.TheVariants a
 ghost use Rattle.volume_commands.specs.Creating.{of_creation, of_look, of_world};
 ghost use Rattle.volume_commands.specs.Serving.{of_mount, of_owner};
 
-use crate::refusal::Refusal;
 use crate::world::WorldError;
 use lsvd_fault::Failed;
-use object_format::BadObject;
+use refusals::Refusal;
 use super_recovery::SuperError;
+use thiserror::Error;
 use vol_recover::{CreateError, MountError};
 use volume_owner::OwnerError;
 
 /// Why a command ended before its work was done.
-#[derive(Clone, Copy)]
+#[derive(Clone, Copy, Debug, Error)]
 pub(crate) enum CommandError {
     /// The volume is not created or not mounted, for this reason.
+    #[error("{0}")]
     Refused(Refusal),
     /// A call of the world failed, or one of a disk or of a store that it gave.
+    #[error("a call to the outside failed")]
     Fault,
     /// Memory ran out.
+    #[error("out of memory")]
     OutOfMemory,
 }
 
@@ -68,39 +71,9 @@ impl From<CreateError> for CommandError {
 impl From<MountError> for CommandError {
     ghost from_gives = { λ error e. e ≡ of_mount error };
 
-    // A copied object is of a kind that is not mounted yet, as one of an unknown kind is.
     fn from(error: MountError) -> CommandError {
         match error {
-            MountError::NoVolume => CommandError::Refused(Refusal::NoVolume),
-            MountError::BadSuper { reason } => CommandError::Refused(Refusal::BadSuper {
-                reason: reason.code(),
-            }),
-            MountError::HasAncestors { count } => {
-                CommandError::Refused(Refusal::TooDeep { ancestors: count })
-            }
-            MountError::NoCheckpoint => CommandError::Refused(Refusal::NoCheckpoint),
-            MountError::BadObject { number, reason } => {
-                CommandError::Refused(Refusal::BadObject {
-                    number,
-                    reason: reason.code(),
-                })
-            }
-            MountError::NotData { number } => CommandError::Refused(Refusal::BadObject {
-                number,
-                reason: BadObject::Kind.code(),
-            }),
-            MountError::NoSlot { log } => CommandError::Refused(Refusal::NoSlot { log }),
-            MountError::WrongVolume { found } => {
-                CommandError::Refused(Refusal::WrongVolume { found })
-            }
-            MountError::StaleCache { cache, store } => {
-                CommandError::Refused(Refusal::StaleCache { cache, store })
-            }
-            MountError::BadRecord { seq, reason } => CommandError::Refused(Refusal::BadRecord {
-                seq,
-                reason: reason.code(),
-            }),
-            MountError::Worn { value } => CommandError::Refused(Refusal::Worn { value }),
+            MountError::Refused(refusal) => CommandError::Refused(refusal),
             MountError::StoreFault | MountError::DeviceFault => CommandError::Fault,
             MountError::OutOfMemory => CommandError::OutOfMemory,
         }

@@ -21,7 +21,6 @@ mod world;
 pub use creating::answer_create;
 pub use laws::{a_created_volume_may_be_mounted, a_served_volume_may_be_mounted_again};
 pub use real_world::{RealDisk, RealListener, RealStore, RealWorld};
-pub use refusal::Refusal;
 pub use report::Report;
 pub use serving::answer_serve;
 pub use world::{World, WorldError};

@@ -8,10 +8,10 @@ ghost use Rattle.volume_commands.specs.World.{IsConstant};
 
 use crate::creating::device_bytes;
 use crate::error::CommandError;
-use crate::refusal::Refusal;
 use command_line::ServeRequest;
 use lsvd_device::Disk;
 use lsvd_objstore::Store;
+use refusals::Refusal;
 use std::alloc::Global;
 use vol_recover::{MountError, Mounted, admit_log, mount_kept, mount_lost};
 

@@ -1,10 +1,11 @@
 ghost use Rattle.std.specs.Prelude.{◌≡◌};
 ghost use Rattle.volume_commands.specs.Report.{status_of, line_of, IsTold};
 
-use crate::refusal::Refusal;
+use crate::refusal::tell_refusal;
 use arrayvec::ArrayString;
 use itoa::Buffer;
 use lsvd_fault::{Sink, write_all};
+use refusals::Refusal;
 use transcript::LineReason;
 
 /// How a run of the program ended.
@@ -49,7 +50,7 @@ impl Report {
             Report::Fault => tell_line(err, b"fault\n"),
             Report::Usage => tell_line(err, b"usage\n"),
             Report::BadLine { number, reason } => tell_bad_line(err, *number, *reason),
-            Report::Refused(refusal) => refusal.tell(err),
+            Report::Refused(refusal) => tell_refusal(err, refusal),
             Report::Memory => tell_line(err, b"memory\n"),
         }
     }

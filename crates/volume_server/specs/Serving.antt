@@ -69,7 +69,8 @@ pub record IsClient {R K : Type 0} (state : R → ReceiptState) (told : K → Co
   pub sent : HasSentAll last.held (told link).faults last.faults
 
 -- the client that came was served, or none came, and nothing becomes of the volume
-abbrev pub ServesNext : {R K : Type 0} → (R → ReceiptState) → (K → ConnectionState) → NextClient K → (coming left : Option (List K))
+abbrev pub ServesNext : {R K : Type 0} → (R → ReceiptState) → (K → ConnectionState) → NextClient K
+    → (coming left : Option (List K))
     → (old new : Moment) → Type 0
 ServesNext state told (Served link end) coming left old new = IsClient state told end (told link) coming left old new
 ServesNext state told NoLink coming left old new = AreNone coming left × (new ≡ old)

@@ -5,7 +5,7 @@ use Rattle.command_run.proofs.Ran.{are_refused, one_of_all, runs_as_create, runs
 use Rattle.command_run.proofs.Ran.{runs_as_usage}
 use Rattle.command_run.proofs.Reached.{reaches_by_replay, reaches_by_create, reaches_by_serve, reaches_nothing}
 use Rattle.command_run.proofs.Reported.{reported}
-use Rattle.volume_commands.specs.declared.refusal.Refusal.{Refusal}
+use Rattle.refusals.specs.declared.refusal.Refusal.{Refusal}
 use Rattle.volume_commands.specs.declared.report.Report.TheVariants as reports
 use Rattle.command_run.proofs.running.execute.Goals as goal
 

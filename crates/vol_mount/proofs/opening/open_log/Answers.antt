@@ -28,7 +28,7 @@ returns-in-Some-clause-err g c =
     not_taken c.args.known.now.uuid c.args.known.now.geometry c.args.known.now.epoch c.args.known.now.end
     c.args.known.now.greatest
     (g.D.Disk.state c.args.disk) c.requires.log c.in-Ok.commits c.in-Ok.ensures.ok
-    c.in-Ok.ensures.costs c.in-Ok.ensures.settled c.in-Ok.ensures.crash_safe c.in-Some.error (g.D.Disk.state c.into_disk.result)
+    c.in-Ok.ensures.costs c.in-Ok.ensures.settled c.in-Ok.ensures.crash_safe c.in-Some.refusal (g.D.Disk.state c.into_disk.result)
     c.into_disk.ensures.same c.in-Some.ensures.some
 
 -- ---- the log was not opened

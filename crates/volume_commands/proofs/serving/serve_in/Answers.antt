@@ -61,7 +61,6 @@ returns-clause-why g c why is =
 
 pub returns-clause-same : goal.returns-clause-same
 returns-clause-same g c why is =
-    let refuses = c.serve_on-disk.ensures.why why is in
     refusal_keeps (λ disk. g.W.Disk.Disk.state disk) g.W.Store.Receipt.Receipt.state c.args.request.now.is_lost
-    c.args.request.now.volume _ c.serve_on-disk.result.0 _ _ refuses.error why refuses.is refuses.ends
+    c.args.request.now.volume _ c.serve_on-disk.result.0 _ _ why (c.serve_on-disk.ensures.why why is)
     ∙ ap (λ (s : StoreState). s.objects) c.in_ok-length.ensures.same

@@ -1,5 +1,9 @@
+use Rattle.std.proofs.Common.{subst}
+use Rattle.std.specs.Prelude.{Err}
+use Rattle.vol_mount.specs.declared.error.MountError.{MountError}
 use Rattle.volume_commands.specs.declared.error.CommandError.TheVariants as errors
-use Rattle.volume_commands.proofs.Mounts.{fault_counts_none, made_some}
+use Rattle.volume_commands.specs.Mounting.{MountEnds}
+use Rattle.volume_commands.proofs.Mounts.{fault_counts_none, made_some, refusal_is}
 use Rattle.volume_commands.proofs.Places.{on_done}
 use Rattle.volume_commands.proofs.Served.{mounted_has_room, mounted_is_idle, told_as}
 use Rattle.volume_commands.proofs.Told.{nothing_served}
@@ -11,11 +15,11 @@ pub returns-in-Err-clause-told : goal.returns-in-Err-clause-told
 returns-in-Err-clause-told g c = nothing_served c.into.result (g.W.Out.Sink.contents c.args.out.now)
 
 pub returns-in-Err-clause-why : goal.returns-in-Err-clause-why
-returns-in-Err-clause-why g c why is = record {
-  error = c.in-Err.error;
-  is = told_as _ _ _ c.into.ensures is;
-  ends = c.in-Err.ensures;
-}
+returns-in-Err-clause-why g c why is =
+    subst (λ (e : MountError). MountEnds (λ disk. g.W.Disk.Disk.state disk) g.W.Store.Receipt.Receipt.state
+    c.args.request.now.is_lost c.args.request.now.volume (g.W.Disk.Disk.state c.args.disk)
+    (g.W.Store.Store.state c.args.store.now) (g.W.Store.Store.state c.mount.new.store) (Err (c.in-Err.disk, e)))
+    (refusal_is c.in-Err.error why (told_as _ _ _ c.into.ensures is)) c.in-Err.ensures
 
 pub returns-in-Err-clause-fault : goal.returns-in-Err-clause-fault
 returns-in-Err-clause-fault g c is disks stores clients =
