@@ -4,7 +4,7 @@ use Rattle.std.specs.Prelude.{Option, Ok}
 use Rattle.clap.specs.Walk.{Text}
 use Rattle.lsvd_device.specs.Device.{DiskState}
 use Rattle.lsvd_objstore.specs.Store.{ReceiptState}
-use Rattle.command_line.specs.CommandLine.{IsRead, Line, Spells, replay, create, serve}
+use Rattle.command_line.specs.CommandLine.{IsRead, Line, Spells, create, serve}
 use Rattle.command_line.specs.declared.create.CreateRequest.{CreateRequest}
 use Rattle.command_line.specs.declared.serve.ServeRequest.{ServeRequest}
 use Rattle.command_line.specs.declared.request.Request.TheVariants.{Replay, Create, Serve}

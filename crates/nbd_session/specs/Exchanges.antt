@@ -9,6 +9,7 @@ use Rattle.lsvd_objstore.specs.Store.{ReceiptState}
 use Rattle.nbd_wire.specs.declared.message.Request.{Request}
 use Rattle.nbd_wire.specs.Messages.{request_bytes, IsRequest, simple_reply_bytes}
 use Rattle.vol_core.specs.declared.event.Event.TheVariants as events
+use Rattle.vol_core.specs.View.{volume_disk, volume_geometry}
 use Rattle.volume_owner.specs.declared.error.OwnerError.{OwnerError}
 use Rattle.volume_owner.specs.declared.error.OwnerError.TheVariants as owner_errors
 use Rattle.volume_owner.specs.Owner.{most_of_call}
@@ -76,7 +77,7 @@ Calls state added failed old new = IsCall state most_of_call added failed old.vo
 pub record Flushes {R : Type 0} (state : R → ReceiptState) (failed : Bool) (old new : Moment) : Type 0 where
   pub step : MakesStep state events.Flush [] old.volume new.volume
   pub steps : MakesSteps 1 [] old.volume new.volume
-  pub faults : Counts failed old.volume.volume.log.commits.disk.faults new.volume.volume.log.commits.disk.faults
+  pub faults : Counts failed (volume_disk old.volume.volume).faults (volume_disk new.volume.volume).faults
   pub store : new.store ≡ old.store
   pub durable : failed ≡ false → IsDurable new.volume.volume
 
@@ -160,7 +161,7 @@ max_session_steps = 2 ^ 58
 
 -- what a request asks of the volume of a moment
 abbrev pub asked_at : Moment → Request → Asked
-asked_at moment request = asked_of moment.volume.volume.objects.batch.geometry request
+asked_at moment request = asked_of (volume_geometry moment.volume.volume) request
 
 -- a request that was answered, between two moments; one to disconnect is not
 pub record IsRequestExchange {R : Type 0} (state : R → ReceiptState) (exchange : RequestExchange) (old new : Moment) :

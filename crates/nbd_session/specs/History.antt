@@ -5,6 +5,7 @@ use Rattle.lsvd_objstore.specs.Store.{ReceiptState, Becomes}
 use Rattle.stopped_volume.specs.Device.{CacheOwner}
 use Rattle.vol_core.specs.Step.{HasSameSizes}
 use Rattle.vol_core.specs.Stops.{HasOwnCommits}
+use Rattle.vol_core.specs.View.{volume_uuid}
 use Rattle.volume_owner.specs.Acts.{Moment}
 use Rattle.volume_owner.specs.Calls.{Adds, KeepsOtherNames}
 use Rattle.volume_owner.specs.Standing.{KeepsStore}
@@ -19,7 +20,7 @@ pub record Grows (added : List Entry) (old new : Moment) : Type 0 where
   pub adds : Adds added old.volume.volume new.volume.volume
   pub sizes : HasSameSizes old.volume.volume new.volume.volume
   pub own : (owner : CacheOwner) → HasOwnCommits owner old.volume.volume → HasOwnCommits owner new.volume.volume
-  pub store : Becomes (KeepsOtherNames old.volume.volume.objects.uploads.uuid) old.store.objects new.store.objects
+  pub store : Becomes (KeepsOtherNames (volume_uuid old.volume.volume)) old.store.objects new.store.objects
   pub stands : KeepsStore added old new
 
 -- Each request is made where the volume has made fewer than the most steps of a session, and takes few itself. So a volume that

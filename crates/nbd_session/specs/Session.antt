@@ -12,6 +12,7 @@ use Rattle.nbd_options.specs.declared.negotiation.NegotiationEnd.{NegotiationEnd
 use Rattle.nbd_options.specs.declared.negotiation.NegotiationEnd.TheVariants as negotiations
 use Rattle.nbd_options.specs.Negotiation.{Negotiates}
 use Rattle.vol_core.specs.Volume.{SteppedVolume}
+use Rattle.vol_core.specs.View.{volume_geometry, volume_uuid}
 use Rattle.nbd_session.specs.declared.asking.Asked.TheVariants.{Disconnect}
 use Rattle.nbd_session.specs.declared.session.SessionEnd.{SessionEnd}
 use Rattle.nbd_session.specs.declared.session.SessionEnd.TheVariants.{Ended, Closed, Spent, LinkFault, OutOfMemory}
@@ -126,4 +127,4 @@ abbrev pub export_with : (uuid : List ℕ) → Geometry → Export
 export_with uuid geometry = record { uuid = uuid; size = geometry.sectors * 512; max_transfer = geometry.max_write * 512 }
 
 abbrev pub export_of : SteppedVolume → Export
-export_of stepped = export_with stepped.volume.objects.uploads.uuid stepped.volume.objects.batch.geometry
+export_of stepped = export_with (volume_uuid stepped.volume) (volume_geometry stepped.volume)

@@ -7,6 +7,7 @@ ghost use Rattle.nbd_session.specs.Exchanges.{ReadsSectors, EntersEntry, Carries
 ghost use Rattle.nbd_session.specs.Exchanges.{max_session_steps};
 ghost use Rattle.nbd_session.specs.Steps.{IsContent, HasItsContent, MayBeTaken, WriteFits, FlushesOrNot};
 ghost use Rattle.nbd_session.specs.Steps.{done_by};
+ghost use Rattle.vol_core.specs.View.{volume_geometry};
 
 use crate::asking::Asked;
 use crate::content::zeros;
@@ -27,8 +28,8 @@ pub(crate) fn carry_out<D: Disk, R: Receipt, S: Store<Receipt = R>>(
     body: Option<Body>,
 ) -> Result<Body, ReplyError>
     requires room { owner.old.steps < max_session_steps }
-    requires limits { IsTrue (is_within_limits owner.old.volume.objects.batch.geometry) }
-    requires fits { MayBeTaken owner.old.volume.objects.batch.geometry asked }
+    requires limits { IsTrue (is_within_limits (volume_geometry owner.old.volume)) }
+    requires fits { MayBeTaken (volume_geometry owner.old.volume) asked }
     requires whole { IfSome body (HasItsContent asked) }
     ensures { (content : List ℕ) → IsContent content body
         → (entered : List Entry) × CarriesOut R.state asked content result entered
@@ -70,8 +71,8 @@ fn read<D: Disk, R: Receipt, S: Store<Receipt = R>>(
     sectors: u64,
 ) -> Result<Body, ReplyError>
     requires room { owner.old.steps < max_session_steps }
-    requires limits { IsTrue (is_within_limits owner.old.volume.objects.batch.geometry) }
-    requires fits { MayBeTaken owner.old.volume.objects.batch.geometry (Asked.Read lba sectors) }
+    requires limits { IsTrue (is_within_limits (volume_geometry owner.old.volume)) }
+    requires fits { MayBeTaken (volume_geometry owner.old.volume) (Asked.Read lba sectors) }
     ensures { ReadsSectors R.state lba sectors result
         (record { volume = owner.old; store = S.state store.old })
         (record { volume = owner.new; store = S.state store.new }) }
@@ -94,7 +95,7 @@ fn write<D: Disk, R: Receipt, S: Store<Receipt = R>>(
     is_durable: bool,
 ) -> Result<(), ReplyError>
     requires room { owner.old.steps < max_session_steps }
-    requires fits { IfSome body (WriteFits owner.old.volume.objects.batch.geometry lba) }
+    requires fits { IfSome body (WriteFits (volume_geometry owner.old.volume) lba) }
     ensures { (content : List ℕ) → IsContent content body
         → (entered : List Entry) × EntersEntry R.state (write_of lba content) is_durable (done_by result)
         entered (record { volume = owner.old; store = S.state store.old })
@@ -121,7 +122,7 @@ fn zero<D: Disk, R: Receipt, S: Store<Receipt = R>>(
     is_durable: bool,
 ) -> Result<(), ReplyError>
     requires room { owner.old.steps < max_session_steps }
-    requires fits { MayBeTaken owner.old.volume.objects.batch.geometry (Asked.Zero lba sectors is_durable) }
+    requires fits { MayBeTaken (volume_geometry owner.old.volume) (Asked.Zero lba sectors is_durable) }
     ensures { (entered : List Entry) × EntersEntry R.state (zero_of lba sectors) is_durable (done_by result)
         entered (record { volume = owner.old; store = S.state store.old })
         (record { volume = owner.new; store = S.state store.new }) }

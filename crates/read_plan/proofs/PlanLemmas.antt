@@ -66,12 +66,12 @@ module _ (lba sectors : ℕ) (log : LogState) (queue : QueueState) (rows : List 
       }
 
 pub is_plan : (lba sectors : ℕ) (state : ObjLogState) (log : LogState) (rows : List (Extent VolumePlace)) (plan : PlanState)
-    → CanRead lba sectors log state.uploads.queue rows → plan.front ≡ state.batch.first + length state.batch.entries
+    → CanRead lba sectors log state.uploads.queue rows → plan.history_length ≡ state.batch.first + length state.batch.entries
     → AreRowsRead log lba rows (replicate (512 * sectors) 0) plan.bytes → plan.pieces ≡ row_pieces state.uploads.queue lba rows
     → IsStrictlyIncreasing plan.objects → ((number : ℕ) → Contains plan.objects number ↔ Contains (named_objects rows) number)
     → IsReadPlan lba sectors state log plan
-is_plan lba sectors state log rows plan can front read are ascending same = record {
-  front = front;
+is_plan lba sectors state log rows plan can history_length read are ascending same = record {
+  history_length = history_length;
   size = range_has_size lba sectors log state.uploads.queue rows plan.bytes can.good read;
   inside = lie_inside lba sectors log state.uploads.queue rows plan.bytes plan.pieces can read are;
   holds = λ i less. holds lba sectors log state.uploads.queue rows plan i less can read are;

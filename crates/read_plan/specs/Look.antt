@@ -42,7 +42,7 @@ pub record AreObjectsIn (lba sectors : ℕ) (maps : MapsState) (numbers : List �
 
 -- the plan of a read of sectors of a volume with these objects and this log
 pub record IsReadPlan (lba sectors : ℕ) (state : ObjLogState) (log : LogState) (plan : PlanState) : Type 0 where
-  pub front : plan.front ≡ state.batch.first + length state.batch.entries
+  pub history_length : plan.history_length ≡ state.batch.first + length state.batch.entries
   pub size : length plan.bytes ≡ 512 * sectors
   pub inside : PiecesFit plan
   pub holds : (i : ℕ) → i < sectors → HoldsPlace log state.uploads.queue (volume_place_at state.uploads.queue.maps (lba + i)) i

@@ -16,7 +16,7 @@ pub record PieceState : Type 0 where
 -- the plan of a read
 pub record PlanState : Type 0 where
   -- how many entries the history had
-  pub front : ℕ
+  pub history_length : ℕ
   -- the bytes that the log has, and zeros elsewhere
   pub bytes : List ℕ
   pub pieces : List PieceState

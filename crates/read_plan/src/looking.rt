@@ -56,7 +56,7 @@ pub fn look<D: Disk, R: Receipt>(
         return Err(LookError::Fault);
     };
     Ok(Plan {
-        front: objects.batch().next_seq(),
+        history_length: objects.batch().next_seq(),
         bytes,
         pieces,
         objects: numbers,

@@ -12,7 +12,7 @@ use std::marker::Model;
 /// The plan of a read: the bytes that the log has, and where objects have the others.
 #[derive(Drop)]
 pub struct Plan<R: Receipt> {
-    pub(crate) front: u64,
+    pub(crate) history_length: u64,
     pub(crate) bytes: Vec<u8>,
     pub(crate) pieces: Vec<Piece<R>>,
     pub(crate) objects: Vec<u64>,
@@ -27,7 +27,7 @@ impl<R: Receipt> Model for Plan<R> {
     ghost Value = { PlanState };
 
     ghost view = { λ p. record {
-      front = p.front;
+      history_length = p.history_length;
       bytes = p.bytes.items;
       pieces = p.pieces.items;
       objects = p.objects.items;
@@ -39,10 +39,10 @@ impl<R: Receipt> Model for Plan<R> {
 
 impl<R: Receipt> Plan<R> {
     /// How many entries the history had at the look.
-    pub fn front(&self) -> u64
-        ensures { result ≡ self.now.front }
+    pub fn history_length(&self) -> u64
+        ensures { result ≡ self.now.history_length }
     {
-        self.front
+        self.history_length
     }
 
     /// How many bytes the read has.

@@ -22,7 +22,7 @@ use Rattle.plain_disk.proofs.EndLemmas.{ends_within}
 use Rattle.plain_disk.proofs.EventLemmas.{log_has_sectors}
 use Rattle.plain_disk.proofs.MountLemmas.{cut_is, cut_count}
 use Rattle.refine_objects.specs.Shows.{settled_image}
-use Rattle.refine_mount.specs.Mounted.{end_of_object, cut_to_object, sizes_with, mounted_without}
+use Rattle.refine_mount.specs.Mounted.{end_of_object, cut_to_object, sizes_with}
 use Rattle.refine_mount.specs.Laws.{MountsByNumber, MountedIsAtRest, RecoveredShowsObjects}
 
 -- ---- what a mount is to make

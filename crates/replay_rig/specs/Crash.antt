@@ -15,9 +15,9 @@ use Rattle.stopped_volume.specs.Super.{HasVolume}
 use Rattle.plain_disk.specs.declared.log.PlainCommit.{PlainCommit}
 use Rattle.plain_disk.specs.State.{PlainState, created_volume}
 use Rattle.object_recovery.specs.Checkpoints.{expected_of}
-use Rattle.refine_log.specs.Pending.{ShowsPending}
 use Rattle.vol_core.specs.Volume.{SteppedVolume}
 use Rattle.vol_core.specs.Creating.{IsCreated}
+use Rattle.vol_core.specs.View.{PendsAs, last_commit, volume_disk}
 use Rattle.vol_mount.specs.Mounted.{MountedState, disk_of, IsOfVolume}
 use Rattle.vol_mount.specs.Mounting.{IsStored, IsLeft}
 use Rattle.refusals.specs.declared.refusal.Refusal.TheVariants.{Worn}
@@ -61,9 +61,9 @@ pub record IsPutAs (number : ℕ) (puts : List PutView) (old new : Objects) (rec
 -- the volume of a script that was just created, and the store with its first object, its epoch 0 and its super object
 pub record IsNewVolume (geometry : Geometry) (volume : SteppedVolume) (objects : Objects) : Type 0 where
   pub created : IsCreated script_uuid geometry volume
-  pub fuse : fuse_of volume.volume.log.commits.disk.budget ≡ Some None
-  pub pending : ShowsPending volume.volume.log (created_volume geometry).cache
-  pub commits : volume.volume.log.commits.number ≡ 0
+  pub fuse : fuse_of (volume_disk volume.volume).budget ≡ Some None
+  pub pending : PendsAs volume.volume (created_volume geometry).cache
+  pub commits : last_commit volume.volume ≡ 0
   pub described : HasVolume script_uuid geometry 0 objects
   pub first : IsCheckpointOf (expected_of script_uuid geometry) objects 1 0 (λ k. None)
   pub none_else : (number : ℕ) → (number ≡ 1 → ⊥) → found objects (numbered_name script_uuid number) ≡ None

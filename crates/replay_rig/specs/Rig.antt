@@ -17,7 +17,6 @@ use Rattle.plain_disk.specs.declared.log.PlainCommit.{PlainCommit}
 use Rattle.plain_disk.specs.State.{PlainState, history_length, frontier_of}
 use Rattle.plain_disk.specs.Stops.{recovered_number}
 use Rattle.object_recovery.specs.Checkpoints.{expected_of}
-use Rattle.refine_log.specs.Pending.{ShowsPending}
 use Rattle.refine_log.specs.Stops.{IsFoundCommit, HasCommit}
 use Rattle.refine_mount.specs.Found.{HasObjects}
 use Rattle.refine_mount.specs.Mounted.{end_of_object}
@@ -26,6 +25,7 @@ use Rattle.vol_core.specs.Volume.{SteppedVolume}
 use Rattle.vol_core.specs.Step.{HasBytesOf}
 use Rattle.vol_core.specs.Shows.{Shows}
 use Rattle.vol_core.specs.Stops.{HasOwnCommits}
+use Rattle.vol_core.specs.View.{PendsAs, last_commit, volume_disk, volume_uuid}
 use Rattle.replay_rig.specs.Puts.{PutView}
 
 -- ---- what is seen
@@ -95,7 +95,7 @@ pub record HasStored (plain : PlainState) (objects : Objects) : Type 0 where
 pub record IsYoung (rig : RigState) (plain : PlainState) : Type 0 where
   pub entries : history_length plain ≤ rig.lines
   pub objects : plain.window.last ≤ 1 + rig.lines
-  pub commits : rig.volume.volume.log.commits.number ≤ 4 * rig.lines
+  pub commits : last_commit rig.volume.volume ≤ 4 * rig.lines
   pub steps : rig.volume.steps ≤ 2 * rig.lines
 
 -- The rig shows a plain volume: its volume does, with the pending writes of the plain cache, and commits in the epoch that the
@@ -103,12 +103,12 @@ pub record IsYoung (rig : RigState) (plain : PlainState) : Type 0 where
 -- acknowledged.
 pub record ShowsPlain (rig : RigState) (plain : PlainState) : Type 0 where
   pub shows : Shows rig.volume.volume plain
-  pub pending : ShowsPending rig.volume.volume.log plain.cache
+  pub pending : PendsAs rig.volume.volume plain.cache
   pub epoch : ℕ
   pub own : HasOwnCommits (owner_at epoch) rig.volume.volume
   pub described : HasVolume script_uuid plain.geometry epoch rig.objects
   pub begun : epoch ≤ rig.lines
-  pub uuid_is : rig.volume.volume.objects.uploads.uuid ≡ script_uuid
+  pub uuid_is : volume_uuid rig.volume.volume ≡ script_uuid
   pub opens : OpensBlank plain
   pub stopping : rig.is_stopping ≡ is_some plain.cache.left
   pub puts : AreUnderWay plain.window.objects rig.puts
@@ -139,7 +139,7 @@ pub record IsKeptByRig (owner : CacheOwner) (rig : RigState) (plain : PlainState
       → (found : PlainCommit) × IsFoundCommit found plain.cache.log
       × ((number : ℕ) → frontier_of plain ≤ number → number ≤ plain.window.last
       → HasCommit owner plain found (end_of_object number plain) left))
-      rig.volume.volume.log.commits.disk.moments
+      (volume_disk rig.volume.volume).moments
   pub store : (letters : List ℕ) (objects : Objects) → Lands rig.puts letters rig.objects objects
       → HasObjects script_uuid plain (recovered_number (landed_in objects (expected_of_plain plain)) plain) objects
       × (frontier_of plain ≤ recovered_number (landed_in objects (expected_of_plain plain)) plain)

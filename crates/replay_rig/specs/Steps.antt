@@ -13,6 +13,7 @@ use Rattle.vol_core.specs.declared.event.Event.TheVariants.{Write, Zero, Flush, 
 use Rattle.vol_core.specs.Events.{Asks}
 use Rattle.vol_core.specs.Volume.{SteppedVolume, with_budget_of}
 use Rattle.vol_core.specs.Shows.{Shows}
+use Rattle.vol_core.specs.View.{volume_disk}
 use Rattle.refine_log.specs.Fuses.{fuse_in}
 use Rattle.plain_disk.specs.Cache.{is_kept}
 use Rattle.transcript.specs.Letters.{landed_by}
@@ -58,9 +59,9 @@ pub record FailsPut (number : ℕ) (answer : Answer) (old new : RigState) : Type
 -- nothing of a volume has changed but the room on its device
 pub record IsUntouched (old new : SteppedVolume) : Type 0 where
   pub steps : new.steps ≡ old.steps
-  pub volume : new.volume ≡ with_budget_of new.volume.log.commits.disk old.volume
-  pub told : IsTrue (is_some old.volume.log.commits.disk.budget) → IsTrue (is_some new.volume.log.commits.disk.budget)
-  pub fuse : fuse_in new.volume.log.commits.disk.budget ≡ fuse_in old.volume.log.commits.disk.budget
+  pub volume : new.volume ≡ with_budget_of (volume_disk new.volume) old.volume
+  pub told : IsTrue (is_some (volume_disk old.volume).budget) → IsTrue (is_some (volume_disk new.volume).budget)
+  pub fuse : fuse_in (volume_disk new.volume).budget ≡ fuse_in (volume_disk old.volume).budget
   pub shows : (plain : PlainState) → Shows old.volume plain → Shows new.volume plain
 
 -- ---- stops and mounts

@@ -1,7 +1,7 @@
 ghost use Rattle.std.specs.Prelude.{◌≡◌, ◌+◌, ◌==◌, [], IsTrue, IfOk, OnOk, OnErr, Some, length};
 ghost use Rattle.lsvd_base.specs.Limits.{is_within_limits};
 ghost use Rattle.lsvd_names.specs.Names.{numbered_name};
-ghost use Rattle.lsvd_device.specs.Device.{IsDisk, HoldsNow};
+ghost use Rattle.lsvd_device.specs.Device.{HoldsNow};
 ghost use Rattle.lsvd_objstore.specs.Objects.{IsPut};
 ghost use Rattle.commit_slot.specs.Slots.{log_of};
 ghost use Rattle.commit_slot.specs.Formatting.{format_cost};
@@ -12,6 +12,7 @@ ghost use Rattle.vol_recover.specs.Describing.{OfVolume};
 ghost use Rattle.replay_rig.specs.Crash.{FailsNone, IsBlankDisk, IsLeftBy};
 ghost use Rattle.replay_rig.specs.Crash.{IsNewVolume, MayMountStored, MayMountLeft, IsMountedVolume};
 ghost use Rattle.replay_rig.specs.Rig.{script_uuid, owner_at, LandsAs, Lands};
+ghost use Rattle.vol_core.specs.View.{last_commit, volume_disk};
 
 use crate::puts::Put;
 use lsvd_base::{Geometry, ObjectBytes};
@@ -82,8 +83,8 @@ pub(crate) fn stopped_device(
     fates: &[Fate],
 ) -> Result<FuseDisk<MemDisk>, AllocError>
     requires { HoldsNow (λ now. length fates.now ≡ length now.pending)
-        volume.volume.log.commits.disk.moments }
-    ensures left { IfOk result (IsLeftBy fates.now volume.volume.log.commits.disk) }
+        (volume_disk volume.volume).moments }
+    ensures left { IfOk result (IsLeftBy fates.now (volume_disk volume.volume)) }
     ensures fails_none { IfOk result (FailsNone (mount_cost 0)) }
 {
     let left = stopped_disk(alloc, volume.disk(), fates);
@@ -163,7 +164,7 @@ pub(crate) fn mount_anew(
     ensures mounts { IfOk result (λ mounted. OfVolume script_uuid (log_of disk.size) (Some store.old)
         (λ geometry epoch.
         MountsStored script_uuid geometry (Some store.old) mounted)) }
-    ensures number { IfOk result (λ mounted. mounted.volume.volume.log.commits.number ≡ 0) }
+    ensures number { IfOk result (λ mounted. last_commit mounted.volume.volume ≡ 0) }
 {
     match mount_lost(alloc, disk, store, Uuid::from_bytes(UUID)) {
         Ok(mounted) => Ok(mounted),

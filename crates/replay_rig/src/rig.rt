@@ -6,6 +6,7 @@ ghost use Rattle.upload_window.specs.Window.{is_started};
 ghost use Rattle.plain_disk.specs.declared.event.PlainEvent.TheVariants as events;
 ghost use Rattle.plain_disk.specs.State.{PlainState, created_volume};
 ghost use Rattle.vol_core.specs.Step.{most_of_step};
+ghost use Rattle.vol_core.specs.View.{volume_disk};
 ghost use Rattle.transcript.specs.Letters.{under_way};
 ghost use Rattle.replay_rig.specs.Steps.{AnswersEvent, is_counted, AnswersAsked, AnswersRead, FailsPut};
 ghost use Rattle.read_plan.specs.Plan.{GivesNoOther};
@@ -350,7 +351,7 @@ fn put_out(
 // Makes room on the device of a volume for what an event may ask for.
 fn make_room(volume: &mut ScriptVolume, event: &Event<MemReceipt>) -> Result<(), AllocError>
     ensures room { OnOk result (HasRoom (most_of_step event.now).changes (most_of_step event.now).bytes
-        volume.new.volume.log.commits.disk.budget) }
+        (volume_disk volume.new.volume).budget) }
     ensures same { IsUntouched volume.old volume.new }
 {
     let bytes = match event {

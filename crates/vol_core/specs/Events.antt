@@ -64,7 +64,7 @@ TellsRefusal refusals.OutOfMemory reply = ⊥
 
 -- a plan tells what the plain volume says of a read: it gives the data, where the disk tells the entries of the log's list
 pub record TellsRead (volume : VolumeState) (plan : PlanState) (read : PlannedRead) : Type 0 where
-  pub history_length : plan.front ≡ read.history_length
+  pub history_length : plan.history_length ≡ read.history_length
   pub objects : plan.objects ≡ read.objects
   pub gives : IfSome volume.log.entries (λ list. Gives plan read.data)
 

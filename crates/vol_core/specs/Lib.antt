@@ -8,3 +8,4 @@ pub mod Refusals
 pub mod Calls
 pub mod Places
 pub mod ReadLaws
+pub mod View

@@ -1,5 +1,5 @@
--- Contract: from its creation on, and over mounts, a volume stands with its store; and what a stop leaves of the two, also in the
--- midst of a mount, is what the next mount asks for.
+-- Contract: from its creation on, and over mounts, a volume stands with its store; and what a stop leaves of the two is what the
+-- next mount asks for. A stop in the midst of a mount leaves of the store what a mount that fails may leave.
 use Rattle.std.specs.Prelude.{ℕ, ◌+◌, ◌⊎◌, Some, OnSome, IsTrue, List}
 use Rattle.lsvd_base.specs.declared.geometry.Geometry.{Geometry}
 use Rattle.lsvd_base.specs.Limits.{is_within_limits}
@@ -28,6 +28,7 @@ use Rattle.vol_core.specs.Shows.{Shows, IsVolume}
 use Rattle.vol_core.specs.Step.{passing, CountedStep}
 use Rattle.vol_core.specs.Stops.{MayBeLeftBy, HasOwnCommits, KeepsNow}
 use Rattle.vol_core.specs.Volume.{VolumeState, SteppedVolume}
+use Rattle.vol_core.specs.View.{all_log_entries, volume_disk, volume_uploads, volume_uuid}
 use Rattle.vol_mount.specs.Epochs.{BeginsEpoch, MayBeginEpoch}
 use Rattle.vol_mount.specs.Mounted.{MountedState}
 use Rattle.vol_mount.specs.Mounting.{IsStored, IsLeft, MountsStored, MountsLeft}
@@ -39,12 +40,12 @@ use Rattle.vol_recover.specs.Creating.{HasNewVolume}
 pub record StandsWithStore (uuid : List ℕ) (epoch : ℕ) (plain : PlainState) (volume : VolumeState) (objects : Objects) :
     Type 0 where
   pub shows : Shows volume plain
-  pub stands : StoreStands uuid epoch plain volume.objects.uploads objects
+  pub stands : StoreStands uuid epoch plain (volume_uploads volume) objects
 
 -- the same of a volume that was created or mounted as a plain one, whose device passes the calls that its own does
 abbrev pub IsMadeWithStore : (uuid : List ℕ) → (epoch : ℕ) → PlainState → VolumeState → Objects → Type 0
 IsMadeWithStore uuid epoch plain volume objects =
-    StandsWithStore uuid epoch (passing (fuse_in volume.log.commits.disk.budget) plain) volume objects
+    StandsWithStore uuid epoch (passing (fuse_in (volume_disk volume).budget) plain) volume objects
 
 -- ---- what a mount asks for
 
@@ -101,36 +102,36 @@ MountedWithoutStands =
 abbrev pub StopLeavesStore : Type 0
 StopLeavesStore =
     (stepped : SteppedVolume) (epoch : ℕ) (plain : PlainState) (objects : Objects) (log : ℕ) → IsVolume stepped
-    → StandsWithStore stepped.volume.objects.uploads.uuid epoch plain stepped.volume objects
+    → StandsWithStore (volume_uuid stepped.volume) epoch plain stepped.volume objects
     → IsTrue (is_within_limits (sizes_with log plain.geometry))
-    → MayMountWithout stepped.volume.objects.uploads.uuid log epoch plain
-    (recovered_number (landed_in objects (expected_of stepped.volume.objects.uploads.uuid plain.geometry)) plain) objects
+    → MayMountWithout (volume_uuid stepped.volume) log epoch plain
+    (recovered_number (landed_in objects (expected_of (volume_uuid stepped.volume) plain.geometry)) plain) objects
 
 -- And with the cache, by whatever a stop leaves of the device: that reads as the last commit of the plain volume or as the
 -- unfinished one.
 abbrev pub StopLeavesBoth : Type 0
 StopLeavesBoth =
     (stepped : SteppedVolume) (epoch : ℕ) (plain : PlainState) (objects : Objects) → IsVolume stepped
-    → KeepsNow (owner_with stepped.volume.objects.uploads.uuid epoch) stepped.volume
-    → StandsWithStore stepped.volume.objects.uploads.uuid epoch plain stepped.volume objects
-    → HoldsNow (StopMayMount (owner_with stepped.volume.objects.uploads.uuid epoch) plain
-    (λ found. IsFoundCommit found plain.cache.log) objects) stepped.volume.log.commits.disk.moments
+    → KeepsNow (owner_with (volume_uuid stepped.volume) epoch) stepped.volume
+    → StandsWithStore (volume_uuid stepped.volume) epoch plain stepped.volume objects
+    → HoldsNow (StopMayMount (owner_with (volume_uuid stepped.volume) epoch) plain
+    (λ found. IsFoundCommit found plain.cache.log) objects) (volume_disk stepped.volume).moments
 
 -- So it is at each moment of a step, of the plain volume before it: the device reads as a commit that a stop may leave in the
 -- midst of a step of this event.
 abbrev pub StepLeavesBoth : {R : Type 0} → (R → ReceiptState) → Type 0
 StepLeavesBoth {R} state =
     (event : Event R) (reply : Reply R) (old new : SteppedVolume) (epoch : ℕ) (plain : PlainState) (objects : Objects)
-    → IsVolume old → HasOwnCommits (owner_with old.volume.objects.uploads.uuid epoch) old.volume
+    → IsVolume old → HasOwnCommits (owner_with (volume_uuid old.volume) epoch) old.volume
     → CountedStep state event reply old new
-    → StandsWithStore old.volume.objects.uploads.uuid epoch plain old.volume objects
-    → OnSome old.volume.log.all (HoldsSince (StopMayMount (owner_with old.volume.objects.uploads.uuid epoch) plain
-    (MayBeLeftBy event plain) objects) old.volume.log.commits.disk.moments new.volume.log.commits.disk.moments)
+    → StandsWithStore (volume_uuid old.volume) epoch plain old.volume objects
+    → OnSome (all_log_entries old.volume) (HoldsSince (StopMayMount (owner_with (volume_uuid old.volume) epoch) plain
+    (MayBeLeftBy event plain) objects) (volume_disk old.volume).moments (volume_disk new.volume).moments)
 
 -- ---- a mount that is stopped
 
--- What a mount with the cache leaves that was stopped, or that failed, may be mounted with it again: as the same plain volume, or
--- as that which the mount was to make. Either makes the same.
+-- Of a mount with the cache, what is left of the store where it failed or was stopped, and of the device at any moment of it, may
+-- be mounted with each other again: as the same plain volume, or as that which the mount was to make. Either makes the same.
 abbrev pub StoppedWithCache : Type 0
 StoppedWithCache =
     (owner : CacheOwner) (plain : PlainState) (found : PlainCommit) (number : ℕ) (old new : Objects)
@@ -141,8 +142,8 @@ StoppedWithCache =
     → MayMountWith owner plain found number new left
     ⊎ MayMountWith owner (mounted_with found number plain) (mounted_with found number plain).cache.log.last number new left
 
--- What one without the cache leaves may be mounted without it again: as the same plain volume, or in the next epoch as that which
--- the mount was to make. This makes the same.
+-- And of one without the cache, what is left of the store may be mounted without it again: as the same plain volume, or in the
+-- next epoch as that which the mount was to make. This makes the same.
 abbrev pub StoppedWithoutCache : Type 0
 StoppedWithoutCache =
     (uuid : List ℕ) (log epoch : ℕ) (plain : PlainState) (number : ℕ) (old new : Objects) → IsUuid uuid

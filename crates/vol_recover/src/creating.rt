@@ -8,9 +8,9 @@ ghost use Rattle.lsvd_objstore.specs.Objects.{found};
 ghost use Rattle.lsvd_objstore.specs.Store.{Becomes};
 ghost use Rattle.commit_slot.specs.Slots.{log_of};
 ghost use Rattle.plain_disk.specs.State.{created_volume};
-ghost use Rattle.refine_log.specs.Pending.{ShowsPending};
 ghost use Rattle.super_recovery.specs.Put.{PutsSuper, MayBecome};
 ghost use Rattle.vol_core.specs.Creating.{IsCreated, CostsFormat, CanFormat};
+ghost use Rattle.vol_core.specs.View.{PendsAs, volume_disk};
 ghost use Rattle.vol_recover.specs.declared.creating.CreateError.TheVariants as create_errors;
 ghost use Rattle.vol_recover.specs.Creating.{IsFirstObject, PutsFirst, PutsEpochToo, PutsVolume, PutsNoSuper};
 ghost use Rattle.vol_recover.specs.Creating.{MayPut, IsOfStore, IsNewTo, HasNewVolume, HasNoneOrNew};
@@ -118,9 +118,9 @@ pub fn create<D: Disk, S: Store>(
     ensures absent { OnOk result (IfSome (S.state store.old).objects
         (λ objects. found objects (super_name uuid) ≡ None)) }
     ensures calls { IfOk result (λ stepped. CostsFormat uuid true (D.state disk)
-        stepped.volume.log.commits.disk) }
+        (volume_disk stepped.volume)) }
     ensures pending { IfOk result (λ stepped.
-        CanFormat (D.state disk) → ShowsPending stepped.volume.log (created_volume geometry).cache) }
+        CanFormat (D.state disk) → PendsAs stepped.volume (created_volume geometry).cache) }
     ensures exists { IfErr result (λ error. error.1 ≡ create_errors.Exists
         → IfSome (S.state store.old).objects (λ objects. IsSome (found objects (super_name uuid)))) }
     ensures untouched { IfSome (S.state store.old).objects

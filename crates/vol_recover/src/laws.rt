@@ -22,8 +22,9 @@ pub fn a_stop_leaves_what_a_mount_asks_for<R: Receipt>()
     ensures step { StepLeavesBoth R.state }
 {}
 
-/// A law: what a mount leaves that was stopped, or that failed, is what such a mount asks for, of the same
-/// plain volume or of the one that it was to make.
+/// A law: what is left where a mount failed or was stopped is what such a mount asks for, of the same plain
+/// volume or of the one that it was to make: of the store what a mount that fails may leave, and of the
+/// device what a stop leaves at any moment of it.
 pub fn a_stopped_mount_may_be_made_again()
     ensures with_cache { StoppedWithCache }
     ensures without { StoppedWithoutCache }

@@ -5,10 +5,11 @@ use Rattle.stopped_volume.specs.Device.{CacheOwner}
 use Rattle.vol_core.specs.Shows.{IsVolume}
 use Rattle.vol_core.specs.Stops.{HasOwnCommits, KeepsNow}
 use Rattle.vol_core.specs.Volume.{SteppedVolume}
+use Rattle.vol_core.specs.View.{log_sectors, volume_disk}
 
 -- It shows a plain volume, its log has the sectors of its disk, and for each owner that its commits are of, whatever a stop
 -- leaves of the disk reads as one of them.
 pub record IsLetGo (volume : SteppedVolume) : Type 0 where
   pub is_volume : IsVolume volume
-  pub log : volume.volume.log.room.log ≡ log_of volume.volume.log.commits.disk.size
+  pub log : log_sectors volume.volume ≡ log_of (volume_disk volume.volume).size
   pub keeps : (owner : CacheOwner) → HasOwnCommits owner volume.volume → KeepsNow owner volume.volume

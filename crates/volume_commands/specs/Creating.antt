@@ -16,6 +16,7 @@ use Rattle.super_recovery.specs.declared.error.SuperError.{SuperError}
 use Rattle.super_recovery.specs.declared.error.SuperError.TheVariants as super_errors
 use Rattle.vol_core.specs.Creating.{IsCreated, CostsFormat}
 use Rattle.vol_core.specs.Volume.{SteppedVolume}
+use Rattle.vol_core.specs.View.{volume_disk}
 use Rattle.vol_recover.specs.Creating.{PutsVolume, IsNewTo, HasNewVolume}
 use Rattle.vol_recover.specs.declared.creating.CreateError.{CreateError}
 use Rattle.vol_recover.specs.declared.creating.CreateError.TheVariants as create_errors
@@ -65,7 +66,7 @@ pub record CreatesOn (request : CreateRequest) (uuid : List ℕ) (disk disk_left
   pub volume : SteppedVolume
   pub created : IsCreated uuid (sizes_of request) volume
   pub formatted : CostsFormat uuid true disk disk_left
-  pub disk_is : disk_left ≡ volume.volume.log.commits.disk
+  pub disk_is : disk_left ≡ volume_disk volume.volume
   pub stored : Becomes (PutsVolume uuid (sizes_of request)) before after
   pub absent : IfSome before (λ objects. found objects (super_name uuid) ≡ None)
   pub stands : IfSome before (λ objects. IsNewTo uuid objects → IfSome after (HasNewVolume uuid (sizes_of request)))

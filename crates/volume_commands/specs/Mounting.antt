@@ -7,6 +7,7 @@ use Rattle.lsvd_objstore.specs.Store.{StoreState, ReceiptState}
 use Rattle.command_line.specs.declared.serve.ServeRequest.{ServeRequest}
 use Rattle.stopped_volume.specs.Store.{TellsBytes}
 use Rattle.vol_core.specs.Volume.{SteppedVolume}
+use Rattle.vol_core.specs.View.{volume_disk}
 use Rattle.vol_mount.specs.declared.error.MountError.{MountError}
 use Rattle.vol_mount.specs.declared.error.MountError.TheVariants.{Refused}
 use Rattle.vol_mount.specs.Mounted.{MountedState}
@@ -126,7 +127,7 @@ pub record ServesOn {D R L K : Type 0} (disk_state : D → DiskState) (receipt_s
   pub serves : ServesMounted receipt_state listener_state coming link_state request.sessions links mounted mid
       (moment_of closing store_left) old new
   pub let_go : IsLetGo closing
-  pub disk_is : disk_left ≡ closing.volume.log.commits.disk
+  pub disk_is : disk_left ≡ volume_disk closing.volume
 
 -- So it was of the disk that stood at its path or was made anew, which stands there as it was left.
 pub record ServesCache {D R L K : Type 0} (tells : Bool) (disk_state : D → DiskState) (receipt_state : R → ReceiptState)

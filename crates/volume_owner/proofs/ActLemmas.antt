@@ -22,7 +22,7 @@ use Rattle.vol_core.specs.Volume.{VolumeState, SteppedVolume}
 use Rattle.vol_core.specs.Calls.{event_of}
 use Rattle.vol_core.specs.Step.{CountedStep}
 use Rattle.volume_owner.specs.Acts.{Moment, moment_of, Act, Made, Puts, Gets, entered_if_told, entered_by_event, entered_by_act}
-use Rattle.volume_owner.specs.Acts.{HasItsObject, FindsOrder, PutLeaves, IsPutAct, IsAct, AreActs, IsMadeOfActs, MakesStep}
+use Rattle.volume_owner.specs.Acts.{HasItsObject, PutLeaves, IsPutAct, IsAct, AreActs, IsMadeOfActs, MakesStep}
 use Rattle.volume_owner.specs.Helping.{IsTaken, entered_by}
 use Rattle.volume_owner.specs.Replies.{attempt_in}
 
@@ -70,31 +70,29 @@ one_act state act added old new is entered = record {
 -- a step of the volume
 pub step_act : {R : Type 0} (state : R → ReceiptState) (event : Event R) (reply : Reply R) (added : List Entry)
     (old new : SteppedVolume) (store : StoreState)
-    → CountedStep state event reply old new → HasItsObject event old.volume store → FindsOrder event old.volume
-    → entered_by_event event reply ≡ added
+    → CountedStep state event reply old new → HasItsObject event old.volume store → entered_by_event event reply ≡ added
     → IsMadeOfActs state added (moment_of old store) (moment_of new store)
-step_act state event reply added old new store of object order entered =
+step_act state event reply added old new store of object entered =
     one_act state (Made event reply) added (moment_of old store) (moment_of new store)
-    (record { step = of; store = refl; object = object; order = order }) entered
+    (record { step = of; store = refl; object = object }) entered
 
--- one that needs nothing of the store, nor of the order
+-- one that needs nothing of the store
 pub step_acts : {R : Type 0} (state : R → ReceiptState) (event : Event R) (added : List Entry)
     (old new : SteppedVolume) (store : StoreState)
     → ((volume : VolumeState) (store : StoreState) → HasItsObject event volume store)
-    → ((volume : VolumeState) → FindsOrder event volume)
     → MakesStep state event added old new
     → IsMadeOfActs state added (moment_of old store) (moment_of new store)
-step_acts state event added old new store object order makes =
-    step_act state event makes.reply added old new store makes.step (object old.volume store) (order old.volume) makes.entered
+step_acts state event added old new store object makes =
+    step_act state event makes.reply added old new store makes.step (object old.volume store) makes.entered
 
 -- that of an entry is so
 pub entry_acts : {R : Type 0} (state : R → ReceiptState) (entry : Entry) (added : List Entry) (old new : SteppedVolume)
     (store : StoreState)
     → MakesStep state (event_of entry) added old new → IsMadeOfActs state added (moment_of old store) (moment_of new store)
 entry_acts state (entries.Write lba body) added old new store makes =
-    step_acts state (asks.Write lba body) added old new store (λ volume s. tt) (λ volume. tt) makes
+    step_acts state (asks.Write lba body) added old new store (λ volume s. tt) makes
 entry_acts state (entries.Zero lba sectors) added old new store makes =
-    step_acts state (asks.Zero lba sectors) added old new store (λ volume s. tt) (λ volume. tt) makes
+    step_acts state (asks.Zero lba sectors) added old new store (λ volume s. tt) makes
 
 -- a put, and gets
 pub put_acts : {R : Type 0} (state : R → ReceiptState) (job : JobState) (failed : Bool) (old new : Moment)
@@ -196,7 +194,7 @@ module _ {R : Type 0} (state : R → ReceiptState) (job : JobState) (name : ObjN
       (the_put false put asked counts)
       (step_act state (asks.JobDone job receipt) reply [] old new second of
       (has_put job.name (numbered_name old.volume.objects.uploads.uuid job.name.number) job.bytes taken.named first.objects
-      second.objects (left_of_job false put)) tt refl)
+      second.objects (left_of_job false put)) refl)
 
   -- it failed
   pub failed_acts : Becomes (MayBePut name bytes) first.objects second.objects
@@ -206,7 +204,7 @@ module _ {R : Type 0} (state : R → ReceiptState) (job : JobState) (name : ObjN
   failed_acts left asked counts of =
       made_then state [] [] (moment_of old first) (moment_of old second) (moment_of new second)
       (the_put true left asked counts)
-      (step_act state (asks.JobFailed job) reply [] old new second of tt tt refl)
+      (step_act state (asks.JobFailed job) reply [] old new second of tt refl)
 
 -- an error that is a failure is no want of memory
 pub no_want : {T : Type 0} (error : StoreError) → error ≡ store_errors.Failed

@@ -1,7 +1,10 @@
 -- Calls of an owner, made of steps and puts.
-use Rattle.std.proofs.Common.{arith, ◌≡◌, ℕ, ◌+◌, ◌≤◌, inl, inr, Bool, true, false, List, [], refl, sym, ◌∙◌, ap, subst}
-use Rattle.std.specs.Prelude.{Option, Some, None, Result, Ok, Err, IsOkUnless, IsErrOf, IsErrAnd}
+use Rattle.std.proofs.Common.{arith, ◌≡◌, ℕ, ◌+◌, ◌≤◌, inl, inr, Bool, true, false, List, [], ◌∷◌, refl, sym, ◌∙◌, ap, subst}
+use Rattle.std.specs.Prelude.{◌↔◌, Option, Some, None, Result, Ok, Err, IsOkUnless, IsErrOf, IsErrAnd}
 use Rattle.lsvd_base.specs.declared.entry.Entry.{Entry}
+use Rattle.lsvd_base.specs.declared.geometry.Geometry.{Geometry}
+use Rattle.lsvd_base.specs.Limits.{may_transfer}
+use Rattle.lsvd_base.specs.Range.{is_in_range}
 use Rattle.lsvd_fault.specs.Faults.{Counts}
 use Rattle.lsvd_names.specs.declared.name.ObjName.{ObjName}
 use Rattle.lsvd_names.specs.Names.{numbered_name}
@@ -11,10 +14,12 @@ use Rattle.lsvd_objstore.specs.Objects.{Objects, found, IsPut, MayBePut}
 use Rattle.lsvd_objstore.specs.Store.{StoreState, ReceiptState, OnlyCounts, Becomes, has_failed}
 use Rattle.vol_core.specs.Volume.{SteppedVolume}
 use Rattle.volume_owner.specs.Acts.{moment_of, IsMadeOfActs}
-use Rattle.volume_owner.specs.Calls.{KeepsOtherNames, CountsEitherFault, MakesSteps, IsCall, added_by}
+use Rattle.volume_owner.specs.Calls.{IsLengthOf, IsDrained, HasSectors, KeepsOtherNames, CountsEitherFault, MakesSteps, IsCall}
+use Rattle.volume_owner.specs.Calls.{EnterOf, DrainOf, ReadOf}
 use Rattle.volume_owner.specs.declared.error.OwnerError.{OwnerError}
 use Rattle.volume_owner.specs.declared.error.OwnerError.TheVariants as errors
 use Rattle.volume_owner.specs.Errors.{is_eio, of_store}
+use Rattle.volume_owner.specs.Owner.{most_of_call}
 use Rattle.volume_owner.proofs.PlainLemmas.{goes_on_nothing}
 use Rattle.volume_owner.proofs.ActLemmas.{no_acts, made_then, get_acts}
 use Rattle.volume_owner.proofs.StepLemmas.{makes_then, makes_fewer}
@@ -183,6 +188,11 @@ memory_no_range (Err errors.Range) is range = let bad : ⊥ = cc in bad
 memory_no_range (Err errors.Eio) is range = cc
 memory_no_range (Err errors.OutOfMemory) is range = cc
 
+-- a store's error tells no range
+pub store_no_range : (error : StoreError) → of_store error ≡ errors.Range → ⊥
+store_no_range store_errors.Failed is = cc
+store_no_range store_errors.OutOfMemory is = cc
+
 -- ---- an error that is handed on
 
 pub handed_on : {T : Type 0} (result : Result T OwnerError) (error : OwnerError) → IsErrAnd result (λ e. e ≡ error)
@@ -191,14 +201,6 @@ handed_on (Ok value) error is = let bad : ⊥ = is in absurd bad
 handed_on (Err other) error is = ap Err is
 
 -- a call that ends with it
-pub call_ends : {R : Type 0} (state : R → ReceiptState) (entry : Entry) (most : ℕ) (result : Result ℕ OwnerError)
-    (error : OwnerError) (old new : SteppedVolume) (first second : StoreState)
-    → IsErrAnd result (λ e. e ≡ error) → IsCall state most [] (is_eio {T = ℕ} (Err error)) old new first second
-    → IsCall state most (added_by entry result) (is_eio result) old new first second
-call_ends state entry most result error old new first second is call =
-    subst (λ (r : Result ℕ OwnerError). IsCall state most (added_by entry r) (is_eio r) old new first second)
-    (sym (handed_on result error is)) call
-
 pub call_ends_none : {R T : Type 0} (state : R → ReceiptState) (most : ℕ) (result : Result T OwnerError) (error : OwnerError)
     (old new : SteppedVolume) (first second : StoreState)
     → IsErrAnd result (λ e. e ≡ error) → IsCall state most [] (is_eio {T = T} (Err error)) old new first second
@@ -238,3 +240,119 @@ read_call state most failed old mid last first second two look_acts release_acts
       faults = subst (λ d. CountsEitherFault failed disk d first.faults second.faults) (sym (released ∙ looked))
           (store_counts failed disk first.faults second.faults counts);
     }
+
+-- ---- what each call promises, by what it answers
+
+-- another error is no `Range`
+other_error : (error : OwnerError) → (error ≡ errors.Range → ⊥) → IsErrOf {T = ℕ} (Err error) errors.Range → ⊥
+other_error error other is = (let same : error ≡ errors.Range = cc in other same)
+
+-- a test of a volume's sizes tells so of them
+pub told_of_sizes : (holds : Geometry → Bool) (own sizes : Geometry) (told outcome : Bool) → sizes ≡ own → told ≡ holds sizes
+    → told ≡ outcome → holds own ≡ outcome
+told_of_sizes holds own sizes told outcome same is so = ap holds (sym same) ∙ sym is ∙ so
+
+-- what is in range is not answered by `Range`
+in_range_is : (result : Result ℕ OwnerError) (inside : Bool) → inside ≡ true → (IsErrOf result errors.Range → ⊥)
+    → IsErrOf result errors.Range ↔ (inside ≡ false)
+in_range_is result inside is other = (
+  λ range. absurd (other range),
+  λ outside. (let bad : ⊥ = cc in absurd bad),
+)
+
+-- an entry that is out of range is refused, and nothing is done
+pub enter_refused : {R : Type 0} (state : R → ReceiptState) (entry : Entry) (volume : SteppedVolume) (store : StoreState)
+    → is_in_range volume.volume.objects.batch.geometry entry ≡ false
+    → EnterOf state entry (Err errors.Range) volume volume store store
+enter_refused state entry volume store outside = record {
+  call = nothing_call state most_of_call volume store;
+  count = tt;
+  range = (λ is. outside, λ is. refl);
+}
+
+-- one in range is entered
+pub enter_counted : {R : Type 0} (state : R → ReceiptState) (entry : Entry) (count : ℕ) (old new : SteppedVolume)
+    (first second : StoreState) → is_in_range old.volume.objects.batch.geometry entry ≡ true
+    → IsCall state most_of_call (entry ∷ []) false old new first second → IsLengthOf count new.volume
+    → EnterOf state entry (Ok count) old new first second
+enter_counted state entry count old new first second inside call length_is = record {
+  call = call;
+  count = length_is;
+  range = in_range_is (Ok count) (is_in_range old.volume.objects.batch.geometry entry) inside (λ is. cc);
+}
+
+-- or it fails
+pub enter_failed : {R : Type 0} (state : R → ReceiptState) (entry : Entry) (result : Result ℕ OwnerError) (error : OwnerError)
+    (old new : SteppedVolume) (first second : StoreState) → result ≡ Err error → (error ≡ errors.Range → ⊥)
+    → is_in_range old.volume.objects.batch.geometry entry ≡ true
+    → IsCall state most_of_call [] (is_eio {T = ℕ} (Err error)) old new first second
+    → EnterOf state entry result old new first second
+enter_failed state entry result error old new first second is other inside call =
+    let failed : EnterOf state entry (Err error) old new first second =
+    record {
+      call = call;
+      count = tt;
+      range = in_range_is (Err error) (is_in_range old.volume.objects.batch.geometry entry) inside (other_error error other);
+    } in
+    subst (λ (r : Result ℕ OwnerError). EnterOf state entry r old new first second) (sym is) failed
+
+-- a drain is done
+pub drain_counted : {R : Type 0} (state : R → ReceiptState) (count : ℕ) (old new : SteppedVolume) (first second : StoreState)
+    → IsCall state most_of_call [] false old new first second → IsLengthOf count new.volume → IsDrained new.volume
+    → DrainOf state (Ok count) old new first second
+drain_counted state count old new first second call length_is drained = record {
+  call = call;
+  count = length_is;
+  drained = drained;
+  in_range = λ is. cc;
+}
+
+-- or it fails
+pub drain_failed : {R : Type 0} (state : R → ReceiptState) (result : Result ℕ OwnerError) (error : OwnerError)
+    (old new : SteppedVolume) (first second : StoreState) → result ≡ Err error → (error ≡ errors.Range → ⊥)
+    → IsCall state most_of_call [] (is_eio {T = ℕ} (Err error)) old new first second
+    → DrainOf state result old new first second
+drain_failed state result error old new first second is other call =
+    let failed : DrainOf state (Err error) old new first second =
+    record { call = call; count = tt; drained = tt; in_range = other_error error other } in
+    subst (λ (r : Result ℕ OwnerError). DrainOf state r old new first second) (sym is) failed
+
+-- a read of sectors that may not be transferred is refused, and nothing is done
+pub read_refused : {R : Type 0} (state : R → ReceiptState) (lba sectors : ℕ) (bytes : List ℕ) (volume : SteppedVolume)
+    (store : StoreState) → may_transfer volume.volume.objects.batch.geometry lba sectors ≡ false
+    → ReadOf state lba sectors bytes (Err errors.Range) volume volume store store
+read_refused state lba sectors bytes volume store outside = record {
+  call = nothing_call state most_of_call volume store;
+  length = tt;
+  given = tt;
+  range = (λ is. outside, λ is. refl);
+}
+
+-- one of others gives its bytes
+pub read_given : {R : Type 0} (state : R → ReceiptState) (lba sectors : ℕ) (bytes : List ℕ) (count : ℕ)
+    (old new : SteppedVolume) (first second : StoreState) → may_transfer old.volume.objects.batch.geometry lba sectors ≡ true
+    → IsCall state most_of_call [] false old new first second → IsLengthOf count old.volume
+    → HasSectors state old.volume lba bytes → ReadOf state lba sectors bytes (Ok count) old new first second
+read_given state lba sectors bytes count old new first second inside call length_is given = record {
+  call = call;
+  length = length_is;
+  given = given;
+  range = in_range_is (Ok count) (may_transfer old.volume.objects.batch.geometry lba sectors) inside (λ is. cc);
+}
+
+-- or it fails
+pub read_failed : {R : Type 0} (state : R → ReceiptState) (lba sectors : ℕ) (bytes : List ℕ) (result : Result ℕ OwnerError)
+    (error : OwnerError) (old new : SteppedVolume) (first second : StoreState) → result ≡ Err error
+    → (error ≡ errors.Range → ⊥) → may_transfer old.volume.objects.batch.geometry lba sectors ≡ true
+    → IsCall state most_of_call [] (is_eio {T = ℕ} (Err error)) old new first second
+    → ReadOf state lba sectors bytes result old new first second
+read_failed state lba sectors bytes result error old new first second is other inside call =
+    let failed : ReadOf state lba sectors bytes (Err error) old new first second =
+    record {
+      call = call;
+      length = tt;
+      given = tt;
+      range =
+          in_range_is (Err error) (may_transfer old.volume.objects.batch.geometry lba sectors) inside (other_error error other);
+    } in
+    subst (λ (r : Result ℕ OwnerError). ReadOf state lba sectors bytes r old new first second) (sym is) failed

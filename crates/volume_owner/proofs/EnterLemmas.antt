@@ -36,7 +36,6 @@ use Rattle.volume_owner.specs.Helping.{work_of, entered_by, attempt_failed, MayT
 use Rattle.volume_owner.proofs.PlainLemmas.{is_entered, entered_if, entering_goes_on, goes_on_nothing}
 use Rattle.volume_owner.proofs.EntryLemmas.{entered_is_answered, answered_is_entered, nothing_left}
 use Rattle.volume_owner.proofs.ReplyLemmas.{is_again, reply_cases}
-use Rattle.volume_owner.proofs.ReplyLemmas.{is_again, reply_cases}
 use Rattle.volume_owner.proofs.TellsLemmas.{tells_entered}
 use Rattle.volume_owner.proofs.WindowLemmas.{any_started}
 use Rattle.volume_owner.proofs.StepLemmas.{goes_on_passing, shown_work, length_is, IsIdlePlain, shown_idle, idle_shown}

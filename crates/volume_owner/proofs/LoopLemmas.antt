@@ -1,6 +1,7 @@
 -- Helps one after the other, with attempts to enter an entry between them or without: how far they have come.
 use Rattle.std.proofs.Common.{arith, ◌≡◌, ℕ, ◌+◌, ◌*◌, ◌-◌, ◌≤◌, ◌<◌, ◌⊎◌, inl, inr, Bool, true, false, List}
-use Rattle.std.proofs.Common.{[], refl, ap, subst}
+use Rattle.std.proofs.Common.{[], refl, ◌∙◌, ap, subst}
+use Rattle.std.proofs.lemmas.List.{nil_from_length}
 use Rattle.lsvd_base.specs.declared.entry.Entry.{Entry}
 use Rattle.lsvd_fault.specs.Faults.{Counts}
 use Rattle.lsvd_objstore.specs.Store.{StoreState, ReceiptState}
@@ -10,7 +11,7 @@ use Rattle.vol_core.specs.Volume.{VolumeState, SteppedVolume}
 use Rattle.vol_core.specs.Shows.{max_number}
 use Rattle.volume_owner.specs.Owner.{IsIdle, max_steps, most_of_call}
 use Rattle.volume_owner.specs.Acts.{MakesStep}
-use Rattle.volume_owner.specs.Calls.{MakesSteps, IsCall}
+use Rattle.volume_owner.specs.Calls.{IsDurable, IsDrained, MakesSteps, IsCall}
 use Rattle.volume_owner.specs.Helping.{work_of, most_work, HasHelped}
 use Rattle.volume_owner.proofs.ActLemmas.{step_acts, entry_acts}
 use Rattle.volume_owner.proofs.CallLemmas.{nothing_call, disk_call, call_then, call_fewer}
@@ -123,4 +124,17 @@ pub help_and_flush : {R : Type 0} (state : R → ReceiptState) (failed : Bool) (
 help_and_flush state failed now mid new second third help step makes counts =
     call_then state 2 1 [] failed now mid new second third third help
     (disk_call state 1 [] failed mid new third
-    (step_acts state asks.Flush [] mid new third (λ volume s. tt) (λ volume. tt) step) makes counts)
+    (step_acts state asks.Flush [] mid new third (λ volume s. tt) step) makes counts)
+
+-- ---- where nothing is left
+
+-- a volume with nothing to help with, whose entries are committed, is drained
+pub none_is_drained : (now mid new : VolumeState) → HasHelped false now mid → work_of new ≡ work_of mid → IsDurable new
+    → IsDrained new
+none_is_drained now mid new none same durable =
+    let left : work_of new ≡ 0 = same ∙ none.1 in
+    record {
+      unsealed = nil_from_length new.objects.batch.entries (omega (arith, left));
+      on_way = nil_from_length new.objects.uploads.window.objects (omega (arith, left));
+      durable = durable;
+    }

@@ -1,6 +1,6 @@
 -- What a flush does, and a look with the release of its plan.
-use Rattle.std.proofs.Common.{◌≡◌, ℕ, ◌/◌, ◌==◌, nat_eq, ◌⊎◌, inl, inr, Bool, true, false, cond, ◌&&◌, ◌||◌, List, [], ◌∷◌, ◌++◌}
-use Rattle.std.proofs.Common.{length, refl, sym, ◌∙◌, ap, subst, arith}
+use Rattle.std.proofs.Common.{◌≡◌, ℕ, ◌*◌, ◌/◌, ◌==◌, nat_eq, ◌⊎◌, inl, inr, Bool, true, false, cond, ◌&&◌, ◌||◌, List, [], ◌∷◌}
+use Rattle.std.proofs.Common.{◌++◌, length, refl, sym, ◌∙◌, ap, subst, arith}
 use Rattle.std.specs.Prelude.{Option, Some, None, IfSome, IsSome, Ok, Err, if◌then◌else◌}
 use Rattle.std.specs.List.{list_any}
 use Rattle.std.proofs.lemmas.Bool.{eq-eqb}
@@ -28,7 +28,7 @@ use Rattle.vol_core.specs.declared.reply.Reply.TheVariants as told
 use Rattle.vol_core.specs.Volume.{VolumeState, SteppedVolume}
 use Rattle.vol_core.specs.Shows.{Shows}
 use Rattle.vol_core.specs.Events.{TellsRead, Tells}
-use Rattle.vol_core.specs.Step.{passing, IsStep, IsNoStep, lacks_memory, tells_fault, CountedStep}
+use Rattle.vol_core.specs.Step.{passing, IsStep, IsNoStep, HasItsBytes, lacks_memory, tells_fault, CountedStep}
 use Rattle.vol_core.proofs.StepLemmas.{passing_keeps}
 use Rattle.volume_owner.specs.Owner.{IsIdle}
 use Rattle.volume_owner.specs.Calls.{IsLengthOf, IsDurable, HasSectors, MakesSteps}
@@ -333,10 +333,14 @@ module _ {R : Type 0} (state : R → ReceiptState) (reply : Reply R) (lba sector
 
   -- ---- what it gives
 
+  -- as many bytes as the read has
+  pub looked_size : (plan : PlanState) → reply ≡ told.Planned plan → length plan.bytes ≡ 512 * sectors
+  looked_size plan is = subst (λ (r : Reply R). HasItsBytes (asks.Look lba sectors) r) is of.step.plan
+
   pub looked_length : (plan : PlanState) (plain : PlainState) → Shows old.volume plain → reply ≡ told.Planned plan
-      → IsLengthOf plan.front old.volume
+      → IsLengthOf plan.history_length old.volume
   looked_length plan plain shows is =
-      length_is plan.front old.volume plain shows (looked plan plain shows is).tells_read.history_length
+      length_is plan.history_length old.volume plain shows (looked plan plain shows is).tells_read.history_length
 
   pub looked_sectors : (plan : PlanState) (bytes : List ℕ) → reply ≡ told.Planned plan → length bytes / 512 ≡ sectors
       → (((receipt : R) → IsSome (state receipt).told) → GivesNoOther plan bytes) → HasSectors state old.volume lba bytes

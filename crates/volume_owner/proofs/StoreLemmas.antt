@@ -44,7 +44,7 @@ use Rattle.vol_core.specs.Events.{Tells, IsOfPut, IsOfDonePut}
 use Rattle.vol_core.specs.Step.{passing, IsStep, IsNoStep}
 use Rattle.vol_core.proofs.StepLemmas.{passing_keeps}
 use Rattle.volume_owner.specs.Acts.{Moment, Act, Made, Puts, Gets, entered_if_told, entered_by_event, entered_by_act}
-use Rattle.volume_owner.specs.Acts.{HasItsObject, FindsOrder, IsStepAct, PutLeaves, IsAct, AreActs, MayBeLeftInAct}
+use Rattle.volume_owner.specs.Acts.{HasItsObject, IsStepAct, PutLeaves, IsAct, AreActs, MayBeLeftInAct}
 use Rattle.volume_owner.specs.Acts.{IsMadeOfActs}
 use Rattle.volume_owner.specs.History.{GoesOn}
 use Rattle.volume_owner.specs.Standing.{StandAt, HasStore, KeepsStore}
@@ -257,7 +257,7 @@ module _ {R : Type 0} (state : R → ReceiptState) (reply : Reply R) (old new : 
       → IfSome held (λ o. found o name ≡ Some bytes) → held ≡ Some objects → found objects name ≡ Some bytes
   its_object name bytes held objects has is = subst (λ h. IfSome h (λ o. found o name ≡ Some bytes)) is has
 
-  step_by : (event : Event R) → HasItsObject event old store → FindsOrder event old
+  step_by : (event : Event R) → HasItsObject event old store → IsUploads old.objects.uploads.queue old.objects.uploads.window
       → IsStep state event reply plain old new ⊎ IsNoStep event reply plain old new
       → StepKeeps (entered_by_event event reply) plain old new store
   step_by (asks.Write lba body) object order by = entry_keeps (entries.Write lba body) by
@@ -361,7 +361,8 @@ step_keeps : {R : Type 0} (state : R → ReceiptState) (event : Event R) (reply 
 step_keeps state event reply old new is plain shows =
     let before : VolumeState = old.volume.volume in
     let now : VolumeState = new.volume.volume in
-    let kept = step_by state reply before now old.store plain shows event is.object is.order (is.step.step.step plain shows) in
+    let kept = step_by state reply before now old.store plain shows event is.object is.step.order.uploads
+    (is.step.step.step plain shows) in
     let uuid : List ℕ = before.objects.uploads.uuid in (
       kept.after,
       kept.shows,

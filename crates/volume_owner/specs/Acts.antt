@@ -6,17 +6,14 @@ use Rattle.lsvd_fault.specs.Faults.{Counts}
 use Rattle.lsvd_names.specs.declared.name.ObjName.{ObjName}
 use Rattle.lsvd_objstore.specs.Objects.{Objects, found, IsPut, MayBePut}
 use Rattle.lsvd_objstore.specs.Store.{StoreState, ReceiptState, Put, IsAskedOnce, Becomes, OnlyCounts}
-use Rattle.object_stream.specs.Replay.{object_name}
 use Rattle.object_uploads.specs.State.{JobState}
-use Rattle.object_uploads.specs.Order.{IsUploads}
-use Rattle.object_uploads.specs.Changes.{IsOut}
-use Rattle.obj_log.specs.Changes.{expected_of_volume}
 use Rattle.vol_core.specs.declared.event.Event.{Event}
 use Rattle.vol_core.specs.declared.event.Event.TheVariants as events
 use Rattle.vol_core.specs.declared.reply.Reply.{Reply}
 use Rattle.vol_core.specs.declared.reply.Reply.TheVariants as told
 use Rattle.vol_core.specs.Volume.{VolumeState, SteppedVolume}
 use Rattle.vol_core.specs.Step.{CountedStep}
+use Rattle.vol_core.specs.View.{IsPutOutIn, object_name_in}
 
 -- ---- moments
 
@@ -59,20 +56,14 @@ entered_by_act (Gets failed) = []
 abbrev pub HasItsObject : {R : Type 0} → Event R → VolumeState → StoreState → Type 0
 HasItsObject (events.JobDone job receipt) volume store =
     IfSome store.objects (λ objects.
-    found objects (object_name (expected_of_volume volume.objects) job.name.number) ≡ Some job.bytes)
+    found objects (object_name_in volume job.name.number) ≡ Some job.bytes)
 HasItsObject event volume store = Unit {0}
-
--- a put begins where the objects on their way are in order
-abbrev pub FindsOrder : {R : Type 0} → Event R → VolumeState → Type 0
-FindsOrder events.TakeJob volume = IsUploads volume.objects.uploads.queue volume.objects.uploads.window
-FindsOrder event volume = Unit {0}
 
 -- a step of the volume, in which the store stays
 pub record IsStepAct {R : Type 0} (state : R → ReceiptState) (event : Event R) (reply : Reply R) (old new : Moment) : Type 0 where
   pub step : CountedStep state event reply old.volume new.volume
   pub store : new.store ≡ old.store
   pub object : HasItsObject event old.volume.volume old.store
-  pub order : FindsOrder event old.volume.volume
 
 -- what a put leaves of the objects: the whole object, and where it failed perhaps what was there
 abbrev pub PutLeaves : (failed : Bool) → ObjName → List ℕ → Objects → Objects → Type 0
@@ -82,8 +73,8 @@ PutLeaves true name bytes old new = MayBePut name bytes old new
 -- the put of a volume's own object that is out, in which the volume stays
 pub record IsPutAct (job : JobState) (failed : Bool) (old new : Moment) : Type 0 where
   pub volume : new.volume ≡ old.volume
-  pub out : IsOut old.volume.volume.objects.uploads job.name.number job.bytes
-  pub named : job.name ≡ object_name (expected_of_volume old.volume.volume.objects) job.name.number
+  pub out : IsPutOutIn old.volume.volume job.name.number job.bytes
+  pub named : job.name ≡ object_name_in old.volume.volume job.name.number
   pub objects : Becomes (PutLeaves failed job.name job.bytes) old.store.objects new.store.objects
   pub asked : IsAskedOnce (Put job.name job.bytes) old.store.asked new.store.asked
   pub faults : Counts failed old.store.faults new.store.faults

@@ -1,7 +1,11 @@
 -- Contract: what a call of an owner does to its volume and to the store, told by each plain volume that the volume showed.
-use Rattle.std.specs.Prelude.{◌≡◌, ℕ, ◌+◌, ◌/◌, ◌≤◌, ◌⊎◌, Bool, true, false, IsSome, Result, Ok, Err, List, [], ◌∷◌, length}
+use Rattle.std.specs.Prelude.{◌≡◌, ℕ, ◌+◌, ◌/◌, ◌≤◌, ◌⊎◌, ◌↔◌, Bool, true, false, IsSome, List, [], ◌∷◌, length}
+use Rattle.std.specs.Prelude.{Result, Ok, Err, IfOk, OnOk, IsErrOf, is_err}
 use Rattle.lsvd_base.specs.declared.entry.Entry.{Entry}
-use Rattle.lsvd_fault.specs.Faults.{CountsOne}
+use Rattle.lsvd_base.specs.Limits.{may_transfer}
+use Rattle.lsvd_base.specs.Range.{is_in_range}
+use Rattle.lsvd_fault.specs.declared.stream.Failed.{Failed}
+use Rattle.lsvd_fault.specs.Faults.{Counts, CountsOne}
 use Rattle.lsvd_names.specs.declared.name.ObjName.{ObjName}
 use Rattle.lsvd_names.specs.Names.{numbered_name}
 use Rattle.lsvd_objstore.specs.Objects.{Objects, found}
@@ -9,12 +13,18 @@ use Rattle.lsvd_objstore.specs.Store.{StoreState, ReceiptState, Becomes}
 use Rattle.plain_disk.specs.Sectors.{sectors_at}
 use Rattle.plain_disk.specs.State.{PlainState, history_length, image_now}
 use Rattle.stopped_volume.specs.Device.{CacheOwner}
+use Rattle.vol_core.specs.declared.event.Event.TheVariants as events
 use Rattle.vol_core.specs.Volume.{VolumeState, SteppedVolume}
 use Rattle.vol_core.specs.Shows.{Shows}
 use Rattle.vol_core.specs.Step.{HasSameSizes}
 use Rattle.vol_core.specs.Stops.{HasOwnCommits}
-use Rattle.volume_owner.specs.Acts.{moment_of, IsMadeOfActs}
+use Rattle.vol_core.specs.View.{log_entries, objects_on_way, unsealed_entries, volume_disk, volume_geometry, volume_uuid}
+use Rattle.volume_owner.specs.declared.error.OwnerError.{OwnerError}
+use Rattle.volume_owner.specs.declared.error.OwnerError.TheVariants.{Range}
+use Rattle.volume_owner.specs.Acts.{moment_of, IsMadeOfActs, MakesStep}
+use Rattle.volume_owner.specs.Errors.{is_eio}
 use Rattle.volume_owner.specs.History.{GoesOn}
+use Rattle.volume_owner.specs.Owner.{most_of_call}
 
 -- ---- the history
 
@@ -36,15 +46,15 @@ IsDurable volume = (plain : PlainState) → Shows volume plain → IsDurableTo (
 
 -- Each entry of a volume's history is in an object, each object is acknowledged, and each entry is committed.
 pub record IsDrained (volume : VolumeState) : Type 0 where
-  pub unsealed : volume.objects.batch.entries ≡ []
-  pub on_way : volume.objects.uploads.window.objects ≡ []
+  pub unsealed : unsealed_entries volume ≡ []
+  pub on_way : objects_on_way volume ≡ []
   pub durable : IsDurable volume
 
 -- ---- contents
 
 -- a volume tells what it holds: the disk of its log tells the log's entries, and each receipt its object's bytes
 pub record TellsContents {R : Type 0} (state : R → ReceiptState) (volume : VolumeState) : Type 0 where
-  pub log : IsSome volume.log.entries
+  pub log : IsSome (log_entries volume)
   pub receipts : (receipt : R) → IsSome (state receipt).told
 
 -- these bytes are the sectors of a volume from one on, where it tells them
@@ -84,11 +94,47 @@ pub record IsCall {R : Type 0} (state : R → ReceiptState) (most : ℕ) (added 
     (old new : SteppedVolume) (old_store new_store : StoreState) : Type 0 where
   pub acts : IsMadeOfActs state added (moment_of old old_store) (moment_of new new_store)
   pub steps : MakesSteps most added old new
-  pub store : Becomes (KeepsOtherNames old.volume.objects.uploads.uuid) old_store.objects new_store.objects
-  pub faults : CountsEitherFault failed old.volume.log.commits.disk.faults new.volume.log.commits.disk.faults old_store.faults
+  pub store : Becomes (KeepsOtherNames (volume_uuid old.volume)) old_store.objects new_store.objects
+  pub faults : CountsEitherFault failed (volume_disk old.volume).faults (volume_disk new.volume).faults old_store.faults
       new_store.faults
 
 -- an entry that was answered is entered, and one that was not is not
 abbrev pub added_by : {E : Type 0} → Entry → Result ℕ E → List Entry
 added_by entry (Ok count) = entry ∷ []
 added_by entry (Err error) = []
+
+-- ---- what each call promises
+
+-- What a write or a zero is, of its entry: the entry is added where a count is answered, which is then the history's length, and
+-- is out of range exactly where `Range` is.
+pub record EnterOf {R : Type 0} (state : R → ReceiptState) (entry : Entry) (result : Result ℕ OwnerError)
+    (old new : SteppedVolume) (old_store new_store : StoreState) : Type 0 where
+  pub call : IsCall state most_of_call (added_by entry result) (is_eio result) old new old_store new_store
+  pub count : IfOk result (λ count. IsLengthOf count new.volume)
+  pub range : IsErrOf result Range ↔ (is_in_range (volume_geometry old.volume) entry ≡ false)
+
+-- What a flush is: one step, after which each entry of the history is committed where its length is answered. A call of the disk
+-- failed where it is not.
+pub record FlushOf {R : Type 0} (state : R → ReceiptState) (result : Result ℕ Failed) (old new : SteppedVolume) : Type 0 where
+  pub step : MakesStep state events.Flush [] old new
+  pub steps : MakesSteps 1 [] old new
+  pub faults : Counts (is_err result) (volume_disk old.volume).faults (volume_disk new.volume).faults
+  pub count : IfOk result (λ count. IsLengthOf count new.volume)
+  pub durable : OnOk result (IsDurable new.volume)
+
+-- What a drain is: nothing is added, and the volume is drained where the history's length is answered.
+pub record DrainOf {R : Type 0} (state : R → ReceiptState) (result : Result ℕ OwnerError) (old new : SteppedVolume)
+    (old_store new_store : StoreState) : Type 0 where
+  pub call : IsCall state most_of_call [] (is_eio result) old new old_store new_store
+  pub count : IfOk result (λ count. IsLengthOf count new.volume)
+  pub drained : OnOk result (IsDrained new.volume)
+  pub in_range : IsErrOf result Range → ⊥
+
+-- What a read is, of so many sectors from one on, and of these bytes: nothing is added, and the bytes are those sectors where the
+-- length of the history is answered that they are of. The sectors are out of range exactly where `Range` is.
+pub record ReadOf {R : Type 0} (state : R → ReceiptState) (lba sectors : ℕ) (bytes : List ℕ) (result : Result ℕ OwnerError)
+    (old new : SteppedVolume) (old_store new_store : StoreState) : Type 0 where
+  pub call : IsCall state most_of_call [] (is_eio result) old new old_store new_store
+  pub length : IfOk result (λ length. IsLengthOf length old.volume)
+  pub given : OnOk result (HasSectors state old.volume lba bytes)
+  pub range : IsErrOf result Range ↔ (may_transfer (volume_geometry old.volume) lba sectors ≡ false)

@@ -2,19 +2,17 @@
 use Rattle.std.specs.Prelude.{◌≡◌, ℕ, ◌+◌, ◌*◌, ◌^◌, ◌<◌, Bool, true, false, List, [], ◌∷◌, length}
 use Rattle.std.specs.List.{list_any}
 use Rattle.lsvd_base.specs.declared.entry.Entry.{Entry}
-use Rattle.object_stream.specs.Replay.{object_name}
 use Rattle.upload_window.specs.Window.{with_started}
 use Rattle.object_uploads.specs.State.{JobState}
-use Rattle.object_uploads.specs.Changes.{IsOut}
-use Rattle.obj_log.specs.Changes.{expected_of_volume}
 use Rattle.vol_core.specs.Volume.{VolumeState}
+use Rattle.vol_core.specs.View.{IsPutOutIn, object_name_in, objects_on_way, pinned_objects, unsealed_entries}
 use Rattle.volume_owner.specs.declared.replies.Attempt.{Attempt}
 use Rattle.volume_owner.specs.declared.replies.Attempt.TheVariants.{Entered, Again, Failed}
 
 -- What is left to help with: each entry that is in no object has to be sealed and put, and each object on its way to be put. A
 -- help lowers it.
 abbrev pub work_of : VolumeState → ℕ
-work_of volume = 2 * length volume.objects.batch.entries + length volume.objects.uploads.window.objects
+work_of volume = 2 * length (unsealed_entries volume) + length (objects_on_way volume)
 
 -- how much is left at most
 abbrev pub most_work : ℕ
@@ -27,11 +25,11 @@ HasHelped false old new = (work_of old ≡ 0) × (work_of new ≡ 0)
 
 -- a put is out, which this is the job of, and no other is
 pub record IsTaken (job : JobState) (volume : VolumeState) : Type 0 where
-  pub out : IsOut volume.objects.uploads job.name.number job.bytes
-  pub named : job.name ≡ object_name (expected_of_volume volume.objects) job.name.number
-  pub alone : list_any (λ object. object.is_started) (with_started job.name.number false volume.objects.uploads.window.objects)
+  pub out : IsPutOutIn volume job.name.number job.bytes
+  pub named : job.name ≡ object_name_in volume job.name.number
+  pub alone : list_any (λ object. object.is_started) (with_started job.name.number false (objects_on_way volume))
       ≡ false
-  pub plans : volume.pins ≡ []
+  pub plans : pinned_objects volume ≡ []
 
 -- what an attempt entered
 abbrev pub entered_by : Entry → Attempt → List Entry

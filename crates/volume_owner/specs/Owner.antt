@@ -2,11 +2,12 @@
 use Rattle.std.specs.Prelude.{◌≡◌, ℕ, ◌^◌, false, []}
 use Rattle.std.specs.List.{list_any}
 use Rattle.vol_core.specs.Volume.{VolumeState}
+use Rattle.vol_core.specs.View.{objects_on_way, pinned_objects}
 
 -- no put of an object is under way, and no plan of a read is out
 pub record IsIdle (volume : VolumeState) : Type 0 where
-  pub puts : list_any (λ object. object.is_started) volume.objects.uploads.window.objects ≡ false
-  pub plans : volume.pins ≡ []
+  pub puts : list_any (λ object. object.is_started) (objects_on_way volume) ≡ false
+  pub plans : pinned_objects volume ≡ []
 
 -- how many steps a volume may have made before a call, and how many more it has made at most after it
 abbrev pub max_steps : ℕ

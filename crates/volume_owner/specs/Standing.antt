@@ -6,13 +6,14 @@ use Rattle.lsvd_objstore.specs.Store.{ReceiptState}
 use Rattle.plain_disk.specs.State.{PlainState}
 use Rattle.refine_store.specs.Stored.{StoreStands}
 use Rattle.vol_core.specs.Shows.{Shows}
+use Rattle.vol_core.specs.View.{volume_uploads, volume_uuid}
 use Rattle.volume_owner.specs.Acts.{Moment, Act, entered_by_act, IsAct, AreActs, MayBeLeftInAct}
 use Rattle.volume_owner.specs.History.{GoesOn}
 
 -- objects of a store stand in an epoch for a plain volume, which the volume of a moment shows
 abbrev pub StandAt : (epoch : ℕ) → Moment → PlainState → Objects → Type 0
 StandAt epoch moment plain objects =
-    StoreStands moment.volume.volume.objects.uploads.uuid epoch plain moment.volume.volume.objects.uploads objects
+    StoreStands (volume_uuid moment.volume.volume) epoch plain (volume_uploads moment.volume.volume) objects
 
 -- the store of a moment stands so, where it tells what it has
 abbrev pub HasStore : (epoch : ℕ) → Moment → PlainState → Type 0

@@ -1,7 +1,6 @@
-ghost use Rattle.std.specs.Prelude.{◌≤◌, [], IfOk, OnOk, IsErrOf};
-ghost use Rattle.volume_owner.specs.Owner.{IsIdle, max_steps, most_of_call};
-ghost use Rattle.volume_owner.specs.Calls.{IsCall, IsLengthOf, IsDrained};
-ghost use Rattle.volume_owner.specs.Errors.{is_eio};
+ghost use Rattle.std.specs.Prelude.{◌≤◌};
+ghost use Rattle.volume_owner.specs.Owner.{IsIdle, max_steps};
+ghost use Rattle.volume_owner.specs.Calls.{DrainOf};
 
 use crate::error::OwnerError;
 use crate::helping::help;
@@ -19,11 +18,7 @@ pub(crate) fn drain<D: Disk, R: Receipt, S: Store<Receipt = R>>(
 ) -> Result<u64, OwnerError>
     requires steps { volume.old.steps ≤ max_steps }
     requires idle { IsIdle volume.old.volume }
-    ensures call { IsCall R.state most_of_call [] (is_eio result) volume.old volume.new (S.state store.old)
-        (S.state store.new) }
-    ensures count { IfOk result (λ count. IsLengthOf count volume.new.volume) }
-    ensures drained { OnOk result (IsDrained volume.new.volume) }
-    ensures range { IsErrOf result OwnerError.Range → ⊥ }
+    ensures drain { DrainOf R.state result volume.old volume.new (S.state store.old) (S.state store.new) }
     ensures idle { IsIdle volume.new.volume }
 {
     while help(alloc, volume, store)? {}

@@ -1,12 +1,12 @@
-ghost use Rattle.std.specs.Prelude.{◌≡◌, ℕ, ◌↔◌, ◌<◌, ◌≤◌, true, false, IfOk, IsErrOf};
+ghost use Rattle.std.specs.Prelude.{◌≡◌, ℕ, ◌<◌, ◌≤◌, true};
 ghost use Rattle.lsvd_base.specs.Range.{is_in_range};
 ghost use Rattle.lsvd_fault.specs.Faults.{Counts};
 ghost use Rattle.vol_core.specs.Calls.{event_of};
 ghost use Rattle.vol_core.specs.Shows.{max_number};
-ghost use Rattle.volume_owner.specs.Owner.{IsIdle, max_steps, most_of_call};
+ghost use Rattle.vol_core.specs.View.{volume_disk, volume_geometry};
+ghost use Rattle.volume_owner.specs.Owner.{IsIdle, max_steps};
 ghost use Rattle.volume_owner.specs.Acts.{MakesStep};
-ghost use Rattle.volume_owner.specs.Calls.{MakesSteps, IsCall, IsLengthOf, added_by};
-ghost use Rattle.volume_owner.specs.Errors.{is_eio};
+ghost use Rattle.volume_owner.specs.Calls.{MakesSteps, IsLengthOf, EnterOf};
 ghost use Rattle.volume_owner.specs.Helping.{work_of, most_work, entered_by, attempt_failed, MayTryAgain};
 
 use crate::error::OwnerError;
@@ -27,11 +27,8 @@ pub(crate) fn enter<D: Disk, R: Receipt, S: Store<Receipt = R>>(
 ) -> Result<u64, OwnerError>
     requires steps { volume.old.steps ≤ max_steps }
     requires idle { IsIdle volume.old.volume }
-    ensures call { IsCall R.state most_of_call (added_by entry result) (is_eio result) volume.old volume.new
-        (S.state store.old) (S.state store.new) }
-    ensures count { IfOk result (λ count. IsLengthOf count volume.new.volume) }
-    ensures range { IsErrOf result OwnerError.Range ↔ (is_in_range volume.old.volume.objects.batch.geometry
-        entry ≡ false) }
+    ensures enter { EnterOf R.state entry result volume.old volume.new (S.state store.old)
+        (S.state store.new) }
     ensures idle { IsIdle volume.new.volume }
 {
     if !in_range(&entry, &volume.geometry()) {
@@ -53,14 +50,14 @@ pub(crate) fn enter<D: Disk, R: Receipt, S: Store<Receipt = R>>(
 fn try_entry<D: Disk, R: Receipt>(volume: &mut Volume<D, R>, entry: Entry) -> Attempt
     requires steps { volume.old.steps < max_number }
     requires idle { IsIdle volume.old.volume }
-    requires range { is_in_range volume.old.volume.objects.batch.geometry entry ≡ true }
+    requires range { is_in_range (volume_geometry volume.old.volume) entry ≡ true }
     ensures step { MakesStep R.state (event_of entry) (entered_by entry result) volume.old volume.new }
     ensures steps { MakesSteps 1 (entered_by entry result) volume.old volume.new }
     ensures count { (count : ℕ) → result ≡ Attempt.Entered count → IsLengthOf count volume.new.volume }
     ensures back { MayTryAgain entry result volume.old.volume volume.new.volume }
     ensures work { work_of volume.old.volume ≤ most_work }
-    ensures faults { Counts (attempt_failed result) volume.old.volume.log.commits.disk.faults
-        volume.new.volume.log.commits.disk.faults }
+    ensures faults { Counts (attempt_failed result) (volume_disk volume.old.volume).faults
+        (volume_disk volume.new.volume).faults }
     ensures idle { IsIdle volume.new.volume }
 {
     attempt_of(volume.step(event_for(entry)))

@@ -1,6 +1,7 @@
 ghost use Rattle.std.specs.Prelude.{◌≡◌, ◌+◌, ◌<◌, ◌≤◌, [], IfOk, OnOk, IsErrOf, IsOkUnless};
 ghost use Rattle.vol_core.specs.declared.event.Event.TheVariants as events;
 ghost use Rattle.vol_core.specs.Shows.{max_number};
+ghost use Rattle.vol_core.specs.View.{objects_on_way, volume_disk};
 ghost use Rattle.volume_owner.specs.Owner.{IsIdle};
 ghost use Rattle.volume_owner.specs.Acts.{MakesStep};
 ghost use Rattle.volume_owner.specs.Calls.{MakesSteps, IsCall};
@@ -74,12 +75,12 @@ fn put<D: Disk, R: Receipt, S: Store<Receipt = R>>(
 fn seal<D: Disk, R: Receipt>(volume: &mut Volume<D, R>) -> Result<bool, OwnerError>
     requires steps { volume.old.steps < max_number }
     requires idle { IsIdle volume.old.volume }
-    requires none { volume.old.volume.objects.uploads.window.objects ≡ [] }
+    requires none { objects_on_way volume.old.volume ≡ [] }
     ensures step { MakesStep R.state events.Seal [] volume.old volume.new }
     ensures steps { MakesSteps 1 [] volume.old volume.new }
     ensures less { IfOk result (λ has_sealed. HasHelped has_sealed volume.old.volume volume.new.volume) }
     ensures error { IsOkUnless result OwnerError.OutOfMemory }
-    ensures faults { volume.new.volume.log.commits.disk.faults ≡ volume.old.volume.log.commits.disk.faults }
+    ensures faults { (volume_disk volume.new.volume).faults ≡ (volume_disk volume.old.volume).faults }
     ensures idle { IsIdle volume.new.volume }
 {
     seal_of(volume.step(Event::Seal))

@@ -1,15 +1,9 @@
-ghost use Rattle.std.specs.Prelude.{◌≡◌, ◌<◌, ◌≤◌, ◌↔◌, ◌/◌, ◌%◌, [], IsTrue, false, length, IfOk, OnOk};
-ghost use Rattle.std.specs.Prelude.{IsErrOf, is_err};
+ghost use Rattle.std.specs.Prelude.{◌≡◌, ◌≤◌, ◌/◌, ◌%◌, IsTrue, length};
 ghost use Rattle.lsvd_base.specs.declared.entry.Entry.TheVariants as entries;
-ghost use Rattle.lsvd_base.specs.Limits.{is_within_limits, may_transfer};
-ghost use Rattle.lsvd_base.specs.Range.{is_in_range};
-ghost use Rattle.lsvd_fault.specs.Faults.{Counts};
-ghost use Rattle.vol_core.specs.declared.event.Event.TheVariants as events;
-ghost use Rattle.volume_owner.specs.Owner.{IsIdle, max_steps, most_of_call};
-ghost use Rattle.volume_owner.specs.Acts.{MakesStep};
-ghost use Rattle.volume_owner.specs.Calls.{MakesSteps, IsCall, IsLengthOf, IsDurable, IsDrained, HasSectors};
-ghost use Rattle.volume_owner.specs.Calls.{added_by};
-ghost use Rattle.volume_owner.specs.Errors.{is_eio};
+ghost use Rattle.lsvd_base.specs.Limits.{is_within_limits};
+ghost use Rattle.vol_core.specs.View.{volume_geometry, volume_uuid};
+ghost use Rattle.volume_owner.specs.Owner.{IsIdle, max_steps};
+ghost use Rattle.volume_owner.specs.Calls.{EnterOf, FlushOf, DrainOf, ReadOf};
 
 use crate::draining::drain;
 use crate::entering::enter;
@@ -67,11 +61,8 @@ impl<D: Disk, R: Receipt> Owner<D, R> {
         body: Body,
     ) -> Result<u64, OwnerError>
         requires { self.old.steps ≤ max_steps }
-        ensures call { IsCall R.state most_of_call (added_by (entries.Write lba body) result)
-            (is_eio result) self.old self.new (S.state store.old) (S.state store.new) }
-        ensures count { IfOk result (λ count. IsLengthOf count self.new.volume) }
-        ensures range { IsErrOf result OwnerError.Range
-            ↔ (is_in_range self.old.volume.objects.batch.geometry (entries.Write lba body) ≡ false) }
+        ensures { EnterOf R.state (entries.Write lba body) result self.old self.new (S.state store.old)
+            (S.state store.new) }
     {
         enter(alloc, &mut self.volume, store, Entry::Write { lba, body })
     }
@@ -88,11 +79,8 @@ impl<D: Disk, R: Receipt> Owner<D, R> {
         sectors: u64,
     ) -> Result<u64, OwnerError>
         requires { self.old.steps ≤ max_steps }
-        ensures call { IsCall R.state most_of_call (added_by (entries.Zero lba sectors) result)
-            (is_eio result) self.old self.new (S.state store.old) (S.state store.new) }
-        ensures count { IfOk result (λ count. IsLengthOf count self.new.volume) }
-        ensures range { IsErrOf result OwnerError.Range
-            ↔ (is_in_range self.old.volume.objects.batch.geometry (entries.Zero lba sectors) ≡ false) }
+        ensures { EnterOf R.state (entries.Zero lba sectors) result self.old self.new (S.state store.old)
+            (S.state store.new) }
     {
         enter(alloc, &mut self.volume, store, Entry::Zero { lba, sectors })
     }
@@ -101,12 +89,7 @@ impl<D: Disk, R: Receipt> Owner<D, R> {
     /// the disk failed, which that counted.
     pub fn flush(&mut self) -> Result<u64, Failed>
         requires { self.old.steps ≤ max_steps }
-        ensures step { MakesStep R.state events.Flush [] self.old self.new }
-        ensures steps { MakesSteps 1 [] self.old self.new }
-        ensures faults { Counts (is_err result) self.old.volume.log.commits.disk.faults
-            self.new.volume.log.commits.disk.faults }
-        ensures count { IfOk result (λ count. IsLengthOf count self.new.volume) }
-        ensures durable { OnOk result (IsDurable self.new.volume) }
+        ensures { FlushOf R.state result self.old self.new }
     {
         flush(&mut self.volume)
     }
@@ -123,18 +106,14 @@ impl<D: Disk, R: Receipt> Owner<D, R> {
         store: &mut S,
     ) -> Result<u64, OwnerError>
         requires { self.old.steps ≤ max_steps }
-        ensures call { IsCall R.state most_of_call [] (is_eio result) self.old self.new (S.state store.old)
-            (S.state store.new) }
-        ensures count { IfOk result (λ count. IsLengthOf count self.new.volume) }
-        ensures drained { OnOk result (IsDrained self.new.volume) }
-        ensures range { IsErrOf result OwnerError.Range → ⊥ }
+        ensures { DrainOf R.state result self.old self.new (S.state store.old) (S.state store.new) }
     {
         drain(alloc, &mut self.volume, store)
     }
 
     /// Reads the sectors from `lba` on into the whole of a buffer of whole sectors (a condition), and answers
-    /// the front: how many entries the history has that the sectors are those of. Where the volume tells what
-    /// it holds, they are its sectors.
+    /// how many entries the history has that the sectors are those of. Where the volume tells what it holds,
+    /// they are its sectors.
     ///
     /// `Range` comes exactly where the sectors are not 1 to `max_write` that lie inside the volume. `Eio`
     /// comes where a call of the disk or of the store failed, which that counted, and `OutOfMemory` where
@@ -147,12 +126,8 @@ impl<D: Disk, R: Receipt> Owner<D, R> {
     ) -> Result<u64, OwnerError>
         requires steps { self.old.steps ≤ max_steps }
         requires whole { length buf.old % 512 ≡ 0 }
-        ensures call { IsCall R.state most_of_call [] (is_eio result) self.old self.new (S.state store.old)
-            (S.state store.new) }
-        ensures front { IfOk result (λ front. IsLengthOf front self.old.volume) }
-        ensures bytes { OnOk result (HasSectors R.state self.old.volume lba buf.new) }
-        ensures range { IsErrOf result OwnerError.Range
-            ↔ (may_transfer self.old.volume.objects.batch.geometry lba (length buf.old / 512) ≡ false) }
+        ensures { ReadOf R.state lba (length buf.old / 512) buf.new result self.old self.new
+            (S.state store.old) (S.state store.new) }
     {
         read(&mut self.volume, store, lba, buf)
     }
@@ -166,7 +141,7 @@ impl<D: Disk, R: Receipt> Owner<D, R> {
 
     /// The geometry of the volume, which no call changes. Each size keeps its limits.
     pub fn geometry(&self) -> Geometry
-        ensures same { result ≡ self.now.volume.objects.batch.geometry }
+        ensures same { result ≡ volume_geometry self.now.volume }
         ensures limits { IsTrue (is_within_limits result) }
     {
         self.volume.geometry()
@@ -174,7 +149,7 @@ impl<D: Disk, R: Receipt> Owner<D, R> {
 
     /// The uuid of the volume, which no call changes.
     pub fn uuid(&self) -> Uuid
-        ensures { result ≡ self.now.volume.objects.uploads.uuid }
+        ensures { result ≡ volume_uuid self.now.volume }
     {
         self.volume.uuid()
     }

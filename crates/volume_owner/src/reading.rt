@@ -1,13 +1,8 @@
-ghost use Rattle.std.specs.Prelude.{◌≡◌, ◌<◌, ◌≤◌, ◌↔◌, ◌/◌, ◌%◌, [], false, length, IfOk, OnOk, IsErrOf};
-ghost use Rattle.std.specs.Prelude.{is_err};
-ghost use Rattle.lsvd_base.specs.Limits.{may_transfer};
-ghost use Rattle.lsvd_fault.specs.Faults.{Counts};
+ghost use Rattle.std.specs.Prelude.{◌≡◌, ◌<◌, ◌≤◌, ◌/◌, ◌%◌, length};
 ghost use Rattle.vol_core.specs.declared.event.Event.TheVariants as events;
 ghost use Rattle.vol_core.specs.Shows.{max_number};
-ghost use Rattle.volume_owner.specs.Owner.{IsIdle, max_steps, most_of_call};
-ghost use Rattle.volume_owner.specs.Acts.{MakesStep};
-ghost use Rattle.volume_owner.specs.Calls.{MakesSteps, IsCall, IsLengthOf, IsDurable, HasSectors};
-ghost use Rattle.volume_owner.specs.Errors.{is_eio};
+ghost use Rattle.volume_owner.specs.Owner.{IsIdle, max_steps};
+ghost use Rattle.volume_owner.specs.Calls.{FlushOf, ReadOf};
 ghost use Rattle.volume_owner.specs.Helping.{work_of};
 
 use crate::error::OwnerError;
@@ -19,7 +14,8 @@ use lsvd_objstore::{Receipt, Store};
 use vol_core::{Event, Volume};
 
 /// Reads the sectors from `lba` on into the whole of a buffer of whole sectors (a condition): plans the read,
-/// fetches it, and gives the plan back, whatever the fetch answered. The front is answered.
+/// fetches it, and gives the plan back, whatever the fetch answered. Answers the length of the history at
+/// the plan.
 pub(crate) fn read<D: Disk, R: Receipt, S: Store<Receipt = R>>(
     volume: &mut Volume<D, R>,
     store: &mut S,
@@ -29,12 +25,8 @@ pub(crate) fn read<D: Disk, R: Receipt, S: Store<Receipt = R>>(
     requires steps { volume.old.steps ≤ max_steps }
     requires idle { IsIdle volume.old.volume }
     requires whole { length buf.old % 512 ≡ 0 }
-    ensures call { IsCall R.state most_of_call [] (is_eio result) volume.old volume.new (S.state store.old)
-        (S.state store.new) }
-    ensures front { IfOk result (λ front. IsLengthOf front volume.old.volume) }
-    ensures bytes { OnOk result (HasSectors R.state volume.old.volume lba buf.new) }
-    ensures range { IsErrOf result OwnerError.Range ↔ (may_transfer volume.old.volume.objects.batch.geometry
-        lba (length buf.old / 512) ≡ false) }
+    ensures read { ReadOf R.state lba (length buf.old / 512) buf.new result volume.old volume.new
+        (S.state store.old) (S.state store.new) }
     ensures idle { IsIdle volume.new.volume }
 {
     let sectors = buf.len() as u64 / SECTOR_BYTES;
@@ -42,11 +34,11 @@ pub(crate) fn read<D: Disk, R: Receipt, S: Store<Receipt = R>>(
         return Err(OwnerError::Range);
     }
     let plan = plan_of(volume.step(Event::Look { lba, sectors }))?;
-    let front = plan.front();
+    let length = plan.history_length();
     let fetched = plan.fetch(store, buf);
     drop(volume.step(Event::Release(plan)));
     fetched?;
-    Ok(front)
+    Ok(length)
 }
 
 /// Commits each entry so far, and answers the length of the history. `Failed` comes where a call of the disk
@@ -54,13 +46,8 @@ pub(crate) fn read<D: Disk, R: Receipt, S: Store<Receipt = R>>(
 pub(crate) fn flush<D: Disk, R: Receipt>(volume: &mut Volume<D, R>) -> Result<u64, Failed>
     requires steps { volume.old.steps < max_number }
     requires idle { IsIdle volume.old.volume }
-    ensures step { MakesStep R.state events.Flush [] volume.old volume.new }
-    ensures steps { MakesSteps 1 [] volume.old volume.new }
-    ensures count { IfOk result (λ count. IsLengthOf count volume.new.volume) }
-    ensures durable { OnOk result (IsDurable volume.new.volume) }
+    ensures flush { FlushOf R.state result volume.old volume.new }
     ensures work { work_of volume.new.volume ≡ work_of volume.old.volume }
-    ensures faults { Counts (is_err result) volume.old.volume.log.commits.disk.faults
-        volume.new.volume.log.commits.disk.faults }
     ensures idle { IsIdle volume.new.volume }
 {
     match count_of(volume.step(Event::Flush)) {

@@ -152,7 +152,7 @@ fn look(
 ) -> Result<Answer, TestError> {
     match step(volume, Event::Look { lba, sectors })? {
         Reply::Planned(planned) => {
-            let answer = Answer::Planned(planned.front(), Objects::of(planned.objects()));
+            let answer = Answer::Planned(planned.history_length(), Objects::of(planned.objects()));
             *plan = Some(planned);
             Ok(answer)
         }

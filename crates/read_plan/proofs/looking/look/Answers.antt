@@ -68,7 +68,7 @@ returns-clause-plan g c =
     let before = goal.at.returns-clause-plan g c in
     is_plan c.args.lba c.args.sectors c.args.objects.now c.args.log.now c.in_ok-rows.rows.items
     (record {
-      front = c.next_seq.result;
+      history_length = c.next_seq.result;
       bytes = c.in-Ok.bytes.items;
       pieces = c.in_ok-pieces.pieces.items;
       objects = c.in_ok-numbers.numbers.items;

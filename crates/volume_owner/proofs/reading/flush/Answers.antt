@@ -16,12 +16,14 @@ returns-in-Some g c =
     let is = flushed_is state reply old new of plain shows c.in-Some.count
     (flushed_reply reply c.in-Some.count (sym c.count_of.ensures ∙ c.in-Some.is)) in
     record {
-      step = record { reply = reply; step = of; entered = refl };
-      steps = flush_makes state reply old new of plain shows;
-      count = is.0;
-      durable = is.1;
+      flush = record {
+        step = record { reply = reply; step = of; entered = refl };
+        steps = flush_makes state reply old new of plain shows;
+        faults = subst (λ b. Counts b old.volume.log.commits.disk.faults new.volume.log.commits.disk.faults) is.2 of.step.faults;
+        count = is.0;
+        durable = is.1;
+      };
       work = flush_work state reply old new of plain shows;
-      faults = subst (λ b. Counts b old.volume.log.commits.disk.faults new.volume.log.commits.disk.faults) is.2 of.step.faults;
       idle = flush_idle state reply old new of plain shows c.requires.idle;
     }
 
@@ -36,11 +38,13 @@ returns-in-None g c =
     let of = c.step.ensures in
     let fault = not_flushed state reply old new of plain shows (sym c.count_of.ensures ∙ c.in-None.is) in
     record {
-      step = record { reply = reply; step = of; entered = refl };
-      steps = flush_makes state reply old new of plain shows;
-      count = tt;
-      durable = tt;
+      flush = record {
+        step = record { reply = reply; step = of; entered = refl };
+        steps = flush_makes state reply old new of plain shows;
+        faults = subst (λ b. Counts b old.volume.log.commits.disk.faults new.volume.log.commits.disk.faults) fault of.step.faults;
+        count = tt;
+        durable = tt;
+      };
       work = flush_work state reply old new of plain shows;
-      faults = subst (λ b. Counts b old.volume.log.commits.disk.faults new.volume.log.commits.disk.faults) fault of.step.faults;
       idle = flush_idle state reply old new of plain shows c.requires.idle;
     }
