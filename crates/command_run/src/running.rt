@@ -11,6 +11,7 @@ ghost use Rattle.volume_commands.specs.Report.{status_of, line_of, IsTold};
 ghost use Rattle.volume_commands.specs.World.{CountsNone, CountsOneOf};
 ghost use Rattle.command_run.specs.Run.{AreWordsRefused, CountsOneOfAll, Reaches, Runs, report_of};
 ghost use Rattle.volume_commands.specs.World.{IsConstant};
+ghost use Rattle.volume_server.specs.Serving.{listener_told, link_told};
 
 use command_line::{CommandLineError, Request, request_of};
 use std::alloc::Global;
@@ -41,17 +42,10 @@ pub fn run<W: World>(
         × Runs (map string_bytes words.now) report (W.In.remaining input.old) (W.Out.contents out.old)
         (W.Out.contents out.new)
         × Reaches W.tells (λ disk. W.Disk.state disk) W.Store.Receipt.state
-        (λ clients. record {
-          given = W.Clients.given clients;
-          closed = W.Clients.closed clients;
-          faults = W.Clients.faults clients;
-        })
+        (listener_told W.Clients.given W.Clients.closed W.Clients.faults)
         (λ clients. W.Clients.coming clients)
-        (λ link. record {
-          bytes = record { left = W.Clients.Link.remaining link; sent = W.Clients.Link.contents link };
-          held = W.Clients.Link.held link;
-          faults = W.Clients.Link.Source.faults link;
-        })
+        (link_told W.Clients.Link.remaining W.Clients.Link.contents W.Clients.Link.held
+        W.Clients.Link.Source.faults)
         (map string_bytes words.now) report (W.clients_at world.old)
         (record { disks = W.disk_at world.old; stores = W.store_at world.old })
         (record { disks = W.disk_at world.new; stores = W.store_at world.new })
@@ -117,17 +111,10 @@ fn execute<W: World>(
     ensures output { Runs (map string_bytes words.now) result (W.In.remaining input.old)
         (W.Out.contents out.old) (W.Out.contents out.new) }
     ensures reaches { Reaches W.tells (λ disk. W.Disk.state disk) W.Store.Receipt.state
-        (λ clients. record {
-          given = W.Clients.given clients;
-          closed = W.Clients.closed clients;
-          faults = W.Clients.faults clients;
-        })
+        (listener_told W.Clients.given W.Clients.closed W.Clients.faults)
         (λ clients. W.Clients.coming clients)
-        (λ link. record {
-          bytes = record { left = W.Clients.Link.remaining link; sent = W.Clients.Link.contents link };
-          held = W.Clients.Link.held link;
-          faults = W.Clients.Link.Source.faults link;
-        })
+        (link_told W.Clients.Link.remaining W.Clients.Link.contents W.Clients.Link.held
+        W.Clients.Link.Source.faults)
         (map string_bytes words.now) result (W.clients_at world.old)
         (record { disks = W.disk_at world.old; stores = W.store_at world.old })
         (record { disks = W.disk_at world.new; stores = W.store_at world.new })

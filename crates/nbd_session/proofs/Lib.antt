@@ -1,5 +1,4 @@
 mod RequestLemmas
 mod RefusalLemmas
 mod SessionLemmas
-mod OwnerLemmas
-pub mod HistoryLemmas
+mod CallLemmas

@@ -1,5 +1,5 @@
 -- A request and the data that come next are a request of a client.
-use Rattle.std.proofs.Common.{◌≡◌, ℕ, ◌<◌, true, false, List, [], ◌++◌, length, refl, sym, ◌∙◌, ap, subst, inl, inr, append_assoc}
+use Rattle.std.proofs.Common.{◌≡◌, ℕ, true, false, List, [], ◌++◌, length, refl, sym, ◌∙◌, ap, subst, inl, inr, append_assoc}
 use Rattle.std.proofs.Common.{arith}
 use Rattle.std.proofs.lemmas.List.{length-append}
 use Rattle.std.specs.Prelude.{Option, Some, None, Result, Ok, Err}
@@ -7,7 +7,6 @@ use Rattle.std.specs.Io.KnownBytes.{Appends, Consumes}
 use Rattle.lsvd_base.specs.declared.entry.Entry.{Entry}
 use Rattle.lsvd_base.specs.declared.geometry.Geometry.{Geometry}
 use Rattle.lsvd_fault.proofs.Streams.{consumes_more}
-use Rattle.lsvd_objstore.specs.Store.{ReceiptState}
 use Rattle.nbd_wire.specs.declared.message.Request.{Request}
 use Rattle.nbd_wire.specs.declared.wire_end.WireEnd.{WireEnd}
 use Rattle.nbd_wire.specs.declared.wire_end.WireEnd.TheVariants.{Ended, Closed, LinkFault, OutOfMemory}
@@ -20,9 +19,9 @@ use Rattle.nbd_session.specs.declared.asking.Asked.TheVariants as askings
 use Rattle.nbd_session.specs.declared.outcome.ReplyError.{ReplyError}
 use Rattle.nbd_session.specs.Requests.{asked_of, is_to_disconnect}
 use Rattle.nbd_session.specs.Exchanges.{ClientRequest, client_request_bytes, IsClientRequest, content_size, reply_number}
-use Rattle.volume_owner.specs.Acts.{Moment}
 use Rattle.nbd_session.specs.Exchanges.{request_reply_bytes, Outcome, CarriesOut, asked_at, RequestExchange}
-use Rattle.nbd_session.specs.Exchanges.{IsRequestExchange, max_session_steps}
+use Rattle.nbd_session.specs.Exchanges.{IsRequestExchange}
+use Rattle.nbd_session.specs.BlockDevice.{BlockRelations, HasRoom}
 use Rattle.nbd_session.specs.Session.{LinkBytes, asked_bytes, answered_bytes}
 use Rattle.nbd_session.specs.Steps.{IsContent, ServesRequest}
 
@@ -58,29 +57,29 @@ cut_off one_way bytes request (Some left) (Some next) is read few = (
         absurd (omega (arith, few, size, ap content_size same.2, ap length same.1, length-append message.content rest))
 
 -- the request was not read
-pub head_broken : {R : Type 0} (state : R → ReceiptState) (first last : LinkBytes) (moment : Moment) (end : WireEnd)
+pub head_broken : {M : Type 0} (io : BlockRelations M) (first last : LinkBytes) (moment : M) (end : WireEnd)
     → ReadsMessage {T = Request} 28 IsRequest first.left last.left (Err end) → last.sent ≡ first.sent
-    → ServesRequest state (Err end) first last moment moment
-head_broken state first last moment Ended read same = (refl, inr (read.0, read.1, same))
-head_broken state first last moment Closed read same = (refl, no_request first.left read.0, (read.1.0, read.1.2, same))
-head_broken state first last moment LinkFault read same = inl (refl, (read.0, read.2, same))
-head_broken state first last moment OutOfMemory read same = absurd read
+    → ServesRequest io (Err end) first last moment moment
+head_broken io first last moment Ended read same = (refl, inr (read.0, read.1, same))
+head_broken io first last moment Closed read same = (refl, no_request first.left read.0, (read.1.0, read.1.2, same))
+head_broken io first last moment LinkFault read same = inl (refl, (read.0, read.2, same))
+head_broken io first last moment OutOfMemory read same = absurd read
 
 -- it was read, but its data were not
-pub data_broken : {R : Type 0} (state : R → ReceiptState) (first last : LinkBytes) (moment : Moment) (mid : Option (List ℕ))
+pub data_broken : {M : Type 0} (io : BlockRelations M) (first last : LinkBytes) (moment : M) (mid : Option (List ℕ))
     (request : Request)
     (end : WireEnd) → IsReadOneWay IsRequest → ReadsMessage 28 IsRequest first.left mid (Ok request)
     → ReadsData {T = Option (List ℕ)} (content_size request) IsContent mid last.left (Err end)
-    → HasMemory {T = Option (List ℕ)} (Err end) → last.sent ≡ first.sent → ServesRequest state (Err end) first last moment moment
-data_broken state first last moment mid request Ended one_way head more memory same = absurd more
-data_broken state first last moment mid request Closed one_way head more memory same = (
+    → HasMemory {T = Option (List ℕ)} (Err end) → last.sent ≡ first.sent → ServesRequest io (Err end) first last moment moment
+data_broken io first last moment mid request Ended one_way head more memory same = absurd more
+data_broken io first last moment mid request Closed one_way head more memory same = (
   refl,
   cut_off one_way head.0 request first.left mid head.1 head.2 more.0,
   (head.0 ++ more.1.0, consumes_more first.left mid last.left head.0 more.1.0 head.2 more.1.2, same),
 )
-data_broken state first last moment mid request LinkFault one_way head more memory same =
+data_broken io first last moment mid request LinkFault one_way head more memory same =
     inl (refl, (head.0 ++ more.0, consumes_more first.left mid last.left head.0 more.0 head.2 more.2, same))
-data_broken state first last moment mid request OutOfMemory one_way head more memory same = absurd memory
+data_broken io first last moment mid request OutOfMemory one_way head more memory same = absurd memory
 
 -- a request that was read with its data
 pub record HasRead (old new : Option (List ℕ)) (request : Request) (body : Option (List ℕ)) : Type 0 where
@@ -108,13 +107,12 @@ has_read old mid new request body before after =
 -- ---- what is asked
 
 -- what a request was found to ask, by the geometry of the volume of a moment
-pub record IsAskedAt (moment : Moment) (request : Request) (asked : Asked) : Type 0 where
-  pub is : asked_at moment request ≡ asked
+pub record IsAskedAt {M : Type 0} (io : BlockRelations M) (moment : M) (request : Request) (asked : Asked) : Type 0 where
+  pub is : asked_at io moment request ≡ asked
 
-pub is_asked_at : (moment : Moment) (request : Request) (asked : Asked) (geometry : Geometry)
-    → geometry ≡ moment.volume.volume.objects.batch.geometry
-    → asked ≡ asked_of geometry request → IsAskedAt moment request asked
-is_asked_at moment request asked geometry same is = record { is = sym (is ∙ ap (λ g. asked_of g request) same) }
+pub is_asked_at : {M : Type 0} (io : BlockRelations M) (moment : M) (request : Request) (asked : Asked) (geometry : Geometry)
+    → geometry ≡ io.geometry moment → asked ≡ asked_of geometry request → IsAskedAt io moment request asked
+is_asked_at io moment request asked geometry same is = record { is = sym (is ∙ ap (λ g. asked_of g request) same) }
 
 -- it is to disconnect, or is not
 it_is : (asked : Asked) → is_to_disconnect asked ≡ true → asked ≡ askings.Disconnect
@@ -129,12 +127,13 @@ it_is_not : (asked : Asked) → is_to_disconnect asked ≡ false → asked ≡ a
 it_is_not asked is disconnect = let same : true ≡ false = ap is_to_disconnect (sym disconnect) ∙ is in cc
 
 -- the client disconnects
-pub disconnects : {R : Type 0} (state : R → ReceiptState) (first last : LinkBytes) (moment : Moment) (request : Request)
+pub disconnects : {M : Type 0} (io : BlockRelations M) (first last : LinkBytes) (moment : M) (request : Request)
     (asked : Asked)
-    → IsAskedAt moment request asked → is_to_disconnect asked ≡ true → ReadsMessage 28 IsRequest first.left last.left (Ok request)
+    → IsAskedAt io moment request asked → is_to_disconnect asked ≡ true
+    → ReadsMessage 28 IsRequest first.left last.left (Ok request)
     → last.sent ≡ first.sent
-    → ServesRequest state (Ok false) first last moment moment
-disconnects state first last moment request asked at is read same = (
+    → ServesRequest io (Ok false) first last moment moment
+disconnects io first last moment request asked at is read same = (
   refl,
   record {
     request = request;
@@ -146,23 +145,23 @@ disconnects state first last moment request asked at is read same = (
 )
 
 -- it was carried out
-pub record IsCarriedOut {R : Type 0} (state : R → ReceiptState) (left right : Option (List ℕ)) (request : Request)
-    (outcome : Outcome) (old new : Moment) : Type 0 where
+pub record IsCarriedOut {M : Type 0} (io : BlockRelations M) (left right : Option (List ℕ)) (request : Request)
+    (outcome : Outcome) (old new : M) : Type 0 where
   pub exchange : RequestExchange
   pub request_is : exchange.message.request ≡ request
   pub outcome_is : exchange.outcome ≡ outcome
-  pub is : IsRequestExchange state exchange old new
+  pub is : IsRequestExchange io exchange old new
   pub read : Consumes left right (asked_bytes exchange)
 
-pub is_carried_out : {R : Type 0} (state : R → ReceiptState) (left right : Option (List ℕ)) (request : Request)
+pub is_carried_out : {M : Type 0} (io : BlockRelations M) (left right : Option (List ℕ)) (request : Request)
     (body : Option (List ℕ)) (asked : Asked)
-    (outcome : Outcome) (old new : Moment) → HasRead left right request body → IsAskedAt old request asked
+    (outcome : Outcome) (old new : M) → HasRead left right request body → IsAskedAt io old request asked
     → is_to_disconnect asked ≡ false
-    → old.volume.steps < max_session_steps
+    → HasRoom io old
     → ((content : List ℕ) → IsContent content body → (entered : List Entry)
-    × CarriesOut state asked content outcome entered old new)
-    → IsCarriedOut state left right request outcome old new
-is_carried_out state left right request body asked outcome old new has at stays room done =
+    × CarriesOut io asked content outcome entered old new)
+    → IsCarriedOut io left right request outcome old new
+is_carried_out io left right request body asked outcome old new has at stays room done =
     let carried = done has.content has.kept in
     record {
       exchange = record { message = record { request = request; content = has.content }; outcome = outcome; entered = carried.0 };
@@ -172,7 +171,7 @@ is_carried_out state left right request body asked outcome old new has at stays 
         message = has.is;
         room = room;
         stays = λ disconnect. it_is_not asked stays (sym at.is ∙ disconnect);
-        done = subst (λ a. CarriesOut state a has.content outcome carried.0 old new) (sym at.is) carried.1;
+        done = subst (λ a. CarriesOut io a has.content outcome carried.0 old new) (sym at.is) carried.1;
       };
       read = has.read;
     }
@@ -187,13 +186,13 @@ reply_is exchange request outcome request_is outcome_is =
     ∙ ap (λ (o : Outcome). request_reply_bytes exchange.message.request.cookie o) (sym outcome_is)
 
 -- it was written
-pub replied : {R : Type 0} (state : R → ReceiptState) (first last : LinkBytes) (mid_left mid_sent : Option (List ℕ))
+pub replied : {M : Type 0} (io : BlockRelations M) (first last : LinkBytes) (mid_left mid_sent : Option (List ℕ))
     (request : Request) (outcome : Outcome)
-    (old new : Moment) → IsCarriedOut state first.left mid_left request outcome old new → last.left ≡ mid_left
+    (old new : M) → IsCarriedOut io first.left mid_left request outcome old new → last.left ≡ mid_left
     → mid_sent ≡ first.sent
     → Appends mid_sent last.sent (request_reply_bytes request.cookie outcome)
-    → ServesRequest state (Ok true) first last old new
-replied state first last mid_left mid_sent request outcome old new carried same_left same_sent sent =
+    → ServesRequest io (Ok true) first last old new
+replied io first last mid_left mid_sent request outcome old new carried same_left same_sent sent =
     let x = carried.exchange in (
       x,
       carried.is,
@@ -206,15 +205,15 @@ replied state first last mid_left mid_sent request outcome old new carried same_
     )
 
 -- it was not written whole
-pub reply_broken : {R : Type 0} (state : R → ReceiptState) (first last : LinkBytes) (mid_left mid_sent : Option (List ℕ))
+pub reply_broken : {M : Type 0} (io : BlockRelations M) (first last : LinkBytes) (mid_left mid_sent : Option (List ℕ))
     (request : Request) (outcome : Outcome)
-    (old new : Moment) (end : WireEnd) → IsCarriedOut state first.left mid_left request outcome old new → last.left ≡ mid_left
+    (old new : M) (end : WireEnd) → IsCarriedOut io first.left mid_left request outcome old new → last.left ≡ mid_left
     → mid_sent ≡ first.sent
     → WritesMessage {T = Unit {0}} (request_reply_bytes request.cookie outcome) mid_sent last.sent (Err end)
-    → ServesRequest state (Err end) first last old new
-reply_broken state first last mid_left mid_sent request outcome old new Ended carried same_left same_sent sent = absurd sent
-reply_broken state first last mid_left mid_sent request outcome old new Closed carried same_left same_sent sent = absurd sent
-reply_broken state first last mid_left mid_sent request outcome old new LinkFault carried same_left same_sent sent =
+    → ServesRequest io (Err end) first last old new
+reply_broken io first last mid_left mid_sent request outcome old new Ended carried same_left same_sent sent = absurd sent
+reply_broken io first last mid_left mid_sent request outcome old new Closed carried same_left same_sent sent = absurd sent
+reply_broken io first last mid_left mid_sent request outcome old new LinkFault carried same_left same_sent sent =
     let x = carried.exchange in
     inr (record {
       exchange = x;
@@ -225,7 +224,7 @@ reply_broken state first last mid_left mid_sent request outcome old new LinkFaul
           (subst (λ (xs : List ℕ). WritesFront xs mid_sent last.sent)
           (reply_is x request outcome carried.request_is carried.outcome_is) sent);
     })
-reply_broken state first last mid_left mid_sent request outcome old new OutOfMemory carried same_left same_sent sent = absurd sent
+reply_broken io first last mid_left mid_sent request outcome old new OutOfMemory carried same_left same_sent sent = absurd sent
 
 -- ---- the bytes of a reply
 

@@ -7,53 +7,51 @@ use Rattle.std.specs.Prelude.{flat_map, Some, Ok, Err}
 use Rattle.std.specs.Io.KnownBytes.{Appends, Consumes}
 use Rattle.lsvd_base.specs.declared.geometry.Geometry.{Geometry}
 use Rattle.lsvd_fault.proofs.Streams.{consumes_more, appends_more}
-use Rattle.lsvd_objstore.specs.Store.{ReceiptState}
 use Rattle.nbd_wire.specs.declared.wire_end.WireEnd.{WireEnd}
 use Rattle.nbd_wire.specs.declared.wire_end.WireEnd.TheVariants as wire
 use Rattle.nbd_options.specs.declared.export.Export.{Export}
 use Rattle.nbd_options.specs.declared.negotiation.NegotiationEnd.{NegotiationEnd}
 use Rattle.nbd_options.specs.declared.negotiation.NegotiationEnd.TheVariants as negotiations
 use Rattle.nbd_options.specs.Negotiation.{Negotiates}
-use Rattle.vol_core.specs.Volume.{SteppedVolume}
 use Rattle.nbd_session.specs.declared.session.SessionEnd.{SessionEnd}
 use Rattle.nbd_session.specs.declared.session.SessionEnd.TheVariants as ends
-use Rattle.volume_owner.specs.Acts.{Moment}
-use Rattle.nbd_session.specs.Exchanges.{RequestExchange, IsRequestExchange, AreRequestExchanges, max_session_steps}
+use Rattle.nbd_session.specs.Exchanges.{RequestExchange, IsRequestExchange, AreRequestExchanges}
+use Rattle.nbd_session.specs.BlockDevice.{BlockRelations, max_session_steps}
 use Rattle.nbd_session.specs.Session.{LinkBytes, max_requests, asked_bytes, answered_bytes, HasServed, EndsSession, Transmits}
 use Rattle.nbd_session.specs.Session.{ended_in, IsSession, export_with, export_of}
 use Rattle.nbd_session.specs.Steps.{ServesRequest, of_wire}
 
 -- this many requests were answered
-pub record HaveBeenServed {R : Type 0} (state : R → ReceiptState) (count : ℕ) (first now : LinkBytes) (old new : Moment) :
+pub record HaveBeenServed {M : Type 0} (io : BlockRelations M) (count : ℕ) (first now : LinkBytes) (old new : M) :
     Type 0 where
   pub exchanges : List RequestExchange
   pub counted : length exchanges ≡ count
-  pub served : HasServed state exchanges first now old new
+  pub served : HasServed io exchanges first now old new
 
-pub none_served : {R : Type 0} (state : R → ReceiptState) (link : LinkBytes) (moment : Moment)
-    → HaveBeenServed state 0 link link moment moment
-none_served state link moment = record {
+pub none_served : {M : Type 0} (io : BlockRelations M) (link : LinkBytes) (moment : M)
+    → HaveBeenServed io 0 link link moment moment
+none_served io link moment = record {
   exchanges = [];
   counted = refl;
   served = record { few = omega arith; passed = (Consumes-nil link.left, Appends-nil link.sent); done = refl };
 }
 
 -- one more after others
-one_after : {R : Type 0} (state : R → ReceiptState) (exchanges : List RequestExchange) (exchange : RequestExchange)
-    (old mid new : Moment)
-    → AreRequestExchanges state exchanges old mid → IsRequestExchange state exchange mid new
-    → AreRequestExchanges state (exchanges ++ exchange ∷ []) old new
-one_after state [] exchange old mid new done is = (new, subst (λ m. IsRequestExchange state exchange m new) done is, refl)
-one_after state (first ∷ rest) exchange old mid new done is =
-    (done.0, done.1, one_after state rest exchange done.0 mid new done.2 is)
+one_after : {M : Type 0} (io : BlockRelations M) (exchanges : List RequestExchange) (exchange : RequestExchange)
+    (old mid new : M)
+    → AreRequestExchanges io exchanges old mid → IsRequestExchange io exchange mid new
+    → AreRequestExchanges io (exchanges ++ exchange ∷ []) old new
+one_after io [] exchange old mid new done is = (new, subst (λ m. IsRequestExchange io exchange m new) done is, refl)
+one_after io (first ∷ rest) exchange old mid new done is =
+    (done.0, done.1, one_after io rest exchange done.0 mid new done.2 is)
 
-pub one_served : {R : Type 0} (state : R → ReceiptState) (count : ℕ) (first now last : LinkBytes) (old mid new : Moment)
+pub one_served : {M : Type 0} (io : BlockRelations M) (count : ℕ) (first now last : LinkBytes) (old mid new : M)
     (goes_on : Bool)
-    → count < max_requests → HaveBeenServed state count first now old mid → goes_on ≡ true
-    → ServesRequest state (Ok goes_on) now last mid new
-    → HaveBeenServed state (count + 1) first last old new
-one_served state count first now last old mid new false few before on one = let bad : ⊥ = cc in absurd bad
-one_served state count first now last old mid new true few before on one =
+    → count < max_requests → HaveBeenServed io count first now old mid → goes_on ≡ true
+    → ServesRequest io (Ok goes_on) now last mid new
+    → HaveBeenServed io (count + 1) first last old new
+one_served io count first now last old mid new false few before on one = let bad : ⊥ = cc in absurd bad
+one_served io count first now last old mid new true few before on one =
     let xs = before.exchanges in
     let x = one.0 in
     let long = length-append xs (x ∷ []) in
@@ -70,15 +68,15 @@ one_served state count first now last old mid new true few before on one =
               (appends_more first.sent now.sent last.sent (flat_map answered_bytes xs) (answered_bytes x)
               before.served.passed.1 one.2.1),
         );
-        done = one_after state xs x old mid new before.served.done one.1;
+        done = one_after io xs x old mid new before.served.done one.1;
       };
     }
 
 -- the client disconnected
-pub disconnected : {R : Type 0} (state : R → ReceiptState) (count : ℕ) (first now last : LinkBytes) (old mid new : Moment)
-    → HaveBeenServed state count first now old mid → ServesRequest state (Ok false) now last mid new
-    → Transmits state ends.Ended first last old new
-disconnected state count first now last old mid new before one = record {
+pub disconnected : {M : Type 0} (io : BlockRelations M) (count : ℕ) (first now last : LinkBytes) (old mid new : M)
+    → HaveBeenServed io count first now old mid → ServesRequest io (Ok false) now last mid new
+    → Transmits io ends.Ended first last old new
+disconnected io count first now last old mid new before one = record {
   exchanges = before.exchanges;
   now = now;
   then = mid;
@@ -87,30 +85,30 @@ disconnected state count first now last old mid new before one = record {
 }
 
 -- no request was read, or it was broken off; how many came before does not matter
-after_any : {R : Type 0} (state : R → ReceiptState) (end : WireEnd) (count : ℕ) (now last : LinkBytes) (old new : Moment)
-    → ServesRequest state (Err end) now last old new → EndsSession state (of_wire end) count now last old new
-after_any state wire.Ended count now last old new ends = ends
-after_any state wire.Closed count now last old new ends = ends
-after_any state wire.LinkFault count now last old new ends = ends
-after_any state wire.OutOfMemory count now last old new ends = ends
+after_any : {M : Type 0} (io : BlockRelations M) (end : WireEnd) (count : ℕ) (now last : LinkBytes) (old new : M)
+    → ServesRequest io (Err end) now last old new → EndsSession io (of_wire end) count now last old new
+after_any io wire.Ended count now last old new ends = ends
+after_any io wire.Closed count now last old new ends = ends
+after_any io wire.LinkFault count now last old new ends = ends
+after_any io wire.OutOfMemory count now last old new ends = ends
 
-pub broken_off : {R : Type 0} (state : R → ReceiptState) (end : WireEnd) (count : ℕ) (first now last : LinkBytes)
-    (old mid new : Moment)
-    → HaveBeenServed state count first now old mid → ServesRequest state (Err end) now last mid new
-    → Transmits state (of_wire end) first last old new
-broken_off state end count first now last old mid new before one = record {
+pub broken_off : {M : Type 0} (io : BlockRelations M) (end : WireEnd) (count : ℕ) (first now last : LinkBytes)
+    (old mid new : M)
+    → HaveBeenServed io count first now old mid → ServesRequest io (Err end) now last mid new
+    → Transmits io (of_wire end) first last old new
+broken_off io end count first now last old mid new before one = record {
   exchanges = before.exchanges;
   now = now;
   then = mid;
   served = before.served;
-  ends = after_any state end (length before.exchanges) now last mid new one;
+  ends = after_any io end (length before.exchanges) now last mid new one;
 }
 
 -- one request more would be too many, or the volume has made too many steps
-pub has_spent : {R : Type 0} (state : R → ReceiptState) (count : ℕ) (first now : LinkBytes) (old new : Moment)
-    → HaveBeenServed state count first now old new → (count ≡ max_requests) ⊎ (max_session_steps ≤ new.volume.steps)
-    → Transmits state ends.Spent first now old new
-has_spent state count first now old new before why = record {
+pub has_spent : {M : Type 0} (io : BlockRelations M) (count : ℕ) (first now : LinkBytes) (old new : M)
+    → HaveBeenServed io count first now old new → (count ≡ max_requests) ⊎ (max_session_steps ≤ io.steps new)
+    → Transmits io ends.Spent first now old new
+has_spent io count first now old new before why = record {
   exchanges = before.exchanges;
   now = now;
   then = new;
@@ -118,44 +116,40 @@ has_spent state count first now old new before why = record {
   ends = (refl, refl, spent why);
 }
   where
-    spent : (count ≡ max_requests) ⊎ (max_session_steps ≤ new.volume.steps)
-        → (length before.exchanges ≡ max_requests) ⊎ (max_session_steps ≤ new.volume.steps)
+    spent : (count ≡ max_requests) ⊎ (max_session_steps ≤ io.steps new)
+        → (length before.exchanges ≡ max_requests) ⊎ (max_session_steps ≤ io.steps new)
     spent (inl all) = inl (before.counted ∙ all)
     spent (inr steps) = inr steps
 
 -- ---- the negotiation
 
 -- what was offered is what is exported of the volume
-export_is : (stepped : SteppedVolume) (uuid : List ℕ) (geometry : Geometry) → uuid ≡ stepped.volume.objects.uploads.uuid
-    → geometry ≡ stepped.volume.objects.batch.geometry → export_with uuid geometry ≡ export_of stepped
-export_is stepped uuid geometry same_uuid same_sizes =
-    ap (λ u. export_with u geometry) same_uuid ∙ ap (λ g. export_with stepped.volume.objects.uploads.uuid g) same_sizes
+export_is : {M : Type 0} (io : BlockRelations M) (moment : M) (uuid : List ℕ) (geometry : Geometry) → uuid ≡ io.uuid moment
+    → geometry ≡ io.geometry moment → export_with uuid geometry ≡ export_of io moment
+export_is io moment uuid geometry same_uuid same_sizes =
+    ap (λ u. export_with u geometry) same_uuid ∙ ap (λ g. export_with (io.uuid moment) g) same_sizes
 
 -- the client has entered it
-pub has_entered : {R : Type 0} (state : R → ReceiptState) (stepped : SteppedVolume) (uuid : List ℕ) (geometry : Geometry)
-    (end : SessionEnd)
-    (first entered last : LinkBytes) (old new : Moment) → uuid ≡ stepped.volume.objects.uploads.uuid
-    → geometry ≡ stepped.volume.objects.batch.geometry
+pub has_entered : {M : Type 0} (io : BlockRelations M) (uuid : List ℕ) (geometry : Geometry) (end : SessionEnd)
+    (first entered last : LinkBytes) (old new : M) → uuid ≡ io.uuid old → geometry ≡ io.geometry old
     → Negotiates (export_with uuid geometry) negotiations.Entered first.left entered.left first.sent entered.sent
-    → Transmits state end entered last old new → IsSession state (export_of stepped) end first last old new
-has_entered state stepped uuid geometry end first entered last old new same_uuid same_sizes negotiates transmits = inr (
+    → Transmits io end entered last old new → IsSession io (export_of io old) end first last old new
+has_entered io uuid geometry end first entered last old new same_uuid same_sizes negotiates transmits = inr (
   entered,
   subst (λ (e : Export). Negotiates e negotiations.Entered first.left entered.left first.sent entered.sent)
-      (export_is stepped uuid geometry same_uuid same_sizes) negotiates,
+      (export_is io old uuid geometry same_uuid same_sizes) negotiates,
   transmits,
 )
 
 -- it has not
-pub has_not_entered : {R : Type 0} (state : R → ReceiptState) (stepped : SteppedVolume) (uuid : List ℕ) (geometry : Geometry)
-    (how : NegotiationEnd)
-    (end : SessionEnd) (first last : LinkBytes) (moment : Moment) → uuid ≡ stepped.volume.objects.uploads.uuid
-    → geometry ≡ stepped.volume.objects.batch.geometry → Negotiates (export_with uuid geometry) how first.left last.left
-    first.sent last.sent
-    → ended_in how ≡ Some end → IsSession state (export_of stepped) end first last moment moment
-has_not_entered state stepped uuid geometry how end first last moment same_uuid same_sizes negotiates ends = inl (
+pub has_not_entered : {M : Type 0} (io : BlockRelations M) (uuid : List ℕ) (geometry : Geometry) (how : NegotiationEnd)
+    (end : SessionEnd) (first last : LinkBytes) (moment : M) → uuid ≡ io.uuid moment → geometry ≡ io.geometry moment
+    → Negotiates (export_with uuid geometry) how first.left last.left first.sent last.sent
+    → ended_in how ≡ Some end → IsSession io (export_of io moment) end first last moment moment
+has_not_entered io uuid geometry how end first last moment same_uuid same_sizes negotiates ends = inl (
   how,
   subst (λ (e : Export). Negotiates e how first.left last.left first.sent last.sent)
-      (export_is stepped uuid geometry same_uuid same_sizes) negotiates,
+      (export_is io moment uuid geometry same_uuid same_sizes) negotiates,
   ends,
   refl,
 )

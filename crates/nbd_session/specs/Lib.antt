@@ -1,5 +1,5 @@
 pub mod Requests
+pub mod BlockDevice
 pub mod Exchanges
 pub mod Session
-pub mod History
 pub mod Steps

@@ -2,7 +2,6 @@
 use Rattle.std.specs.Prelude.{ℕ, ◌≡◌, ◌*◌, ◌^◌, ◌≤◌, ◌⊎◌, Bool, true, false, List, length, flat_map, Option, None, Some}
 use Rattle.std.specs.Io.KnownBytes.{Appends, Consumes, IsAtEnd, Keeps}
 use Rattle.lsvd_base.specs.declared.geometry.Geometry.{Geometry}
-use Rattle.lsvd_objstore.specs.Store.{ReceiptState}
 use Rattle.nbd_wire.specs.declared.message.Request.{Request}
 use Rattle.nbd_wire.specs.Messages.{request_bytes, IsRequest}
 use Rattle.nbd_wire.specs.Reading.{BeginsNoMessage}
@@ -11,14 +10,12 @@ use Rattle.nbd_options.specs.declared.export.Export.{Export}
 use Rattle.nbd_options.specs.declared.negotiation.NegotiationEnd.{NegotiationEnd}
 use Rattle.nbd_options.specs.declared.negotiation.NegotiationEnd.TheVariants as negotiations
 use Rattle.nbd_options.specs.Negotiation.{Negotiates}
-use Rattle.vol_core.specs.Volume.{SteppedVolume}
-use Rattle.vol_core.specs.View.{volume_geometry, volume_uuid}
 use Rattle.nbd_session.specs.declared.asking.Asked.TheVariants.{Disconnect}
 use Rattle.nbd_session.specs.declared.session.SessionEnd.{SessionEnd}
 use Rattle.nbd_session.specs.declared.session.SessionEnd.TheVariants.{Ended, Closed, Spent, LinkFault, OutOfMemory}
-use Rattle.volume_owner.specs.Acts.{Moment}
 use Rattle.nbd_session.specs.Exchanges.{IsClientRequest, client_request_bytes, request_reply_bytes, asked_at}
-use Rattle.nbd_session.specs.Exchanges.{RequestExchange, IsRequestExchange, AreRequestExchanges, max_session_steps}
+use Rattle.nbd_session.specs.Exchanges.{RequestExchange, IsRequestExchange, AreRequestExchanges}
+use Rattle.nbd_session.specs.BlockDevice.{BlockRelations, max_session_steps}
 
 -- ---- a link
 
@@ -49,51 +46,51 @@ abbrev pub answered_bytes : RequestExchange → List ℕ
 answered_bytes exchange = request_reply_bytes exchange.message.request.cookie exchange.outcome
 
 -- requests were read and answered, one after the other
-pub record HasServed {R : Type 0} (state : R → ReceiptState) (exchanges : List RequestExchange) (first now : LinkBytes)
-    (old new : Moment) : Type 0 where
+pub record HasServed {M : Type 0} (io : BlockRelations M) (exchanges : List RequestExchange) (first now : LinkBytes)
+    (old new : M) : Type 0 where
   pub few : length exchanges ≤ max_requests
   pub passed : Passes (flat_map asked_bytes exchanges) (flat_map answered_bytes exchanges) first now
-  pub done : AreRequestExchanges state exchanges old new
+  pub done : AreRequestExchanges io exchanges old new
 
 -- ---- how it ends
 
 -- a request to disconnect came
-pub record Disconnects (moment : Moment) (old new : LinkBytes) : Type 0 where
+pub record Disconnects {M : Type 0} (io : BlockRelations M) (moment : M) (old new : LinkBytes) : Type 0 where
   pub request : Request
   pub is_request : IsRequest (request_bytes request) request
-  pub asked : asked_at moment request ≡ Disconnect
+  pub asked : asked_at io moment request ≡ Disconnect
   pub read : Consumes old.left new.left (request_bytes request)
   pub sent : new.sent ≡ old.sent
 
 -- a request was read and carried out, and a front of its reply was written
-pub record BreaksInReply {R : Type 0} (state : R → ReceiptState) (now last : LinkBytes) (old new : Moment) : Type 0 where
+pub record BreaksInReply {M : Type 0} (io : BlockRelations M) (now last : LinkBytes) (old new : M) : Type 0 where
   pub exchange : RequestExchange
-  pub is_exchange : IsRequestExchange state exchange old new
+  pub is_exchange : IsRequestExchange io exchange old new
   pub read : Consumes now.left last.left (asked_bytes exchange)
   pub sent : WritesFront (answered_bytes exchange) now.sent last.sent
 
 -- The requests so far, of which there are this many, were answered, and the session ends: by a request to disconnect, or by the
 -- end of the input between two requests; by bytes that begin with no request, whole with its data; before a request that would be
 -- one too many; or by a call of the link that failed, inside a request, or inside a reply.
-abbrev pub EndsSession : {R : Type 0} → (R → ReceiptState) → SessionEnd → (count : ℕ) → (now last : LinkBytes)
-    → (old new : Moment) → Type 0
-EndsSession state Ended count now last old new =
-    (new ≡ old) × (Disconnects old now last
+abbrev pub EndsSession : {M : Type 0} → BlockRelations M → SessionEnd → (count : ℕ) → (now last : LinkBytes)
+    → (old new : M) → Type 0
+EndsSession io Ended count now last old new =
+    (new ≡ old) × (Disconnects io old now last
     ⊎ (IsAtEnd now.left × Keeps now.left last.left × (last.sent ≡ now.sent)))
-EndsSession state Closed count now last old new = (new ≡ old) × BeginsNoMessage IsClientRequest now.left × ReadsSome now last
-EndsSession state Spent count now last old new = (new ≡ old) × (last ≡ now)
-    × ((count ≡ max_requests) ⊎ (max_session_steps ≤ old.volume.steps))
-EndsSession state LinkFault count now last old new = ((new ≡ old) × ReadsSome now last) ⊎ BreaksInReply state now last old new
-EndsSession state OutOfMemory count now last old new = ⊥
+EndsSession io Closed count now last old new = (new ≡ old) × BeginsNoMessage IsClientRequest now.left × ReadsSome now last
+EndsSession io Spent count now last old new = (new ≡ old) × (last ≡ now)
+    × ((count ≡ max_requests) ⊎ (max_session_steps ≤ io.steps old))
+EndsSession io LinkFault count now last old new = ((new ≡ old) × ReadsSome now last) ⊎ BreaksInReply io now last old new
+EndsSession io OutOfMemory count now last old new = ⊥
 
 -- the transmission of a session, which ended so
-pub record Transmits {R : Type 0} (state : R → ReceiptState) (end : SessionEnd) (first last : LinkBytes) (old new : Moment) :
+pub record Transmits {M : Type 0} (io : BlockRelations M) (end : SessionEnd) (first last : LinkBytes) (old new : M) :
     Type 0 where
   pub exchanges : List RequestExchange
   pub now : LinkBytes
-  pub then : Moment
-  pub served : HasServed state exchanges first now old then
-  pub ends : EndsSession state end (length exchanges) now last then new
+  pub then : M
+  pub served : HasServed io exchanges first now old then
+  pub ends : EndsSession io end (length exchanges) now last then new
 
 -- ---- a session
 
@@ -106,13 +103,13 @@ ended_in negotiations.LinkFault = Some LinkFault
 ended_in negotiations.OutOfMemory = Some OutOfMemory
 
 -- a session negotiates, and where the client has entered the export, it goes on with its requests
-abbrev pub IsSession : {R : Type 0} → (R → ReceiptState) → Export → SessionEnd → (first last : LinkBytes)
-    → (old new : Moment) → Type 0
-IsSession state export end first last old new =
+abbrev pub IsSession : {M : Type 0} → BlockRelations M → Export → SessionEnd → (first last : LinkBytes)
+    → (old new : M) → Type 0
+IsSession io export end first last old new =
     ((how : NegotiationEnd) × Negotiates export how first.left last.left first.sent last.sent × (ended_in how ≡ Some end)
     × (new ≡ old))
     ⊎ ((entered : LinkBytes) × Negotiates export negotiations.Entered first.left entered.left first.sent entered.sent
-    × Transmits state end entered last old new)
+    × Transmits io end entered last old new)
 
 -- a call of the link failed
 abbrev pub ended_by_link : SessionEnd → Bool
@@ -126,5 +123,5 @@ ended_by_link OutOfMemory = false
 abbrev pub export_with : (uuid : List ℕ) → Geometry → Export
 export_with uuid geometry = record { uuid = uuid; size = geometry.sectors * 512; max_transfer = geometry.max_write * 512 }
 
-abbrev pub export_of : SteppedVolume → Export
-export_of stepped = export_with (volume_uuid stepped.volume) (volume_geometry stepped.volume)
+abbrev pub export_of : {M : Type 0} → BlockRelations M → M → Export
+export_of io moment = export_with (io.uuid moment) (io.geometry moment)

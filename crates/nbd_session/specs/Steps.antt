@@ -3,7 +3,6 @@ use Rattle.std.specs.Prelude.{ℕ, ◌≡◌, ◌*◌, ◌/◌, ◌%◌, ◌≤�
 use Rattle.std.specs.Prelude.{Err}
 use Rattle.lsvd_base.specs.declared.geometry.Geometry.{Geometry}
 use Rattle.lsvd_base.specs.Limits.{covers}
-use Rattle.lsvd_objstore.specs.Store.{ReceiptState}
 use Rattle.nbd_wire.specs.declared.message.Request.{Request}
 use Rattle.nbd_wire.specs.declared.wire_end.WireEnd.{WireEnd}
 use Rattle.nbd_wire.specs.declared.wire_end.WireEnd.TheVariants as wire
@@ -13,9 +12,9 @@ use Rattle.nbd_session.specs.declared.outcome.ReplyError.{ReplyError}
 use Rattle.nbd_session.specs.declared.outcome.ReplyError.TheVariants as errors
 use Rattle.nbd_session.specs.declared.session.SessionEnd.{SessionEnd}
 use Rattle.nbd_session.specs.declared.session.SessionEnd.TheVariants as ends
-use Rattle.volume_owner.specs.Acts.{Moment}
-use Rattle.nbd_session.specs.Exchanges.{Outcome, Flushes, FlushesIf, RequestExchange, IsRequestExchange}
+use Rattle.nbd_session.specs.Exchanges.{Outcome, FlushesIf, RequestExchange, IsRequestExchange}
 use Rattle.nbd_session.specs.Session.{LinkBytes, Passes, asked_bytes, answered_bytes, Disconnects, EndsSession}
+use Rattle.nbd_session.specs.BlockDevice.{BlockRelations}
 
 -- ---- the data of a write
 
@@ -47,12 +46,12 @@ abbrev pub WriteFits : Geometry → (lba : ℕ) → List ℕ → Type 0
 WriteFits geometry lba content = (length content / 512 ≤ geometry.max_write) × IsTrue (covers geometry lba (length content / 512))
 
 -- it was flushed, if it was to be, or that failed
-abbrev pub FlushesOrNot : {R : Type 0} → (R → ReceiptState) → (durable : Bool) → Result (Unit {0}) ReplyError → Moment → Moment
+abbrev pub FlushesOrNot : {M : Type 0} → BlockRelations M → (durable : Bool) → Result (Unit {0}) ReplyError → M → M
     → Type 0
-FlushesOrNot state durable (Ok done) old new = FlushesIf state durable old new
-FlushesOrNot state durable (Err (errors.Refused why)) old new = ⊥
-FlushesOrNot state durable (Err errors.Io) old new = (durable ≡ true) × Flushes state true old new
-FlushesOrNot state durable (Err errors.NoMemory) old new = ⊥
+FlushesOrNot io durable (Ok done) old new = FlushesIf io durable old new
+FlushesOrNot io durable (Err (errors.Refused why)) old new = ⊥
+FlushesOrNot io durable (Err errors.Io) old new = (durable ≡ true) × io.flushes true old new
+FlushesOrNot io durable (Err errors.NoMemory) old new = ⊥
 
 -- what comes of a request without data in its answer
 abbrev pub done_by : Result (Unit {0}) ReplyError → Outcome
@@ -69,10 +68,10 @@ of_wire wire.LinkFault = ends.LinkFault
 of_wire wire.OutOfMemory = ends.OutOfMemory
 
 -- a request was read and answered, and the session goes on; or it is one to disconnect; or the session ends by the link
-abbrev pub ServesRequest : {R : Type 0} → (R → ReceiptState) → Result Bool WireEnd → (first last : LinkBytes)
-    → (old new : Moment) → Type 0
-ServesRequest state (Ok true) first last old new =
-    (exchange : RequestExchange) × IsRequestExchange state exchange old new
+abbrev pub ServesRequest : {M : Type 0} → BlockRelations M → Result Bool WireEnd → (first last : LinkBytes)
+    → (old new : M) → Type 0
+ServesRequest io (Ok true) first last old new =
+    (exchange : RequestExchange) × IsRequestExchange io exchange old new
     × Passes (asked_bytes exchange) (answered_bytes exchange) first last
-ServesRequest state (Ok false) first last old new = (new ≡ old) × Disconnects old first last
-ServesRequest state (Err end) first last old new = EndsSession state (of_wire end) 0 first last old new
+ServesRequest io (Ok false) first last old new = (new ≡ old) × Disconnects io old first last
+ServesRequest io (Err end) first last old new = EndsSession io (of_wire end) 0 first last old new

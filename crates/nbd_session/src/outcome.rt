@@ -1,12 +1,12 @@
 ghost use Rattle.std.specs.Prelude.{◌≡◌};
 ghost use Rattle.nbd_session.specs.declared.outcome.ReplyError.TheVariants as errors;
-ghost use Rattle.nbd_session.specs.Exchanges.{of_owner, reply_number};
+ghost use Rattle.nbd_session.specs.Exchanges.{of_block_error, reply_number};
 
 use crate::asking::RequestError;
+use crate::block_error::BlockError;
 use lsvd_fault::Failed;
 use std::alloc::AllocError;
 use thiserror::Error;
-use volume_owner::OwnerError;
 
 /// Why a request was not carried out, as its reply tells.
 #[derive(Clone, Copy, Debug, PartialEq, Eq, Error)]
@@ -51,16 +51,13 @@ impl From<Failed> for ReplyError {
     }
 }
 
-// A range that the owner refuses is one that was asked for past the limits, which no request is that was not
-// refused before.
-impl From<OwnerError> for ReplyError {
-    ghost from_gives = { λ error e. e ≡ of_owner error };
+impl From<BlockError> for ReplyError {
+    ghost from_gives = { λ error e. e ≡ of_block_error error };
 
-    fn from(error: OwnerError) -> ReplyError {
+    fn from(error: BlockError) -> ReplyError {
         match error {
-            OwnerError::Range => ReplyError::Refused(RequestError::Invalid),
-            OwnerError::Eio => ReplyError::Io,
-            OwnerError::OutOfMemory => ReplyError::NoMemory,
+            BlockError::Io => ReplyError::Io,
+            BlockError::OutOfMemory => ReplyError::NoMemory,
         }
     }
 }

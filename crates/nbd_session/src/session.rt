@@ -1,23 +1,22 @@
-ghost use Rattle.std.specs.Prelude.{◌≡◌, ◌<◌};
+ghost use Rattle.std.specs.Prelude.{◌≡◌};
 ghost use Rattle.lsvd_fault.specs.Faults.{Counts};
 ghost use Rattle.nbd_wire.specs.Reading.{is_link_fault};
 ghost use Rattle.nbd_wire.specs.Writing.{WritesMessage};
-ghost use Rattle.nbd_session.specs.Exchanges.{request_reply_bytes, max_session_steps};
+ghost use Rattle.nbd_session.specs.Exchanges.{request_reply_bytes};
 ghost use Rattle.nbd_session.specs.Session.{Transmits, IsSession, ended_by_link, export_of};
 ghost use Rattle.nbd_session.specs.Steps.{ServesRequest};
+ghost use Rattle.nbd_session.specs.BlockDevice.{HasRoom};
 
 use crate::asking::asked_of;
+use crate::block_device::BlockDevice;
 use crate::carrying_out::carry_out;
 use crate::content::read_content;
 use crate::outcome::ReplyError;
 use lsvd_base::{Body, SECTOR_BYTES};
-use lsvd_device::Disk;
 use lsvd_fault::{Link, Sink};
-use lsvd_objstore::{Receipt, Store};
 use nbd_options::{Export, NegotiationEnd, negotiate};
 use nbd_wire::{WireEnd, a_message_has_one_reading, read_request, write_simple};
 use std::alloc::Global;
-use volume_owner::Owner;
 
 /// The most requests of one session. The session ends before one more is read.
 pub const MAX_REQUESTS: u64 = 1 << 40;
@@ -60,36 +59,36 @@ impl From<WireEnd> for SessionEnd {
     }
 }
 
-/// Serves a volume to a client, from the greeting to the end of the session.
+/// Serves a volume to a client, as a block device, from the greeting to the end of the session.
 ///
 /// Requests are answered in order, each before the next one is read. A write or a zeroing that is answered
-/// without an error is an entry of the volume's history, and no other is; a flush that is answered so, and a
-/// request that asks to be durable, has made durable all entries so far; a read gives the sectors of the
-/// history. A request that is out of form is refused, and the data of a refused write are read and dropped.
-/// Memory is bounded whatever the client sends, since lengths are judged before data are read.
+/// without an error was entered, and one that is answered with one was not, unless it is the flush after it
+/// that failed; a flush that is answered without one, and a request that asks to be durable, has flushed the
+/// device; a read gives what the device gave. What its calls are to the volume's history, the device tells. A
+/// request that is out of form is refused, and the data of a refused write are read and dropped. Memory is
+/// bounded whatever the client sends, since lengths are judged before data are read.
 ///
-/// The session's end says nothing of the volume, which stays with its owner, as all that was answered does.
-pub fn serve_session<D: Disk, R: Receipt, S: Store<Receipt = R>, K: Link>(
+/// The session's end says nothing of the volume, which stays as all that was answered has left it.
+pub fn serve_session<S, B: BlockDevice<S>, K: Link>(
     alloc: Global,
-    owner: &mut Owner<D, R>,
+    device: &mut B,
     link: &mut K,
     store: &mut S,
 ) -> SessionEnd
-    ensures session { IsSession R.state (export_of owner.old) result
+    ensures session { IsSession B.io (export_of B.io (B.state device.old store.old)) result
         (record { left = K.remaining link.old; sent = K.contents link.old })
         (record { left = K.remaining link.new; sent = K.contents link.new })
-        (record { volume = owner.old; store = S.state store.old })
-        (record { volume = owner.new; store = S.state store.new }) }
+        (B.state device.old store.old) (B.state device.new store.new) }
     ensures count { Counts (ended_by_link result) (K.Source.faults link.old) (K.Source.faults link.new) }
 {
-    let geometry = owner.geometry();
+    let geometry = device.geometry(store);
     let export = Export {
-        uuid: owner.uuid(),
+        uuid: device.uuid(store),
         size: geometry.sectors * SECTOR_BYTES,
         max_transfer: (geometry.max_write * SECTOR_BYTES) as u32,
     };
     match negotiate(alloc, link, &export) {
-        NegotiationEnd::Entered => transmit(alloc, owner, link, store),
+        NegotiationEnd::Entered => transmit(alloc, device, link, store),
         NegotiationEnd::Ended => SessionEnd::Ended,
         NegotiationEnd::Closed => SessionEnd::Closed,
         NegotiationEnd::LinkFault => SessionEnd::LinkFault,
@@ -98,24 +97,23 @@ pub fn serve_session<D: Disk, R: Receipt, S: Store<Receipt = R>, K: Link>(
 }
 
 // Answers requests until the session ends.
-fn transmit<D: Disk, R: Receipt, S: Store<Receipt = R>, K: Link>(
+fn transmit<S, B: BlockDevice<S>, K: Link>(
     alloc: Global,
-    owner: &mut Owner<D, R>,
+    device: &mut B,
     link: &mut K,
     store: &mut S,
 ) -> SessionEnd
-    ensures transmits { Transmits R.state result
+    ensures transmits { Transmits B.io result
         (record { left = K.remaining link.old; sent = K.contents link.old })
         (record { left = K.remaining link.new; sent = K.contents link.new })
-        (record { volume = owner.old; store = S.state store.old })
-        (record { volume = owner.new; store = S.state store.new }) }
+        (B.state device.old store.old) (B.state device.new store.new) }
     ensures count { Counts (ended_by_link result) (K.Source.faults link.old) (K.Source.faults link.new) }
 {
     for _ in 0..MAX_REQUESTS {
-        if MAX_STEPS <= owner.steps() {
+        if MAX_STEPS <= device.steps(store) {
             return SessionEnd::Spent;
         }
-        match serve_request(alloc, owner, link, store) {
+        match serve_request(alloc, device, link, store) {
             Ok(true) => {}
             Ok(false) => return SessionEnd::Ended,
             Err(end) => return SessionEnd::from(end),
@@ -126,28 +124,27 @@ fn transmit<D: Disk, R: Receipt, S: Store<Receipt = R>, K: Link>(
 
 // Reads the next request and answers it, and says whether the session goes on: it does not where the client
 // disconnects.
-fn serve_request<D: Disk, R: Receipt, S: Store<Receipt = R>, K: Link>(
+fn serve_request<S, B: BlockDevice<S>, K: Link>(
     alloc: Global,
-    owner: &mut Owner<D, R>,
+    device: &mut B,
     link: &mut K,
     store: &mut S,
 ) -> Result<bool, WireEnd>
-    requires { owner.old.steps < max_session_steps }
-    ensures serves { ServesRequest R.state result
+    requires { HasRoom B.io (B.state device.old store.old) }
+    ensures serves { ServesRequest B.io result
         (record { left = K.remaining link.old; sent = K.contents link.old })
         (record { left = K.remaining link.new; sent = K.contents link.new })
-        (record { volume = owner.old; store = S.state store.old })
-        (record { volume = owner.new; store = S.state store.new }) }
+        (B.state device.old store.old) (B.state device.new store.new) }
     ensures count { Counts (is_link_fault result) (K.Source.faults link.old) (K.Source.faults link.new) }
 {
     a_message_has_one_reading();
     let request = read_request(link)?;
-    let asked = asked_of(&owner.geometry(), &request);
+    let asked = asked_of(&device.geometry(store), &request);
     if asked.is_to_disconnect() {
         return Ok(false);
     }
     let body = read_content(alloc, link, &request, asked)?;
-    let outcome = carry_out(alloc, owner, store, asked, body);
+    let outcome = carry_out(alloc, device, store, asked, body);
     let told = reply(link, request.cookie, &outcome);
     drop(outcome);
     told?;

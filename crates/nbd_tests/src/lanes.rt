@@ -3,7 +3,7 @@ ghost use Rattle.std.specs.Prelude.{◌≡◌, [], All, OnOk};
 
 use crate::dump::tell_bytes;
 use crate::greeting::{Asking, ENTERED_BYTES};
-use crate::volume::{TestOwner, link_with, owner_of};
+use crate::volume::{TestDevice, device_of, link_with};
 use lsvd_fault::MemLink;
 use lsvd_listen::MemListener;
 use lsvd_objstore::MemStore;
@@ -47,10 +47,10 @@ fn add_link(alloc: Global, links: &mut Vec<MemLink>, askings: &[Asking]) -> Resu
 /// Tells what is sent to each, and that no third one comes.
 pub fn tell_clients(rt: &HostRuntime) -> Result<(), TestError> {
     let mut listener = listener_of(rt.alloc())?;
-    let mut owner = owner_of(rt.alloc(), None)?;
+    let mut device = device_of(rt.alloc(), None)?;
     let mut store = MemStore::new(rt.alloc());
-    let told = tell_three(rt, &mut owner, &mut listener, &mut store);
-    drop(owner);
+    let told = tell_three(rt, &mut device, &mut listener, &mut store);
+    drop(device);
     drop(store);
     drop(listener);
     told
@@ -58,23 +58,23 @@ pub fn tell_clients(rt: &HostRuntime) -> Result<(), TestError> {
 
 fn tell_three(
     rt: &HostRuntime,
-    owner: &mut TestOwner,
+    device: &mut TestDevice,
     listener: &mut MemListener,
     store: &mut MemStore,
 ) -> Result<(), TestError> {
     for _ in 0..3 {
-        tell_client(rt, owner, listener, store)?;
+        tell_client(rt, device, listener, store)?;
     }
     Ok(())
 }
 
 fn tell_client(
     rt: &HostRuntime,
-    owner: &mut TestOwner,
+    device: &mut TestDevice,
     listener: &mut MemListener,
     store: &mut MemStore,
 ) -> Result<(), TestError> {
-    match serve_next(rt.alloc(), owner, listener, store) {
+    match serve_next(rt.alloc(), device, listener, store) {
         NextClient::Served(link, end) => tell_served(rt, link, end),
         NextClient::NoLink => head(rt, "no link"),
         NextClient::Failed => head(rt, "failed"),
@@ -105,7 +105,7 @@ pub fn tell_lanes(rt: &HostRuntime) -> Result<(), TestError> {
 }
 
 fn lane_of(alloc: Global, share: u64, failing: u64) -> Result<Lane, TestError> {
-    let volume = owner_of(alloc, None)?.into_volume();
+    let volume = device_of(alloc, None)?.into_volume();
     let mut listener = listener_of(alloc)?.failing_at(failing);
     let mut store = MemStore::new(alloc);
     let closing = serve_volume(alloc, volume, &mut listener, &mut store, share);

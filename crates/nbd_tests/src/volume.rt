@@ -10,7 +10,8 @@ use std::alloc::{AllocError, Global};
 use test_output::TestError;
 use uuid::Uuid;
 use vol_core::create;
-use volume_owner::{Owner, a_new_volume_is_idle};
+use volume_owner::a_new_volume_is_idle;
+use volume_server::OwnerDevice;
 
 // The volume, of 32,768 bytes, whose requests have at most 4,096.
 const GEOMETRY: Geometry = Geometry {
@@ -25,18 +26,18 @@ const UUID: [u8; 16] = [0, 0, 0, 0, 0, 0, 0x40, 0, 0x80, 0, 0, 0, 0, 0, 0, 1];
 // The bytes of its device.
 const SIZE: u64 = 4_096 + 512 * 64;
 
-/// Who makes requests of the volume.
-pub type TestOwner = Owner<FuseDisk<MemDisk>, MemReceipt>;
+/// The volume as the block device of sessions.
+pub type TestDevice = OwnerDevice<FuseDisk<MemDisk>, MemReceipt>;
 
-/// The owner of a new volume, on a disk that passes so many calls, or all.
-pub fn owner_of(alloc: Global, fuse: Option<u64>) -> Result<TestOwner, TestError> {
+/// That of a new volume, on a disk that passes so many calls, or all.
+pub fn device_of(alloc: Global, fuse: Option<u64>) -> Result<TestDevice, TestError> {
     let disk = MemDisk::new(alloc, SIZE)?;
     let _is_disk = disk.len();
     let disk = FuseDisk::new(disk, fuse);
     match create(alloc, disk, Uuid::from_bytes(UUID), GEOMETRY) {
         Ok(volume) => {
             a_new_volume_is_idle();
-            Ok(Owner::new(volume))
+            Ok(OwnerDevice::new(volume))
         }
         Err((disk, failed)) => {
             drop(disk);
@@ -51,10 +52,10 @@ pub fn serve(
     link: &mut MemLink,
     fuse: Option<u64>,
 ) -> Result<SessionEnd, TestError> {
-    let mut owner = owner_of(alloc, fuse)?;
+    let mut device = device_of(alloc, fuse)?;
     let mut store = MemStore::new(alloc);
-    let end = serve_session(alloc, &mut owner, link, &mut store);
-    drop(owner);
+    let end = serve_session(alloc, &mut device, link, &mut store);
+    drop(device);
     drop(store);
     Ok(end)
 }

@@ -32,7 +32,7 @@ use Rattle.volume_owner.specs.Standing.{StandAt, HasStore}
 use Rattle.volume_owner.proofs.PlainLemmas.{goes_on_nothing}
 use Rattle.volume_owner.proofs.StepLemmas.{goes_on_more}
 use Rattle.volume_owner.proofs.StoreLemmas.{made_keeps}
-use Rattle.nbd_session.specs.History.{Grows}
+use Rattle.volume_server.specs.History.{Grows}
 use Rattle.volume_server.specs.Serving.{ListenerState, ConnectionState, ClientsGrow}
 use Rattle.volume_commands.specs.Closing.{IsLetGo}
 use Rattle.volume_commands.specs.Lasting.{IsLeftWhole, LeavesWhole, ServesWhole, CreatedIsWhole, ServedWithIsWhole}

@@ -17,10 +17,10 @@ use Rattle.vol_mount.specs.declared.error.MountError.TheVariants as mounts
 use Rattle.volume_owner.specs.declared.error.OwnerError.{OwnerError}
 use Rattle.volume_owner.specs.declared.error.OwnerError.TheVariants as owners
 use Rattle.volume_owner.specs.Acts.{moment_of}
-use Rattle.volume_owner.specs.Calls.{Adds, IsCall, IsDrained, IsLengthOf, CountsEitherFault}
+use Rattle.volume_owner.specs.Calls.{Adds, IsCall, IsDrained, IsLengthOf, CountsEitherFault, DrainOf}
 use Rattle.volume_owner.specs.Errors.{is_eio}
 use Rattle.volume_owner.specs.Owner.{IsIdle, most_of_call}
-use Rattle.nbd_session.specs.History.{most_steps}
+use Rattle.volume_server.specs.History.{most_steps}
 use Rattle.vol_recover.proofs.ForCallers.{FailsToFormatIn, IsOfSomeVolume}
 use Rattle.volume_server.specs.declared.serving.LaneEnd.{LaneEnd}
 use Rattle.volume_server.specs.declared.serving.LaneEnd.TheVariants as lanes
@@ -173,19 +173,16 @@ length_stays count old new adds counted plain shows =
 
 -- the volume of an owner who has drained it
 pub drains_all : {R : Type 0} (state : R → ReceiptState) (entries : ℕ) (volume owner closing left : SteppedVolume)
-    (old new : StoreState) (failed : Bool) → owner ≡ volume → left ≡ closing → failed ≡ false
-    → IsCall state most_of_call [] failed owner closing old new → IsLengthOf entries closing.volume → IsDrained closing.volume
+    (old new : StoreState) → owner ≡ volume → left ≡ closing → DrainOf state (Ok entries) owner closing old new
     → Drains state entries (moment_of volume old) (moment_of left new)
-drains_all {R} state entries volume owner closing left old new failed same back none call count drained = record {
-  count = length_stays entries volume.volume closing.volume calls.steps.adds count;
+drains_all {R} state entries volume owner closing left old new same back drain = record {
+  count = length_stays entries volume.volume closing.volume calls.steps.adds drain.count;
   calls = subst (λ (v : SteppedVolume). IsCall state most_of_call [] false volume v old new) (sym back) calls;
-  drained = subst (λ (v : SteppedVolume). IsDrained v.volume) (sym back) drained;
+  drained = subst (λ (v : SteppedVolume). IsDrained v.volume) (sym back) drain.drained;
 }
   where
     calls : IsCall state most_of_call [] false volume closing old new
-    calls =
-        subst (λ (v : SteppedVolume). IsCall state most_of_call [] false v closing old new) same
-        (subst (λ b. IsCall state most_of_call [] b owner closing old new) none call)
+    calls = subst (λ (v : SteppedVolume). IsCall state most_of_call [] false v closing old new) same drain.call
 
 -- ---- clients
 

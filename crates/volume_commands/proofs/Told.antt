@@ -8,6 +8,7 @@ use Rattle.std.specs.Prelude.{OnOk, Option, Result, Err}
 use Rattle.lsvd_objstore.specs.Store.{StoreState, ReceiptState}
 use Rattle.vol_mount.specs.Mounted.{MountedState}
 use Rattle.volume_owner.specs.Acts.{Moment, moment_of}
+use Rattle.volume_server.specs.OwnerDevice.{owner_relations}
 use Rattle.volume_server.specs.Serving.{ListenerState, ConnectionState, GivesClients, EndsLane, AreClients}
 use Rattle.volume_server.specs.declared.serving.Lane.{Lane}
 use Rattle.volume_server.specs.declared.serving.LaneEnd.{LaneEnd}
@@ -114,7 +115,8 @@ pub serves_with : {R L K : Type 0} (receipt_state : R → ReceiptState) (listene
     (clients after : L) (store : StoreState) (last closing : Moment) (entries : ℕ) (old mid new : Option (List ℕ))
     → shown ≡ mounted → (lane.end ≡ lanes.Failed → ⊥) → EndsLane sessions lane
     → GivesClients lane (listener_state clients) (listener_state after)
-    → AreClients receipt_state link_state lane.served (coming clients) (coming after) (moment_of shown.volume store) last
+    → AreClients (owner_relations receipt_state) link_state lane.served (coming clients) (coming after)
+    (moment_of shown.volume store) last
     → Drains receipt_state entries last closing
     → Appends old mid (mounted_line shown.entries shown.number) → Appends mid new (writes_line entries)
     → ServesMounted receipt_state listener_state coming link_state sessions (coming clients) mounted store closing old new

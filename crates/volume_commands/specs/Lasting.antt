@@ -22,7 +22,7 @@ use Rattle.vol_recover.specs.Creating.{IsNewTo}
 use Rattle.vol_recover.specs.Standing.{MayMountWith, MayMountWithout, StopMayMount}
 use Rattle.volume_owner.specs.Acts.{moment_of}
 use Rattle.volume_owner.specs.History.{GoesOn}
-use Rattle.nbd_session.specs.History.{Grows}
+use Rattle.volume_server.specs.History.{Grows}
 use Rattle.volume_server.specs.Serving.{ListenerState, ConnectionState}
 use Rattle.volume_commands.specs.Creating.{CreatesOn}
 use Rattle.volume_commands.specs.Mounting.{ServesOn}

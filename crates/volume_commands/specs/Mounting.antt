@@ -15,7 +15,7 @@ use Rattle.vol_recover.specs.Admitting.{IsWhyNotAdmitted}
 use Rattle.vol_recover.specs.Mounting.{MountsKept, MountsLost}
 use Rattle.volume_owner.specs.Acts.{Moment, moment_of}
 use Rattle.volume_owner.specs.Calls.{IsLengthOf, IsDrained}
-use Rattle.nbd_session.specs.Exchanges.{Calls}
+use Rattle.volume_server.specs.OwnerDevice.{Calls, owner_relations}
 use Rattle.volume_server.specs.Serving.{ListenerState, ConnectionState, GivesClients, EndsLane, AreClients}
 use Rattle.volume_server.specs.declared.serving.Lane.{Lane}
 use Rattle.volume_server.specs.declared.serving.LaneEnd.TheVariants as ends
@@ -110,7 +110,8 @@ pub record ServesMounted {R L K : Type 0} (receipt_state : R → ReceiptState) (
   pub after : L
   pub gives : GivesClients lane (listener_state clients) (listener_state after)
   pub last : Moment
-  pub served : AreClients receipt_state link_state lane.served links (coming after) (moment_of mounted.volume store) last
+  pub served : AreClients (owner_relations receipt_state) link_state lane.served links (coming after)
+      (moment_of mounted.volume store) last
   pub entries : ℕ
   pub drains : Drains receipt_state entries last closing
   pub told : Appends old new (serving_text mounted.entries mounted.number entries)

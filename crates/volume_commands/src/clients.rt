@@ -1,13 +1,14 @@
 ghost use Rattle.std.specs.Prelude.{◌≡◌, ◌≢◌, ◌≤◌, IfOk, OnOk, OnErr, Err, IsErrOf, is_err};
 ghost use Rattle.std.specs.Io.KnownBytes.{Appends};
 ghost use Rattle.lsvd_fault.specs.Faults.{Counts, CountsOne};
-ghost use Rattle.nbd_session.specs.History.{most_steps};
+ghost use Rattle.volume_server.specs.History.{most_steps};
 ghost use Rattle.volume_owner.specs.Acts.{moment_of};
 ghost use Rattle.volume_owner.specs.Owner.{IsIdle};
 ghost use Rattle.volume_commands.specs.Mounting.{Drains, ServesMounted};
 ghost use Rattle.volume_commands.specs.Serving.{TellsServed, judged};
 ghost use Rattle.volume_commands.specs.Serving.{mounted_line, writes_line, AppendsFront};
 ghost use Rattle.volume_commands.specs.World.{IsConstant};
+ghost use Rattle.volume_server.specs.Serving.{listener_told, link_told};
 
 use crate::error::CommandError;
 use arrayvec::ArrayString;
@@ -37,17 +38,9 @@ pub(crate) fn serve_clients<D: Disk, S: Store, L: Listener, O: Sink>(
     requires steps { mounted.volume.steps ≤ most_steps }
     ensures told { TellsServed result.1 (O.contents out.old) (O.contents out.new) }
     ensures serves { OnOk result.1 (ServesMounted S.Receipt.state
-        (λ clients. record {
-          given = L.given clients;
-          closed = L.closed clients;
-          faults = L.faults clients;
-        })
+        (listener_told L.given L.closed L.faults)
         (λ clients. L.coming clients)
-        (λ link. record {
-          bytes = record { left = L.Link.remaining link; sent = L.Link.contents link };
-          held = L.Link.held link;
-          faults = L.Link.Source.faults link;
-        })
+        (link_told L.Link.remaining L.Link.contents L.Link.held L.Link.Source.faults)
         sessions (L.coming clients.old) mounted (S.state store.old)
         (moment_of result.0 (S.state store.new)) (O.contents out.old) (O.contents out.new)) }
     ensures refused { (why : Refusal) → IsErrOf result.1 (CommandError.Refused why) → ⊥ }

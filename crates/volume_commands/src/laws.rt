@@ -1,4 +1,5 @@
 ghost use Rattle.volume_commands.specs.Lasting.{CreatedIsWhole, ServedWithIsWhole, ServedWithoutIsWhole};
+ghost use Rattle.volume_server.specs.Serving.{listener_told, link_told};
 
 use lsvd_device::Disk;
 use lsvd_listen::Listener;
@@ -15,29 +16,13 @@ pub fn a_created_volume_may_be_mounted()
 /// entries that clients added: each of them was put into the store.
 pub fn a_served_volume_may_be_mounted_again<D: Disk, R: Receipt, L: Listener>()
     ensures with_cache { ServedWithIsWhole (λ disk. D.state disk) R.state
-        (λ clients. record {
-          given = L.given clients;
-          closed = L.closed clients;
-          faults = L.faults clients;
-        })
+        (listener_told L.given L.closed L.faults)
         (λ clients. L.coming clients)
-        (λ link. record {
-          bytes = record { left = L.Link.remaining link; sent = L.Link.contents link };
-          held = L.Link.held link;
-          faults = L.Link.Source.faults link;
-        }) }
+        (link_told L.Link.remaining L.Link.contents L.Link.held L.Link.Source.faults) }
     ensures without { ServedWithoutIsWhole (λ disk. D.state disk) R.state
-        (λ clients. record {
-          given = L.given clients;
-          closed = L.closed clients;
-          faults = L.faults clients;
-        })
+        (listener_told L.given L.closed L.faults)
         (λ clients. L.coming clients)
-        (λ link. record {
-          bytes = record { left = L.Link.remaining link; sent = L.Link.contents link };
-          held = L.Link.held link;
-          faults = L.Link.Source.faults link;
-        }) }
+        (link_told L.Link.remaining L.Link.contents L.Link.held L.Link.Source.faults) }
 {
     clients_add_to_one_history::<R, L::Link>();
 }

@@ -1,6 +1,6 @@
 ghost use Rattle.std.specs.Prelude.{◌≡◌, ◌≢◌, ◌≤◌, OnOk, Err, IsErrOf};
 ghost use Rattle.lsvd_device.specs.Device.{IsDisk};
-ghost use Rattle.nbd_session.specs.History.{most_steps};
+ghost use Rattle.volume_server.specs.History.{most_steps};
 ghost use Rattle.volume_owner.specs.Acts.{moment_of};
 ghost use Rattle.volume_owner.specs.Owner.{IsIdle};
 ghost use Rattle.volume_commands.specs.Mounting.{RefusesOn, RefusesIn, RefusesFor};
@@ -8,6 +8,7 @@ ghost use Rattle.volume_commands.specs.Mounting.{ServesMounted, ServesOn, Serves
 ghost use Rattle.volume_commands.specs.Serving.{HasLogLength, TellsServing, TellsServed};
 ghost use Rattle.volume_commands.specs.World.{CountsNone, CountsOneOf, IsConstant};
 ghost use Rattle.volume_commands.specs.World.{GivesBack, IsGivenBack};
+ghost use Rattle.volume_server.specs.Serving.{listener_told, link_told};
 
 use crate::clients::serve_clients;
 use crate::closing::let_go;
@@ -41,17 +42,10 @@ pub fn answer_serve<W: World>(
     requires { HasLogLength request.now }
     ensures told { TellsServing result (W.Out.contents out.old) (W.Out.contents out.new) }
     ensures serves { result ≡ Report.Done → Serves W.tells (λ disk. W.Disk.state disk) W.Store.Receipt.state
-        (λ clients. record {
-          given = W.Clients.given clients;
-          closed = W.Clients.closed clients;
-          faults = W.Clients.faults clients;
-        })
+        (listener_told W.Clients.given W.Clients.closed W.Clients.faults)
         (λ clients. W.Clients.coming clients)
-        (λ link. record {
-          bytes = record { left = W.Clients.Link.remaining link; sent = W.Clients.Link.contents link };
-          held = W.Clients.Link.held link;
-          faults = W.Clients.Link.Source.faults link;
-        })
+        (link_told W.Clients.Link.remaining W.Clients.Link.contents W.Clients.Link.held
+        W.Clients.Link.Source.faults)
         request.now (W.clients_at world.old request.now.socket.now)
         (record { disks = W.disk_at world.old; stores = W.store_at world.old })
         (record { disks = W.disk_at world.new; stores = W.store_at world.new })
@@ -88,17 +82,10 @@ fn serve<W: World>(
     requires { HasLogLength request.now }
     ensures told { TellsServed result (W.Out.contents out.old) (W.Out.contents out.new) }
     ensures serves { OnOk result (Serves W.tells (λ disk. W.Disk.state disk) W.Store.Receipt.state
-        (λ clients. record {
-          given = W.Clients.given clients;
-          closed = W.Clients.closed clients;
-          faults = W.Clients.faults clients;
-        })
+        (listener_told W.Clients.given W.Clients.closed W.Clients.faults)
         (λ clients. W.Clients.coming clients)
-        (λ link. record {
-          bytes = record { left = W.Clients.Link.remaining link; sent = W.Clients.Link.contents link };
-          held = W.Clients.Link.held link;
-          faults = W.Clients.Link.Source.faults link;
-        })
+        (link_told W.Clients.Link.remaining W.Clients.Link.contents W.Clients.Link.held
+        W.Clients.Link.Source.faults)
         request.now (W.clients_at world.old request.now.socket.now)
         (record { disks = W.disk_at world.old; stores = W.store_at world.old })
         (record { disks = W.disk_at world.new; stores = W.store_at world.new })
@@ -134,17 +121,10 @@ fn serve_in<W: World>(
     requires { HasLogLength request.now }
     ensures told { TellsServed result (W.Out.contents out.old) (W.Out.contents out.new) }
     ensures serves { OnOk result (ServesCache W.tells (λ disk. W.Disk.state disk) W.Store.Receipt.state
-        (λ clients. record {
-          given = W.Clients.given clients;
-          closed = W.Clients.closed clients;
-          faults = W.Clients.faults clients;
-        })
+        (listener_told W.Clients.given W.Clients.closed W.Clients.faults)
         (λ clients. W.Clients.coming clients)
-        (λ link. record {
-          bytes = record { left = W.Clients.Link.remaining link; sent = W.Clients.Link.contents link };
-          held = W.Clients.Link.held link;
-          faults = W.Clients.Link.Source.faults link;
-        })
+        (link_told W.Clients.Link.remaining W.Clients.Link.contents W.Clients.Link.held
+        W.Clients.Link.Source.faults)
         request.now (W.clients_at world.old request.now.socket.now)
         (W.disk_at world.old request.now.cache.now) (W.disk_at world.new request.now.cache.now)
         (W.Store.state store.old) (W.Store.state store.new)
@@ -183,17 +163,10 @@ fn serve_on<W: World>(
     requires { IsDisk (W.Disk.state disk) }
     ensures told { TellsServed result.1 (W.Out.contents out.old) (W.Out.contents out.new) }
     ensures serves { OnOk result.1 (ServesOn (λ disk. W.Disk.state disk) W.Store.Receipt.state
-        (λ clients. record {
-          given = W.Clients.given clients;
-          closed = W.Clients.closed clients;
-          faults = W.Clients.faults clients;
-        })
+        (listener_told W.Clients.given W.Clients.closed W.Clients.faults)
         (λ clients. W.Clients.coming clients)
-        (λ link. record {
-          bytes = record { left = W.Clients.Link.remaining link; sent = W.Clients.Link.contents link };
-          held = W.Clients.Link.held link;
-          faults = W.Clients.Link.Source.faults link;
-        })
+        (link_told W.Clients.Link.remaining W.Clients.Link.contents W.Clients.Link.held
+        W.Clients.Link.Source.faults)
         request.now (W.clients_at world.old request.now.socket.now)
         (W.Disk.state disk) (W.Disk.state result.0) (W.Store.state store.old) (W.Store.state store.new)
         (W.Out.contents out.old) (W.Out.contents out.new)) }
@@ -232,17 +205,10 @@ fn serve_mounted<W: World>(
     requires steps { mounted.volume.steps ≤ most_steps }
     ensures told { TellsServed result.1 (W.Out.contents out.old) (W.Out.contents out.new) }
     ensures serves { OnOk result.1 (ServesMounted W.Store.Receipt.state
-        (λ clients. record {
-          given = W.Clients.given clients;
-          closed = W.Clients.closed clients;
-          faults = W.Clients.faults clients;
-        })
+        (listener_told W.Clients.given W.Clients.closed W.Clients.faults)
         (λ clients. W.Clients.coming clients)
-        (λ link. record {
-          bytes = record { left = W.Clients.Link.remaining link; sent = W.Clients.Link.contents link };
-          held = W.Clients.Link.held link;
-          faults = W.Clients.Link.Source.faults link;
-        })
+        (link_told W.Clients.Link.remaining W.Clients.Link.contents W.Clients.Link.held
+        W.Clients.Link.Source.faults)
         request.now.sessions (W.clients_at world.old request.now.socket.now) mounted
         (W.Store.state store.old) (moment_of result.0 (W.Store.state store.new))
         (W.Out.contents out.old) (W.Out.contents out.new)) }

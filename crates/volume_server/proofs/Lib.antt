@@ -1,1 +1,3 @@
+pub mod HistoryLemmas
+mod OwnerDeviceLemmas
 pub mod ClientLemmas

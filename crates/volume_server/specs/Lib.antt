@@ -1,1 +1,3 @@
+pub mod OwnerDevice
+pub mod History
 pub mod Serving

@@ -6,8 +6,10 @@ use Rattle.lsvd_listen.specs.Listening.{IsFirst, AreNone}
 use Rattle.lsvd_objstore.specs.Store.{ReceiptState}
 use Rattle.nbd_session.specs.declared.session.SessionEnd.{SessionEnd}
 use Rattle.volume_owner.specs.Acts.{Moment}
-use Rattle.nbd_session.specs.History.{Grows, LeavesRoom}
 use Rattle.nbd_session.specs.Session.{LinkBytes, IsSession, export_of}
+use Rattle.nbd_session.specs.BlockDevice.{BlockRelations}
+use Rattle.volume_server.specs.History.{Grows, LeavesRoom}
+use Rattle.volume_server.specs.OwnerDevice.{owner_relations}
 use Rattle.volume_server.specs.declared.next.NextClient.{NextClient}
 use Rattle.volume_server.specs.declared.next.NextClient.TheVariants.{Served, NoLink, Failed}
 use Rattle.volume_server.specs.declared.serving.Lane.{Lane}
@@ -21,6 +23,10 @@ pub record ListenerState : Type 0 where
   pub given : ℕ
   pub closed : Bool
   pub faults : ℕ
+
+-- what a listener tells by these of its ghosts
+abbrev pub listener_told : {L : Type 0} → (given : L → ℕ) → (closed : L → Bool) → (faults : L → ℕ) → L → ListenerState
+listener_told given closed faults listener = record { given = given listener; closed = closed listener; faults = faults listener }
 
 -- it gave the next client, or is closed, or failed
 abbrev pub GivesNext : {K : Type 0} → NextClient K → ListenerState → ListenerState → Type 0
@@ -51,6 +57,15 @@ pub record ConnectionState : Type 0 where
   pub held : List ℕ
   pub faults : ℕ
 
+-- what a link tells by these of its ghosts
+abbrev pub link_told : {K : Type 0} → (remaining contents : K → Option (List ℕ)) → (held : K → List ℕ) → (faults : K → ℕ) → K
+    → ConnectionState
+link_told remaining contents held faults link = record {
+  bytes = record { left = remaining link; sent = contents link };
+  held = held link;
+  faults = faults link;
+}
+
 -- a link holds nothing back, or one of its calls has failed
 abbrev pub HasSentAll : (held : List ℕ) → (old_faults new_faults : ℕ) → Type 0
 HasSentAll held old_faults new_faults = (held ≡ []) ⊎ HasRisen old_faults new_faults
@@ -60,29 +75,29 @@ HasSentAll held old_faults new_faults = (held ≡ []) ⊎ HasRisen old_faults ne
 -- A client was served by a session of the volume, on a link that told this at its end. It was the first of the links that were
 -- to come, where these are told, and the session began on it as it came: with all that the client sends, and nothing sent to it.
 -- At its end the link holds nothing back, or one of its calls has failed.
-pub record IsClient {R K : Type 0} (state : R → ReceiptState) (told : K → ConnectionState) (end : SessionEnd)
-    (last : ConnectionState) (coming left : Option (List K)) (old new : Moment) : Type 0 where
+pub record IsClient {M K : Type 0} (io : BlockRelations M) (told : K → ConnectionState) (end : SessionEnd)
+    (last : ConnectionState) (coming left : Option (List K)) (old new : M) : Type 0 where
   pub link : K
   pub came : IsFirst link coming left
   pub fresh : IfSome (told link).bytes.sent (λ sent. sent ≡ [])
-  pub session : IsSession state (export_of old.volume) end (told link).bytes last.bytes old new
+  pub session : IsSession io (export_of io old) end (told link).bytes last.bytes old new
   pub sent : HasSentAll last.held (told link).faults last.faults
 
 -- the client that came was served, or none came, and nothing becomes of the volume
-abbrev pub ServesNext : {R K : Type 0} → (R → ReceiptState) → (K → ConnectionState) → NextClient K
+abbrev pub ServesNext : {M K : Type 0} → BlockRelations M → (K → ConnectionState) → NextClient K
     → (coming left : Option (List K))
-    → (old new : Moment) → Type 0
-ServesNext state told (Served link end) coming left old new = IsClient state told end (told link) coming left old new
-ServesNext state told NoLink coming left old new = AreNone coming left × (new ≡ old)
-ServesNext state told Failed coming left old new = (left ≡ coming) × (new ≡ old)
+    → (old new : M) → Type 0
+ServesNext io told (Served link end) coming left old new = IsClient io told end (told link) coming left old new
+ServesNext io told NoLink coming left old new = AreNone coming left × (new ≡ old)
+ServesNext io told Failed coming left old new = (left ≡ coming) × (new ≡ old)
 
 -- so many clients were served, one after the other
-abbrev pub AreClients : {R K : Type 0} → (R → ReceiptState) → (K → ConnectionState) → (count : ℕ)
-    → (coming left : Option (List K)) → (old new : Moment) → Type 0
-AreClients state told zero coming left old new = (left ≡ coming) × (new ≡ old)
-AreClients {R} {K} state told (suc count) coming left old new =
-    (between : Option (List K)) × (mid : Moment) × AreClients state told count coming between old mid
-    × (end : SessionEnd) × (last : ConnectionState) × IsClient state told end last between left mid new
+abbrev pub AreClients : {M K : Type 0} → BlockRelations M → (K → ConnectionState) → (count : ℕ)
+    → (coming left : Option (List K)) → (old new : M) → Type 0
+AreClients io told zero coming left old new = (left ≡ coming) × (new ≡ old)
+AreClients {M} {K} io told (suc count) coming left old new =
+    (between : Option (List K)) × (mid : M) × AreClients io told count coming between old mid
+    × (end : SessionEnd) × (last : ConnectionState) × IsClient io told end last between left mid new
 
 -- the server ends where its clients are as many as they were to be, and else, before that, by its listener
 abbrev pub EndsAt : (share served : ℕ) → LaneEnd → Type 0
@@ -95,8 +110,9 @@ EndsLane share lane = EndsAt share lane.served lane.end
 
 -- ---- the history
 
--- clients add entries to the history of their volume, and nothing else becomes of it
+-- clients add entries to the history of the owner's volume, and nothing else becomes of it
 abbrev pub ClientsGrow : {R K : Type 0} → (R → ReceiptState) → (K → ConnectionState) → Type 0
 ClientsGrow {R} {K} state told =
-    (count : ℕ) (coming left : Option (List K)) (old new : Moment) → AreClients state told count coming left old new
+    (count : ℕ) (coming left : Option (List K)) (old new : Moment)
+    → AreClients (owner_relations state) told count coming left old new
     → ((added : List Entry) × Grows added old new) × LeavesRoom old new

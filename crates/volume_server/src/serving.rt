@@ -1,14 +1,16 @@
 ghost use Rattle.std.specs.Prelude.{◌≡◌};
 ghost use Rattle.volume_owner.specs.Owner.{IsIdle};
-ghost use Rattle.volume_server.specs.Serving.{GivesClients, EndsLane, AreClients};
+ghost use Rattle.volume_server.specs.OwnerDevice.{owner_relations};
+ghost use Rattle.volume_server.specs.Serving.{GivesClients, EndsLane, AreClients, listener_told, link_told};
 
 use crate::next::{NextClient, serve_next};
+use crate::owner_device::OwnerDevice;
 use lsvd_device::Disk;
 use lsvd_listen::Listener;
 use lsvd_objstore::{Receipt, Store};
+use nbd_session::BlockDevice;
 use std::alloc::Global;
 use vol_core::Volume;
-use volume_owner::Owner;
 
 /// Why a server ends.
 #[derive(Clone, Copy, Debug, PartialEq, Eq)]
@@ -40,37 +42,24 @@ pub struct Closing<D: Disk, R: Receipt> {
 }
 
 /// Serves clients, one after the other, until so many were served, or the listener gives none.
-pub fn serve_lane<D: Disk, R: Receipt, S: Store<Receipt = R>, L: Listener>(
+pub fn serve_lane<S, B: BlockDevice<S>, L: Listener>(
     alloc: Global,
-    owner: &mut Owner<D, R>,
+    device: &mut B,
     listener: &mut L,
     store: &mut S,
     share: u64,
 ) -> Lane
     ensures given { GivesClients result
-        (record {
-          given = L.given listener.old;
-          closed = L.closed listener.old;
-          faults = L.faults listener.old;
-        })
-        (record {
-          given = L.given listener.new;
-          closed = L.closed listener.new;
-          faults = L.faults listener.new;
-        }) }
+        (listener_told L.given L.closed L.faults listener.old)
+        (listener_told L.given L.closed L.faults listener.new) }
     ensures end { EndsLane share result }
-    ensures clients { AreClients R.state
-        (λ link. record {
-          bytes = record { left = L.Link.remaining link; sent = L.Link.contents link };
-          held = L.Link.held link;
-          faults = L.Link.Source.faults link;
-        }) result.served
+    ensures clients { AreClients B.io
+        (link_told L.Link.remaining L.Link.contents L.Link.held L.Link.Source.faults) result.served
         (L.coming listener.old) (L.coming listener.new)
-        (record { volume = owner.old; store = S.state store.old })
-        (record { volume = owner.new; store = S.state store.new }) }
+        (B.state device.old store.old) (B.state device.new store.new) }
 {
     for served in 0..share {
-        let end = match serve_next(alloc, owner, listener, store) {
+        let end = match serve_next(alloc, device, listener, store) {
             NextClient::Served(_, _) => continue,
             NextClient::NoLink => LaneEnd::Closed,
             NextClient::Failed => LaneEnd::Failed,
@@ -95,32 +84,20 @@ pub fn serve_volume<D: Disk, R: Receipt, S: Store<Receipt = R>, L: Listener>(
 ) -> Closing<D, R>
     requires { IsIdle volume.volume }
     ensures given { GivesClients result.lane
-        (record {
-          given = L.given listener.old;
-          closed = L.closed listener.old;
-          faults = L.faults listener.old;
-        })
-        (record {
-          given = L.given listener.new;
-          closed = L.closed listener.new;
-          faults = L.faults listener.new;
-        }) }
+        (listener_told L.given L.closed L.faults listener.old)
+        (listener_told L.given L.closed L.faults listener.new) }
     ensures end { EndsLane sessions result.lane }
-    ensures clients { AreClients R.state
-        (λ link. record {
-          bytes = record { left = L.Link.remaining link; sent = L.Link.contents link };
-          held = L.Link.held link;
-          faults = L.Link.Source.faults link;
-        }) result.lane.served
+    ensures clients { AreClients (owner_relations R.state)
+        (link_told L.Link.remaining L.Link.contents L.Link.held L.Link.Source.faults) result.lane.served
         (L.coming listener.old) (L.coming listener.new)
         (record { volume = volume; store = S.state store.old })
         (record { volume = result.volume; store = S.state store.new }) }
     ensures idle { IsIdle result.volume.volume }
 {
-    let mut owner = Owner::new(volume);
-    let lane = serve_lane(alloc, &mut owner, listener, store, sessions);
+    let mut device = OwnerDevice::new(volume);
+    let lane = serve_lane(alloc, &mut device, listener, store, sessions);
     Closing {
-        volume: owner.into_volume(),
+        volume: device.into_volume(),
         lane,
     }
 }

@@ -1,25 +1,30 @@
-use Rattle.std.proofs.Common.{◌∙◌, refl, sym, ap}
+use Rattle.std.proofs.Common.{◌∙◌, sym, ap}
 use Rattle.lsvd_device.specs.Device.{DiskState}
 use Rattle.vol_core.specs.Volume.{SteppedVolume}
 use Rattle.volume_commands.specs.declared.error.CommandError.TheVariants as errors
 use Rattle.volume_commands.proofs.Served.{drain_refuses_none, drain_counts_none, drains_all, told_as}
 use Rattle.volume_commands.proofs.clients.drain.Goals as goal
 
-pub returns-in-Ok-clause-drains : goal.returns-in-Ok-clause-drains
-returns-in-Ok-clause-drains g c =
-    drains_all g.S.Receipt.Receipt.state c.in-Ok.entries c.args.volume c.new-owner.result _ c.into_volume-volume.result
-    (g.S.Store.state c.args.store.now) (g.S.Store.state c.drain-drained.new.store) _ c.new-owner.ensures
-    c.into_volume-volume.ensures.volume refl c.in-Ok.ensures.call c.in-Ok.ensures.count c.in-Ok.ensures.drained
+pub returns-in-Ok : goal.returns-in-Ok
+returns-in-Ok g c = record {
+  drains =
+      drains_all g.S.Receipt.Receipt.state c.in-Ok.entries c.args.volume c.new-owner.result _ c.into_volume-volume.result
+      (g.S.Store.state c.args.store.now) (g.S.Store.state c.drain-drained.new.store) c.new-owner.ensures
+      c.into_volume-volume.ensures.volume c.in-Ok.ensures;
+  refused = λ why is. cc;
+  fault = λ is disks stores. cc;
+}
 
-pub returns-in-Err-clause-refused : goal.returns-in-Err-clause-refused
-returns-in-Err-clause-refused g c why is =
-    drain_refuses_none c.in-Err.error why (told_as _ (errors.Refused why) _ c.into.ensures is)
-
-pub returns-in-Err-clause-fault : goal.returns-in-Err-clause-fault
-returns-in-Err-clause-fault g c is disks stores =
+pub returns-in-Err : goal.returns-in-Err
+returns-in-Err g c =
     let faults_of = λ (v : SteppedVolume). v.volume.log.commits.disk.faults in
-    drain_counts_none (λ disk. (g.D.Disk.state disk).faults) (λ store. (g.S.Store.state store).faults) c.disk.result.now
-    c.disk-2.result.now c.args.store.now c.drain-drained.new.store c.in-Err.error _ _
-    (ap (λ (d : DiskState). d.faults) c.disk.ensures ∙ sym (ap faults_of c.new-owner.ensures))
-    (ap (λ (d : DiskState). d.faults) c.disk-2.ensures ∙ ap faults_of c.into_volume-volume.ensures.volume)
-    c.in-Err.ensures.range c.in-Err.ensures.call.faults (told_as _ errors.Fault _ c.into.ensures is) disks stores
+    record {
+      drains = tt;
+      refused = λ why is. drain_refuses_none c.in-Err.error why (told_as _ (errors.Refused why) _ c.into.ensures is);
+      fault = λ is disks stores.
+          drain_counts_none (λ disk. (g.D.Disk.state disk).faults) (λ store. (g.S.Store.state store).faults) c.disk.result.now
+          c.disk-2.result.now c.args.store.now c.drain-drained.new.store c.in-Err.error _ _
+          (ap (λ (d : DiskState). d.faults) c.disk.ensures ∙ sym (ap faults_of c.new-owner.ensures))
+          (ap (λ (d : DiskState). d.faults) c.disk-2.ensures ∙ ap faults_of c.into_volume-volume.ensures.volume)
+          c.in-Err.ensures.in_range c.in-Err.ensures.call.faults (told_as _ errors.Fault _ c.into.ensures is) disks stores;
+    }

@@ -1,8 +1,8 @@
 use Rattle.std.proofs.Common.{◌∙◌, ◌≤◌, ℕ, refl, subst, sym}
 use Rattle.std.specs.Prelude.{IfOk, IsErrOf, Result}
 use Rattle.lsvd_fault.specs.Faults.{CountsOne}
-use Rattle.nbd_session.specs.History.{most_steps}
-use Rattle.nbd_session.proofs.HistoryLemmas.{session_grows}
+use Rattle.volume_server.specs.History.{most_steps}
+use Rattle.volume_server.proofs.HistoryLemmas.{session_grows}
 use Rattle.vol_mount.specs.Mounted.{MountedState}
 use Rattle.volume_owner.specs.Acts.{moment_of}
 use Rattle.volume_server.proofs.ClientLemmas.{clients_grow}

@@ -4,4 +4,4 @@ use Rattle.volume_server.proofs.serving.serve_volume.Goals as goal
 pub returns-clause-clients : goal.returns-clause-clients
 returns-clause-clients g c =
     of_volume g.R.Receipt.state _ c.serve_lane-lane.result.served _ _ c.args.volume _ _ c.into_volume.result _ _
-    c.new-owner.ensures c.into_volume.ensures.volume c.serve_lane-lane.ensures.clients
+    c.new-device.ensures c.into_volume.ensures.volume c.serve_lane-lane.ensures.clients

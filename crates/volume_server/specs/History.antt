@@ -11,8 +11,10 @@ use Rattle.volume_owner.specs.Calls.{Adds, KeepsOtherNames}
 use Rattle.volume_owner.specs.Standing.{KeepsStore}
 use Rattle.nbd_session.specs.declared.session.SessionEnd.{SessionEnd}
 use Rattle.nbd_session.specs.declared.session.SessionEnd.TheVariants.{Ended, Closed, Spent, LinkFault, OutOfMemory}
-use Rattle.nbd_session.specs.Exchanges.{RequestExchange, AreRequestExchanges, max_session_steps}
+use Rattle.nbd_session.specs.Exchanges.{RequestExchange, AreRequestExchanges}
 use Rattle.nbd_session.specs.Session.{LinkBytes, Transmits}
+use Rattle.nbd_session.specs.BlockDevice.{max_session_steps}
+use Rattle.volume_server.specs.OwnerDevice.{owner_relations}
 
 -- A volume's history has these entries more. Its sizes stay, the commits stay its own, and the store has changed under the names
 -- of the volume's own numbered objects alone. Where the store stood for what the volume showed, it stands for what it shows now.
@@ -38,7 +40,7 @@ entered_in exchanges = flat_map (λ exchange. exchange.entered) exchanges
 -- requests that were answered add just the entries that were entered for them, in order and each once
 abbrev pub RequestsGrow : {R : Type 0} → (R → ReceiptState) → Type 0
 RequestsGrow state =
-    (exchanges : List RequestExchange) (old new : Moment) → AreRequestExchanges state exchanges old new
+    (exchanges : List RequestExchange) (old new : Moment) → AreRequestExchanges (owner_relations state) exchanges old new
     → Grows (entered_in exchanges) old new × LeavesRoom old new
 
 -- what a session adds beside those: one entry at most where its link failed, and else none
@@ -52,5 +54,6 @@ MayAdd OutOfMemory more = more ≡ []
 -- a session adds those, and nothing else but that
 abbrev pub SessionGrows : {R : Type 0} → (R → ReceiptState) → Type 0
 SessionGrows state =
-    (end : SessionEnd) (first last : LinkBytes) (old new : Moment) (session : Transmits state end first last old new)
+    (end : SessionEnd) (first last : LinkBytes) (old new : Moment)
+    (session : Transmits (owner_relations state) end first last old new)
     → (more : List Entry) × MayAdd end more × Grows (entered_in session.exchanges ++ more) old new × LeavesRoom old new

@@ -1,5 +1,5 @@
 -- What a session adds to the history of its volume.
-use Rattle.std.proofs.Common.{◌≡◌, ℕ, ◌+◌, ◌^◌, ◌≤◌, Bool, true, false, List, [], ◌∷◌, ◌++◌, length, append-nil}
+use Rattle.std.proofs.Common.{◌≡◌, ℕ, ◌+◌, ◌^◌, ◌<◌, ◌≤◌, Bool, true, false, List, [], ◌∷◌, ◌++◌, length, append-nil}
 use Rattle.std.proofs.Common.{refl, sym, ap, subst, inl, inr, arith}
 use Rattle.std.specs.Prelude.{Option, Some, None, Ok, Err}
 use Rattle.lsvd_base.specs.declared.entry.Entry.{Entry}
@@ -19,11 +19,13 @@ use Rattle.nbd_session.specs.declared.session.SessionEnd.{SessionEnd}
 use Rattle.nbd_session.specs.declared.session.SessionEnd.TheVariants as ends
 use Rattle.volume_owner.specs.Acts.{Moment, moment_of}
 use Rattle.volume_owner.specs.Standing.{KeepsStore}
-use Rattle.nbd_session.specs.Exchanges.{Outcome, Calls, Flushes, ReadsSectors, as_list, EntersIt, FlushesIf, EntersEntry}
+use Rattle.nbd_session.specs.Exchanges.{Outcome, ReadsSectors, as_list, EntersIt, FlushesIf, EntersEntry}
 use Rattle.nbd_session.specs.Exchanges.{FlushesAll, CarriesOut, write_of, zero_of, asked_at, RequestExchange, IsRequestExchange}
 use Rattle.nbd_session.specs.Exchanges.{AreRequestExchanges}
 use Rattle.nbd_session.specs.Session.{LinkBytes, EndsSession, Transmits}
-use Rattle.nbd_session.specs.History.{Grows, LeavesRoom, MayAdd, entered_in}
+use Rattle.nbd_session.specs.BlockDevice.{max_session_steps}
+use Rattle.volume_server.specs.History.{Grows, LeavesRoom, MayAdd, entered_in}
+use Rattle.volume_server.specs.OwnerDevice.{Calls, ReadsHistory, Flushes, owner_relations}
 
 -- ---- one after the other
 
@@ -65,6 +67,11 @@ called state added failed old new call = record {
   stands = made_keeps state added (moment_of old.volume old.store) (moment_of new.volume new.store) call.acts;
 }
 
+-- a read is a call that enters nothing
+read_call : {R : Type 0} (state : R → ReceiptState) (lba : ℕ) (bytes : List ℕ) (old new : Moment)
+    → ReadsHistory state lba bytes old new → Calls state [] false old new
+read_call state lba bytes old new (has, call) = call
+
 flushed : {R : Type 0} (state : R → ReceiptState) (failed : Bool) (old new : Moment) → Flushes state failed old new
     → Grows [] old new
 flushed state failed old new flushes = record {
@@ -78,15 +85,17 @@ flushed state failed old new flushes = record {
   stands =
       subst (λ (s : StoreState). KeepsStore [] (moment_of old.volume old.store) (moment_of new.volume s)) (sym flushes.store)
       (made_keeps state [] (moment_of old.volume old.store) (moment_of new.volume old.store)
-      (step_acts state events.Flush [] old.volume new.volume old.store (λ volume store. tt) (λ volume. tt) flushes.step));
+      (step_acts state events.Flush [] old.volume new.volume old.store (λ volume store. tt) flushes.step));
 }
 
-flushed_if : {R : Type 0} (state : R → ReceiptState) (durable : Bool) (old new : Moment) → FlushesIf state durable old new
+flushed_if : {R : Type 0} (state : R → ReceiptState) (durable : Bool) (old new : Moment)
+    → FlushesIf (owner_relations state) durable old new
     → Grows [] old new
 flushed_if state false old new same = subst (Grows [] old) (sym same) (grows_nothing old)
 flushed_if state true old new flushes = flushed state false old new flushes
 
-entered : {R : Type 0} (state : R → ReceiptState) (entry : Option Entry) (old new : Moment) → EntersIt state entry old new
+entered : {R : Type 0} (state : R → ReceiptState) (entry : Option Entry) (old new : Moment)
+    → EntersIt (owner_relations state) entry old new
     → Grows (as_list entry) old new
 entered state None old new same = subst (Grows [] old) (sym same) (grows_nothing old)
 entered state (Some entry) old new call = called state (entry ∷ []) false old new call
@@ -102,7 +111,7 @@ none_more : (added : List Entry) (old new : Moment) → added ≡ [] → Grows [
 none_more added old new none grows = subst (λ a. GrowsByOne a old new) (sym none) (record { few = omega arith; grows = grows })
 
 one_more : {R : Type 0} (state : R → ReceiptState) (entry : Option Entry) (added : List Entry) (old mid new : Moment)
-    → added ≡ as_list entry → EntersIt state entry old mid
+    → added ≡ as_list entry → EntersIt (owner_relations state) entry old mid
     → Grows [] mid new
     → GrowsByOne added old new
 one_more state entry added old mid new is enters grows =
@@ -118,16 +127,17 @@ one_more state entry added old mid new is enters grows =
     few (Some entry) = omega arith
 
 read_grows : {R : Type 0} (state : R → ReceiptState) (lba sectors : ℕ) (outcome : Outcome) (old new : Moment)
-    → ReadsSectors state lba sectors outcome old new
+    → ReadsSectors (owner_relations state) lba sectors outcome old new
     → Grows [] old new
-read_grows state lba sectors (Ok content) old new reads = called state [] false old new reads.2
+read_grows state lba sectors (Ok content) old new (size, reads) =
+    called state [] false old new (read_call state lba content old new reads)
 read_grows state lba sectors (Err (errors.Refused why)) old new reads = absurd reads
 read_grows state lba sectors (Err errors.Io) old new reads = called state [] true old new reads
 read_grows state lba sectors (Err errors.NoMemory) old new reads = called state [] false old new reads
 
 entry_grows : {R : Type 0} (state : R → ReceiptState) (entry : Option Entry) (durable : Bool) (outcome : Outcome)
     (added : List Entry) (old new : Moment)
-    → EntersEntry state entry durable outcome added old new → GrowsByOne added old new
+    → EntersEntry (owner_relations state) entry durable outcome added old new → GrowsByOne added old new
 entry_grows state entry durable (Ok content) added old new enters =
     one_more state entry added old enters.2 new enters.1 enters.3 (flushed_if state durable enters.2 new enters.4)
 entry_grows state entry durable (Err (errors.Refused why)) added old new enters = absurd enters
@@ -139,7 +149,7 @@ entry_grows state entry durable (Err errors.NoMemory) added old new enters =
     none_more added old new enters.0 (called state [] false old new enters.1)
 
 flush_grows : {R : Type 0} (state : R → ReceiptState) (outcome : Outcome) (added : List Entry) (old new : Moment)
-    → FlushesAll state outcome added old new
+    → FlushesAll (owner_relations state) outcome added old new
     → GrowsByOne added old new
 flush_grows state (Ok content) added old new flushes = none_more added old new flushes.1 (flushed state false old new flushes.2)
 flush_grows state (Err (errors.Refused why)) added old new flushes = absurd flushes
@@ -154,7 +164,7 @@ unchanged added old new none same = none_more added old new none (stays old new 
 
 request_grows : {R : Type 0} (state : R → ReceiptState) (asked : Asked) (content : List ℕ) (outcome : Outcome)
     (added : List Entry) (old new : Moment)
-    → CarriesOut state asked content outcome added old new → GrowsByOne added old new
+    → CarriesOut (owner_relations state) asked content outcome added old new → GrowsByOne added old new
 request_grows state (Read lba sectors) content outcome added old new done =
     none_more added old new done.0 (read_grows state lba sectors outcome old new done.1)
 request_grows state (Write lba sectors durable) content outcome added old new done =
@@ -166,10 +176,11 @@ request_grows state Disconnect content outcome added old new done = unchanged ad
 request_grows state (Refused why) content outcome added old new done = unchanged added old new done.1 done.2
 
 exchange_grows : {R : Type 0} (state : R → ReceiptState) (exchange : RequestExchange) (old new : Moment)
-    → IsRequestExchange state exchange old new
+    → IsRequestExchange (owner_relations state) exchange old new
     → GrowsByOne exchange.entered old new
 exchange_grows state exchange old new is =
-    request_grows state (asked_at old exchange.message.request) exchange.message.content exchange.outcome exchange.entered old
+    request_grows state (asked_at (owner_relations state) old exchange.message.request) exchange.message.content exchange.outcome
+    exchange.entered old
     new is.done
 
 -- ---- its steps
@@ -181,26 +192,29 @@ TakesFew old new = new.volume.steps ≤ old.volume.steps + 2 ^ 41
 same_steps : (old new : Moment) → new ≡ old → TakesFew old new
 same_steps old new same = omega (arith, ap (λ (m : Moment). m.volume.steps) same)
 
-entered_steps : {R : Type 0} (state : R → ReceiptState) (entry : Option Entry) (old new : Moment) → EntersIt state entry old new
+entered_steps : {R : Type 0} (state : R → ReceiptState) (entry : Option Entry) (old new : Moment)
+    → EntersIt (owner_relations state) entry old new
     → new.volume.steps ≤ old.volume.steps + 2 ^ 40
 entered_steps state None old new same = omega (arith, ap (λ (m : Moment). m.volume.steps) same)
 entered_steps state (Some entry) old new call = call.steps.steps
 
-flushed_steps : {R : Type 0} (state : R → ReceiptState) (durable : Bool) (old new : Moment) → FlushesIf state durable old new
+flushed_steps : {R : Type 0} (state : R → ReceiptState) (durable : Bool) (old new : Moment)
+    → FlushesIf (owner_relations state) durable old new
     → new.volume.steps ≤ old.volume.steps + 1
 flushed_steps state false old new same = omega (arith, ap (λ (m : Moment). m.volume.steps) same)
 flushed_steps state true old new flushes = flushes.steps.steps
 
 read_steps : {R : Type 0} (state : R → ReceiptState) (lba sectors : ℕ) (outcome : Outcome) (old new : Moment)
-    → ReadsSectors state lba sectors outcome old new → TakesFew old new
-read_steps state lba sectors (Ok content) old new reads = omega (arith, reads.2.steps.steps)
+    → ReadsSectors (owner_relations state) lba sectors outcome old new → TakesFew old new
+read_steps state lba sectors (Ok content) old new (size, reads) =
+    omega (arith, (read_call state lba content old new reads).steps.steps)
 read_steps state lba sectors (Err (errors.Refused why)) old new reads = absurd reads
 read_steps state lba sectors (Err errors.Io) old new reads = omega (arith, reads.steps.steps)
 read_steps state lba sectors (Err errors.NoMemory) old new reads = omega (arith, reads.steps.steps)
 
 entry_steps : {R : Type 0} (state : R → ReceiptState) (entry : Option Entry) (durable : Bool) (outcome : Outcome)
     (added : List Entry) (old new : Moment)
-    → EntersEntry state entry durable outcome added old new → TakesFew old new
+    → EntersEntry (owner_relations state) entry durable outcome added old new → TakesFew old new
 entry_steps state entry durable (Ok content) added old new enters =
     omega (arith, entered_steps state entry old enters.2 enters.3, flushed_steps state durable enters.2 new enters.4)
 entry_steps state entry durable (Err (errors.Refused why)) added old new enters = absurd enters
@@ -210,7 +224,7 @@ entry_steps state entry durable (Err errors.Io) added old new (inr failed) =
 entry_steps state entry durable (Err errors.NoMemory) added old new enters = omega (arith, enters.1.steps.steps)
 
 flush_steps : {R : Type 0} (state : R → ReceiptState) (outcome : Outcome) (added : List Entry) (old new : Moment)
-    → FlushesAll state outcome added old new → TakesFew old new
+    → FlushesAll (owner_relations state) outcome added old new → TakesFew old new
 flush_steps state (Ok content) added old new flushes = omega (arith, flushes.2.steps.steps)
 flush_steps state (Err (errors.Refused why)) added old new flushes = absurd flushes
 flush_steps state (Err errors.Io) added old new flushes = omega (arith, flushes.1.steps.steps)
@@ -218,7 +232,7 @@ flush_steps state (Err errors.NoMemory) added old new flushes = absurd flushes
 
 request_steps : {R : Type 0} (state : R → ReceiptState) (asked : Asked) (content : List ℕ) (outcome : Outcome)
     (added : List Entry) (old new : Moment)
-    → CarriesOut state asked content outcome added old new → TakesFew old new
+    → CarriesOut (owner_relations state) asked content outcome added old new → TakesFew old new
 request_steps state (Read lba sectors) content outcome added old new done = read_steps state lba sectors outcome old new done.1
 request_steps state (Write lba sectors durable) content outcome added old new done =
     entry_steps state (write_of lba content) durable outcome added old new done
@@ -230,12 +244,14 @@ request_steps state (Refused why) content outcome added old new done = same_step
 
 -- a request leaves room for calls, since it is made only where there is some
 exchange_leaves : {R : Type 0} (state : R → ReceiptState) (exchange : RequestExchange) (old new : Moment)
-    → IsRequestExchange state exchange old new
+    → IsRequestExchange (owner_relations state) exchange old new
     → LeavesRoom old new
 exchange_leaves state exchange old new is small =
-    let few = request_steps state (asked_at old exchange.message.request) exchange.message.content exchange.outcome
-    exchange.entered old new is.done in
-    omega (arith, few, is.room)
+    let few =
+    request_steps state (asked_at (owner_relations state) old exchange.message.request) exchange.message.content
+    exchange.outcome exchange.entered old new is.done in
+    let room : old.volume.steps < max_session_steps = is.room in
+    omega (arith, few, room)
 
 pub stays_leaves : (old new : Moment) → new ≡ old → LeavesRoom old new
 stays_leaves old new same small = omega (arith, small, ap (λ (m : Moment). m.volume.steps) same)
@@ -243,13 +259,13 @@ stays_leaves old new same small = omega (arith, small, ap (λ (m : Moment). m.vo
 -- ---- a session
 
 requests_leave : {R : Type 0} (state : R → ReceiptState) (exchanges : List RequestExchange) (old new : Moment)
-    → AreRequestExchanges state exchanges old new → LeavesRoom old new
+    → AreRequestExchanges (owner_relations state) exchanges old new → LeavesRoom old new
 requests_leave state [] old new same small = stays_leaves old new same small
 requests_leave state (exchange ∷ rest) old new done small =
     requests_leave state rest done.0 new done.2 (exchange_leaves state exchange old done.0 done.1 small)
 
 requests_add : {R : Type 0} (state : R → ReceiptState) (exchanges : List RequestExchange) (old new : Moment)
-    → AreRequestExchanges state exchanges old new
+    → AreRequestExchanges (owner_relations state) exchanges old new
     → Grows (entered_in exchanges) old new
 requests_add state [] old new same = subst (Grows [] old) (sym same) (grows_nothing old)
 requests_add state (exchange ∷ rest) old new done =
@@ -257,7 +273,7 @@ requests_add state (exchange ∷ rest) old new done =
     (requests_add state rest done.0 new done.2)
 
 pub requests_grow : {R : Type 0} (state : R → ReceiptState) (exchanges : List RequestExchange) (old new : Moment)
-    → AreRequestExchanges state exchanges old new → Grows (entered_in exchanges) old new × LeavesRoom old new
+    → AreRequestExchanges (owner_relations state) exchanges old new → Grows (entered_in exchanges) old new × LeavesRoom old new
 requests_grow state exchanges old new done =
     (requests_add state exchanges old new done, requests_leave state exchanges old new done)
 
@@ -267,7 +283,7 @@ record GrowsAtEnd (end : SessionEnd) (more : List Entry) (old new : Moment) : Ty
   grows : Grows more old new
 
 end_grows : {R : Type 0} (state : R → ReceiptState) (end : SessionEnd) (count : ℕ) (now last : LinkBytes) (old new : Moment)
-    → EndsSession state end count now last old new → (more : List Entry) × GrowsAtEnd end more old new
+    → EndsSession (owner_relations state) end count now last old new → (more : List Entry) × GrowsAtEnd end more old new
 end_grows state ends.Ended count now last old new by = ([], record { few = refl; grows = stays old new by.0 })
 end_grows state ends.Closed count now last old new by = ([], record { few = refl; grows = stays old new by.0 })
 end_grows state ends.Spent count now last old new by = ([], record { few = refl; grows = stays old new by.0 })
@@ -278,7 +294,7 @@ end_grows state ends.LinkFault count now last old new (inr by) =
 end_grows state ends.OutOfMemory count now last old new by = absurd by
 
 end_leaves : {R : Type 0} (state : R → ReceiptState) (end : SessionEnd) (count : ℕ) (now last : LinkBytes) (old new : Moment)
-    → EndsSession state end count now last old new → LeavesRoom old new
+    → EndsSession (owner_relations state) end count now last old new → LeavesRoom old new
 end_leaves state ends.Ended count now last old new by = stays_leaves old new by.0
 end_leaves state ends.Closed count now last old new by = stays_leaves old new by.0
 end_leaves state ends.Spent count now last old new by = stays_leaves old new by.0
@@ -287,7 +303,7 @@ end_leaves state ends.LinkFault count now last old new (inr by) = exchange_leave
 end_leaves state ends.OutOfMemory count now last old new by = absurd by
 
 pub session_grows : {R : Type 0} (state : R → ReceiptState) (end : SessionEnd) (first last : LinkBytes) (old new : Moment)
-    (session : Transmits state end first last old new)
+    (session : Transmits (owner_relations state) end first last old new)
     → (more : List Entry) × MayAdd end more × Grows (entered_in session.exchanges ++ more) old new × LeavesRoom old new
 session_grows state end first last old new session =
     let ended = end_grows state end (length session.exchanges) session.now last session.then new session.ends in (

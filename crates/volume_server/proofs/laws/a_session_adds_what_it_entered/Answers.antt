@@ -1,5 +1,5 @@
-use Rattle.nbd_session.proofs.HistoryLemmas.{requests_grow, session_grows}
-use Rattle.nbd_session.proofs.laws.a_session_adds_what_it_entered.Goals as goal
+use Rattle.volume_server.proofs.HistoryLemmas.{requests_grow, session_grows}
+use Rattle.volume_server.proofs.laws.a_session_adds_what_it_entered.Goals as goal
 
 pub returns-clause-requests : goal.returns-clause-requests
 returns-clause-requests g c = requests_grow g.R.Receipt.state
