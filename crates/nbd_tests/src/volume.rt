@@ -37,7 +37,8 @@ pub fn device_of(alloc: Global, fuse: Option<u64>) -> Result<TestDevice, TestErr
     match create(alloc, disk, Uuid::from_bytes(UUID), GEOMETRY) {
         Ok(volume) => {
             a_new_volume_is_idle();
-            Ok(OwnerDevice::new(volume))
+            let device = OwnerDevice::new(volume);
+            Ok(device)
         }
         Err((disk, failed)) => {
             drop(disk);

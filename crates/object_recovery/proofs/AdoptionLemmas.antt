@@ -25,7 +25,7 @@ use Rattle.volume_maps.proofs.FitLemmas.{rows_fit}
 use Rattle.object_uploads.specs.Queue.{front_of, FitObject}
 use Rattle.obj_log.specs.State.{ObjLogState}
 use Rattle.object_recovery.specs.declared.judging.Reached.{Reached}
-use Rattle.object_recovery.specs.declared.judging.Refusal.TheVariants as refusals
+use Rattle.object_recovery.specs.declared.judging.ObjectRefusal.TheVariants as refusals
 use Rattle.object_recovery.specs.declared.reading.ReadObject.TheVariants as read
 use Rattle.object_recovery.specs.Judging.{IsEndOf}
 use Rattle.object_recovery.specs.Read.{IsReadOf}

@@ -54,5 +54,11 @@ pub passed_on : {T E : Type 0} (P : E → Type 0) (outcome : Result T E) (error 
 passed_on P (Ok value) error is so = tt
 passed_on P (Err e) error is so = subst P (sym is) so
 
+-- and what such an outcome comes to
+pub passed_as : {T E : Type 0} (P : Result T E → Type 0) (outcome : Result T E) (error : E) → IsErrAnd outcome (λ e. e ≡ error)
+    → P (Err error) → P outcome
+passed_as P (Ok value) error is so = absurd is
+passed_as P (Err e) error is so = subst (λ other. P (Err other)) (sym is) so
+
 pub error_of : {T E : Type 0} (error other : E) → error ≡ other → IsErrOf {T = T} (Err error) other
 error_of error other same = ap Err same

@@ -13,8 +13,8 @@ use Rattle.object_format.specs.Tests.{IsObjectRefusedAs}
 use Rattle.object_stream.specs.Replay.{object_name}
 use Rattle.stopped_volume.specs.Objects.{landed_in, expected_alone, IsWhole}
 use Rattle.object_recovery.specs.declared.judging.Reached.{Reached}
-use Rattle.object_recovery.specs.declared.judging.Refusal.{Refusal}
-use Rattle.object_recovery.specs.declared.judging.Refusal.TheVariants as refusals
+use Rattle.object_recovery.specs.declared.judging.ObjectRefusal.{ObjectRefusal}
+use Rattle.object_recovery.specs.declared.judging.ObjectRefusal.TheVariants as refusals
 use Rattle.object_recovery.specs.Judging.{IsEndOf, HasEnd, IsEndBefore, expected_after, IsGoodObject, IsBadObject, AreGood}
 use Rattle.object_recovery.specs.Judging.{IsNotData, HaveLanded}
 use Rattle.object_recovery.specs.declared.judging.Judged.{Judged}
@@ -70,7 +70,7 @@ module _ (volume : Expected) (objects : Objects) where
         elim (cover number bytes more fits there) [ inl such ↦ good number bytes such fits there | inr is ↦ is ]
 
     -- where the further objects are good, a verdict stands
-    pub verdict_wider : (refused : Option Refusal) → ((number : ℕ) → Such number → More number)
+    pub verdict_wider : (refused : Option ObjectRefusal) → ((number : ℕ) → Such number → More number)
         → ((number : ℕ) (bytes : List ℕ) → More number → number < 2 ^ 64 → found objects (object_name volume number) ≡ Some bytes
         → Such number ⊎ IsGoodObject volume objects last number)
         → IsVerdict volume objects last Such refused → IsVerdict volume objects last More refused
@@ -98,7 +98,8 @@ module _ (volume : Expected) (objects : Objects) where
       (kept : (number : ℕ) → Such number → More number) (cover : (number : ℕ) → More number → Such number ⊎ (number ≡ at))
       (most : (number : ℕ) → More number → number ≤ at) where
     -- one more is judged
-    pub verdict_more : (bad : Option BadObject) (refused : Option Refusal) → IsBadFor (expected_after volume at end) bytes bad
+    pub verdict_more : (bad : Option BadObject) (refused : Option ObjectRefusal)
+        → IsBadFor (expected_after volume at end) bytes bad
         → IsVerdict volume objects last Such refused → IsVerdict volume objects last More (refused_with at bad refused)
     verdict_more None refused whole is =
         let good : IsGoodObject volume objects last at =
@@ -181,7 +182,7 @@ module _ (volume : Expected) (objects : Objects) where
           here kept cover
           (λ number more. more.1) None None whole (all_good last to)
 
-      of_left : (last : ℕ) → at ≤ last → (refused : Option Refusal)
+      of_left : (last : ℕ) → at ≤ last → (refused : Option ObjectRefusal)
           → IsWhyLeft bytes (length bytes) (expected_after volume at reached.end) refused
           → IsVerdict volume objects last (UpTo base at) refused
       of_left last to None why = good_more last to (why.1, why.2, why.3)
@@ -219,14 +220,14 @@ module _ (volume : Expected) (objects : Objects) where
 
 -- ---- where the store tells its objects
 
-pub told_next : (told : Option Objects) (volume : Expected) (reached : Reached) (judged : Judged) (refused : Option Refusal)
+pub told_next : (told : Option Objects) (volume : Expected) (reached : Reached) (judged : Judged) (refused : Option ObjectRefusal)
     → reached.number + 1 < 2 ^ 64 → refused ≡ refused_with (reached.number + 1) judged.bad reached.refused
     → IfSome told (λ objects. IsJudged objects (expected_after volume (reached.number + 1) reached.end) judged)
     → IfSome told (λ objects. IsJudgedNext volume objects reached
     (Some (record { number = reached.number + 1; end = judged.end; refused = refused })))
 told_next None volume reached judged refused named with is = tt
 told_next (Some objects) volume reached judged refused named with is = λ base before.
-    let Next : Option Refusal → Reached = λ r. record { number = reached.number + 1; end = judged.end; refused = r } in
+    let Next : Option ObjectRefusal → Reached = λ r. record { number = reached.number + 1; end = judged.end; refused = r } in
     subst (λ r. IsReached volume objects base (Next r)) (sym with)
     (reached_next volume objects base reached before is.bytes named is.present judged.end judged.bad is.is_end is.is_bad)
 

@@ -1,10 +1,14 @@
 -- What comes of a recovery, by what was adopted and how the others were judged.
 use Rattle.std.proofs.Common.{◌≡◌, ℕ, ◌+◌, ◌-◌, ◌^◌, ◌<◌, ◌≤◌, inl, inr, false, Option, Some, None, List, length, refl, sym, ◌∙◌}
 use Rattle.std.proofs.Common.{ap, subst, arith}
-use Rattle.std.specs.Prelude.{IfSome}
+use Rattle.std.specs.Prelude.{Err, IfSome}
 use Rattle.lsvd_base.specs.declared.geometry.Geometry.{Geometry}
+use Rattle.lsvd_fault.specs.Faults.{Counts}
 use Rattle.lsvd_names.specs.declared.name.ObjName.{ObjName}
+use Rattle.lsvd_objstore.specs.declared.error.StoreError.{StoreError}
+use Rattle.lsvd_objstore.specs.declared.error.StoreError.TheVariants as store
 use Rattle.lsvd_objstore.specs.Objects.{Objects, found, Lists}
+use Rattle.lsvd_objstore.specs.Store.{has_failed}
 use Rattle.object_format.specs.declared.expected.Expected.{Expected}
 use Rattle.object_format.specs.declared.rows.Rows.TheVariants.{Checkpoint}
 use Rattle.object_stream.specs.Replay.{object_name}
@@ -14,23 +18,24 @@ use Rattle.obj_log.specs.State.{ObjLogState}
 use Rattle.obj_log.specs.Changes.{expected_of_volume, next_of}
 use Rattle.object_recovery.specs.declared.error.RecoverError.{RecoverError}
 use Rattle.object_recovery.specs.declared.judging.Reached.{Reached}
-use Rattle.object_recovery.specs.declared.judging.Refusal.{Refusal}
-use Rattle.object_recovery.specs.declared.judging.Refusal.TheVariants as refusals
+use Rattle.object_recovery.specs.declared.judging.ObjectRefusal.{ObjectRefusal}
+use Rattle.object_recovery.specs.declared.judging.ObjectRefusal.TheVariants as refusals
 use Rattle.object_recovery.specs.Checkpoints.{expected_of, IsNewestWithEnd}
-use Rattle.object_recovery.specs.Faults.{of_refusal, is_store_fault, IsNoAnswer}
+use Rattle.object_recovery.specs.Faults.{of_store, of_refusal, is_store_fault, IsNoAnswer}
 use Rattle.object_recovery.specs.Judging.{AreGood, HaveLanded, IsRun}
 use Rattle.object_recovery.specs.Judged.{IsVerdict, IsReached, IsGap, JudgesPast, StaysRefused}
 use Rattle.object_recovery.specs.Adoption.{IsWhyLeft, HasEndedAt, KeepsGood, reached_by, ReachesGap, JudgesRest, RefusesRest}
-use Rattle.object_recovery.specs.Adoption.{IsRecoveryBegun, Recovers}
+use Rattle.object_recovery.specs.Adoption.{IsRecoveryBegun}
 use Rattle.object_recovery.specs.Recovery.{IsListUpTo, KeepsStreams, AreAllGood, AreNamedWholePast, IsWhyObjectsRefused}
 use Rattle.object_recovery.specs.Recovery.{IsRecoveryRefused}
+use Rattle.object_recovery.specs.Recovering.{Recovers}
 use Rattle.object_recovery.proofs.EndLemmas.{alone_object}
 use Rattle.object_recovery.proofs.ListLemmas.{left_good}
 use Rattle.object_recovery.proofs.RecoverLemmas.{IsNewList, stream_to, is_recovered}
 use Rattle.object_recovery.proofs.RefusalLemmas.{volume_is, is_refused, no_answer_refused}
 
 -- all objects past a checkpoint were judged
-pub record AreJudged (volume : Expected) (objects : Objects) (base : ℕ) (refused : Option Refusal) : Type 0 where
+pub record AreJudged (volume : Expected) (objects : Objects) (base : ℕ) (refused : Option ObjectRefusal) : Type 0 where
   pub last : ℕ
   pub run : IsRun volume objects base last
   pub verdict : IsVerdict volume objects last (λ number. base < number) refused
@@ -81,7 +86,7 @@ module _ (volume : Expected) (objects : Objects) (base base_end : ℕ) (newest :
       reaches.missing,
     )
 
-    pub are_judged : (left : Option Reached) (refused : Option Refusal) → HasEndedAt objects log left
+    pub are_judged : (left : Option Reached) (refused : Option ObjectRefusal) → HasEndedAt objects log left
         → JudgesRest objects log names left refused
         → AreJudged volume objects base refused
     are_judged left refused ended rest =
@@ -119,7 +124,7 @@ module _ (volume : Expected) (objects : Objects) (base : ℕ) where
       subst (λ b. IsWhole (expected_alone volume other) b) same
       (whole.0, whole.1, alone_object good.bytes (length good.bytes) expected whole.0 whole.1 whole.2)
 
-  pub why_refused : (refusal : Refusal) → AreJudged volume objects base (Some refusal)
+  pub why_refused : (refusal : ObjectRefusal) → AreJudged volume objects base (Some refusal)
       → IsWhyObjectsRefused volume objects (of_refusal refusal)
   why_refused (refusals.Bad number reason) is =
       let verdict = is.verdict in (
@@ -160,12 +165,13 @@ module _ (uuid : List ℕ) (geometry : Geometry) (base end : ℕ) (begun log : O
       (subst (λ v. KeepsGood v objects begun log) begun_volume good) base
       (begun_reached volume objects base end from.newest uuid geometry begun new)
 
-  judged : (refused : Option Refusal) → JudgesRest objects log names left refused → AreJudged volume objects base refused
+  judged : (refused : Option ObjectRefusal) → JudgesRest objects log names left refused → AreJudged volume objects base refused
   judged refused rest = are_judged volume objects base end from.newest log log_volume uuid geometry list log_reached names
       from.listed left refused ended rest
 
   recovers : JudgesRest objects log names left None → Recovers volume base objects log
   recovers rest = record {
+    checkpoint = (end, from.newest);
     recovered = λ low.
         let absent = none_next volume objects base end from.newest log log_volume uuid geometry list log_reached names from.listed
         left ended rest low in
@@ -220,14 +226,29 @@ pub told_failed : (told : Option Objects) (volume : Expected) (Begun : Objects �
 told_failed None of_volume Begun error none = tt
 told_failed (Some objects) of_volume Begun error none = λ _. no_answer_refused of_volume objects error none
 
+-- a call of the store that failed, or that found no memory, is no answer, and a fault was counted where it failed
+pub of_store_is_no_answer : (error : StoreError) → IsNoAnswer (of_store error)
+of_store_is_no_answer store.Failed = tt
+of_store_is_no_answer store.OutOfMemory = tt
+
+pub store_counts : (T : Type 0) (error : StoreError) (old new : ℕ) → Counts (has_failed {T = T} (Err error)) old new
+    → Counts (is_store_fault (of_store error)) old new
+store_counts T store.Failed old new counts = counts
+store_counts T store.OutOfMemory old new counts = counts
+
+pub told_no_answer : (told : Option Objects) (of_volume : Expected) (error : RecoverError) → IsNoAnswer error
+    → IfSome told (λ objects. IsRecoveryRefused of_volume objects error)
+told_no_answer None of_volume error none = tt
+told_no_answer (Some objects) of_volume error none = no_answer_refused of_volume objects error none
+
 -- a refusal is no fault
-pub no_fault : (refusal : Refusal) → is_store_fault (of_refusal refusal) ≡ false
+pub no_fault : (refusal : ObjectRefusal) → is_store_fault (of_refusal refusal) ≡ false
 no_fault (refusals.Bad number reason) = refl
 no_fault (refusals.NotData number) = refl
 
 pub told_rest : (told : Option Objects) (log : ObjLogState) (volume : Expected) (names : List ObjName) (left : Option Reached)
     (gap : Reached)
-    (refused : Option Refusal) → volume ≡ expected_of_volume log → StaysRefused gap.refused refused
+    (refused : Option ObjectRefusal) → volume ≡ expected_of_volume log → StaysRefused gap.refused refused
     → IfSome told (λ objects. ReachesGap volume objects log left gap)
     → IfSome told (λ objects. JudgesPast volume objects names gap refused)
     → IfSome told (λ objects. JudgesRest objects log names left refused)
@@ -239,7 +260,8 @@ told_rest (Some objects) log of_volume names left gap refused same stays reaches
   stays = stays;
 }
 
-pub told_refusal : (told : Option Objects) (log : ObjLogState) (names : List ObjName) (left : Option Reached) (refusal : Refusal)
+pub told_refusal :
+    (told : Option Objects) (log : ObjLogState) (names : List ObjName) (left : Option Reached) (refusal : ObjectRefusal)
     (error : RecoverError)
     → error ≡ of_refusal refusal → IfSome told (λ objects. JudgesRest objects log names left (Some refusal))
     → IfSome told (λ objects. RefusesRest objects log names left error)

@@ -16,7 +16,7 @@ use Rattle.object_format.specs.declared.reason.BadObject.{BadObject}
 use Rattle.object_stream.specs.Replay.{object_name}
 use Rattle.stopped_volume.specs.Objects.{expected_alone}
 use Rattle.object_recovery.specs.declared.judging.Reached.{Reached}
-use Rattle.object_recovery.specs.declared.judging.Refusal.{Refusal}
+use Rattle.object_recovery.specs.declared.judging.ObjectRefusal.{ObjectRefusal}
 use Rattle.object_recovery.specs.Judged.{IsBadFor, IsVerdict, IsReached, IsAmong, IsJudgedAlone, JudgesPast, StaysRefused}
 use Rattle.object_recovery.specs.Judged.{refused_with}
 use Rattle.object_recovery.specs.Removal.{IsPast}
@@ -43,7 +43,8 @@ module _ (volume : Expected) (objects : Objects) (names : List ObjName) (base : 
 
   module _ (listed : Lists volume.uuid objects names) where
     -- after the last
-    past_end : (refused : Option Refusal) → IsUuid volume.uuid → IsVerdict volume objects gap.number (By (length names)) refused
+    past_end : (refused : Option ObjectRefusal) → IsUuid volume.uuid
+        → IsVerdict volume objects gap.number (By (length names)) refused
         → IsVerdict volume objects gap.number (λ number. base < number) refused
     past_end refused is_uuid is =
         verdict_wider volume objects gap.number (By (length names)) (λ number. base < number) refused
@@ -74,7 +75,8 @@ module _ (volume : Expected) (objects : Objects) (names : List ObjName) (base : 
           (such.0, elim such.1 [ inl to ↦ inl to | inr among ↦ inr (among.0, omega (arith, among.1), among.2, among.3) ])
 
       -- it is passed over
-      past_skip : (refused : Option Refusal) → (IsPast gap.number name → ⊥) → IsVerdict volume objects gap.number (By k) refused
+      past_skip : (refused : Option ObjectRefusal) → (IsPast gap.number name → ⊥)
+          → IsVerdict volume objects gap.number (By k) refused
           → IsVerdict volume objects gap.number (By (k + 1)) refused
       past_skip refused not is =
           verdict_wider volume objects gap.number (By k) (By (k + 1)) refused more_names
@@ -133,7 +135,7 @@ module _ (volume : Expected) (objects : Objects) (names : List ObjName) (base : 
               ]
             ]
 
-        past_more : (old new : Option Refusal) → IsJudgedAlone volume objects name.number old new
+        past_more : (old new : Option ObjectRefusal) → IsJudgedAlone volume objects name.number old new
             → IsVerdict volume objects gap.number (By k) old → IsVerdict volume objects gap.number (By (k + 1)) new
         past_more old new judged is =
             elim judged [
@@ -156,7 +158,7 @@ module _ (volume : Expected) (objects : Objects) (names : List ObjName) (base : 
 -- ---- where the store tells its objects
 
 -- the objects were judged by the first names
-abbrev pub IsJudgedBy : Expected → List ObjName → Reached → (count : ℕ) → Option Refusal → Objects → Type 0
+abbrev pub IsJudgedBy : Expected → List ObjName → Reached → (count : ℕ) → Option ObjectRefusal → Objects → Type 0
 IsJudgedBy volume names gap count refused objects =
     (base : ℕ) → Lists volume.uuid objects names → IsReached volume objects base gap
     → IsVerdict volume objects gap.number (JudgedBy volume names base gap.number count) refused
@@ -166,7 +168,7 @@ pub told_begin : (told : Option Objects) (volume : Expected) (names : List ObjNa
 told_begin None volume names gap = tt
 told_begin (Some objects) volume names gap = λ base listed is. past_begin volume objects names base gap is
 
-pub told_end : (told : Option Objects) (volume : Expected) (names : List ObjName) (gap : Reached) (refused : Option Refusal)
+pub told_end : (told : Option Objects) (volume : Expected) (names : List ObjName) (gap : Reached) (refused : Option ObjectRefusal)
     → IsUuid volume.uuid
     → IfSome told (IsJudgedBy volume names gap (length names) refused)
     → IfSome told (λ objects. JudgesPast volume objects names gap refused)
@@ -174,7 +176,8 @@ told_end None volume names gap refused is_uuid judged = tt
 told_end (Some objects) volume names gap refused is_uuid judged = λ base listed is.
     past_end volume objects names base gap listed refused is_uuid (judged base listed is)
 
-pub told_skip : (told : Option Objects) (volume : Expected) (names : List ObjName) (gap : Reached) (refused : Option Refusal)
+pub told_skip :
+    (told : Option Objects) (volume : Expected) (names : List ObjName) (gap : Reached) (refused : Option ObjectRefusal)
     (k : ℕ) (name : ObjName)
     → k < length names → slice_index_or names k name ≡ name → (IsPast gap.number name → ⊥)
     → IfSome told (IsJudgedBy volume names gap k refused) → IfSome told (IsJudgedBy volume names gap (k + 1) refused)
@@ -182,7 +185,8 @@ told_skip None volume names gap refused k name inside at not judged = tt
 told_skip (Some objects) volume names gap refused k name inside at not judged = λ base listed is.
     past_skip volume objects names base gap listed k name inside at refused not (judged base listed is)
 
-pub told_judged : (told : Option Objects) (volume : Expected) (names : List ObjName) (gap : Reached) (old new : Option Refusal)
+pub told_judged :
+    (told : Option Objects) (volume : Expected) (names : List ObjName) (gap : Reached) (old new : Option ObjectRefusal)
     (k : ℕ) (name : ObjName)
     → k < length names → slice_index_or names k name ≡ name → IsPast gap.number name
     → IfSome told (λ objects. IsJudgedAlone volume objects name.number old new)

@@ -258,12 +258,6 @@ pub newest_told : (told : Option Objects) (uuid : List ℕ) (geometry : Geometry
 newest_told None uuid geometry names number end is_uuid listed newest = tt
 newest_told (Some objects) uuid geometry names number end is_uuid listed newest = newest uuid is_uuid listed
 
-pub newest_with_end : (told : Option Objects) (volume : Expected) (number end : ℕ)
-    → IfSome told (λ objects. IsNewestWithEnd volume objects number end)
-    → IfSome told (λ objects. (e : ℕ) × IsNewestWithEnd volume objects number e)
-newest_with_end None volume number end newest = tt
-newest_with_end (Some objects) volume number end newest = (end, newest)
-
 -- what is expected of the volume of a list
 pub volume_is : (uuid : List ℕ) (geometry : Geometry) (number end : ℕ) (log : ObjLogState)
     → IsNewList uuid geometry number end log

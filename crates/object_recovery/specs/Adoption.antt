@@ -1,10 +1,12 @@
 -- For this crate's own clauses: how the objects of a store are adopted, and the others judged.
-use Rattle.std.specs.Prelude.{◌≡◌, ℕ, ◌+◌, ◌-◌, ◌^◌, ◌<◌, ◌≤◌, ◌⊎◌, Option, Some, None, IfSome, IsTrue, List, length}
+use Rattle.std.specs.Prelude.{◌≡◌, ℕ, ◌+◌, ◌-◌, ◌^◌, ◌<◌, ◌≤◌, ◌⊎◌, Option, Some, None, IfSome, List, length}
+use Rattle.std.specs.Prelude.{Result, IfOk, IfErr}
 use Rattle.std.specs.Global.{Vec}
 use Rattle.lsvd_names.specs.declared.name.ObjName.{ObjName}
 use Rattle.lsvd_base.specs.declared.geometry.Geometry.{Geometry}
+use Rattle.lsvd_fault.specs.Faults.{Counts}
 use Rattle.lsvd_objstore.specs.Objects.{Objects, found, Lists}
-use Rattle.lsvd_objstore.specs.Store.{ReceiptState}
+use Rattle.lsvd_objstore.specs.Store.{StoreState, ReceiptState, OnlyCounts}
 use Rattle.object_format.specs.declared.data_row.DataRow.{DataRow}
 use Rattle.object_format.specs.declared.expected.Expected.{Expected}
 use Rattle.object_format.specs.declared.header.Header.{Header}
@@ -22,16 +24,19 @@ use Rattle.object_recovery.specs.declared.adoption.Next.{Next}
 use Rattle.object_recovery.specs.declared.adoption.Next.TheVariants as next
 use Rattle.object_recovery.specs.declared.adoption.NextObject.{NextObject}
 use Rattle.object_recovery.specs.declared.adoption.NextObject.TheVariants as next_object
+use Rattle.object_recovery.specs.declared.checkpoint.NewestCheckpoint.{NewestCheckpoint}
 use Rattle.object_recovery.specs.declared.judging.Reached.{Reached}
-use Rattle.object_recovery.specs.declared.judging.Refusal.{Refusal}
-use Rattle.object_recovery.specs.declared.judging.Refusal.TheVariants as refusals
+use Rattle.object_recovery.specs.declared.judging.ObjectRefusal.{ObjectRefusal}
+use Rattle.object_recovery.specs.declared.judging.ObjectRefusal.TheVariants as refusals
 use Rattle.object_recovery.specs.declared.error.RecoverError.{RecoverError}
 use Rattle.object_recovery.specs.Checkpoints.{expected_of, IsNewestWithEnd}
-use Rattle.object_recovery.specs.Faults.{IsNoAnswer, of_refusal}
-use Rattle.object_recovery.specs.Judging.{IsEndOf, HaveLanded}
+use Rattle.object_recovery.specs.Faults.{IsNoAnswer, of_refusal, ends_by_fault}
+use Rattle.object_recovery.specs.Judging.{IsEndOf}
 use Rattle.object_recovery.specs.Judged.{IsReached, GoesToGap, JudgesPast, StaysRefused}
+use Rattle.object_recovery.specs.Places.{HasPlacesInside}
 use Rattle.object_recovery.specs.Read.{IsReadAs}
-use Rattle.object_recovery.specs.Recovery.{IsRecoveredOf, IsNoLonger, AreAllGood, AreNamedWholePast}
+use Rattle.object_recovery.specs.Recovery.{IsListUpTo, IsRecoveryRefused}
+use Rattle.object_recovery.specs.Recovering.{Recovers}
 
 -- ---- the next object
 
@@ -44,7 +49,7 @@ pub record IsReadAsData (receipt : ReceiptState) (expected : Expected) (rows : L
   pub end_is : header.end_seq ≡ end
 
 -- why the object with these bytes is not adopted: the list takes none of this number, or it is bad, or it holds no entries
-abbrev pub IsWhyLeft : (bytes : List ℕ) (size : ℕ) → Expected → Option Refusal → Type 0
+abbrev pub IsWhyLeft : (bytes : List ℕ) (size : ℕ) → Expected → Option ObjectRefusal → Type 0
 IsWhyLeft bytes size expected None = (2 ^ 64 - 1 ≤ expected.number) × (header : Header) × (rows : Rows)
     × IsObject bytes size expected header rows
 IsWhyLeft bytes size expected (Some (refusals.Bad number reason)) = (number ≡ expected.number)
@@ -133,7 +138,7 @@ ReachesGap volume objects log (Some reached) gap = GoesToGap volume objects reac
 
 -- All past this one, or where it is none past the list, were judged by the names of the objects that there are.
 pub record JudgesRest (objects : Objects) (log : ObjLogState) (names : List ObjName) (left : Option Reached)
-    (refused : Option Refusal) : Type 0 where
+    (refused : Option ObjectRefusal) : Type 0 where
   pub gap : Reached
   pub reaches : ReachesGap (expected_of_volume log) objects log left gap
   pub past : JudgesPast (expected_of_volume log) objects names gap refused
@@ -142,7 +147,8 @@ pub record JudgesRest (objects : Objects) (log : ObjLogState) (names : List ObjN
 -- and the error refuses all so; or it is no answer
 abbrev pub RefusesRest : Objects → ObjLogState → List ObjName → Option Reached → RecoverError → Type 0
 RefusesRest objects log names left error =
-    IsNoAnswer error ⊎ ((refusal : Refusal) × (error ≡ of_refusal refusal) × JudgesRest objects log names left (Some refusal))
+    IsNoAnswer error
+    ⊎ ((refusal : ObjectRefusal) × (error ≡ of_refusal refusal) × JudgesRest objects log names left (Some refusal))
 
 -- ---- the whole
 
@@ -152,10 +158,18 @@ pub record IsRecoveryBegun (uuid : List ℕ) (geometry : Geometry) (base end : �
   pub newest : IsNewestWithEnd (expected_of uuid geometry) objects base end
   pub listed : Lists uuid objects names
 
--- the list is recovered, and all objects are good
-pub record Recovers (volume : Expected) (base : ℕ) (objects : Objects) (log : ObjLogState) : Type 0 where
-  pub recovered : log.uploads.window.last + 1 < 2 ^ 64 - 1 → IsRecoveredOf volume objects log
-  pub no_longer : IsNoLonger volume objects log.uploads.window.last
-  pub landed : HaveLanded objects volume base log.uploads.window.last
-  pub good : AreAllGood volume objects base
-  pub past : AreNamedWholePast volume objects log.uploads.window.last
+-- How the recovery of a list ends that begins at this checkpoint, with these names. Where bytes are told, and a recovery begins
+-- so in the store, the list is that of what the store has, or the error refuses what it has.
+pub record RecoverListOf (Tells : Type 0) (uuid : List ℕ) (geometry : Geometry) (base : NewestCheckpoint) (names : List ObjName)
+    (old new : StoreState) (result : Result ObjLogState RecoverError) : Type 0 where
+  pub list : IfOk result (λ log. IsListUpTo uuid geometry log.uploads.window.last log.uploads.queue.end log)
+  pub from : IfOk result (λ log. base.number ≤ log.uploads.window.last)
+  pub places : IfOk result (λ log. HasPlacesInside geometry.sectors log.uploads.queue)
+  pub recovers : Tells → IfOk result (λ log. IfSome old.objects (λ objects.
+      IsRecoveryBegun uuid geometry base.number base.end names objects
+      → Recovers (expected_of uuid geometry) base.number objects log))
+  pub refused : Tells → IfErr result (λ error. IfSome old.objects (λ objects.
+      IsRecoveryBegun uuid geometry base.number base.end names objects
+      → IsRecoveryRefused (expected_of uuid geometry) objects error))
+  pub unchanged : OnlyCounts old new
+  pub faults : Counts (ends_by_fault result) old.faults new.faults

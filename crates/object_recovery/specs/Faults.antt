@@ -2,8 +2,8 @@
 use Rattle.std.specs.Prelude.{Bool, true, false, Result, Ok, Err}
 use Rattle.lsvd_objstore.specs.declared.error.StoreError.{StoreError}
 use Rattle.lsvd_objstore.specs.declared.error.StoreError.TheVariants as store
-use Rattle.object_recovery.specs.declared.judging.Refusal.{Refusal}
-use Rattle.object_recovery.specs.declared.judging.Refusal.TheVariants.{Bad, NotData}
+use Rattle.object_recovery.specs.declared.judging.ObjectRefusal.{ObjectRefusal}
+use Rattle.object_recovery.specs.declared.judging.ObjectRefusal.TheVariants.{Bad, NotData}
 use Rattle.object_recovery.specs.declared.error.RecoverError.{RecoverError}
 use Rattle.object_recovery.specs.declared.error.RecoverError.TheVariants as errors
 
@@ -13,7 +13,7 @@ of_store store.Failed = errors.StoreFault
 of_store store.OutOfMemory = errors.OutOfMemory
 
 -- what a refusal is to the caller
-abbrev pub of_refusal : Refusal → RecoverError
+abbrev pub of_refusal : ObjectRefusal → RecoverError
 of_refusal (Bad number reason) = errors.BadObject number reason
 of_refusal (NotData number) = errors.NotData number
 

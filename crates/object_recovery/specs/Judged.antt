@@ -11,8 +11,8 @@ use Rattle.object_recovery.specs.declared.reading.ReadObject.{ReadObject}
 use Rattle.object_recovery.specs.declared.reading.ReadObject.TheVariants as read
 use Rattle.object_recovery.specs.declared.judging.Judged.{Judged}
 use Rattle.object_recovery.specs.declared.judging.Reached.{Reached}
-use Rattle.object_recovery.specs.declared.judging.Refusal.{Refusal}
-use Rattle.object_recovery.specs.declared.judging.Refusal.TheVariants as refusals
+use Rattle.object_recovery.specs.declared.judging.ObjectRefusal.{ObjectRefusal}
+use Rattle.object_recovery.specs.declared.judging.ObjectRefusal.TheVariants as refusals
 use Rattle.object_recovery.specs.Judging.{IsEndOf, HasEnd, IsBadObject, AreGood, IsNotData, HaveLanded}
 
 -- ---- one object
@@ -41,17 +41,17 @@ IsJudgement objects expected (Some judged) = IsJudged objects expected judged
 -- ---- some objects
 
 -- why objects are refused where the one of a number that is greater than theirs is bad for this reason, or is not
-abbrev pub refused_with : (number : ℕ) → Option BadObject → Option Refusal → Option Refusal
+abbrev pub refused_with : (number : ℕ) → Option BadObject → Option ObjectRefusal → Option ObjectRefusal
 refused_with number None before = before
 refused_with number (Some reason) before = Some (refusals.Bad number reason)
 
 -- what is refused stays so
-abbrev pub StaysRefused : (old new : Option Refusal) → Type 0
+abbrev pub StaysRefused : (old new : Option ObjectRefusal) → Type 0
 StaysRefused old new = new ≡ None → old ≡ None
 
 -- The objects of the store with such numbers are refused so: for the greatest of them that is bad, or where none is for one
 -- without entries.
-abbrev pub IsVerdict : Expected → Objects → (last : ℕ) → (Such : ℕ → Type 0) → Option Refusal → Type 0
+abbrev pub IsVerdict : Expected → Objects → (last : ℕ) → (Such : ℕ → Type 0) → Option ObjectRefusal → Type 0
 IsVerdict volume objects last Such None = AreGood volume objects last Such
 IsVerdict volume objects last Such (Some (refusals.Bad number reason)) =
     Such number × IsBadObject volume objects last number reason
@@ -86,7 +86,7 @@ pub record GoesToGap (volume : Expected) (objects : Objects) (from gap : Reached
 -- ---- those past the first missing number
 
 -- one is judged by itself
-abbrev pub IsJudgedAlone : Expected → Objects → (number : ℕ) → (old new : Option Refusal) → Type 0
+abbrev pub IsJudgedAlone : Expected → Objects → (number : ℕ) → (old new : Option ObjectRefusal) → Type 0
 IsJudgedAlone volume objects number old new =
     ((found objects (object_name volume number) ≡ None) × (new ≡ old))
     ⊎ ((bytes : List ℕ) × (bad : Option BadObject) × (number < 2 ^ 64) × (found objects (object_name volume number) ≡ Some bytes)
@@ -99,7 +99,7 @@ IsAmong volume names count number =
     × (slice_index_or names k (object_name volume number) ≡ object_name volume number)
 
 -- all are judged, by the names of the objects that there are
-abbrev pub JudgesPast : Expected → Objects → List ObjName → (gap : Reached) → Option Refusal → Type 0
+abbrev pub JudgesPast : Expected → Objects → List ObjName → (gap : Reached) → Option ObjectRefusal → Type 0
 JudgesPast volume objects names gap refused =
     (base : ℕ) → Lists volume.uuid objects names → IsReached volume objects base gap
     → IsVerdict volume objects gap.number (λ number. base < number) refused

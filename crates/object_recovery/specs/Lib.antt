@@ -8,4 +8,5 @@ pub mod Places
 pub mod Removal
 pub mod Adoption
 pub mod Recovery
+pub mod Recovering
 pub mod Laws

@@ -11,7 +11,7 @@ ghost use Rattle.object_recovery.specs.Recovery.{IsListUpTo, KeepsStreams};
 ghost use Rattle.object_recovery.specs.Adoption.{IsNextRead, ComesNext, KeepsGood, HasEndedAt};
 
 use crate::error::RecoverError;
-use crate::judging::{Reached, Refusal};
+use crate::judging::{ObjectRefusal, Reached};
 use crate::naming::object_name;
 use crate::reading::{ReadObject, read_object};
 use lsvd_objstore::{Receipt, Store};
@@ -137,18 +137,18 @@ fn read_next<S: Store>(
         ReadObject::Bad { reason, end } => Ok(left(
             number,
             end,
-            Some(Refusal::Bad { number, reason }),
+            Some(ObjectRefusal::Bad { number, reason }),
         )),
         ReadObject::Whole { rows, end } => match rows {
             Rows::Data(rows) if number < u64::MAX => Ok(NextObject::Data(DataObject { rows, end })),
             Rows::Data(_) => Ok(left(number, Some(end), None)),
-            _ => Ok(left(number, Some(end), Some(Refusal::NotData { number }))),
+            _ => Ok(left(number, Some(end), Some(ObjectRefusal::NotData { number }))),
         },
     }
 }
 
 // An object that is not adopted.
-fn left(number: u64, end: Option<u64>, refused: Option<Refusal>) -> NextObject
+fn left(number: u64, end: Option<u64>, refused: Option<ObjectRefusal>) -> NextObject
     ensures { result ≡ NextObject.Left (record { number = number; end = end; refused = refused }) }
 {
     NextObject::Left(Reached {

@@ -2,7 +2,7 @@ ghost use Rattle.std.specs.Prelude.{◌≡◌};
 ghost use Rattle.object_recovery.specs.declared.error.RecoverError.TheVariants as errors;
 ghost use Rattle.object_recovery.specs.Faults.{of_store, of_refusal};
 
-use crate::judging::Refusal;
+use crate::judging::ObjectRefusal;
 use lsvd_fault::Failed;
 use lsvd_objstore::StoreError;
 use object_format::BadObject;
@@ -33,13 +33,13 @@ pub enum RecoverError {
     OutOfMemory,
 }
 
-impl From<Refusal> for RecoverError {
+impl From<ObjectRefusal> for RecoverError {
     ghost from_gives = { λ refusal e. e ≡ of_refusal refusal };
 
-    fn from(refusal: Refusal) -> RecoverError {
+    fn from(refusal: ObjectRefusal) -> RecoverError {
         match refusal {
-            Refusal::Bad { number, reason } => RecoverError::BadObject { number, reason },
-            Refusal::NotData { number } => RecoverError::NotData { number },
+            ObjectRefusal::Bad { number, reason } => RecoverError::BadObject { number, reason },
+            ObjectRefusal::NotData { number } => RecoverError::NotData { number },
         }
     }
 }

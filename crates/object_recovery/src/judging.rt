@@ -19,7 +19,7 @@ use uuid::Uuid;
 
 /// Why the objects of a volume are refused.
 #[derive(Clone, Copy, Drop)]
-pub(crate) enum Refusal {
+pub(crate) enum ObjectRefusal {
     /// The object of this number is bad.
     Bad { number: u64, reason: BadObject },
     /// The object of this number holds no entries.
@@ -36,7 +36,7 @@ pub(crate) struct Reached {
     pub(crate) end: Option<u64>,
     /// Why they are refused, if they are: for the greatest number that is bad, and else for the first without
     /// entries.
-    pub(crate) refused: Option<Refusal>,
+    pub(crate) refused: Option<ObjectRefusal>,
 }
 
 // How one object was judged.
@@ -80,7 +80,7 @@ pub(crate) fn judge_past<S: Store>(
     volume: &Expected,
     names: &[ObjName],
     gap: &Reached,
-) -> Result<Option<Refusal>, RecoverError>
+) -> Result<Option<ObjectRefusal>, RecoverError>
     ensures judged { TellsBytes S.Receipt.state
         → IfOk result (λ refused. IfSome (S.state store.old).objects (λ objects.
         JudgesPast volume.now objects names.now gap.now refused)) }
@@ -139,8 +139,8 @@ fn judge_alone<S: Store>(
     store: &mut S,
     volume: &Expected,
     number: u64,
-    refused: Option<Refusal>,
-) -> Result<Option<Refusal>, RecoverError>
+    refused: Option<ObjectRefusal>,
+) -> Result<Option<ObjectRefusal>, RecoverError>
     ensures judged { TellsBytes S.Receipt.state
         → IfOk result (λ new. IfSome (S.state store.old).objects (λ objects.
         IsJudgedAlone volume.now objects number refused new)) }
@@ -162,11 +162,15 @@ fn judge_alone<S: Store>(
 
 // Why objects are refused where the one of a number that is greater than theirs is bad for this reason, or is
 // not.
-fn refused_with(number: u64, bad: Option<BadObject>, before: Option<Refusal>) -> Option<Refusal>
+fn refused_with(
+    number: u64,
+    bad: Option<BadObject>,
+    before: Option<ObjectRefusal>,
+) -> Option<ObjectRefusal>
     ensures { result ≡ refused_with number bad before }
 {
     match bad {
-        Some(reason) => Some(Refusal::Bad { number, reason }),
+        Some(reason) => Some(ObjectRefusal::Bad { number, reason }),
         None => before,
     }
 }

@@ -1,20 +1,13 @@
-ghost use Rattle.std.specs.Prelude.{◌≡◌, ℕ, ◌+◌, ◌-◌, ◌^◌, ◌<◌, ◌≤◌, None, IsTrue, IfOk, IfErr, IfSome, OnOk};
+ghost use Rattle.std.specs.Prelude.{◌≡◌, None, IsTrue, IfOk, IfErr, IfSome, OnOk};
 ghost use Rattle.lsvd_base.specs.Limits.{is_within_limits};
-ghost use Rattle.lsvd_objstore.specs.Store.{StoreState, ReceiptState, OnlyCounts};
+ghost use Rattle.lsvd_objstore.specs.Store.{OnlyCounts};
 ghost use Rattle.lsvd_fault.specs.Faults.{Counts};
-ghost use Rattle.obj_log.specs.State.{ObjLogState};
 ghost use Rattle.obj_log.specs.Changes.{expected_of_volume};
-ghost use Rattle.object_recovery.specs.State.{RecoveredState, HasAllNames};
-ghost use Rattle.object_recovery.specs.Faults.{ends_by_fault, IsNoAnswer};
 ghost use Rattle.stopped_volume.specs.Store.{TellsBytes};
-ghost use Rattle.object_recovery.specs.Checkpoints.{expected_of, IsNewestWithEnd};
-ghost use Rattle.object_recovery.specs.Places.{HasPlacesInside};
-ghost use Rattle.object_recovery.specs.Recovery.{IsListUpTo, IsNoLonger, IsRecoveredOf, AreAllGood};
-ghost use Rattle.object_recovery.specs.Recovery.{AreNamedWholePast, IsRecoveryRefused};
-ghost use Rattle.object_recovery.specs.Judging.{HaveLanded};
-ghost use Rattle.object_recovery.specs.Adoption.{IsRecoveryBegun, Recovers, reached_by, ReachesGap};
-ghost use Rattle.object_recovery.specs.Adoption.{JudgesRest};
-ghost use Rattle.object_recovery.specs.Adoption.{RefusesRest};
+ghost use Rattle.object_recovery.specs.Faults.{ends_by_fault, IsNoAnswer};
+ghost use Rattle.object_recovery.specs.Adoption.{reached_by, ReachesGap, JudgesRest, RefusesRest};
+ghost use Rattle.object_recovery.specs.Adoption.{RecoverListOf};
+ghost use Rattle.object_recovery.specs.Recovering.{RecoverOf};
 
 use crate::adoption::adopt_all;
 use crate::checkpoint::{NewestCheckpoint, newest_checkpoint};
@@ -52,37 +45,8 @@ pub fn recover<S: Store>(
     geometry: Geometry,
 ) -> Result<Recovered<S::Receipt>, RecoverError>
     requires { IsTrue (is_within_limits geometry) }
-    ensures list { IfOk result (λ recovered.
-        IsListUpTo uuid geometry recovered.log.uploads.window.last recovered.log.uploads.queue.end
-        recovered.log) }
-    ensures from { IfOk result (λ recovered. recovered.checkpoint ≤ recovered.log.uploads.window.last) }
-    ensures places { IfOk result (λ recovered. HasPlacesInside geometry.sectors recovered.log.uploads.queue) }
-    ensures names { IfOk result (HasAllNames (S.state store.old).objects) }
-    ensures checkpoint { TellsBytes S.Receipt.state
-        → IfOk result (λ recovered. IfSome (S.state store.old).objects (λ objects.
-        (end : ℕ) × IsNewestWithEnd (expected_of uuid geometry) objects recovered.checkpoint end)) }
-    ensures recovered { TellsBytes S.Receipt.state
-        → IfOk result (λ recovered. IfSome (S.state store.old).objects (λ objects.
-        recovered.log.uploads.window.last + 1 < 2 ^ 64 - 1 → IsRecoveredOf (expected_of uuid geometry) objects
-        recovered.log)) }
-    ensures no_longer { TellsBytes S.Receipt.state
-        → IfOk result (λ recovered. IfSome (S.state store.old).objects (λ objects.
-        IsNoLonger (expected_of uuid geometry) objects recovered.log.uploads.window.last)) }
-    ensures landed { TellsBytes S.Receipt.state
-        → IfOk result (λ recovered. IfSome (S.state store.old).objects (λ objects.
-        HaveLanded objects (expected_of uuid geometry) recovered.checkpoint
-        recovered.log.uploads.window.last)) }
-    ensures good { TellsBytes S.Receipt.state
-        → IfOk result (λ recovered. IfSome (S.state store.old).objects (λ objects.
-        AreAllGood (expected_of uuid geometry) objects recovered.checkpoint)) }
-    ensures past { TellsBytes S.Receipt.state
-        → IfOk result (λ recovered. IfSome (S.state store.old).objects (λ objects.
-        AreNamedWholePast (expected_of uuid geometry) objects recovered.log.uploads.window.last)) }
-    ensures refused { TellsBytes S.Receipt.state
-        → IfErr result (λ error. IfSome (S.state store.old).objects (λ objects.
-        IsRecoveryRefused (expected_of uuid geometry) objects error)) }
-    ensures unchanged { OnlyCounts (S.state store.old) (S.state store.new) }
-    ensures faults { Counts (ends_by_fault result) (S.state store.old).faults (S.state store.new).faults }
+    ensures { RecoverOf (TellsBytes S.Receipt.state) uuid geometry (S.state store.old) (S.state store.new)
+        result }
 {
     let names = store.list(alloc, uuid)?;
     a_uuid_has_sixteen_bytes(uuid);
@@ -106,20 +70,8 @@ fn recover_list<S: Store>(
     names: &[ObjName],
 ) -> Result<ObjLog<S::Receipt>, RecoverError>
     requires { IsTrue (is_within_limits geometry) }
-    ensures list { IfOk result (λ log. IsListUpTo uuid geometry log.uploads.window.last
-        log.uploads.queue.end log) }
-    ensures from { IfOk result (λ log. base.now.number ≤ log.uploads.window.last) }
-    ensures places { IfOk result (λ log. HasPlacesInside geometry.sectors log.uploads.queue) }
-    ensures recovers { TellsBytes S.Receipt.state
-        → IfOk result (λ log. IfSome (S.state store.old).objects (λ objects.
-        IsRecoveryBegun uuid geometry base.now.number base.now.end names.now objects
-        → Recovers (expected_of uuid geometry) base.now.number objects log)) }
-    ensures refused { TellsBytes S.Receipt.state
-        → IfErr result (λ error. IfSome (S.state store.old).objects (λ objects.
-        IsRecoveryBegun uuid geometry base.now.number base.now.end names.now objects
-        → IsRecoveryRefused (expected_of uuid geometry) objects error)) }
-    ensures unchanged { OnlyCounts (S.state store.old) (S.state store.new) }
-    ensures faults { Counts (ends_by_fault result) (S.state store.old).faults (S.state store.new).faults }
+    ensures { RecoverListOf (TellsBytes S.Receipt.state) uuid geometry base.now names.now (S.state store.old)
+        (S.state store.new) result }
 {
     let mut log = ObjLog::new(alloc, uuid, geometry, base.number, base.end);
     let left = match adopt_all(alloc, store, &mut log) {

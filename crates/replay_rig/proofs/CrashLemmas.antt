@@ -33,11 +33,9 @@ use Rattle.commit_slot.specs.Loading.{MakesAtMost}
 use Rattle.plain_disk.specs.State.{created_volume}
 use Rattle.object_recovery.specs.Recovery.{RemovesAllPast}
 use Rattle.refine_log.specs.Fuses.{fuse_in}
-use Rattle.refine_log.specs.Pending.{ShowsPending}
 use Rattle.refine_log.proofs.Asked.{asked, has_now}
 use Rattle.refine_store.specs.Stored.{StoreStands}
 use Rattle.vol_core.specs.Volume.{SteppedVolume}
-use Rattle.vol_core.specs.Creating.{IsCreated, CostsFormat, CanFormat}
 use Rattle.vol_core.proofs.CreateLemmas.{format_covered}
 use Rattle.vol_recover.specs.declared.creating.CreateError.{CreateError}
 use Rattle.vol_recover.specs.declared.creating.CreateError.TheVariants as create_errors
@@ -50,7 +48,7 @@ use Rattle.vol_mount.specs.Epochs.{BeginsEpoch}
 use Rattle.vol_mount.specs.Mounted.{MountedState, disk_of, IsOfVolume}
 use Rattle.vol_mount.specs.Mounting.{RefusesNoneStored, RefusesNoneLeft, KeepsLeft}
 use Rattle.vol_mount.specs.Refusals.{IsWhyLost, IsWhyNotLeft, refuses, is_device_fault, is_store_fault_of}
-use Rattle.vol_recover.specs.Creating.{IsNewTo, HasNewVolume, MayFormat, is_put_fault}
+use Rattle.vol_recover.specs.Creating.{IsNewTo, HasNewVolume, CreatedWithStore, NotCreatedWithStore, is_put_fault}
 use Rattle.vol_recover.specs.Describing.{OfVolume, IsWhyFor}
 use Rattle.vol_recover.proofs.ForCallers.{FailsToFormatIn}
 use Rattle.vol_recover.proofs.StandLemmas.{removal_keeps_volume}
@@ -151,35 +149,33 @@ new_alone geometry uploads new number stands other =
 
 pub new_volume : (geometry : Geometry) (disk : DiskState) (volume : SteppedVolume) (old new : Objects)
     → FailsNone format_cost disk
-    → IsBlankDisk disk.size disk → old ≡ [] → IsCreated script_uuid geometry volume
-    → (IsNewTo script_uuid old → HasNewVolume script_uuid geometry new)
-    → CostsFormat script_uuid true disk volume.volume.log.commits.disk
-    → (CanFormat disk → ShowsPending volume.volume.log (created_volume geometry).cache) → IsNewVolume geometry volume new
-new_volume geometry disk volume old new fails blank empty created has calls pending =
-    let new_one = has (empty_is_new old empty) in
+    → IsBlankDisk disk.size disk → old ≡ []
+    → CreatedWithStore script_uuid geometry disk (Some old) (Some new) volume → IsNewVolume geometry volume new
+new_volume geometry disk volume old new fails blank empty created =
+    let new_one : HasNewVolume script_uuid geometry new = created.stands (empty_is_new old empty) in
     let uploads : UploadsState = volume.volume.objects.uploads in
     record {
-      created = created;
-      fuse = (makes_all format_cost true disk volume.volume.log.commits.disk fails calls.calls).1;
-      pending = pending (record { now = blank_now disk.size disk blank; room = fails.room });
-      commits = created.number;
+      created = created.volume.is;
+      fuse = (makes_all format_cost true disk volume.volume.log.commits.disk fails created.volume.calls.calls).1;
+      pending = created.volume.pending (record { now = blank_now disk.size disk blank; room = fails.room });
+      commits = created.volume.is.number;
       described = new_one.0;
       first = new_first geometry uploads new (new_one.2 uploads);
       none_else = λ number other. new_alone geometry uploads new number (new_one.2 uploads) other;
     }
 
 -- what ends a creation is want of memory alone
-pub only_memory_to_create : (disk left : DiskState) (error : CreateError) (old : Objects) → FailsNone format_cost disk
-    → MayFormat script_uuid error disk left → old ≡ []
-    → (error ≡ create_errors.Exists → IsSome (found old (super_name script_uuid)))
-    → Counts (is_put_fault error) 0 0 → error ≡ create_errors.OutOfMemory
-only_memory_to_create disk left create_errors.Exists old fails format empty exists counts =
+pub only_memory_to_create : (geometry : Geometry) (disk left : DiskState) (old new : Objects) (error : CreateError)
+    → FailsNone format_cost disk → old ≡ []
+    → NotCreatedWithStore script_uuid geometry disk left (Some old) (Some new) error → Counts (is_put_fault error) 0 0
+    → error ≡ create_errors.OutOfMemory
+only_memory_to_create geometry disk left old new create_errors.Exists fails empty none counts =
     absurd (let e : IsSome (found [] (super_name script_uuid)) =
-    subst (λ (os : Objects). IsSome (found os (super_name script_uuid))) empty (exists refl) in cc)
-only_memory_to_create disk left create_errors.StoreFault old fails format empty exists counts = absurd (no_fault counts)
-only_memory_to_create disk left create_errors.DeviceFault old fails format empty exists counts =
-    absurd (let made = (makes_all format_cost false disk left fails format.calls).0 in cc)
-only_memory_to_create disk left create_errors.OutOfMemory old fails format empty exists counts = refl
+    subst (λ (os : Objects). IsSome (found os (super_name script_uuid))) empty (none.exists refl) in cc)
+only_memory_to_create geometry disk left old new create_errors.StoreFault fails empty none counts = absurd (no_fault counts)
+only_memory_to_create geometry disk left old new create_errors.DeviceFault fails empty none counts =
+    absurd (let made = (makes_all format_cost false disk left fails none.calls.calls).0 in cc)
+only_memory_to_create geometry disk left old new create_errors.OutOfMemory fails empty none counts = refl
 
 -- ---- a mount with the cache
 

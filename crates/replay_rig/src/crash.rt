@@ -110,9 +110,9 @@ pub(crate) fn create_volume(
 {
     match create(alloc, disk, store, Uuid::from_bytes(UUID), geometry) {
         Ok(volume) => Ok(volume),
-        Err((_, error)) => {
+        Err(failed) => {
             // Within the room that was made the disk fails no call, and a store in memory fails none.
-            let lacks = matches!(error, CreateError::OutOfMemory);
+            let lacks = matches!(failed.1, CreateError::OutOfMemory);
             prove!(lacks);
             Err(AllocError)
         }

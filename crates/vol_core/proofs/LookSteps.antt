@@ -187,7 +187,7 @@ module _ {R : Type 0} (state : R → ReceiptState) (old : VolumeState) (lba sect
       let numbers = objects_read plain lba sectors in
       let objects = objects_are_read shows.data_at old.objects old.log plain shown lba sectors inside plan.objects is.objects in
       let history_length = is.history_length
-          ∙ (shown_have_counts shows.data_at old.objects plain ordered shows.valid shows.objects).next in
+      ∙ (shown_have_counts shows.data_at old.objects plain ordered shows.valid shows.objects).next in
       let gives = plan_gives_read shows.data_at old.objects old.log plain shown lba sectors inside plan is whole in
       read_step (told.Planned plan) log pins true reads
       (planned_read plain lba sectors, refl, record { history_length = history_length; objects = objects; gives = gives })

@@ -1,7 +1,8 @@
--- Contract: what a volume is that was just created, and what its creation asks of the device.
-use Rattle.std.specs.Prelude.{◌≡◌, ℕ, Bool, List}
+-- Contract: what a volume is that was just created, what its creation asks of the device, and how that ends.
+use Rattle.std.specs.Prelude.{◌≡◌, ℕ, Bool, true, false, Result, IfOk, IfErr, List}
 use Rattle.lsvd_base.specs.declared.geometry.Geometry.{Geometry}
-use Rattle.lsvd_device.specs.Device.{DiskState}
+use Rattle.lsvd_fault.specs.declared.stream.Failed.{Failed}
+use Rattle.lsvd_device.specs.Device.{DiskState, IsDisk}
 use Rattle.lsvd_device.specs.Memory.{HasRoom}
 use Rattle.lsvd_device.specs.Stop.{HasNow}
 use Rattle.commit_slot.specs.Formatting.{format_cost, format_calls}
@@ -13,6 +14,7 @@ use Rattle.refine_log.specs.Fuses.{fuse_in}
 use Rattle.vol_core.specs.Volume.{SteppedVolume}
 use Rattle.vol_core.specs.Shows.{Shows}
 use Rattle.vol_core.specs.Step.{passing}
+use Rattle.vol_core.specs.View.{PendsAs, volume_disk}
 use Rattle.vol_core.specs.Stops.{HasOwnCommits}
 
 -- It shows the plain volume that was just created, whose device passes the calls that its own does, has made no step, and its
@@ -32,3 +34,21 @@ CostsFormat uuid is_made old new = Costs format_cost (format_calls (first_body u
 pub record CanFormat (disk : DiskState) : Type 0 where
   pub now : HasNow (λ now. Unit {0}) disk.moments
   pub room : HasRoom format_cost.changes format_cost.bytes disk.budget
+
+-- A volume was created on a device, of which each call of formatting was made, and no other. Where the device tells what it
+-- holds, and that it has room for these calls, nothing is pending on it then.
+pub record CreatedOf (uuid : List ℕ) (geometry : Geometry) (disk : DiskState) (stepped : SteppedVolume) : Type 0 where
+  pub is : IsCreated uuid geometry stepped
+  pub calls : CostsFormat uuid true disk (volume_disk stepped.volume)
+  pub pending : CanFormat disk → PendsAs stepped.volume (created_volume geometry).cache
+
+-- It was not: a call of formatting failed. The device is a disk still.
+pub record NotCreatedOf (uuid : List ℕ) (disk left : DiskState) : Type 0 where
+  pub calls : CostsFormat uuid false disk left
+  pub is_disk : IsDisk left
+
+-- What a creation of a volume on its device is.
+pub record CreateOf {D : Type 0} (state : D → DiskState) (uuid : List ℕ) (geometry : Geometry) (disk : DiskState)
+    (result : Result SteppedVolume (D × Failed)) : Type 0 where
+  pub made : IfOk result (CreatedOf uuid geometry disk)
+  pub failed : IfErr result (λ error. NotCreatedOf uuid disk (state error.0))

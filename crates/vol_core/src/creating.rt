@@ -1,12 +1,8 @@
-ghost use Rattle.std.specs.Prelude.{◌≡◌, ◌+◌, ◌<◌, ◌≤◌, ◌^◌, true, false, IfOk, IfErr, IsTrue};
+ghost use Rattle.std.specs.Prelude.{◌≡◌, IsTrue};
 ghost use Rattle.lsvd_base.specs.Limits.{is_within_limits};
 ghost use Rattle.lsvd_device.specs.Device.{IsDisk};
-ghost use Rattle.log_room.specs.Room.{max_log};
-ghost use Rattle.cache_log.specs.Rows.{byte_of};
 ghost use Rattle.commit_slot.specs.Slots.{log_of};
-ghost use Rattle.plain_disk.specs.State.{created_volume};
-ghost use Rattle.refine_log.specs.Pending.{ShowsPending};
-ghost use Rattle.vol_core.specs.Creating.{IsCreated, CostsFormat, CanFormat};
+ghost use Rattle.vol_core.specs.Creating.{CreateOf};
 
 use crate::volume::Volume;
 use cache_log::CacheLog;
@@ -37,13 +33,7 @@ pub fn create<D: Disk, R: Receipt>(
     requires limits { IsTrue (is_within_limits geometry) }
     requires log { geometry.log ≡ log_of (D.state disk).size }
     requires is_disk { IsDisk (D.state disk) }
-    ensures ok { IfOk result (IsCreated uuid geometry) }
-    ensures is_disk { IfErr result (λ error. IsDisk (D.state error.0)) }
-    ensures calls { IfOk result (λ stepped. CostsFormat uuid true (D.state disk)
-        stepped.volume.log.commits.disk) }
-    ensures err { IfErr result (λ error. CostsFormat uuid false (D.state disk) (D.state error.0)) }
-    ensures pending { IfOk result (λ stepped.
-        CanFormat (D.state disk) → ShowsPending stepped.volume.log (created_volume geometry).cache) }
+    ensures { CreateOf D.state uuid geometry (D.state disk) result }
 {
     let log = CacheLog::format(alloc, disk, uuid.into_bytes(), 0, 0)?;
     let objects = ObjLog::new(alloc, uuid, geometry, FIRST_OBJECT, 0);

@@ -1,5 +1,5 @@
 -- For `recover_list`: the list of a volume, and why it is not recovered.
-use Rattle.std.proofs.Common.{◌≡◌, ℕ, ◌+◌, ◌-◌, ◌<◌, ◌^◌, List, false, refl, sym, ◌∙◌, ap, subst, arith}
+use Rattle.std.proofs.Common.{◌≡◌, ℕ, ◌<◌, ◌^◌, List, false, refl, sym, ◌∙◌, ap, subst, arith}
 use Rattle.std.specs.Prelude.{Option, Some, None, IfSome, IsTrue}
 use Rattle.std.proofs.lemmas.Bool.Decides.{nat_tests}
 use Rattle.lsvd_base.specs.declared.geometry.Geometry.{Geometry}
@@ -12,9 +12,9 @@ use Rattle.object_recovery.specs.declared.error.RecoverError.{RecoverError}
 use Rattle.object_recovery.specs.declared.error.RecoverError.TheVariants as recovery
 use Rattle.object_recovery.specs.Faults.{is_store_fault, IsNoAnswer}
 use Rattle.object_recovery.specs.Checkpoints.{expected_of, IsNewestWithEnd, IsNoCheckpoint}
-use Rattle.object_recovery.specs.Judging.{HaveLanded}
-use Rattle.object_recovery.specs.Recovery.{HasDataUpTo, IsListUpTo, IsNoLonger, HasRecovered, IsLastLanded, IsRecoveredOf}
-use Rattle.object_recovery.specs.Recovery.{IsRefusal, IsRecoveryRefused, AreAllGood}
+use Rattle.object_recovery.specs.Recovery.{HasDataUpTo, IsListUpTo, HasRecovered, IsLastLanded}
+use Rattle.object_recovery.specs.Recovery.{IsRefusal, IsRecoveryRefused}
+use Rattle.object_recovery.specs.Recovering.{Recovers}
 use Rattle.object_recovery.proofs.RecoverLemmas.{base_is}
 use Rattle.refine_mount.specs.Found.{HasObjects}
 use Rattle.refine_mount.specs.Mounted.{end_of_object, sizes_with, mounted_without}
@@ -98,6 +98,12 @@ abbrev pub IsToldNewest : (uuid : List ℕ) → Geometry → Option Objects → 
 IsToldNewest uuid geometry objects checkpoint =
     IfSome objects (λ o. (end : ℕ) × IsNewestWithEnd (expected_of uuid geometry) o checkpoint end)
 
+pub told_newest : (uuid : List ℕ) (geometry : Geometry) (objects : Option Objects) (log : ObjLogState) (checkpoint : ℕ)
+    → IfSome objects (λ o. Recovers (expected_of uuid geometry) checkpoint o log)
+    → IsToldNewest uuid geometry objects checkpoint
+told_newest uuid geometry None log checkpoint told = tt
+told_newest uuid geometry (Some objects) log checkpoint told = told.checkpoint
+
 -- a checkpoint with the number 0 is the only one
 pub only_none : (uuid : List ℕ) (geometry : Geometry) (objects : Option Objects) (checkpoint : ℕ) → checkpoint ≡ 0
     → IsToldNewest uuid geometry objects checkpoint
@@ -136,20 +142,16 @@ only_none_refuses uuid geometry (Some objects) checkpoint limits none newest = �
 -- ---- the list
 
 pub recovered_from : (uuid : List ℕ) (geometry : Geometry) (objects : Option Objects) (log : ObjLogState) (checkpoint : ℕ)
-    → IsToldNewest uuid geometry objects checkpoint
-    → IfSome objects (λ o. HaveLanded o (expected_of uuid geometry) checkpoint log.uploads.window.last)
-    → IfSome objects (λ o. IsNoLonger (expected_of uuid geometry) o log.uploads.window.last)
-    → IfSome objects (λ o. AreAllGood (expected_of uuid geometry) o checkpoint)
-    → IfSome objects (λ o. log.uploads.window.last + 1 < 2 ^ 64 - 1 → IsRecoveredOf (expected_of uuid geometry) o log)
+    → IfSome objects (λ o. Recovers (expected_of uuid geometry) checkpoint o log)
     → IfSome objects (λ o. IsRecoveredFrom uuid geometry o log checkpoint)
-recovered_from uuid geometry None log checkpoint newest landed no_longer good recovered = tt
-recovered_from uuid geometry (Some objects) log checkpoint newest landed no_longer good recovered = record {
-  checkpoint_end = newest.0;
-  newest = newest.1;
-  landed = landed;
-  no_longer = no_longer;
-  good = good;
-  recovered = recovered;
+recovered_from uuid geometry None log checkpoint told = tt
+recovered_from uuid geometry (Some objects) log checkpoint told = record {
+  checkpoint_end = told.checkpoint.0;
+  newest = told.checkpoint.1;
+  landed = told.landed;
+  no_longer = told.no_longer;
+  good = told.good;
+  recovered = told.recovered;
 }
 
 -- the list ends before the first missing number, where its numbers are low

@@ -23,6 +23,7 @@ use Rattle.vol_core.specs.Shows.{Shows}
 use Rattle.vol_core.specs.Step.{passing}
 use Rattle.vol_core.specs.Volume.{VolumeState}
 use Rattle.vol_mount.specs.Epochs.{BeginsEpoch}
+use Rattle.vol_recover.specs.Creating.{HasNewVolume}
 use Rattle.vol_recover.specs.Standing.{IsMadeWithStore, CreatedStands, MountedWithStands, MountedWithoutStands}
 use Rattle.vol_recover.proofs.NewLemmas.{epoch_is_no_object}
 
@@ -123,8 +124,9 @@ made_with_store uuid epoch plain volume objects shows stands = record {
 }
 
 pub created_stands : CreatedStands
-created_stands uuid geometry stepped objects created has =
-    made_with_store uuid 0 (created_volume geometry) stepped.volume objects created.shows
+created_stands uuid geometry disk old new stepped created new_to =
+    let has : HasNewVolume uuid geometry new = created.stands new_to in
+    made_with_store uuid 0 (created_volume geometry) stepped.volume new created.volume.is.shows
     (has.2 stepped.volume.objects.uploads)
 
 pub mounted_with_stands : MountedWithStands

@@ -1,10 +1,13 @@
--- Contract: what a volume is that was created with its store.
-use Rattle.std.specs.Prelude.{◌≡◌, ◌≢◌, ℕ, ◌⊎◌, None, Bool, true, false, Result, Ok, Err, List, []}
+-- Contract: what a volume is that was created with its store, and how its creation ends.
+use Rattle.std.specs.Prelude.{◌≡◌, ◌≢◌, ℕ, ◌⊎◌, Option, None, IsSome, IfSome, Bool, true, false, List, []}
+use Rattle.std.specs.Prelude.{Result, Ok, Err, IfOk, IfErr, OnOk}
 use Rattle.lsvd_base.specs.declared.geometry.Geometry.{Geometry}
+use Rattle.lsvd_fault.specs.Faults.{Counts}
 use Rattle.lsvd_names.specs.Names.{super_name, epoch_name, numbered_name}
-use Rattle.lsvd_device.specs.Device.{DiskState}
+use Rattle.lsvd_device.specs.Device.{DiskState, IsDisk}
 use Rattle.lsvd_names.specs.declared.name.ObjName.{ObjName}
 use Rattle.lsvd_objstore.specs.Objects.{Objects, found, IsPut}
+use Rattle.lsvd_objstore.specs.Store.{StoreState, Becomes}
 use Rattle.lsvd_objstore.specs.declared.error.StoreError.{StoreError}
 use Rattle.lsvd_objstore.specs.declared.error.StoreError.TheVariants as store_errors
 use Rattle.object_format.specs.declared.header.Header.{Header}
@@ -21,7 +24,8 @@ use Rattle.super_recovery.specs.declared.error.SuperError.TheVariants as super_e
 use Rattle.super_recovery.specs.Put.{PutsSuper, PutsEpoch}
 use Rattle.refine_mount.specs.Found.{HasObjects}
 use Rattle.refine_store.specs.Stored.{StoreStands}
-use Rattle.vol_core.specs.Creating.{CostsFormat}
+use Rattle.vol_core.specs.Creating.{CostsFormat, CreatedOf}
+use Rattle.vol_core.specs.Volume.{SteppedVolume}
 use Rattle.vol_recover.specs.declared.creating.CreateError.{CreateError}
 use Rattle.vol_recover.specs.declared.creating.CreateError.TheVariants.{Exists, StoreFault, DeviceFault, OutOfMemory}
 
@@ -127,3 +131,68 @@ ends_by_put (Err error) = is_put_fault error
 abbrev pub ends_by_put_fault : {D T : Type 0} → Result T (D × CreateError) → Bool
 ends_by_put_fault (Ok value) = false
 ends_by_put_fault (Err error) = is_put_fault error.1
+
+-- ---- a super object that is there
+
+-- where a store tells its objects, it has a super object of a volume, whatever its bytes are; or it has none
+abbrev pub IsSuperThere : (uuid : List ℕ) → Option Objects → Type 0
+IsSuperThere uuid objects = IfSome objects (λ objects. IsSome (found objects (super_name uuid)))
+
+abbrev pub IsSuperAbsent : (uuid : List ℕ) → Option Objects → Type 0
+IsSuperAbsent uuid objects = IfSome objects (λ objects. found objects (super_name uuid) ≡ None)
+
+-- where it has one, its objects stay
+abbrev pub StaysWithSuper : (uuid : List ℕ) → (old new : Option Objects) → Type 0
+StaysWithSuper uuid old new = IfSome old (λ objects. IsSome (found objects (super_name uuid)) → new ≡ old)
+
+-- ---- before the cache is made
+
+-- All of a volume but its super object was put into a store that has none of it.
+pub record PreparedOf (uuid : List ℕ) (geometry : Geometry) (old new : Option Objects) : Type 0 where
+  pub puts : Becomes (PutsEpochToo uuid geometry) old new
+  pub absent : IsSuperAbsent uuid old
+
+-- It was not: there is a super object, or a call of the store failed, or memory ran out.
+pub record NotPreparedOf (uuid : List ℕ) (geometry : Geometry) (old new : Option Objects) (error : CreateError) : Type 0 where
+  pub exists : error ≡ Exists → IsSuperThere uuid old
+  pub puts : Becomes (MayPut uuid geometry error) old new
+  pub no_super : Becomes (PutsNoSuper uuid geometry) old new
+  pub no_device : error ≡ DeviceFault → ⊥
+
+-- What a creation does before it makes the cache.
+pub record PrepareOf (uuid : List ℕ) (geometry : Geometry) (old new : StoreState) (result : Result (Unit {0}) CreateError) :
+    Type 0 where
+  pub made : OnOk result (PreparedOf uuid geometry old.objects new.objects)
+  pub none : IfErr result (NotPreparedOf uuid geometry old.objects new.objects)
+  pub untouched : StaysWithSuper uuid old.objects new.objects
+  pub faults : Counts (ends_by_put result) old.faults new.faults
+
+-- ---- the whole
+
+-- A volume was created on its device, and all of it was put into a store that had no super object of it. If the store had no more
+-- of it than a creation leaves that was stopped, it has the whole volume now, and stands for it.
+pub record CreatedWithStore (uuid : List ℕ) (geometry : Geometry) (disk : DiskState) (old new : Option Objects)
+    (stepped : SteppedVolume) : Type 0 where
+  pub volume : CreatedOf uuid geometry disk stepped
+  pub puts : Becomes (PutsVolume uuid geometry) old new
+  pub absent : IsSuperAbsent uuid old
+  pub stands : IfSome old (λ objects. IsNewTo uuid objects → IfSome new (HasNewVolume uuid geometry))
+
+-- It was not. The error says what may have been put, and what the device was asked; where it says that the volume exists, the
+-- store has a super object of it. The device is a disk still.
+pub record NotCreatedWithStore (uuid : List ℕ) (geometry : Geometry) (disk left : DiskState) (old new : Option Objects)
+    (error : CreateError) : Type 0 where
+  pub exists : error ≡ Exists → IsSuperThere uuid old
+  pub puts : Becomes (MayPut uuid geometry error) old new
+  pub calls : MayFormat uuid error disk left
+  pub is_disk : IsDisk left
+
+-- What a creation of a volume is, with its store. However it ends, the objects of a store that has a super object of the volume
+-- stay, and a store that was new to it has no volume, or the whole one. A call of the store that failed is counted once.
+pub record CreationOf {D : Type 0} (state : D → DiskState) (uuid : List ℕ) (geometry : Geometry) (disk : DiskState)
+    (old new : StoreState) (result : Result SteppedVolume (D × CreateError)) : Type 0 where
+  pub made : IfOk result (CreatedWithStore uuid geometry disk old.objects new.objects)
+  pub none : IfErr result (λ error. NotCreatedWithStore uuid geometry disk (state error.0) old.objects new.objects error.1)
+  pub untouched : StaysWithSuper uuid old.objects new.objects
+  pub moments : IfSome old.objects (λ objects. IsNewTo uuid objects → IfSome new.objects (HasNoneOrNew uuid geometry))
+  pub faults : Counts (ends_by_put_fault result) old.faults new.faults

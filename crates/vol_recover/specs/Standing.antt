@@ -23,7 +23,6 @@ use Rattle.refine_mount.specs.Stops.{StopKeepsMount}
 use Rattle.refine_store.specs.Stored.{StoreStands, HasVolumeUpTo}
 use Rattle.vol_core.specs.declared.event.Event.{Event}
 use Rattle.vol_core.specs.declared.reply.Reply.{Reply}
-use Rattle.vol_core.specs.Creating.{IsCreated}
 use Rattle.vol_core.specs.Shows.{Shows, IsVolume}
 use Rattle.vol_core.specs.Step.{passing, CountedStep}
 use Rattle.vol_core.specs.Stops.{MayBeLeftBy, HasOwnCommits, KeepsNow}
@@ -32,7 +31,7 @@ use Rattle.vol_core.specs.View.{all_log_entries, volume_disk, volume_uploads, vo
 use Rattle.vol_mount.specs.Epochs.{BeginsEpoch, MayBeginEpoch}
 use Rattle.vol_mount.specs.Mounted.{MountedState}
 use Rattle.vol_mount.specs.Mounting.{IsStored, IsLeft, MountsStored, MountsLeft}
-use Rattle.vol_recover.specs.Creating.{HasNewVolume}
+use Rattle.vol_recover.specs.Creating.{IsNewTo, CreatedWithStore}
 
 -- ---- what stands
 
@@ -71,11 +70,12 @@ StopMayMount owner plain P objects medium =
 
 -- ---- creations and mounts
 
--- a volume that was created stands with its store in epoch 0
+-- a volume that was created with a store that was new to it stands with that in epoch 0
 abbrev pub CreatedStands : Type 0
 CreatedStands =
-    (uuid : List ℕ) (geometry : Geometry) (stepped : SteppedVolume) (objects : Objects) → IsCreated uuid geometry stepped
-    → HasNewVolume uuid geometry objects → IsMadeWithStore uuid 0 (created_volume geometry) stepped.volume objects
+    (uuid : List ℕ) (geometry : Geometry) (disk : DiskState) (old new : Objects) (stepped : SteppedVolume)
+    → CreatedWithStore uuid geometry disk (Some old) (Some new) stepped → IsNewTo uuid old
+    → IsMadeWithStore uuid 0 (created_volume geometry) stepped.volume new
 
 -- one that was mounted with its cache does in the epoch that there was
 abbrev pub MountedWithStands : Type 0

@@ -1,21 +1,15 @@
-ghost use Rattle.std.specs.Prelude.{◌≡◌, true, None, IsTrue, IsSome, IfSome, IfOk, IfErr, OnOk, OnErr};
+ghost use Rattle.std.specs.Prelude.{◌≡◌, IsTrue, IfOk, IfErr, OnOk, OnErr};
 ghost use Rattle.lsvd_base.specs.Limits.{is_within_limits};
 ghost use Rattle.lsvd_fault.specs.Faults.{Counts};
-ghost use Rattle.lsvd_names.specs.Names.{super_name, numbered_name};
+ghost use Rattle.lsvd_names.specs.Names.{numbered_name};
 ghost use Rattle.lsvd_device.specs.Device.{IsDisk};
 ghost use Rattle.lsvd_names.specs.Spelling.{IsName};
-ghost use Rattle.lsvd_objstore.specs.Objects.{found};
 ghost use Rattle.lsvd_objstore.specs.Store.{Becomes};
 ghost use Rattle.commit_slot.specs.Slots.{log_of};
-ghost use Rattle.plain_disk.specs.State.{created_volume};
 ghost use Rattle.super_recovery.specs.Put.{PutsSuper, MayBecome};
-ghost use Rattle.vol_core.specs.Creating.{IsCreated, CostsFormat, CanFormat};
-ghost use Rattle.vol_core.specs.View.{PendsAs, volume_disk};
 ghost use Rattle.vol_recover.specs.declared.creating.CreateError.TheVariants as create_errors;
-ghost use Rattle.vol_recover.specs.Creating.{IsFirstObject, PutsFirst, PutsEpochToo, PutsVolume, PutsNoSuper};
-ghost use Rattle.vol_recover.specs.Creating.{MayPut, IsOfStore, IsNewTo, HasNewVolume, HasNoneOrNew};
-ghost use Rattle.vol_recover.specs.Creating.{MayFormat, super_of, of_put, of_super, ends_by_put};
-ghost use Rattle.vol_recover.specs.Creating.{ends_by_put_fault};
+ghost use Rattle.vol_recover.specs.Creating.{IsFirstObject, PutsFirst, PrepareOf, CreationOf, IsOfStore};
+ghost use Rattle.vol_recover.specs.Creating.{super_of, of_put, of_super, ends_by_put};
 
 use clone_chain::Chain;
 use lsvd_base::{Geometry, ObjectBytes};
@@ -112,29 +106,7 @@ pub fn create<D: Disk, S: Store>(
     requires limits { IsTrue (is_within_limits geometry) }
     requires log { geometry.log ≡ log_of (D.state disk).size }
     requires is_disk { IsDisk (D.state disk) }
-    ensures ok { IfOk result (IsCreated uuid geometry) }
-    ensures made { OnOk result (Becomes (PutsVolume uuid geometry) (S.state store.old).objects
-        (S.state store.new).objects) }
-    ensures absent { OnOk result (IfSome (S.state store.old).objects
-        (λ objects. found objects (super_name uuid) ≡ None)) }
-    ensures calls { IfOk result (λ stepped. CostsFormat uuid true (D.state disk)
-        (volume_disk stepped.volume)) }
-    ensures pending { IfOk result (λ stepped.
-        CanFormat (D.state disk) → PendsAs stepped.volume (created_volume geometry).cache) }
-    ensures exists { IfErr result (λ error. error.1 ≡ create_errors.Exists
-        → IfSome (S.state store.old).objects (λ objects. IsSome (found objects (super_name uuid)))) }
-    ensures untouched { IfSome (S.state store.old).objects
-        (λ objects. IsSome (found objects (super_name uuid))
-        → (S.state store.new).objects ≡ (S.state store.old).objects) }
-    ensures stands { OnOk result (IfSome (S.state store.old).objects (λ old. IsNewTo uuid old
-        → IfSome (S.state store.new).objects (HasNewVolume uuid geometry))) }
-    ensures moments { IfSome (S.state store.old).objects (λ old. IsNewTo uuid old
-        → IfSome (S.state store.new).objects (HasNoneOrNew uuid geometry)) }
-    ensures err { IfErr result (λ error.
-        Becomes (MayPut uuid geometry error.1) (S.state store.old).objects (S.state store.new).objects) }
-    ensures err_calls { IfErr result (λ error. MayFormat uuid error.1 (D.state disk) (D.state error.0)) }
-    ensures faults { Counts (ends_by_put_fault result) (S.state store.old).faults (S.state store.new).faults }
-    ensures is_disk { IfErr result (λ error. IsDisk (D.state error.0)) }
+    ensures { CreationOf D.state uuid geometry (D.state disk) (S.state store.old) (S.state store.new) result }
 {
     if let Err(error) = prepare(alloc, store, uuid, &geometry) {
         return Err((disk, error));
@@ -156,21 +128,7 @@ fn prepare<S: Store>(
     uuid: Uuid,
     geometry: &Geometry,
 ) -> Result<(), CreateError>
-    ensures ok { OnOk result (Becomes (PutsEpochToo uuid geometry.now) (S.state store.old).objects
-        (S.state store.new).objects) }
-    ensures absent { OnOk result (IfSome (S.state store.old).objects
-        (λ objects. found objects (super_name uuid) ≡ None)) }
-    ensures exists { IfErr result (λ error. error ≡ create_errors.Exists
-        → IfSome (S.state store.old).objects (λ objects. IsSome (found objects (super_name uuid)))) }
-    ensures untouched { IfSome (S.state store.old).objects
-        (λ objects. IsSome (found objects (super_name uuid))
-        → (S.state store.new).objects ≡ (S.state store.old).objects) }
-    ensures err { IfErr result (λ error.
-        Becomes (MayPut uuid geometry.now error) (S.state store.old).objects (S.state store.new).objects) }
-    ensures no_super { OnErr result (Becomes (PutsNoSuper uuid geometry.now) (S.state store.old).objects
-        (S.state store.new).objects) }
-    ensures no_device { IfErr result (λ error. error ≡ create_errors.DeviceFault → ⊥) }
-    ensures faults { Counts (ends_by_put result) (S.state store.old).faults (S.state store.new).faults }
+    ensures { PrepareOf uuid geometry.now (S.state store.old) (S.state store.new) result }
 {
     if has_super(alloc, store, uuid)? {
         return Err(CreateError::Exists);

@@ -20,7 +20,7 @@ use Rattle.vol_core.specs.Step.{passing}
 use Rattle.vol_core.specs.Stops.{HasOwnCommits}
 use Rattle.vol_mount.specs.Epochs.{BeginsEpoch}
 use Rattle.vol_mount.specs.Mounting.{MountsStored, MountsLeft}
-use Rattle.vol_recover.specs.Creating.{HasNewVolume}
+use Rattle.vol_recover.specs.Creating.{CreatedWithStore}
 use Rattle.vol_recover.specs.Mounting.{MountsKept, MountsLost}
 use Rattle.vol_recover.specs.Standing.{StandsWithStore, IsMadeWithStore}
 use Rattle.vol_recover.proofs.ForCallers.{made_kept, made_lost}
@@ -120,15 +120,16 @@ module _ {R : Type 0} (state : R → ReceiptState) (epoch : ℕ) (made : PlainSt
 
 pub created_is_whole : CreatedIsWhole
 created_is_whole request uuid disk disk_left before after new_to creates =
-    let created = creates.created in
-    let (left, told, puts) = creates.stored in
-    let has : HasNewVolume uuid (sizes_of request) left =
-    subst (λ (o : Option Objects). IfSome o (HasNewVolume uuid (sizes_of request))) told (creates.stands new_to) in
+    let sizes = sizes_of request in
+    let (left, told, puts) = creates.created.puts in
+    let with_store =
+    created_stands uuid sizes disk before left creates.volume
+    (subst (λ (o : Option Objects). CreatedWithStore uuid sizes disk (Some before) o creates.volume) told creates.created)
+    new_to in
+    let created = creates.created.volume.is in
     let volume = creates.volume.volume in
-    let made : PlainState = created_volume (sizes_of request) in
+    let made : PlainState = created_volume sizes in
     let shown : PlainState = passing (fuse_in volume.log.commits.disk.budget) made in
-    let with_store : StandsWithStore uuid 0 shown volume left =
-    created_stands uuid (sizes_of request) creates.volume left created has in
     let its_store : StandsWithStore volume.objects.uploads.uuid 0 shown volume left =
     subst (λ u. StandsWithStore u 0 shown volume left) (sym created.uuid_is) with_store in
     let its_own : HasOwnCommits (owner_with volume.objects.uploads.uuid 0) volume =

@@ -1,3 +1,4 @@
+mod Created
 mod Lasting
 mod Mounts
 mod Places

@@ -9,15 +9,14 @@ use Rattle.uuid.specs.Text.{hyphenated_text, lower}
 use Rattle.lsvd_device.specs.Device.{DiskState, IsDisk}
 use Rattle.lsvd_names.specs.Names.{super_name}
 use Rattle.lsvd_objstore.specs.Objects.{Objects, found}
-use Rattle.lsvd_objstore.specs.Store.{StoreState, Becomes}
+use Rattle.lsvd_objstore.specs.Store.{StoreState}
 use Rattle.command_line.specs.Create.{sizes_of}
 use Rattle.command_line.specs.declared.create.CreateRequest.{CreateRequest}
 use Rattle.super_recovery.specs.declared.error.SuperError.{SuperError}
 use Rattle.super_recovery.specs.declared.error.SuperError.TheVariants as super_errors
-use Rattle.vol_core.specs.Creating.{IsCreated, CostsFormat}
 use Rattle.vol_core.specs.Volume.{SteppedVolume}
 use Rattle.vol_core.specs.View.{volume_disk}
-use Rattle.vol_recover.specs.Creating.{PutsVolume, IsNewTo, HasNewVolume}
+use Rattle.vol_recover.specs.Creating.{CreatedWithStore}
 use Rattle.vol_recover.specs.declared.creating.CreateError.{CreateError}
 use Rattle.vol_recover.specs.declared.creating.CreateError.TheVariants as create_errors
 use Rattle.volume_commands.specs.declared.error.CommandError.{CommandError}
@@ -58,18 +57,13 @@ IsUuidFor request uuid =
     (request.uuid ≡ Some uuid)
     ⊎ ((request.uuid ≡ None) × (version_num uuid ≡ 4) × (variant_of (slice_index uuid 8) ≡ RFC4122))
 
--- A volume was created as the request asks, of the uuid for it and of its sizes, on this disk, which is formatted then. Where its
--- store tells its objects, the whole volume was put into those before, which had no super object of that uuid; and if they had no
--- more of it than a creation leaves that was stopped, it stands in its store.
+-- A volume was created as the request asks, of the uuid for it and of its sizes, with its store and on this disk, which is left
+-- as the volume has it when it is let go.
 pub record CreatesOn (request : CreateRequest) (uuid : List ℕ) (disk disk_left : DiskState) (before after : Option Objects) :
     Type 0 where
   pub volume : SteppedVolume
-  pub created : IsCreated uuid (sizes_of request) volume
-  pub formatted : CostsFormat uuid true disk disk_left
+  pub created : CreatedWithStore uuid (sizes_of request) disk before after volume
   pub disk_is : disk_left ≡ volume_disk volume.volume
-  pub stored : Becomes (PutsVolume uuid (sizes_of request)) before after
-  pub absent : IfSome before (λ objects. found objects (super_name uuid) ≡ None)
-  pub stands : IfSome before (λ objects. IsNewTo uuid objects → IfSome after (HasNewVolume uuid (sizes_of request)))
   pub let_go : IsLetGo volume
 
 -- So it was on a disk that was made at its path, blank, which stands there as it was left.

@@ -1,19 +1,23 @@
-use Rattle.std.proofs.Common.{◌≡◌, ◌+◌, ◌<◌, ◌^◌, ◌∙◌, None, subst, sym, ap, arith}
+use Rattle.std.proofs.Common.{◌<◌, ◌≤◌, ◌^◌, ◌∙◌, None, subst, ap, arith}
 use Rattle.std.specs.Prelude.{IfSome}
 use Rattle.std.proofs.lemmas.Bool.Decides.{nat_tests}
 use Rattle.lsvd_base.specs.declared.geometry.Geometry.{Geometry}
-use Rattle.lsvd_objstore.specs.Store.{StoreState}
-use Rattle.batcher.specs.State.{BatchState}
+use Rattle.lsvd_fault.specs.Faults.{Counts}
+use Rattle.lsvd_objstore.specs.Store.{StoreState, OnlyCounts}
+use Rattle.upload_window.specs.Window.{WindowState}
 use Rattle.object_recovery.specs.Adoption.{IsRecoveryBegun, JudgesRest, RefusesRest}
 use Rattle.object_recovery.specs.Checkpoints.{expected_of}
+use Rattle.object_recovery.specs.Faults.{is_store_fault}
 use Rattle.object_recovery.specs.Places.{HasPlacesInside}
-use Rattle.object_recovery.specs.Recovery.{IsListUpTo, IsRecoveryRefused}
+use Rattle.object_recovery.specs.Recovery.{IsListUpTo}
 use Rattle.object_recovery.proofs.FindLemmas.{same_store}
 use Rattle.object_recovery.proofs.ListLemmas.{own_list}
 use Rattle.object_recovery.proofs.PlaceLemmas.{no_places}
-use Rattle.object_recovery.proofs.RecoverLemmas.{new_list}
+use Rattle.object_recovery.proofs.RecoverLemmas.{IsNewList, new_list}
 use Rattle.object_recovery.proofs.OutcomeLemmas.{told_failed, told_recovers, told_refuses}
+use Rattle.object_recovery.proofs.recovery.recover_list.Given as given
 use Rattle.object_recovery.proofs.recovery.recover_list.Goals as goal
+use Rattle.object_recovery.proofs.recovery.recover_list.Goals.{In-Ok}
 
 pub adopt_all-requires-clause-list : goal.adopt_all-requires-clause-list
 adopt_all-requires-clause-list g c =
@@ -27,69 +31,100 @@ pub adopt_all-requires-clause-places : goal.adopt_all-requires-clause-places
 adopt_all-requires-clause-places g c = no_places c.new-log.result.batch.geometry.sectors c.new-log.result.uploads.queue
     c.new-log.ensures.settled
 
-pub returns-in-Err-clause-refused : goal.returns-in-Err-clause-refused
-returns-in-Err-clause-refused g c = λ tells.
-    let told = (g.S.Store.state c.args.store.now).objects in
-    let volume = expected_of c.args.uuid c.args.geometry in
-    let Begun = IsRecoveryBegun c.args.uuid c.args.geometry c.args.base.now.number c.args.base.now.end c.args.names.now in
-    told_failed told volume Begun c.in-Err.error c.in-Err.ensures.answer
+-- ---- the objects were not adopted
 
-pub returns-in-Err-judge_rest-clause-refused : goal.returns-in-Err-judge_rest-clause-refused
-returns-in-Err-judge_rest-clause-refused g c = λ tells.
+pub returns-in-Err : goal.returns-in-Err
+returns-in-Err g c =
     let told = (g.S.Store.state c.args.store.now).objects in
-    let uuid = c.args.uuid in
-    let geometry = c.args.geometry in
+    let base = c.args.base.now in
+    let Begun = IsRecoveryBegun c.args.uuid c.args.geometry base.number base.end c.args.names.now in
+    record {
+      list = tt;
+      from = tt;
+      places = tt;
+      recovers = λ tells. tt;
+      refused = λ tells.
+          told_failed told (expected_of c.args.uuid c.args.geometry) Begun c.in-Err.error c.in-Err.ensures.answer;
+      unchanged = c.in-Err.ensures.unchanged;
+      faults = c.in-Err.ensures.faults;
+    }
+
+-- ---- they were
+
+begun : (g : given.Over) (c : In-Ok g)
+    → IsNewList c.args.uuid c.args.geometry c.args.base.now.number c.args.base.now.end c.new-log.result
+begun g c =
+    let base = c.args.base.now in
+    let made = c.new-log.ensures in
+    new_list c.args.uuid c.args.geometry base.number base.end c.new-log.result made.batch made.uuid made.window made.frontier
+    made.end made.sealed made.settled made.log
+
+adopted : (g : given.Over) (c : In-Ok g)
+    → IsListUpTo c.args.uuid c.args.geometry c.adopt_all.new.log.uploads.window.last c.adopt_all.new.log.uploads.queue.end
+    c.adopt_all.new.log
+adopted g c =
+    let new = begun g c in
+    let log = c.adopt_all.new.log in
+    subst (λ u. IsListUpTo u c.args.geometry log.uploads.window.last log.uploads.queue.end log) new.list.uuid_is
+    (subst (λ (sizes : Geometry). IsListUpTo c.new-log.result.uploads.uuid sizes log.uploads.window.last log.uploads.queue.end
+    log)
+    new.list.geometry_is c.in-Ok.ensures.list)
+
+pub returns-in-Err-judge_rest : goal.returns-in-Err-judge_rest
+returns-in-Err-judge_rest g c =
+    let old = g.S.Store.state c.args.store.now in
+    let middle = g.S.Store.state c.adopt_all.new.store in
+    let new = g.S.Store.state c.judge_rest.new.store in
     let base = c.args.base.now in
     let names = c.args.names.now in
-    let volume = expected_of uuid geometry in
-    let made = c.new-log.ensures in
-    let begun = c.new-log.result in
-    let new = new_list uuid geometry base.number base.end begun made.batch made.uuid made.window made.frontier made.end
-    made.sealed made.settled made.log in
-    let wide : geometry.sectors < 2 ^ 64 = grind (arith, nat_tests, c.requires) in
+    let wide : c.args.geometry.sectors < 2 ^ 64 = grind (arith, nat_tests, c.requires) in
     let log = c.adopt_all.new.log in
     let done = c.in-Ok.ensures in
-    let list =
-    subst (λ u. IsListUpTo u geometry log.uploads.window.last log.uploads.queue.end log) new.list.uuid_is
-    (subst (λ (sizes : Geometry). IsListUpTo begun.uploads.uuid sizes log.uploads.window.last log.uploads.queue.end log)
-    new.list.geometry_is done.list) in
-    let after = same_store (g.S.Store.state c.args.store.now) (g.S.Store.state c.adopt_all.new.store) done.unchanged
-    done.faults in
+    let same = same_store old middle done.unchanged done.faults in
     let error = c.in-Err-judge_rest.error in
+    let judged = c.in-Err-judge_rest.ensures in
     let left = c.in-Ok.left in
-    told_refuses uuid geometry base.number base.end begun log names left wide new list told error (done.streams tells)
-    (done.good tells) (done.ended tells)
-    (subst (λ (s : StoreState). IfSome s.objects (λ objects. RefusesRest objects log names left error)) after
-    (c.in-Err-judge_rest.ensures.refused tells))
+    let at = (goal.at.returns-in-Err-judge_rest g c).In-Ok in
+    record {
+      list = tt;
+      from = tt;
+      places = tt;
+      recovers = λ tells. tt;
+      refused = λ tells.
+          told_refuses c.args.uuid c.args.geometry base.number base.end c.new-log.result log names left wide (begun g at)
+          (adopted g at) old.objects error (done.streams tells) (done.good tells) (done.ended tells)
+          (subst (λ (s : StoreState). IfSome s.objects (λ objects. RefusesRest objects log names left error)) same
+          (judged.refused tells));
+      unchanged = subst (λ (s : StoreState). OnlyCounts s new) same judged.unchanged;
+      faults = subst (λ n. Counts (is_store_fault error) n new.faults) done.faults judged.faults;
+    }
 
-pub returns-in-Ok-judge_rest-clause-recovers : goal.returns-in-Ok-judge_rest-clause-recovers
-returns-in-Ok-judge_rest-clause-recovers g c = λ tells.
-    let told = (g.S.Store.state c.args.store.now).objects in
-    let uuid = c.args.uuid in
-    let geometry = c.args.geometry in
+pub returns-in-Ok-judge_rest : goal.returns-in-Ok-judge_rest
+returns-in-Ok-judge_rest g c =
+    let old = g.S.Store.state c.args.store.now in
+    let middle = g.S.Store.state c.adopt_all.new.store in
+    let new = g.S.Store.state c.judge_rest.new.store in
     let base = c.args.base.now in
     let names = c.args.names.now in
-    let made = c.new-log.ensures in
-    let begun = c.new-log.result in
-    let new = new_list uuid geometry base.number base.end begun made.batch made.uuid made.window made.frontier made.end
-    made.sealed made.settled made.log in
-    let wide : geometry.sectors < 2 ^ 64 = grind (arith, nat_tests, c.requires) in
+    let wide : c.args.geometry.sectors < 2 ^ 64 = grind (arith, nat_tests, c.requires) in
     let log = c.adopt_all.new.log in
     let done = c.in-Ok.ensures in
-    let list =
-    subst (λ u. IsListUpTo u geometry log.uploads.window.last log.uploads.queue.end log) new.list.uuid_is
-    (subst (λ (sizes : Geometry). IsListUpTo begun.uploads.uuid sizes log.uploads.window.last log.uploads.queue.end log)
-    new.list.geometry_is done.list) in
-    let after = same_store (g.S.Store.state c.args.store.now) (g.S.Store.state c.adopt_all.new.store) done.unchanged
-    done.faults in
+    let same = same_store old middle done.unchanged done.faults in
+    let judged = c.in-Ok-judge_rest.ensures in
     let left = c.in-Ok.left in
-    told_recovers uuid geometry base.number base.end begun log names left wide new list told (done.streams tells)
-    (done.good tells) (done.ended tells)
-    (subst (λ (s : StoreState). IfSome s.objects (λ objects. JudgesRest objects log names left None)) after
-    (c.in-Ok-judge_rest.ensures.judged tells))
-
-pub returns-in-Ok-judge_rest-clause-places : goal.returns-in-Ok-judge_rest-clause-places
-returns-in-Ok-judge_rest-clause-places g c =
-    let geometry_is = ap (λ (b : BatchState). b.geometry) c.new-log.ensures.batch in
-    subst (λ (sizes : Geometry). HasPlacesInside sizes.sectors c.adopt_all.new.log.uploads.queue) geometry_is
-    c.in-Ok.ensures.places
+    let at = (goal.at.returns-in-Ok-judge_rest g c).In-Ok in
+    let is = begun g at in
+    record {
+      list = adopted g at;
+      from = subst (λ n. n ≤ log.uploads.window.last) (ap (λ (w : WindowState). w.last) is.list.window) done.from;
+      places =
+          subst (λ (sizes : Geometry). HasPlacesInside sizes.sectors log.uploads.queue) is.list.geometry_is done.places;
+      recovers = λ tells.
+          told_recovers c.args.uuid c.args.geometry base.number base.end c.new-log.result log names left wide is (adopted g at)
+          old.objects (done.streams tells) (done.good tells) (done.ended tells)
+          (subst (λ (s : StoreState). IfSome s.objects (λ objects. JudgesRest objects log names left None)) same
+          (judged.judged tells));
+      refused = λ tells. tt;
+      unchanged = subst (λ (s : StoreState). OnlyCounts s new) same judged.unchanged;
+      faults = judged.faults ∙ done.faults;
+    }

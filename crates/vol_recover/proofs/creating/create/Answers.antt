@@ -1,69 +1,125 @@
-use Rattle.std.proofs.Common.{inl, inr}
-use Rattle.lsvd_objstore.specs.Store.{Becomes}
+use Rattle.std.proofs.Common.{◌≡◌, true, Err, ◌∙◌, sym, subst, inl, inr}
+use Rattle.lsvd_fault.specs.Faults.{Counts}
+use Rattle.object_recovery.proofs.RemovalLemmas.{becomes_so}
 use Rattle.refine_store.proofs.LeftLemmas.{left_has_objects}
 use Rattle.super_recovery.proofs.LawLemmas.{volume_is_created}
-use Rattle.object_recovery.proofs.RemovalLemmas.{becomes_so}
-use Rattle.vol_recover.specs.Creating.{PutsNoSuper, PutsSome, PutsVolume}
+use Rattle.vol_core.specs.Creating.{CostsFormat}
+use Rattle.vol_recover.specs.declared.creating.CreateError.TheVariants.{Exists, DeviceFault}
+use Rattle.vol_recover.specs.Creating.{PutsEpochToo, PutsNoSuper, PutsSome, PutsVolume, IsOfStore, CreationOf, is_put_fault}
 use Rattle.vol_recover.proofs.CreateLemmas.{some_put, all_put, becomes_may_put}
+use Rattle.vol_recover.proofs.CreationLemmas.{absent_stays, not_formatted, formatted_then}
 use Rattle.vol_recover.proofs.NewLemmas.{stands_new, stands_none_or_new}
-use Rattle.vol_recover.proofs.creating.create.Given as given
 use Rattle.vol_recover.proofs.creating.create.Goals as goal
-use Rattle.vol_recover.proofs.creating.create.Goals.{In-Ok-complete, After-into_disk}
 
 -- ---- not all was put before the super object
 
-pub returns-in-Err-clause-moments : goal.returns-in-Err-clause-moments
-returns-in-Err-clause-moments g c =
-    let old = (g.S.Store.state c.args.store.now).objects in
-    let new = (g.S.Store.state c.prepare.new.store).objects in
-    stands_none_or_new c.args.uuid c.args.geometry old new c.requires.limits volume_is_created
-    left_has_objects
-    (becomes_so (PutsNoSuper c.args.uuid c.args.geometry) (PutsSome c.args.uuid c.args.geometry) old new (λ a b so. inl so)
-    c.in-Err.ensures.no_super)
+pub returns-in-Err : goal.returns-in-Err
+returns-in-Err g c =
+    let uuid = c.args.uuid in
+    let geometry = c.args.geometry in
+    let old = g.S.Store.state c.args.store.now in
+    let new = g.S.Store.state c.prepare.new.store in
+    let ended = c.in-Err.ensures in
+    let failed = ended.none in
+    record {
+      made = tt;
+      none = record {
+        exists = failed.exists;
+        puts = failed.puts;
+        calls = not_formatted uuid c.in-Err.error (g.D.Disk.state c.args.disk) failed.no_device;
+        is_disk = c.requires.is_disk;
+      };
+      untouched = ended.untouched;
+      moments =
+          stands_none_or_new uuid geometry old.objects new.objects c.requires.limits volume_is_created left_has_objects
+          (becomes_so (PutsNoSuper uuid geometry) (PutsSome uuid geometry) old.objects new.objects (λ a b so. inl so)
+          failed.no_super);
+      faults = ended.faults;
+    }
+
+-- ---- the cache was not made
+
+pub returns-in-Err-create_cache : goal.returns-in-Err-create_cache
+returns-in-Err-create_cache g c =
+    let uuid = c.args.uuid in
+    let geometry = c.args.geometry in
+    let old = g.S.Store.state c.args.store.now in
+    let new = g.S.Store.state c.prepare.new.store in
+    let disk = g.D.Disk.state c.args.disk in
+    let prepared = c.in_default.ensures in
+    let failed = c.in-Err-create_cache.ensures.failed in
+    subst (λ error. CreationOf g.D.Disk.state uuid geometry disk old new (Err (c.in-Err-create_cache.disk, error)))
+    (sym c.into.ensures)
+    (record {
+      made = tt;
+      none = record {
+        exists = λ (is : DeviceFault ≡ Exists). (let none : ⊥ = cc in absurd none);
+        puts = prepared.made.puts;
+        calls = failed.calls;
+        is_disk = failed.is_disk;
+      };
+      untouched = prepared.untouched;
+      moments =
+          stands_none_or_new uuid geometry old.objects new.objects c.requires.limits volume_is_created left_has_objects
+          (becomes_so (PutsEpochToo uuid geometry) (PutsSome uuid geometry) old.objects new.objects
+          (λ a b so. inl (inr (inr so))) prepared.made.puts);
+      faults = prepared.faults;
+    })
 
 -- ---- the whole volume was put
 
-made : (g : given.Over) (c : In-Ok-complete g)
-    → Becomes (PutsVolume c.args.uuid c.args.geometry) (g.S.Store.state c.args.store.now).objects
-    (g.S.Store.state c.complete.new.store).objects
-made g c =
-    all_put c.args.uuid c.args.geometry (g.S.Store.state c.args.store.now).objects (g.S.Store.state c.prepare.new.store).objects
-    (g.S.Store.state c.complete.new.store).objects c.in_default.ensures.ok c.in-Ok-complete.ensures.ok
-
-pub returns-in-Ok-complete-clause-made : goal.returns-in-Ok-complete-clause-made
-returns-in-Ok-complete-clause-made g c = made g c
-
-pub returns-in-Ok-complete-clause-stands : goal.returns-in-Ok-complete-clause-stands
-returns-in-Ok-complete-clause-stands g c =
-    stands_new c.args.uuid c.args.geometry (g.S.Store.state c.args.store.now).objects
-    (g.S.Store.state c.complete.new.store).objects
-    c.requires.limits volume_is_created left_has_objects (made g c)
-
-pub returns-in-Ok-complete-clause-moments : goal.returns-in-Ok-complete-clause-moments
-returns-in-Ok-complete-clause-moments g c =
-    let old = (g.S.Store.state c.args.store.now).objects in
-    let new = (g.S.Store.state c.complete.new.store).objects in
-    stands_none_or_new c.args.uuid c.args.geometry old new c.requires.limits volume_is_created
-    left_has_objects
-    (becomes_so (PutsVolume c.args.uuid c.args.geometry) (PutsSome c.args.uuid c.args.geometry) old new (λ a b so. inr so)
-    (made g c))
+pub returns-in-Ok-complete : goal.returns-in-Ok-complete
+returns-in-Ok-complete g c =
+    let uuid = c.args.uuid in
+    let geometry = c.args.geometry in
+    let old = g.S.Store.state c.args.store.now in
+    let middle = g.S.Store.state c.prepare.new.store in
+    let new = g.S.Store.state c.complete.new.store in
+    let prepared = c.in_default.ensures in
+    let completed = c.in-Ok-complete.ensures in
+    let puts = all_put uuid geometry old.objects middle.objects new.objects prepared.made.puts completed.ok in
+    record {
+      made = record {
+        volume = c.in-Ok.ensures.made;
+        puts = puts;
+        absent = prepared.made.absent;
+        stands = stands_new uuid geometry old.objects new.objects c.requires.limits volume_is_created left_has_objects puts;
+      };
+      none = tt;
+      untouched = absent_stays uuid old.objects new.objects prepared.made.absent;
+      moments =
+          stands_none_or_new uuid geometry old.objects new.objects c.requires.limits volume_is_created left_has_objects
+          (becomes_so (PutsVolume uuid geometry) (PutsSome uuid geometry) old.objects new.objects (λ a b so. inr so) puts);
+      faults = completed.faults ∙ prepared.faults;
+    }
 
 -- ---- the super object was not acknowledged
 
-some : (g : given.Over) (c : After-into_disk g)
-    → Becomes (PutsSome c.args.uuid c.args.geometry) (g.S.Store.state c.args.store.now).objects
-    (g.S.Store.state c.complete.new.store).objects
-some g c =
-    some_put c.args.uuid c.args.geometry (g.S.Store.state c.args.store.now).objects (g.S.Store.state c.prepare.new.store).objects
-    (g.S.Store.state c.complete.new.store).objects c.in_default.ensures.ok c.in-Err-complete.ensures.err
-
-pub returns-in-Err-complete-clause-moments : goal.returns-in-Err-complete-clause-moments
-returns-in-Err-complete-clause-moments g c =
-    stands_none_or_new c.args.uuid c.args.geometry (g.S.Store.state c.args.store.now).objects
-    (g.S.Store.state c.complete.new.store).objects
-    c.requires.limits volume_is_created left_has_objects (some g c)
-
-pub returns-in-Err-complete-clause-err : goal.returns-in-Err-complete-clause-err
-returns-in-Err-complete-clause-err g c =
-    becomes_may_put c.args.uuid c.args.geometry c.in-Err-complete.error (g.S.Store.state c.args.store.now).objects
-    (g.S.Store.state c.complete.new.store).objects c.in-Err-complete.ensures.why (some g c)
+pub returns-in-Err-complete : goal.returns-in-Err-complete
+returns-in-Err-complete g c =
+    let uuid = c.args.uuid in
+    let geometry = c.args.geometry in
+    let old = g.S.Store.state c.args.store.now in
+    let middle = g.S.Store.state c.prepare.new.store in
+    let new = g.S.Store.state c.complete.new.store in
+    let disk = g.D.Disk.state c.args.disk in
+    let left = g.D.Disk.state c.into_disk.result in
+    let prepared = c.in_default.ensures in
+    let error = c.in-Err-complete.error in
+    let failed = c.in-Err-complete.ensures in
+    let some = some_put uuid geometry old.objects middle.objects new.objects prepared.made.puts failed.err in
+    record {
+      made = tt;
+      none = record {
+        exists = λ is. absurd (subst IsOfStore is failed.why);
+        puts = becomes_may_put uuid geometry error old.objects new.objects failed.why some;
+        calls =
+            formatted_then uuid error disk left failed.why
+            (subst (λ d. CostsFormat uuid true disk d) (sym c.into_disk.ensures.same) c.in-Ok.ensures.made.calls);
+        is_disk = c.into_disk.ensures.is_disk;
+      };
+      untouched = absent_stays uuid old.objects new.objects prepared.made.absent;
+      moments =
+          stands_none_or_new uuid geometry old.objects new.objects c.requires.limits volume_is_created left_has_objects some;
+      faults = subst (λ n. Counts (is_put_fault error) n new.faults) prepared.faults failed.faults;
+    }

@@ -1,48 +1,132 @@
-use Rattle.std.proofs.Common.{inl}
-use Rattle.lsvd_objstore.specs.Store.{Becomes}
+use Rattle.std.proofs.Common.{◌≡◌, ◌∙◌, refl, subst, inl}
+use Rattle.lsvd_fault.specs.Faults.{Counts}
+use Rattle.object_recovery.proofs.FindLemmas.{passed_as, error_of}
 use Rattle.super_recovery.specs.declared.error.SuperError.TheVariants as super_errors
 use Rattle.super_recovery.specs.Put.{PutsEpoch}
-use Rattle.object_recovery.proofs.FindLemmas.{passed_on, error_of}
-use Rattle.object_recovery.proofs.RemovalLemmas.{becomes_so}
-use Rattle.vol_recover.specs.Creating.{PutsNoSuper, PutsSome, MayPut, of_super}
-use Rattle.vol_recover.proofs.CreateLemmas.{after_super_error, after_epoch_error, becomes_may_put, of_super_is_of_store}
-use Rattle.vol_recover.proofs.Results.{counted_objects, on_error}
-use Rattle.vol_recover.proofs.creating.prepare.Given as given
+use Rattle.vol_recover.specs.declared.creating.CreateError.TheVariants.{Exists, DeviceFault}
+use Rattle.vol_recover.specs.Creating.{PutsNoSuper, MayPut, PrepareOf, of_super, is_put_fault}
+use Rattle.vol_recover.proofs.CreateLemmas.{after_super_error, after_epoch_error, of_super_is_of_store}
+use Rattle.vol_recover.proofs.CreationLemmas.{super_there, super_absent, same_stays, absent_stays, puts_counts, not_prepared}
+use Rattle.vol_recover.proofs.CreationLemmas.{after_first_error, both_put}
+use Rattle.vol_recover.proofs.Results.{counted_objects, none_changed}
 use Rattle.vol_recover.proofs.creating.prepare.Goals as goal
-use Rattle.vol_recover.proofs.creating.prepare.Goals.{After-from_residual-in_err-put_epoch}
 
--- the put of the epoch was not acknowledged
-no_super : (g : given.Over) (c : After-from_residual-in_err-put_epoch g)
-    → Becomes (PutsNoSuper c.args.uuid c.args.geometry.now) (g.S.Store.state c.args.store.now).objects
-    (g.S.Store.state c.put_epoch.new.store).objects
-no_super g c =
+-- ---- the super object was not looked for, or is there
+
+pub returns-in_err-has_super : goal.returns-in_err-has_super
+returns-in_err-has_super g c =
+    let uuid = c.args.uuid in
+    let geometry = c.args.geometry.now in
+    let old = g.S.Store.state c.args.store.now in
+    let new = g.S.Store.state c.has_super.new.store in
+    let error = c.in_err-has_super.field-0.0 in
+    let failed = c.in_err-has_super.ensures in
+    let same = counted_objects old new failed.unchanged in
+    passed_as (PrepareOf uuid geometry old new) c.from_residual.result (of_super error) c.from_residual.ensures.1
+    (record {
+      made = tt;
+      none =
+          not_prepared uuid geometry old.objects new.objects (of_super error) (of_super_is_of_store error)
+          (none_changed (PutsNoSuper uuid geometry) old.objects new.objects (λ objects. inl refl) same);
+      untouched = same_stays uuid old.objects new.objects same;
+      faults = puts_counts error old.faults new.faults failed.answer failed.faults;
+    })
+
+pub returns-then-branch : goal.returns-then-branch
+returns-then-branch g c =
+    let uuid = c.args.uuid in
+    let geometry = c.args.geometry.now in
+    let old = g.S.Store.state c.args.store.now in
+    let new = g.S.Store.state c.has_super.new.store in
+    let looked = c.in_ok-has_super.ensures in
+    let same = counted_objects old new looked.unchanged in
+    record {
+      made = tt;
+      none = record {
+        exists = λ is. super_there uuid old.objects c.in_ok-has_super.field-0 looked.has c.if-branch.true;
+        puts = none_changed (MayPut uuid geometry Exists) old.objects new.objects (λ objects. refl) same;
+        no_super = none_changed (PutsNoSuper uuid geometry) old.objects new.objects (λ objects. inl refl) same;
+        no_device = λ (is : Exists ≡ DeviceFault). cc;
+      };
+      untouched = same_stays uuid old.objects new.objects same;
+      faults = looked.faults;
+    }
+
+-- ---- there is none
+
+pub returns-in_err-put_first : goal.returns-in_err-put_first
+returns-in_err-put_first g c =
+    let uuid = c.args.uuid in
+    let geometry = c.args.geometry.now in
+    let old = g.S.Store.state c.args.store.now in
+    let before = g.S.Store.state c.has_super.new.store in
+    let new = g.S.Store.state c.put_first.new.store in
+    let looked = c.in_ok-has_super.ensures in
+    let same = counted_objects old before looked.unchanged in
+    let absent = super_absent uuid old.objects c.in_ok-has_super.field-0 looked.has c.if-branch.false in
+    let error = c.in_err-put_first.field-0.0 in
+    let failed = c.in_err-put_first.ensures in
+    passed_as (PrepareOf uuid geometry old new) c.from_residual-in_err-put_first.result error
+    c.from_residual-in_err-put_first.ensures.1
+    (record {
+      made = tt;
+      none =
+          not_prepared uuid geometry old.objects new.objects error failed.why
+          (after_first_error uuid geometry old.objects before.objects new.objects same failed.err);
+      untouched = absent_stays uuid old.objects new.objects absent;
+      faults = subst (λ n. Counts (is_put_fault error) n new.faults) looked.faults failed.faults;
+    })
+
+pub returns-in_err-put_epoch : goal.returns-in_err-put_epoch
+returns-in_err-put_epoch g c =
+    let uuid = c.args.uuid in
+    let geometry = c.args.geometry.now in
     let old = g.S.Store.state c.args.store.now in
     let before = g.S.Store.state c.has_super.new.store in
     let first = g.S.Store.state c.put_first.new.store in
     let new = g.S.Store.state c.put_epoch.new.store in
+    let looked = c.in_ok-has_super.ensures in
+    let same = counted_objects old before looked.unchanged in
+    let absent = super_absent uuid old.objects c.in_ok-has_super.field-0 looked.has c.if-branch.false in
+    let put = c.in_ok-put_first.ensures in
     let error = c.in_err-put_epoch.field-0.0 in
-    let e = c.in_err-put_epoch.ensures in
-    let same = counted_objects old before c.in_ok-has_super.ensures.unchanged in
-    after_epoch_error c.args.uuid c.args.geometry.now old.objects before.objects first.objects new.objects same
-    c.in_ok-put_first.ensures.ok
-    (after_super_error (PutsEpoch c.args.uuid 0) error first new e.answer
-    (λ same. e.failed (error_of error super_errors.StoreFault same))
-    (λ same. e.unchanged (error_of error super_errors.OutOfMemory same)))
-
-pub returns-in_err-put_epoch-clause-err : goal.returns-in_err-put_epoch-clause-err
-returns-in_err-put_epoch-clause-err g c =
-    let old = (g.S.Store.state c.args.store.now).objects in
-    let new = (g.S.Store.state c.put_epoch.new.store).objects in
-    let error = of_super c.in_err-put_epoch.field-0.0 in
-    passed_on (λ e. Becomes (MayPut c.args.uuid c.args.geometry.now e) old new) c.from_residual-in_err-put_epoch.result error
+    let failed = c.in_err-put_epoch.ensures in
+    let no_super =
+    after_epoch_error uuid geometry old.objects before.objects first.objects new.objects same put.ok
+    (after_super_error (PutsEpoch uuid 0) error first new failed.answer
+    (λ is. failed.failed (error_of error super_errors.StoreFault is))
+    (λ is. failed.unchanged (error_of error super_errors.OutOfMemory is))) in
+    passed_as (PrepareOf uuid geometry old new) c.from_residual-in_err-put_epoch.result (of_super error)
     c.from_residual-in_err-put_epoch.ensures.1
-    (becomes_may_put c.args.uuid c.args.geometry.now error old new (of_super_is_of_store c.in_err-put_epoch.field-0.0)
-    (becomes_so (PutsNoSuper c.args.uuid c.args.geometry.now) (PutsSome c.args.uuid c.args.geometry.now) old new
-    (λ a b so. inl so) (no_super g c)))
+    (record {
+      made = tt;
+      none =
+          not_prepared uuid geometry old.objects new.objects (of_super error) (of_super_is_of_store error) no_super;
+      untouched = absent_stays uuid old.objects new.objects absent;
+      faults =
+          subst (λ n. Counts (is_put_fault (of_super error)) n new.faults) (put.faults ∙ looked.faults)
+          (puts_counts error first.faults new.faults failed.answer failed.faults);
+    })
 
-pub returns-in_err-put_epoch-clause-no_super : goal.returns-in_err-put_epoch-clause-no_super
-returns-in_err-put_epoch-clause-no_super g c =
-    let old = (g.S.Store.state c.args.store.now).objects in
-    let new = (g.S.Store.state c.put_epoch.new.store).objects in
-    on_error (Becomes (PutsNoSuper c.args.uuid c.args.geometry.now) old new) c.from_residual-in_err-put_epoch.result
-    (no_super g c)
+pub returns : goal.returns
+returns g c =
+    let uuid = c.args.uuid in
+    let geometry = c.args.geometry.now in
+    let old = g.S.Store.state c.args.store.now in
+    let before = g.S.Store.state c.has_super.new.store in
+    let first = g.S.Store.state c.put_first.new.store in
+    let new = g.S.Store.state c.put_epoch.new.store in
+    let looked = c.in_ok-has_super.ensures in
+    let same = counted_objects old before looked.unchanged in
+    let absent = super_absent uuid old.objects c.in_ok-has_super.field-0 looked.has c.if-branch.false in
+    let put = c.in_ok-put_first.ensures in
+    let epoch = c.in_ok-put_epoch.ensures in
+    record {
+      made = record {
+        puts = both_put uuid geometry old.objects before.objects first.objects new.objects same put.ok epoch.ok;
+        absent = absent;
+      };
+      none = tt;
+      untouched = absent_stays uuid old.objects new.objects absent;
+      faults = epoch.faults ∙ put.faults ∙ looked.faults;
+    }

@@ -1,28 +1,42 @@
-use Rattle.std.proofs.Common.{sym, subst}
-use Rattle.std.specs.Prelude.{IfSome, true}
+use Rattle.std.proofs.Common.{subst}
 use Rattle.lsvd_base.specs.declared.geometry.Geometry.{Geometry}
-use Rattle.lsvd_device.specs.Device.{DiskState}
-use Rattle.lsvd_objstore.specs.Store.{Becomes}
-use Rattle.vol_core.specs.Creating.{IsCreated, CostsFormat}
-use Rattle.vol_recover.specs.Creating.{PutsVolume, IsNewTo, HasNewVolume}
+use Rattle.vol_recover.specs.Creating.{CreatedWithStore}
+use Rattle.volume_commands.specs.declared.error.CommandError.TheVariants as errors
+use Rattle.volume_commands.proofs.Created.{refuses_existing, creation_counts_none}
+use Rattle.volume_commands.proofs.Served.{told_as}
 use Rattle.volume_commands.proofs.creating.create_on.Goals as goal
 
-pub returns-in-Ok-clause-creates : goal.returns-in-Ok-clause-creates
-returns-in-Ok-clause-creates g c =
-    let uuid = c.args.uuid in
+pub returns-in-Ok : goal.returns-in-Ok
+returns-in-Ok g c =
     let before = (g.S.Store.state c.args.store.now).objects in
     let after = (g.S.Store.state c.create.new.store).objects in
     record {
-      volume = c.in-Ok.volume;
-      created = subst (λ (s : Geometry). IsCreated uuid s c.in-Ok.volume) c.geometry.ensures c.in-Ok.ensures.ok;
-      formatted =
-          subst (λ (d : DiskState). CostsFormat uuid true (g.D.Disk.state c.args.disk) d) (sym c.let_go.ensures.same)
-          c.in-Ok.ensures.calls;
-      disk_is = c.let_go.ensures.same;
-      stored = subst (λ (s : Geometry). Becomes (PutsVolume uuid s) before after) c.geometry.ensures c.in-Ok.ensures.made;
-      absent = c.in-Ok.ensures.absent;
-      stands =
-          subst (λ (s : Geometry). IfSome before (λ objects. IsNewTo uuid objects → IfSome after (HasNewVolume uuid s)))
-          c.geometry.ensures c.in-Ok.ensures.stands;
-      let_go = c.let_go.ensures.let_go;
+      creates = record {
+        volume = c.in-Ok.volume;
+        created =
+            subst (λ (s : Geometry). CreatedWithStore c.args.uuid s (g.D.Disk.state c.args.disk) before after c.in-Ok.volume)
+            c.geometry.ensures c.in-Ok.ensures.made;
+        disk_is = c.let_go.ensures.same;
+        let_go = c.let_go.ensures.let_go;
+      };
+      why = λ why is. (let bad : ⊥ = cc in absurd bad);
+      fault = λ is disks stores. (let bad : ⊥ = cc in bad);
+    }
+
+pub returns-in-Err : goal.returns-in-Err
+returns-in-Err g c =
+    let before = g.S.Store.state c.args.store.now in
+    let after = g.S.Store.state c.create.new.store in
+    let sizes = c.geometry.result in
+    let error = c.in-Err.error in
+    let none = c.in-Err.ensures.none in
+    record {
+      creates = tt;
+      why = λ why is.
+          refuses_existing c.args.uuid sizes (g.D.Disk.state c.args.disk) (g.D.Disk.state c.in-Err.disk) before.objects
+          after.objects error why none (told_as _ (errors.Refused why) _ c.into.ensures is);
+      fault = λ is disks stores.
+          creation_counts_none g.D.Disk.state (λ store. (g.S.Store.state store).faults) c.args.uuid sizes c.args.disk
+          c.in-Err.disk c.args.store.now c.create.new.store before.objects after.objects error none c.in-Err.ensures.faults
+          (told_as _ errors.Fault _ c.into.ensures is) disks stores;
     }

@@ -39,7 +39,7 @@ go_on-requires-clause-shows c =
       (rig_anew rig known.0 c.args.letters.now c.land.new.store c.mount_anew.new.store c.in_ok-mounted.mounted
           (log_of c.in_ok-disk.disk.size) known.1
           (was before)
-              (log_anew rig known.0 c.geometry-log.result (log_of c.in_ok-disk.disk.size) known.1 c.geometry-log.ensures.is
+          (log_anew rig known.0 c.geometry-log.result (log_of c.in_ok-disk.disk.size) known.1 c.geometry-log.ensures.is
           (sectors before)) e.ok
           e.mounts e.number).1,
     )

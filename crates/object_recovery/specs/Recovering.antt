@@ -1,0 +1,47 @@
+-- Contract: how a recovery of the objects of a volume ends.
+use Rattle.std.specs.Prelude.{ℕ, ◌+◌, ◌-◌, ◌^◌, ◌<◌, ◌≤◌, Option, IfSome, Result, IfOk, IfErr, List}
+use Rattle.lsvd_base.specs.declared.geometry.Geometry.{Geometry}
+use Rattle.lsvd_fault.specs.Faults.{Counts}
+use Rattle.lsvd_objstore.specs.Objects.{Objects}
+use Rattle.lsvd_objstore.specs.Store.{StoreState, OnlyCounts}
+use Rattle.object_format.specs.declared.expected.Expected.{Expected}
+use Rattle.obj_log.specs.State.{ObjLogState}
+use Rattle.object_recovery.specs.declared.error.RecoverError.{RecoverError}
+use Rattle.object_recovery.specs.Checkpoints.{expected_of, IsNewestWithEnd}
+use Rattle.object_recovery.specs.Faults.{ends_by_fault}
+use Rattle.object_recovery.specs.Judging.{HaveLanded}
+use Rattle.object_recovery.specs.Places.{HasPlacesInside}
+use Rattle.object_recovery.specs.Recovery.{IsListUpTo, IsNoLonger, IsRecoveredOf, AreAllGood, AreNamedWholePast}
+use Rattle.object_recovery.specs.Recovery.{IsRecoveryRefused}
+use Rattle.object_recovery.specs.State.{RecoveredState, HasAllNames}
+
+-- The list is that of the objects of a store, and its checkpoint, which has this number, is their newest. Each of its objects has
+-- landed, each object past the checkpoint is good, and each past the list is whole. A list whose last number is the greatest of
+-- all that a list can have may end before the first missing number.
+pub record Recovers (volume : Expected) (base : ℕ) (objects : Objects) (log : ObjLogState) : Type 0 where
+  pub checkpoint : (end : ℕ) × IsNewestWithEnd volume objects base end
+  pub recovered : log.uploads.window.last + 1 < 2 ^ 64 - 1 → IsRecoveredOf volume objects log
+  pub no_longer : IsNoLonger volume objects log.uploads.window.last
+  pub landed : HaveLanded objects volume base log.uploads.window.last
+  pub good : AreAllGood volume objects base
+  pub past : AreNamedWholePast volume objects log.uploads.window.last
+
+-- The list of a volume was recovered, with the names of all its objects. Each object of the list is acknowledged, and each place
+-- in its map lies inside one. Where bytes are told, it is that of the objects of the store.
+pub record RecoveredOf (Tells : Type 0) (uuid : List ℕ) (geometry : Geometry) (objects : Option Objects)
+    (found : RecoveredState) : Type 0 where
+  pub list : IsListUpTo uuid geometry found.log.uploads.window.last found.log.uploads.queue.end found.log
+  pub from : found.checkpoint ≤ found.log.uploads.window.last
+  pub places : HasPlacesInside geometry.sectors found.log.uploads.queue
+  pub names : HasAllNames objects found
+  pub told : Tells → IfSome objects (λ objects. Recovers (expected_of uuid geometry) found.checkpoint objects found.log)
+
+-- What a recovery is: it gives the list, or an error, which has its reason in what the store has, where bytes are told. Nothing
+-- changes in the store, and a call of it that failed is counted once.
+pub record RecoverOf (Tells : Type 0) (uuid : List ℕ) (geometry : Geometry) (old new : StoreState)
+    (result : Result RecoveredState RecoverError) : Type 0 where
+  pub found : IfOk result (RecoveredOf Tells uuid geometry old.objects)
+  pub refused : Tells → IfErr result (λ error. IfSome old.objects (λ objects.
+      IsRecoveryRefused (expected_of uuid geometry) objects error))
+  pub unchanged : OnlyCounts old new
+  pub faults : Counts (ends_by_fault result) old.faults new.faults
