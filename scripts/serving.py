@@ -1,4 +1,6 @@
-"""What the gate's scripts serve a volume with: a small client of NBD, the server as a process, and a count of what holds."""
+"""What the gate's scripts serve a volume with: a small client of NBD, one of mere bytes, the server as a process, and a count of
+what holds."""
+import contextlib
 import os
 import signal
 import socket
@@ -8,6 +10,8 @@ import subprocess
 UUID = "00000000-0000-4000-8000-000000000001"
 READ, WRITE, DISCONNECT, FLUSH, TRIM, ZEROES = 0, 1, 2, 3, 4, 6
 FUA = 1
+# how long an answer may take
+SECONDS = 60
 
 checks = [0, 0]
 
@@ -78,6 +82,37 @@ class Client:
         self.link.close()
 
 
+def exchange(path, sent):
+    """All that a server sends to a client that sends these bytes at once, and then no more."""
+    parts = []
+    with socket.socket(socket.AF_UNIX) as link:
+        link.connect(path)
+        link.settimeout(SECONDS)
+        # a server that has closed the connection may not have read all
+        with contextlib.suppress(ConnectionError):
+            link.sendall(sent)
+            link.shutdown(socket.SHUT_WR)
+        with contextlib.suppress(ConnectionError):
+            while part := link.recv(65_536):
+                parts.append(part)
+    return b"".join(parts)
+
+
+# what a server sends first
+GREETING = bytes.fromhex("4e42444d41474943 49484156454f5054 0003")
+# the flags of a client, and the option to enter the default export
+ENTERS = bytes.fromhex("00000003 49484156454f5054 00000007 00000006 00000000 0000")
+# how the server of a volume of 64 sectors answers it: the export, and its end
+ENTERED = bytes.fromhex(
+    "0003e889045565a9 00000007 00000003 0000000c 0000 0000000000008000 006d"
+    "0003e889045565a9 00000007 00000001 00000000"
+)
+# a durable write of one sector at 0 with the cookie 7, the reply to it, and the request to disconnect
+WRITES = bytes.fromhex("25609513 0001 0001 0000000000000007 0000000000000000 00000200") + b"\x41" * 512
+WRITTEN = bytes.fromhex("67446698 00000000 0000000000000007")
+LEAVES = bytes.fromhex("25609513 0000 0002 0000000000000009 0000000000000000 00000000")
+
+
 class Server:
     """A server of the volume, of whose output the first line was read: so clients can connect."""
 
@@ -95,5 +130,5 @@ class Server:
         self.process.wait()
 
     def end(self):
-        out, err = self.process.communicate(timeout=60)
+        out, err = self.process.communicate(timeout=SECONDS)
         return self.process.returncode, out, err
