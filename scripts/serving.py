@@ -37,9 +37,8 @@ class Client:
         self.link.connect(path)
         greeting = self.take(18)
         check("the greeting", greeting == b"NBDMAGICIHAVEOPT\0\3", greeting)
-        self.link.sendall(struct.pack(">I", 3))
-        # the option to enter the default export, which asks for its blocks
-        self.option(7, struct.pack(">IHH", 0, 1, 3))
+        # the option to enter the default export, which asks for its blocks, in one piece with the flags
+        self.link.sendall(struct.pack(">I", 3) + b"IHAVEOPT" + struct.pack(">IIIHH", 7, 8, 0, 1, 3))
         infos = []
         while True:
             kind, content = self.reply_to(7)
@@ -59,9 +58,6 @@ class Client:
             parts.append(part)
             count -= len(part)
         return b"".join(parts)
-
-    def option(self, number, content):
-        self.link.sendall(b"IHAVEOPT" + struct.pack(">II", number, len(content)) + content)
 
     def reply_to(self, number):
         magic, option, kind, length = struct.unpack(">QIII", self.take(20))
@@ -116,14 +112,21 @@ LEAVES = bytes.fromhex("25609513 0000 0002 0000000000000009 0000000000000000 000
 class Server:
     """A server of the volume, of whose output the first line was read: so clients can connect."""
 
-    def __init__(self, program, folder, cache, *more, store="store", volume=UUID, before=None):
+    def __init__(self, program, folder, cache, *more, store="store", volume=UUID, before=None, env=None):
         self.path = os.path.join(folder, "socket")
         words = ["serve", "--store", os.path.join(folder, store), "--volume", volume, "--cache", os.path.join(folder, cache)]
         self.process = subprocess.Popen(
             [program, *words, "--socket", self.path, *more],
-            stdout=subprocess.PIPE, stderr=subprocess.PIPE, text=True, preexec_fn=before,
+            stdout=subprocess.PIPE, stderr=subprocess.PIPE, text=True, preexec_fn=before, env=env,
         )
-        self.mounted = self.process.stdout.readline()
+        self.mounted = self.first_line()
+
+    def first_line(self):
+        """Read byte by byte, since what a buffer would take of the lines after it is not seen by `communicate`."""
+        line = b""
+        while not line.endswith(b"\n") and (byte := os.read(self.process.stdout.fileno(), 1)):
+            line += byte
+        return line.decode()
 
     def kill(self):
         self.process.send_signal(signal.SIGKILL)
