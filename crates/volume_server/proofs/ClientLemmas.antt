@@ -1,8 +1,8 @@
 -- How clients that were served add up.
-use Rattle.std.proofs.Common.{◌≡◌, ℕ, zero, suc, ◌+◌, ◌≤◌, List, [], ◌++◌, sym, ◌∙◌, ap, subst, inl, inr, arith}
-use Rattle.std.specs.Prelude.{Bool, true, false, Option, Some, None, Result, Ok, Err, OnOk, is_err}
+use Rattle.std.proofs.Common.{◌≡◌, ℕ, zero, suc, ◌+◌, List, [], ◌++◌, sym, ◌∙◌, ap, subst, inl, inr, arith}
+use Rattle.std.specs.Prelude.{Option, Some, None}
 use Rattle.lsvd_base.specs.declared.entry.Entry.{Entry}
-use Rattle.lsvd_fault.specs.Faults.{HasRisen, Counts, counted_with}
+use Rattle.lsvd_fault.specs.Faults.{counted_with}
 use Rattle.lsvd_listen.specs.Listening.{AreNone}
 use Rattle.lsvd_objstore.specs.Store.{StoreState, ReceiptState}
 use Rattle.vol_core.specs.Volume.{SteppedVolume}
@@ -12,7 +12,7 @@ use Rattle.nbd_session.specs.BlockDevice.{BlockRelations}
 use Rattle.nbd_session.specs.Session.{IsSession, export_of}
 use Rattle.volume_server.specs.History.{Grows, LeavesRoom, SessionGrows, entered_in}
 use Rattle.volume_server.specs.OwnerDevice.{owner_relations}
-use Rattle.volume_server.specs.Serving.{ListenerState, ConnectionState, HasSentAll, given_with, IsClient, AreClients, ClientsGrow}
+use Rattle.volume_server.specs.Serving.{ListenerState, ConnectionState, given_with, IsClient, AreClients, ClientsGrow}
 use Rattle.volume_server.proofs.HistoryLemmas.{grows_nothing, grows_more, stays_leaves}
 
 -- ---- one after the other
@@ -67,24 +67,6 @@ gave_one old new is = (
   ap
       (λ (l : ListenerState). l.faults) is,
 )
-
--- ---- what a link holds back
-
--- a count that rose in a later call has risen since an earlier one too
-rose_since : (before middle now : ℕ) → before ≤ middle → HasRisen middle now → HasRisen before now
-rose_since before middle now kept (inl more) = inl (omega (arith, kept, more))
-rose_since before middle now kept (inr most) = inr most
-
-kept_by : (failed : Bool) (before now : ℕ) → Counts failed before now → before ≤ now
-kept_by true before now counts = counts.kept
-kept_by false before now same = omega (arith, same)
-
--- a link that is asked to send, after other calls, holds nothing back, or one of these calls has failed
-pub sent_after : {T E : Type 0} (failed : Bool) (result : Result T E) (held : List ℕ) (before middle now : ℕ)
-    → Counts failed before middle → OnOk result (held ≡ []) → Counts (is_err result) middle now → HasSentAll held before now
-sent_after failed (Ok value) held before middle now first sent second = inl sent
-sent_after failed (Err error) held before middle now first sent second =
-    inr (rose_since before middle now (kept_by failed before middle first) second.risen)
 
 -- ---- their history
 

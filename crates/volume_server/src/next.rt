@@ -41,7 +41,8 @@ pub fn serve_next<S, B: BlockDevice<S>, L: Listener>(
     NextClient::Served(link, end)
 }
 
-// Serves a client until its session ends, and sends then what its link still holds back.
+// Serves a client until its session ends, and sends then what its link still holds back, unless the link had
+// failed: what it was told of is not tried again.
 fn serve_client<S, B: BlockDevice<S>, K: Connection>(
     alloc: Global,
     device: &mut B,
@@ -55,6 +56,11 @@ fn serve_client<S, B: BlockDevice<S>, K: Connection>(
     ensures sent { HasSentAll (K.held link.new) (K.Source.faults link.old) (K.Source.faults link.new) }
 {
     let end = serve_session(alloc, device, link, store);
-    let _ = link.send();
+    match end {
+        SessionEnd::LinkFault => {}
+        _ => {
+            let _ = link.send();
+        }
+    }
     end
 }
