@@ -8,6 +8,8 @@ SHIM = os.path.join(os.path.dirname(os.path.abspath(__file__)), "system_calls.c"
 # What the program takes of the C library that is no call of the system, and the one by which it ignores SIGPIPE at its start.
 OTHERS = {"__errno_location", "__libc_start_main", "__xpg_strerror_r", "__sysv_signal"}
 OTHERS |= {"free", "malloc", "realloc", "memcpy", "memmove", "memset", "memcmp"}
+# By these the program's start, which is the toolchain's, finds that the processor will not do, says so, and ends.
+OTHERS |= {"__x86_get_cpuid_feature_leaf", "__write"}
 
 
 class Call(NamedTuple):
