@@ -1,5 +1,5 @@
 ghost use Rattle.std.specs.Prelude.{◌≡◌, ◌+◌, ◌-◌, ◌^◌, ◌<◌, ◌≤◌, min, IsTrue, [], ◌∷◌, ◌++◌, length, drop};
-ghost use Rattle.std.specs.Prelude.{IfOk, OnOk};
+ghost use Rattle.std.specs.Prelude.{IfOk, IsOk, OnOk};
 ghost use Rattle.std.specs.List.{sum_by};
 ghost use Rattle.std.specs.VecDeque.{deque_capacity};
 ghost use Rattle.lsvd_base.specs.Limits.{is_within_limits};
@@ -110,6 +110,7 @@ impl Batch {
     /// no memory that was taken before is lost.
     pub fn reserve(&mut self) -> Result<(), AllocError>
         ensures ok { OnOk result (1 ≤ self.new.reserved) }
+        ensures succeeds { 1 ≤ self.old.reserved → IsOk result }
         ensures geometry { self.new.geometry ≡ self.old.geometry }
         ensures first { self.new.first ≡ self.old.first }
         ensures entries { self.new.entries ≡ self.old.entries }

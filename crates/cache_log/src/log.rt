@@ -1,6 +1,6 @@
 ghost use Rattle.std.specs.Prelude.{◌≡◌, ◌+◌, ◌*◌, ◌-◌, ◌^◌, ◌<◌, ◌≤◌, IfOk, IfErr, IfSome, OnOk};
 ghost use Rattle.std.specs.Prelude.{OnErr, IsTrue, Some, None, slice_index_or, is_ok, length, drop};
-ghost use Rattle.std.specs.Prelude.{min, true, false};
+ghost use Rattle.std.specs.Prelude.{min, true, false, IsOk};
 ghost use Rattle.std.specs.List.{slice_get};
 ghost use Rattle.std.specs.Fn.{FnOnceReturnsAtMut};
 ghost use Rattle.lsvd_base.specs.declared.entry.Entry.{Entry as EntryValue};
@@ -282,12 +282,27 @@ impl<D: Disk> CacheLog<D> {
         };
     }
 
-    /// Takes the memory that `append` needs for this entry. The one error is that memory ran out;
-    /// the log is as before but for what is reserved.
+    // How many sectors a record may have for which memory is there.
+    fn reserved(&self) -> u64
+        ensures { result ≡ self.now.reserved }
+    {
+        if self.rows.len() < self.rows.capacity() {
+            self.buffer.len() as u64 / SECTOR_BYTES
+        } else {
+            0
+        }
+    }
+
+    /// Takes the memory that `append` needs for this entry. The one error is that memory ran out,
+    /// which comes only where it is not there yet; the log is as before but for what is reserved.
     pub fn reserve(&mut self, entry: &Entry) -> Result<(), AllocError>
         ensures reserved { OnOk result (record_sectors entry.now ≤ self.new.reserved) }
+        ensures succeeds { record_sectors entry.now ≤ self.old.reserved → IsOk result }
         ensures rest { self.new ≡ record self.old { reserved = self.new.reserved } }
     {
+        if record_sectors(entry) <= self.reserved() {
+            return Ok(());
+        }
         self.rows.reserve(1)?;
         let Some(bytes) = SECTOR_BYTES.checked_mul(record_sectors(entry)) else {
             return Err(AllocError);

@@ -29,6 +29,9 @@ const CHANGES: &[&[Change]] = &[
 // More than the sectors and the places of the tests.
 const MOST: u64 = 1 << 20;
 
+// Changes whose rows take more than 3,000 pages.
+const MANY: usize = 100_000;
+
 /// Tells the rows of maps whose places are numbers.
 pub fn tell_all(rt: &HostRuntime) -> Result<(), TestError> {
     head(rt, "rows of extents")?;
@@ -39,7 +42,9 @@ pub fn tell_all(rt: &HostRuntime) -> Result<(), TestError> {
         rt,
         "a look at the sectors 2 to 5, and the first of its rows",
     )?;
-    tell_look(rt)
+    tell_look(rt)?;
+    head(rt, "room for 100,000 changes at once")?;
+    tell_room(rt)
 }
 
 // Makes changes of an empty map, and tells its rows.
@@ -90,6 +95,17 @@ fn tell_slice(rt: &HostRuntime, rows: &[Extent<u64>]) -> Result<(), TestError> {
         print!(rt; " {}+{} at {}", row.lba, row.sectors, row.place)?;
     }
     println!(rt)?;
+    Ok(())
+}
+
+// Tells whether a map got room for many changes by one call. No clause can say that there is memory for it.
+fn tell_room(rt: &HostRuntime) -> Result<(), TestError> {
+    let mut map: ExtentMap<u64> = ExtentMap::new(rt.alloc());
+    let made = map.reserve(MANY);
+    let has_room = MANY <= map.spare();
+    drop(map);
+    made?;
+    println!(rt; " {has_room}")?;
     Ok(())
 }
 

@@ -1,5 +1,5 @@
 ghost use Rattle.std.specs.Prelude.{◌≡◌, ℕ, length, ◌-◌, ◌<◌, ◌≤◌, ◌⊎◌, ◌^◌, Some, None, IfOk, OnOk, OnErr};
-ghost use Rattle.std.specs.Prelude.{IsSome};
+ghost use Rattle.std.specs.Prelude.{IsOk, IsSome};
 ghost use Rattle.lsvd_fault.specs.Faults.{CountsOne};
 ghost use Rattle.lsvd_device.specs.Calls.{Fuse, fuse_of, fuse_after};
 ghost use Rattle.lsvd_device.specs.Device.{IsDisk, HoldsNow};
@@ -62,10 +62,11 @@ impl<D: Disk> FuseDisk<D> {
 
 impl FuseDisk<MemDisk> {
     /// Makes room on the disk in memory for `calls` more writes and syncs, and for `bytes` bytes of writes,
-    /// so that none of them fails but by the fuse. The one error is that memory ran out. What the disk holds,
-    /// and its count, are as before.
+    /// so that none of them fails but by the fuse. The one error is that memory ran out, which comes only
+    /// where that room is missing. What the disk holds, and its count, are as before.
     pub fn reserve(&mut self, calls: u64, bytes: u64) -> Result<(), AllocError>
         ensures room { OnOk result (HasRoom calls bytes self.new.budget) }
+        ensures succeeds { HasRoom calls bytes self.old.budget → IsOk result }
         ensures fuse { fuse_of self.new.budget ≡ fuse_of self.old.budget }
         ensures rest { self.new ≡ record self.old { budget = self.new.budget } }
     {

@@ -80,9 +80,11 @@ impl MemDisk {
 
 impl MemDisk {
     /// Makes room for `calls` more writes and syncs, and for `bytes` bytes of writes, so that none of them
-    /// fails. The one error is that memory ran out. What the disk holds, and its count, are as before.
+    /// fails. The one error is that memory ran out, which comes only where that room is missing. What the
+    /// disk holds, and its count, are as before.
     pub fn reserve(&mut self, calls: u64, bytes: u64) -> Result<(), AllocError>
         ensures room { OnOk result (HasRoom calls bytes self.new.budget) }
+        ensures succeeds { HasRoom calls bytes self.old.budget → IsOk result }
         ensures fuse { fuse_of self.new.budget ≡ fuse_of self.old.budget }
         ensures rest { self.new ≡ record self.old { budget = self.new.budget } }
     {

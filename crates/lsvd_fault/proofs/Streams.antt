@@ -1,9 +1,9 @@
 -- How what a stream told adds up over several calls.
-use Rattle.std.proofs.Common.{◌≡◌, ℕ, ◌≤◌, List, [], ◌∷◌, ◌++◌, ◌-◌, length, take, drop, refl, sym, ◌∙◌, ap, subst, append_assoc}
+use Rattle.std.proofs.Common.{◌≡◌, ℕ, ◌≤◌, List, [], ◌++◌, ◌-◌, length, take, drop, refl, sym, ◌∙◌, ap, subst, append_assoc}
 use Rattle.std.proofs.Common.{append-nil, arith, length-append}
 use Rattle.std.specs.Prelude.{Option, Some, None, Result, Ok, Err, OnErr}
 use Rattle.std.proofs.lemmas.List.{take-append-drop, take_rest}
-use Rattle.std.specs.Io.KnownBytes.{Appends, Consumes, Keeps, IsAtEnd}
+use Rattle.std.specs.Io.KnownBytes.{Appends, Consumes, Keeps}
 use Rattle.std.proofs.Math.Seq.{take-append_seam}
 
 -- nothing was taken yet
@@ -39,14 +39,6 @@ consumes_more None middle last xs ys a b = tt
 consumes_more (Some old) None last xs ys a b = absurd a
 consumes_more (Some old) (Some mid) None xs ys a b = absurd b
 consumes_more (Some old) (Some mid) (Some new) xs ys a b = a ∙ ap (λ zs. xs ++ zs) b ∙ sym (append_assoc xs ys new)
-
--- a piece, and then a call that read nothing
-pub consumes_kept : (first middle last : Option (List ℕ)) (xs : List ℕ) → Consumes first middle xs → Keeps middle last
-    → Consumes first last xs
-consumes_kept None middle last xs a b = tt
-consumes_kept (Some old) None last xs a b = absurd a
-consumes_kept (Some old) (Some mid) None xs a b = absurd b
-consumes_kept (Some old) (Some mid) (Some new) xs a b = a ∙ ap (λ zs. xs ++ zs) (sym b)
 
 -- the sink took a front of the bytes, and the rest is still to be written
 pub record IsPartWritten (old new : Option (List ℕ)) (bytes rest : List ℕ) : Type 0 where

@@ -1,7 +1,7 @@
 -- How the steps of a negotiation add up.
 use Rattle.std.proofs.Common.{◌≡◌, ℕ, ◌+◌, ◌<◌, Bool, true, false, List, [], ◌∷◌, ◌++◌, length, refl, sym, ◌∙◌, ap, subst, inl}
 use Rattle.std.proofs.Common.{inr, append_assoc, arith}
-use Rattle.std.proofs.lemmas.List.{length-append, flat_map_more}
+use Rattle.std.proofs.lemmas.List.{append-nil, length-append, flat_map_more}
 use Rattle.std.proofs.lemmas.List.Elements.{All-nil, All-push}
 use Rattle.std.specs.Int.{w32, to_be_bytes}
 use Rattle.std.specs.Prelude.{Option, Some, None, Ok, Err, ⊤}
@@ -9,7 +9,7 @@ use Rattle.std.specs.Io.KnownBytes.{Appends, Consumes, IsAtEnd, Keeps}
 use Rattle.lsvd_fault.proofs.Streams.{appends_more}
 use Rattle.nbd_wire.specs.declared.message.OptionHead.{OptionHead}
 use Rattle.nbd_wire.specs.declared.wire_end.WireEnd.{WireEnd}
-use Rattle.nbd_wire.specs.declared.wire_end.WireEnd.TheVariants.{Ended, Closed, LinkFault, OutOfMemory}
+use Rattle.nbd_wire.specs.declared.wire_end.WireEnd.TheVariants.{Ended, Closed, LinkFault}
 use Rattle.nbd_wire.specs.Messages.{greeting_bytes, IsClientFlags, option_head_bytes, IsOptionHead}
 use Rattle.nbd_wire.specs.Reading.{BeginsNoMessage, ReadsMessage}
 use Rattle.nbd_wire.specs.Writing.{WritesFront, WritesMessage}
@@ -23,6 +23,17 @@ use Rattle.nbd_options.specs.Negotiation.{end_of, Stage, Greeted, Answering, has
 use Rattle.nbd_options.specs.Negotiation.{HasLast, EndsByAnswer, AreOutOfForm, BreaksInMessage, IsNegotiation, OnInput}
 use Rattle.nbd_options.specs.Negotiation.{Negotiates, end_from, max_options}
 use Rattle.nbd_options.specs.Steps.{ReadsSomeBytes, AnswersOption, IsUnderWay, Greets}
+
+-- ---- before the greeting
+
+nothing_sent : (out : Option (List ℕ)) → Appends out out []
+nothing_sent None = tt
+nothing_sent (Some bytes) = sym (append-nil bytes)
+
+-- there was no memory, and nothing was done
+pub not_begun : (export : Export) (known out : Option (List ℕ)) → Negotiates export ends.OutOfMemory known known out out
+not_begun export None out = tt
+not_begun export (Some input) out = ([], nothing_sent out, record { unread = refl; unsent = refl })
 
 -- ---- the greeting and the client's flags
 
@@ -42,7 +53,6 @@ greeting_broken export old new old_out new_out e same sent =
     nothing_read export (Some input) old_out new_out Closed sent = absurd sent
     nothing_read export (Some input) old_out new_out LinkFault sent =
         (sent.0, sent.3, inl (record { unread = refl; rest = sent.1; said = sent.2 }))
-    nothing_read export (Some input) old_out new_out OutOfMemory sent = absurd sent
 
 -- it was sent
 pub greeted : (export : Export) (known old_out new_out : Option (List ℕ)) → Appends old_out new_out greeting_bytes
@@ -79,7 +89,7 @@ out_of_form export stage (Some input) (Some next) None first_out old_out come fa
 out_of_form export stage (Some input) (Some next) (Some left) first_out old_out come faulty read =
     (come.0, come.1, inr (record { stage = stage; next = next; come = come.2; faulty = faulty; rest = (read.0, read.1) }))
 
--- a call failed, or memory ran out
+-- a call failed
 abbrev BreaksOff : Export → (old new old_out new_out : Option (List ℕ)) → Type 0
 BreaksOff export old new old_out new_out =
     OnInput old new (λ input left. (sent : List ℕ) × Appends old_out new_out sent × BreaksInMessage export input left sent)
@@ -121,7 +131,6 @@ flags_broken export old mid new old_out mid_out new_out e kept same sent read =
     not_read export old new old_out new_out LinkFault come read =
         by_fault export old new old_out new_out
         (breaks_off export Greeted old old new old_out new_out come (read.0, read.2))
-    not_read export old new old_out new_out OutOfMemory come read = absurd read
 
 -- they were
 pub flags_read : (export : Export) (old mid new old_out mid_out new_out : Option (List ℕ)) (flags : ℕ) → mid ≡ old
@@ -310,9 +319,6 @@ option_broken export zeroes flags exchanges first old new first_out old_out new_
             said = ap (λ xs. xs ++ sent.0) come.2.said;
           })),
         )
-option_broken export zeroes flags exchanges first old new first_out old_out new_out OutOfMemory few is come broken =
-    subst (λ (w : Option (List ℕ)). Negotiates export ends.OutOfMemory first new first_out w) (sym broken.1)
-    (breaks_off export (Answering flags exchanges) first old new first_out old_out come broken.0)
 
 -- ---- one option too many
 
@@ -365,7 +371,6 @@ all_broken export flags exchanges first old new first_out old_out new_out LinkFa
     subst (λ (w : Option (List ℕ)). Negotiates export ends.LinkFault first new first_out w) (sym same)
     (by_fault export first new first_out old_out
     (breaks_off export (Answering flags exchanges) first old new first_out old_out come (read.0, read.2)))
-all_broken export flags exchanges first old new first_out old_out new_out OutOfMemory all come read same = absurd read
 
 -- ---- all of the options
 

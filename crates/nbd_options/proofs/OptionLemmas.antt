@@ -6,10 +6,10 @@ use Rattle.std.proofs.lemmas.Nat.{from_be_bytes-to_be_bytes_4}
 use Rattle.std.specs.Int.{w32, to_be_bytes, from_be_bytes}
 use Rattle.std.specs.Prelude.{Option, Some, None, Ok, Err}
 use Rattle.std.specs.Io.KnownBytes.{Appends, Consumes}
-use Rattle.lsvd_fault.proofs.Streams.{consumes_more, consumes_kept}
+use Rattle.lsvd_fault.proofs.Streams.{consumes_more}
 use Rattle.nbd_wire.specs.declared.message.OptionHead.{OptionHead}
 use Rattle.nbd_wire.specs.declared.wire_end.WireEnd.{WireEnd}
-use Rattle.nbd_wire.specs.declared.wire_end.WireEnd.TheVariants.{Ended, Closed, LinkFault, OutOfMemory}
+use Rattle.nbd_wire.specs.declared.wire_end.WireEnd.TheVariants.{Ended, Closed, LinkFault}
 use Rattle.nbd_wire.specs.Messages.{option_head_bytes, IsOptionHead}
 use Rattle.nbd_wire.specs.Reading.{BeginsNoMessage, HasFewerThan, ReadsMessage, ReadsData}
 use Rattle.nbd_wire.specs.Writing.{WritesFront, WritesMessage}
@@ -73,7 +73,6 @@ pub head_broken : (export : Export) (zeroes : Bool) (old new old_out new_out : O
 head_broken export zeroes old new old_out new_out Ended read same = (read.0, read.1, same)
 head_broken export zeroes old new old_out new_out Closed read same = (no_option old read.0, (read.1.0, read.1.2), same)
 head_broken export zeroes old new old_out new_out LinkFault read same = inl ((read.0, read.2), same)
-head_broken export zeroes old new old_out new_out OutOfMemory read same = absurd read
 
 -- the head was read, but the data were not
 pub data_broken : (export : Export) (zeroes : Bool) (old mid new old_out new_out : Option (List ℕ)) (bytes : List ℕ)
@@ -85,8 +84,6 @@ data_broken export zeroes old mid new old_out new_out bytes head is read Closed 
     (cut_off bytes head old mid is read more.0, (bytes ++ more.1.0, consumes_more old mid new bytes more.1.0 read more.1.2), same)
 data_broken export zeroes old mid new old_out new_out bytes head is read LinkFault more same =
     inl ((bytes ++ more.0, consumes_more old mid new bytes more.0 read more.2), same)
-data_broken export zeroes old mid new old_out new_out bytes head is read OutOfMemory more same =
-    ((bytes, consumes_kept old mid new bytes read more), same)
 
 -- a whole option that was read, and its answer
 pub record HasRead (export : Export) (old new : Option (List ℕ)) (option : ℕ) (answer : Answer) : Type 0 where
@@ -126,7 +123,6 @@ answer_broken export zeroes old new old_out mid_out new_out option answer LinkFa
   has.read,
   subst (λ (w : Option (List ℕ)). WritesFront (answer_bytes export option zeroes answer) w new_out) same sent,
 )
-answer_broken export zeroes old new old_out mid_out new_out option answer OutOfMemory has same sent = absurd sent
 
 -- the option was answered
 pub is_answered : (export : Export) (zeroes : Bool) (old new old_out mid_out new_out : Option (List ℕ)) (option : ℕ)

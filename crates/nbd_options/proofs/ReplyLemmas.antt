@@ -4,7 +4,7 @@ use Rattle.std.specs.Prelude.{Option, Result, Ok, Err, IsErrAnd}
 use Rattle.std.specs.Io.KnownBytes.{Appends}
 use Rattle.lsvd_fault.proofs.Streams.{appends_more}
 use Rattle.nbd_wire.specs.declared.wire_end.WireEnd.{WireEnd}
-use Rattle.nbd_wire.specs.declared.wire_end.WireEnd.TheVariants.{Ended, Closed, LinkFault, OutOfMemory}
+use Rattle.nbd_wire.specs.declared.wire_end.WireEnd.TheVariants.{Ended, Closed, LinkFault}
 use Rattle.nbd_wire.specs.Writing.{WritesMessage}
 
 -- one piece was written, and then another, or a front of it
@@ -19,7 +19,6 @@ writes_more first second old mid new (Err LinkFault) written more = (
   ap (λ xs. first ++ xs) more.2 ∙ sym (append_assoc first more.0 more.1),
   appends_more old mid new first more.0 written more.3,
 )
-writes_more first second old mid new (Err OutOfMemory) written more = absurd more
 
 -- a front of one piece was written, and nothing of what comes after it
 pub writes_no_more : (first second : List ℕ) (old new : Option (List ℕ)) (e : WireEnd)
@@ -28,7 +27,6 @@ writes_no_more first second old new Ended front = absurd front
 writes_no_more first second old new Closed front = absurd front
 writes_no_more first second old new LinkFault front =
     (front.0, front.1 ++ second, ap (λ xs. xs ++ second) front.2 ∙ append_assoc front.0 front.1 second, front.3)
-writes_no_more first second old new OutOfMemory front = absurd front
 
 -- the same where the fault is told as it came
 pub tells_no_more : (first second : List ℕ) (old new : Option (List ℕ)) (result : Result (Unit {0}) WireEnd) (e : WireEnd)

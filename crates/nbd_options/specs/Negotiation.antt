@@ -142,6 +142,11 @@ pub record EndsOutOfForm (export : Export) (input left sent : List ℕ) : Type 0
   pub faulty : AreOutOfForm stage next
   pub rest : IsRestOf next left
 
+-- before the greeting: nothing was read, and nothing sent
+pub record EndsUnbegun (input left sent : List ℕ) : Type 0 where
+  pub unread : left ≡ input
+  pub unsent : sent ≡ []
+
 -- inside the greeting: nothing was read
 pub record BreaksInGreeting (input left sent : List ℕ) : Type 0 where
   pub unread : left ≡ input
@@ -168,7 +173,7 @@ IsNegotiation export Ended input left sent = EndsByAnswer export Ended input lef
 IsNegotiation export Closed input left sent = EndsByAnswer export Closed input left sent ⊎ EndsOutOfForm export input left sent
 IsNegotiation export LinkFault input left sent =
     BreaksInGreeting input left sent ⊎ (BreaksInMessage export input left sent ⊎ BreaksInAnswer export input left sent)
-IsNegotiation export OutOfMemory input left sent = BreaksInMessage export input left sent
+IsNegotiation export OutOfMemory input left sent = EndsUnbegun input left sent
 
 -- ---- a negotiation on a link
 
@@ -197,4 +202,3 @@ abbrev pub end_from : WireEnd → NegotiationEnd
 end_from wire.Ended = Ended
 end_from wire.Closed = Closed
 end_from wire.LinkFault = LinkFault
-end_from wire.OutOfMemory = OutOfMemory

@@ -34,8 +34,6 @@ AnswersOption export zeroes old new written_old written_new (Err wire.LinkFault)
     (ReadsSomeBytes old new × (written_new ≡ written_old))
     ⊎ ((exchange : Exchange) × IsExchange export exchange × Consumes old new (client_option_bytes exchange.option)
     × WritesFront (reply_bytes export zeroes exchange) written_old written_new)
-AnswersOption export zeroes old new written_old written_new (Err wire.OutOfMemory) = ReadsSomeBytes old new
-    × (written_new ≡ written_old)
 
 -- a negotiation has come to this stage, on a link
 abbrev pub IsUnderWay : Export → Stage → (old new written_old written_new : Option (List ℕ)) → Type 0

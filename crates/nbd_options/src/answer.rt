@@ -46,7 +46,7 @@ pub enum Answer {
 }
 
 /// What is answered to the option with this number and these data, for this export. Any number and any data
-/// may come, but longer data than `nbd_wire::MAX_OPTION_DATA` bytes are for `answer_unread`. The rules are
+/// may come, but longer data than `MAX_OPTION_DATA` bytes are for `answer_unread`. The rules are
 /// those of the NBD protocol document for the fixed newstyle; an option that it does not know, or that this
 /// server does not take, as the one for TLS, is not supported.
 pub fn answer_of(export: &Export, option: u32, content: &[u8]) -> Answer
@@ -64,7 +64,7 @@ pub fn answer_of(export: &Export, option: u32, content: &[u8]) -> Answer
     }
 }
 
-/// What is answered to the option with this number where its data have more than `nbd_wire::MAX_OPTION_DATA`
+/// What is answered to the option with this number where its data have more than `MAX_OPTION_DATA`
 /// bytes, whatever they are.
 pub fn answer_unread(option: u32) -> Answer
     ensures { IsAnswerUnread option result }

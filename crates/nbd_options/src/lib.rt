@@ -17,5 +17,5 @@ mod replies;
 pub use answer::{Answer, answer_of, answer_unread};
 pub use export::Export;
 pub use laws::a_negotiation_has_one_end;
-pub use negotiation::{MAX_OPTIONS, NegotiationEnd, negotiate};
+pub use negotiation::{MAX_OPTION_DATA, MAX_OPTIONS, NegotiationEnd, negotiate};
 pub use replies::write_answer;

@@ -1,4 +1,4 @@
-ghost use Rattle.std.specs.Prelude.{◌≡◌};
+ghost use Rattle.std.specs.Prelude.{◌≡◌, length, vec_len, IfOk};
 ghost use Rattle.lsvd_fault.specs.Faults.{Counts};
 ghost use Rattle.nbd_wire.specs.Reading.{ReadsData, is_link_fault};
 ghost use Rattle.nbd_options.specs.declared.export.Export.{Export};
@@ -11,14 +11,16 @@ use crate::export::Export;
 use crate::replies::write_answer;
 use lsvd_fault::{Link, Source};
 use nbd_wire::{
-    MAX_OPTION_DATA, OptionHead, WireEnd, drop_data, read_flags, read_option_data,
-    read_option_head, write_greeting,
+    OptionHead, WireEnd, drop_data, read_data, read_flags, read_option_head, write_greeting,
 };
-use std::alloc::Global;
+use std::alloc::{AllocError, Global};
 
 /// The most options that one negotiation answers, refused ones included. The one after them closes the
 /// connection.
 pub const MAX_OPTIONS: u32 = 1_024;
+
+/// The most bytes of data that an option is read with.
+pub const MAX_OPTION_DATA: u32 = 65_536;
 
 // The flag of a client that wants no zeros after an export.
 const NO_ZEROES: u32 = 2;
@@ -37,8 +39,7 @@ pub enum NegotiationEnd {
     Closed,
     /// A read or a write of the link failed, and was counted there.
     LinkFault,
-    /// Memory ran out for the data of an option. Nothing of these data was read, and nothing was answered to
-    /// it.
+    /// There was no memory for the data of options. Nothing was read, and nothing was sent.
     OutOfMemory,
 }
 
@@ -53,7 +54,6 @@ impl From<WireEnd> for NegotiationEnd {
             WireEnd::Ended => NegotiationEnd::Ended,
             WireEnd::Closed => NegotiationEnd::Closed,
             WireEnd::LinkFault => NegotiationEnd::LinkFault,
-            WireEnd::OutOfMemory => NegotiationEnd::OutOfMemory,
         }
     }
 }
@@ -62,33 +62,45 @@ impl From<WireEnd> for NegotiationEnd {
 /// and then each option is read and answered, until one enters the export or ends the negotiation, or the
 /// connection is to be closed.
 ///
-/// Nothing past the last option is read where the client has entered. Data of an option that are longer than
-/// `nbd_wire::MAX_OPTION_DATA` bytes are read in pieces and dropped, so memory is bounded whatever the client
-/// sends. After a fault and after want of memory what was sent is a front of the negotiation's bytes.
+/// Nothing past the last option is read where the client has entered. All memory is taken before the
+/// greeting, for `MAX_OPTION_DATA` bytes: longer data of an option are read in pieces and dropped. After a
+/// fault what was sent is a front of the negotiation's bytes.
 pub fn negotiate<K: Link>(alloc: Global, link: &mut K, export: &Export) -> NegotiationEnd
     ensures bytes { Negotiates export.now result (K.remaining link.old) (K.remaining link.new)
         (K.contents link.old) (K.contents link.new) }
     ensures count { Counts (is_fault result) (K.Source.faults link.old) (K.Source.faults link.new) }
 {
-    match answer_options(alloc, link, export) {
+    let Ok(mut content) = room_for_data(alloc) else {
+        return NegotiationEnd::OutOfMemory;
+    };
+    match answer_options(link, export, content.as_mut_slice()) {
         Ok(end) => end,
         Err(end) => NegotiationEnd::from(end),
     }
 }
 
-// The negotiation, where a message that cannot be read or written ends it by `?`.
+// Room for the data of an option.
+fn room_for_data(alloc: Global) -> Result<Vec<u8>, AllocError>
+    ensures { IfOk result (λ content. vec_len content ≡ MAX_OPTION_DATA) }
+{
+    vec![in alloc; 0u8; MAX_OPTION_DATA as usize]
+}
+
+// The negotiation, where a message that cannot be read or written ends it by `?`. The data of options are
+// read into `content`.
 fn answer_options<K: Link>(
-    alloc: Global,
     link: &mut K,
     export: &Export,
+    content: &mut [u8],
 ) -> Result<NegotiationEnd, WireEnd>
+    requires { length content.old ≡ MAX_OPTION_DATA }
     ensures bytes { Negotiates export.now (end_in result) (K.remaining link.old) (K.remaining link.new)
         (K.contents link.old) (K.contents link.new) }
     ensures count { Counts (is_fault (end_in result)) (K.Source.faults link.old) (K.Source.faults link.new) }
 {
     let zeroes = greet(link)?;
     for _ in 0..MAX_OPTIONS {
-        let answer = answer_option(alloc, link, export, zeroes)?;
+        let answer = answer_option(link, export, zeroes, content)?;
         if let Some(end) = end_of(answer) {
             return Ok(end);
         }
@@ -110,28 +122,30 @@ fn greet<K: Link>(link: &mut K) -> Result<bool, WireEnd>
 
 // Reads an option and answers it.
 fn answer_option<K: Link>(
-    alloc: Global,
     link: &mut K,
     export: &Export,
     zeroes: bool,
+    content: &mut [u8],
 ) -> Result<Answer, WireEnd>
+    requires { length content.old ≡ MAX_OPTION_DATA }
     ensures bytes { AnswersOption export.now zeroes (K.remaining link.old) (K.remaining link.new)
         (K.contents link.old) (K.contents link.new) result }
     ensures count { Counts (is_link_fault result) (K.Source.faults link.old) (K.Source.faults link.new) }
 {
     let head = read_option_head(link)?;
-    let answer = read_to_answer(alloc, link, export, head)?;
+    let answer = read_to_answer(link, export, head, content)?;
     write_answer(link, export, head.option, zeroes, answer)?;
     Ok(answer)
 }
 
 // Reads the data of the option with this head, or drops them where they are too long: what is answered to it.
 fn read_to_answer<K: Source>(
-    alloc: Global,
     link: &mut K,
     export: &Export,
     head: OptionHead,
+    content: &mut [u8],
 ) -> Result<Answer, WireEnd>
+    requires { length content.old ≡ MAX_OPTION_DATA }
     ensures bytes { ReadsData head.length (IsAnswerTo export.now head.option) (K.remaining link.old)
         (K.remaining link.new) result }
     ensures other { K.written link.new ≡ K.written link.old }
@@ -141,8 +155,9 @@ fn read_to_answer<K: Source>(
         drop_data(link, head.length)?;
         return Ok(answer_unread(head.option));
     }
-    let content = read_option_data(alloc, link, head.length)?;
-    Ok(answer_of(export, head.option, content.as_slice()))
+    let read = &mut content[..head.length as usize];
+    read_data(link, read)?;
+    Ok(answer_of(export, head.option, read))
 }
 
 // The end that comes with an answer, if any.

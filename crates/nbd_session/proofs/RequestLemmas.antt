@@ -9,10 +9,10 @@ use Rattle.lsvd_base.specs.declared.geometry.Geometry.{Geometry}
 use Rattle.lsvd_fault.proofs.Streams.{consumes_more}
 use Rattle.nbd_wire.specs.declared.message.Request.{Request}
 use Rattle.nbd_wire.specs.declared.wire_end.WireEnd.{WireEnd}
-use Rattle.nbd_wire.specs.declared.wire_end.WireEnd.TheVariants.{Ended, Closed, LinkFault, OutOfMemory}
+use Rattle.nbd_wire.specs.declared.wire_end.WireEnd.TheVariants.{Ended, Closed, LinkFault}
 use Rattle.nbd_wire.specs.Laws.{IsReadOneWay}
 use Rattle.nbd_wire.specs.Messages.{request_bytes, IsRequest, simple_reply_bytes}
-use Rattle.nbd_wire.specs.Reading.{BeginsNoMessage, HasFewerThan, HasMemory, ReadsMessage, ReadsData}
+use Rattle.nbd_wire.specs.Reading.{BeginsNoMessage, HasFewerThan, ReadsMessage, ReadsData}
 use Rattle.nbd_wire.specs.Writing.{WritesFront, WritesMessage}
 use Rattle.nbd_session.specs.declared.asking.Asked.{Asked}
 use Rattle.nbd_session.specs.declared.asking.Asked.TheVariants as askings
@@ -63,23 +63,21 @@ pub head_broken : {M : Type 0} (io : BlockRelations M) (first last : LinkBytes) 
 head_broken io first last moment Ended read same = (refl, inr (read.0, read.1, same))
 head_broken io first last moment Closed read same = (refl, no_request first.left read.0, (read.1.0, read.1.2, same))
 head_broken io first last moment LinkFault read same = inl (refl, (read.0, read.2, same))
-head_broken io first last moment OutOfMemory read same = absurd read
 
 -- it was read, but its data were not
 pub data_broken : {M : Type 0} (io : BlockRelations M) (first last : LinkBytes) (moment : M) (mid : Option (List ℕ))
     (request : Request)
     (end : WireEnd) → IsReadOneWay IsRequest → ReadsMessage 28 IsRequest first.left mid (Ok request)
     → ReadsData {T = Option (List ℕ)} (content_size request) IsContent mid last.left (Err end)
-    → HasMemory {T = Option (List ℕ)} (Err end) → last.sent ≡ first.sent → ServesRequest io (Err end) first last moment moment
-data_broken io first last moment mid request Ended one_way head more memory same = absurd more
-data_broken io first last moment mid request Closed one_way head more memory same = (
+    → last.sent ≡ first.sent → ServesRequest io (Err end) first last moment moment
+data_broken io first last moment mid request Ended one_way head more same = absurd more
+data_broken io first last moment mid request Closed one_way head more same = (
   refl,
   cut_off one_way head.0 request first.left mid head.1 head.2 more.0,
   (head.0 ++ more.1.0, consumes_more first.left mid last.left head.0 more.1.0 head.2 more.1.2, same),
 )
-data_broken io first last moment mid request LinkFault one_way head more memory same =
+data_broken io first last moment mid request LinkFault one_way head more same =
     inl (refl, (head.0 ++ more.0, consumes_more first.left mid last.left head.0 more.0 head.2 more.2, same))
-data_broken io first last moment mid request OutOfMemory one_way head more memory same = absurd memory
 
 -- a request that was read with its data
 pub record HasRead (old new : Option (List ℕ)) (request : Request) (body : Option (List ℕ)) : Type 0 where
@@ -224,7 +222,6 @@ reply_broken io first last mid_left mid_sent request outcome old new LinkFault c
           (subst (λ (xs : List ℕ). WritesFront xs mid_sent last.sent)
           (reply_is x request outcome carried.request_is carried.outcome_is) sent);
     })
-reply_broken io first last mid_left mid_sent request outcome old new OutOfMemory carried same_left same_sent sent = absurd sent
 
 -- ---- the bytes of a reply
 

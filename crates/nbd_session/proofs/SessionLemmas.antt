@@ -90,7 +90,6 @@ after_any : {M : Type 0} (io : BlockRelations M) (end : WireEnd) (count : ℕ) (
 after_any io wire.Ended count now last old new ends = ends
 after_any io wire.Closed count now last old new ends = ends
 after_any io wire.LinkFault count now last old new ends = ends
-after_any io wire.OutOfMemory count now last old new ends = ends
 
 pub broken_off : {M : Type 0} (io : BlockRelations M) (end : WireEnd) (count : ℕ) (first now last : LinkBytes)
     (old mid new : M)

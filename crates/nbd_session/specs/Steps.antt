@@ -65,7 +65,6 @@ abbrev pub of_wire : WireEnd → SessionEnd
 of_wire wire.Ended = ends.Ended
 of_wire wire.Closed = ends.Closed
 of_wire wire.LinkFault = ends.LinkFault
-of_wire wire.OutOfMemory = ends.OutOfMemory
 
 -- a request was read and answered, and the session goes on; or it is one to disconnect; or the session ends by the link
 abbrev pub ServesRequest : {M : Type 0} → BlockRelations M → Result Bool WireEnd → (first last : LinkBytes)

@@ -1,6 +1,6 @@
 ghost use Rattle.std.specs.Prelude.{◌≡◌, ◌%◌, IfOk, vec_len};
 ghost use Rattle.lsvd_fault.specs.Faults.{Counts};
-ghost use Rattle.nbd_wire.specs.Reading.{ReadsData, HasMemory, is_link_fault};
+ghost use Rattle.nbd_wire.specs.Reading.{ReadsData, is_link_fault};
 ghost use Rattle.nbd_session.specs.Exchanges.{content_size};
 ghost use Rattle.nbd_session.specs.Steps.{IsContent, IsWholeSectors};
 
@@ -23,7 +23,6 @@ pub(crate) fn read_content<K: Source>(
     requires { IsWholeSectors asked request.now }
     ensures bytes { ReadsData (content_size request.now) IsContent (K.remaining link.old)
         (K.remaining link.new) result }
-    ensures memory { HasMemory result }
     ensures other { K.written link.new ≡ K.written link.old }
     ensures count { Counts (is_link_fault result) (K.faults link.old) (K.faults link.new) }
 {
@@ -42,7 +41,6 @@ pub(crate) fn read_content<K: Source>(
 fn read_body<K: Source>(alloc: Global, link: &mut K, size: u32) -> Result<Option<Body>, WireEnd>
     requires { size % 512 ≡ 0 }
     ensures bytes { ReadsData size IsContent (K.remaining link.old) (K.remaining link.new) result }
-    ensures memory { HasMemory result }
     ensures other { K.written link.new ≡ K.written link.old }
     ensures count { Counts (is_link_fault result) (K.faults link.old) (K.faults link.new) }
 {
@@ -56,7 +54,6 @@ fn read_body<K: Source>(alloc: Global, link: &mut K, size: u32) -> Result<Option
 // Reads the data of a write and drops them.
 fn drop_body<K: Source>(link: &mut K, size: u32) -> Result<Option<Body>, WireEnd>
     ensures bytes { ReadsData size IsContent (K.remaining link.old) (K.remaining link.new) result }
-    ensures memory { HasMemory result }
     ensures other { K.written link.new ≡ K.written link.old }
     ensures count { Counts (is_link_fault result) (K.faults link.old) (K.faults link.new) }
 {

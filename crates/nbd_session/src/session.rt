@@ -39,7 +39,7 @@ pub enum SessionEnd {
     Spent,
     /// A read or a write of the link failed, and was counted there.
     LinkFault,
-    /// Memory ran out in the negotiation, for the data of an option.
+    /// There was no memory for the negotiation, of which nothing was sent.
     OutOfMemory,
 }
 
@@ -54,7 +54,6 @@ impl From<WireEnd> for SessionEnd {
             WireEnd::Ended => SessionEnd::Ended,
             WireEnd::Closed => SessionEnd::Closed,
             WireEnd::LinkFault => SessionEnd::LinkFault,
-            WireEnd::OutOfMemory => SessionEnd::OutOfMemory,
         }
     }
 }

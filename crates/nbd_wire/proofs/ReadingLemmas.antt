@@ -7,8 +7,8 @@ use Rattle.std.proofs.Math.Seq.{take-add}
 use borrow.Rule.Slice.PartMut.{put_mid}
 use Rattle.lsvd_fault.proofs.Streams.{consumes_more}
 use Rattle.nbd_wire.specs.declared.wire_end.WireEnd.{WireEnd}
-use Rattle.nbd_wire.specs.declared.wire_end.WireEnd.TheVariants.{Ended, Closed, LinkFault, OutOfMemory}
-use Rattle.nbd_wire.specs.Reading.{HasMemory, HasFewerThan, ReadsAtMostOf, ReadsData}
+use Rattle.nbd_wire.specs.declared.wire_end.WireEnd.TheVariants.{Ended, Closed, LinkFault}
+use Rattle.nbd_wire.specs.Reading.{HasFewerThan, ReadsAtMostOf, ReadsData}
 
 -- ---- filling a buffer
 
@@ -63,9 +63,9 @@ at_most_after size left part bytes old mid new count fits read more = (
 -- the last of them could not be read
 pub data_end_after : {T U : Type 0} (size left part : ℕ) (IsOf : List ℕ → T → Type 0) (IsOf' : List ℕ → U → Type 0)
     (old mid new : Option (List ℕ)) → IsPartRead size left old mid → part ≤ left → (e : WireEnd)
-    → ReadsData part IsOf mid new (Err e) → HasMemory {T = T} (Err e) → ReadsData size IsOf' old new (Err e)
-data_end_after size left part IsOf IsOf' old mid new before fits Ended read memory = absurd read
-data_end_after size left part IsOf IsOf' old mid new before fits Closed read memory = (
+    → ReadsData part IsOf mid new (Err e) → ReadsData size IsOf' old new (Err e)
+data_end_after size left part IsOf IsOf' old mid new before fits Ended read = absurd read
+data_end_after size left part IsOf IsOf' old mid new before fits Closed read = (
   fewer_before size left part before.bytes old mid before.count fits before.read read.0,
   at_most_after size left part before.bytes old mid new before.count fits before.read read.1,
   read.2,
@@ -77,9 +77,8 @@ data_end_after size left part IsOf IsOf' old mid new before fits Closed read mem
     fewer_before size left part bytes (Some xs) None count fits read few = absurd read
     fewer_before size left part bytes (Some xs) (Some ys) count fits read few =
         omega (arith, count, fits, few, ap length read, length-append bytes ys)
-data_end_after size left part IsOf IsOf' old mid new before fits LinkFault read memory =
+data_end_after size left part IsOf IsOf' old mid new before fits LinkFault read =
     at_most_after size left part before.bytes old mid new before.count fits before.read read
-data_end_after size left part IsOf IsOf' old mid new before fits OutOfMemory read memory = absurd memory
 
 -- one piece more was read
 pub part_more : (size left : ℕ) (piece : List ℕ) (old mid new : Option (List ℕ)) → IsPartRead size left old mid

@@ -3,7 +3,7 @@ use Rattle.std.specs.Prelude.{ℕ, ◌<◌, List, length, ⊤, Option, None, Som
 use Rattle.std.specs.Io.KnownBytes.{Consumes, IsAtEnd, Keeps}
 use Rattle.nbd_wire.specs.Reading.{ReadsAtMostOf}
 use Rattle.nbd_wire.specs.declared.wire_end.WireEnd.{WireEnd}
-use Rattle.nbd_wire.specs.declared.wire_end.WireEnd.TheVariants.{Ended, Closed, LinkFault, OutOfMemory}
+use Rattle.nbd_wire.specs.declared.wire_end.WireEnd.TheVariants.{Ended, Closed, LinkFault}
 
 -- some bytes are left, but fewer than this many
 abbrev pub IsCutOff : ℕ → Option (List ℕ) → Type 0
@@ -16,4 +16,3 @@ ReadsHead head old new (Ok value) = Consumes old new head
 ReadsHead head old new (Err Ended) = IsAtEnd old × Keeps old new
 ReadsHead head old new (Err Closed) = IsCutOff (length head) old × ReadsAtMostOf (length head) old new
 ReadsHead head old new (Err LinkFault) = ReadsAtMostOf (length head) old new
-ReadsHead head old new (Err OutOfMemory) = ⊥

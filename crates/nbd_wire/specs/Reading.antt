@@ -3,7 +3,7 @@
 use Rattle.std.specs.Prelude.{ℕ, ◌≡◌, ◌<◌, ◌≤◌, Bool, true, false, List, ◌++◌, length, ⊤, Option, None, Some, Result, Ok, Err}
 use Rattle.std.specs.Io.KnownBytes.{Consumes, IsAtEnd, Keeps}
 use Rattle.nbd_wire.specs.declared.wire_end.WireEnd.{WireEnd}
-use Rattle.nbd_wire.specs.declared.wire_end.WireEnd.TheVariants.{Ended, Closed, LinkFault, OutOfMemory}
+use Rattle.nbd_wire.specs.declared.wire_end.WireEnd.TheVariants.{Ended, Closed, LinkFault}
 
 -- a call of the link failed
 abbrev pub is_link_fault : {T : Type 0} → Result T WireEnd → Bool
@@ -11,15 +11,6 @@ is_link_fault (Ok value) = false
 is_link_fault (Err Ended) = false
 is_link_fault (Err Closed) = false
 is_link_fault (Err LinkFault) = true
-is_link_fault (Err OutOfMemory) = false
-
--- memory did not run out
-abbrev pub HasMemory : {T : Type 0} → Result T WireEnd → Type 0
-HasMemory (Ok value) = ⊤
-HasMemory (Err Ended) = ⊤
-HasMemory (Err Closed) = ⊤
-HasMemory (Err LinkFault) = ⊤
-HasMemory (Err OutOfMemory) = ⊥
 
 -- some bytes were read, and no more than this many
 abbrev pub ReadsAtMostOf : ℕ → Option (List ℕ) → Option (List ℕ) → Type 0
@@ -38,7 +29,6 @@ ReadsMessage size IsMessage old new (Ok message) = (bytes : List ℕ) × IsMessa
 ReadsMessage size IsMessage old new (Err Ended) = IsAtEnd old × Keeps old new
 ReadsMessage size IsMessage old new (Err Closed) = BeginsNoMessage IsMessage old × ReadsAtMostOf size old new
 ReadsMessage size IsMessage old new (Err LinkFault) = ReadsAtMostOf size old new
-ReadsMessage size IsMessage old new (Err OutOfMemory) = ⊥
 
 -- fewer bytes than this are left
 abbrev pub HasFewerThan : ℕ → Option (List ℕ) → Type 0
@@ -51,4 +41,3 @@ ReadsData size IsOf old new (Ok value) = (bytes : List ℕ) × (length bytes ≡
 ReadsData size IsOf old new (Err Ended) = ⊥
 ReadsData size IsOf old new (Err Closed) = HasFewerThan size old × ReadsAtMostOf size old new × IsAtEnd new
 ReadsData size IsOf old new (Err LinkFault) = ReadsAtMostOf size old new
-ReadsData size IsOf old new (Err OutOfMemory) = Keeps old new

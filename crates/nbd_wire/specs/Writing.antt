@@ -2,7 +2,7 @@
 use Rattle.std.specs.Prelude.{ℕ, ◌≡◌, List, ◌++◌, Option, Result, Ok, Err}
 use Rattle.std.specs.Io.KnownBytes.{Appends}
 use Rattle.nbd_wire.specs.declared.wire_end.WireEnd.{WireEnd}
-use Rattle.nbd_wire.specs.declared.wire_end.WireEnd.TheVariants.{Ended, Closed, LinkFault, OutOfMemory}
+use Rattle.nbd_wire.specs.declared.wire_end.WireEnd.TheVariants.{Ended, Closed, LinkFault}
 
 -- a front of the bytes was written, which may be none of them
 abbrev pub WritesFront : List ℕ → Option (List ℕ) → Option (List ℕ) → Type 0
@@ -14,4 +14,3 @@ WritesMessage bytes old new (Ok value) = Appends old new bytes
 WritesMessage bytes old new (Err Ended) = ⊥
 WritesMessage bytes old new (Err Closed) = ⊥
 WritesMessage bytes old new (Err LinkFault) = WritesFront bytes old new
-WritesMessage bytes old new (Err OutOfMemory) = ⊥

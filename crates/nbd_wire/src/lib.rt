@@ -4,8 +4,8 @@
 //!
 //! Its contract: what is read is the next message of the input, whole, and nothing past it, in whatever
 //! pieces it comes; input that ends inside a message, or is none, is refused. What is written is the
-//! message's bytes. It stands on `lsvd_fault` for links, on `lsvd_bytes` for numbers, and on the kit's
-//! `thiserror`.
+//! message's bytes. No call takes memory. It stands on `lsvd_fault` for links, on `lsvd_bytes` for numbers,
+//! and on the kit's `thiserror`.
 #![tactic(auto)]
 
 mod decoding;
@@ -19,10 +19,7 @@ mod writing;
 
 pub use laws::{a_message_has_one_reading, messages_have_their_sizes};
 pub use message::{OptionHead, Request};
-pub use reading::{
-    MAX_OPTION_DATA, drop_data, read_data, read_flags, read_option_data, read_option_head,
-    read_request,
-};
+pub use reading::{drop_data, read_data, read_flags, read_option_head, read_request};
 pub use wire_end::WireEnd;
 pub use writing::{write_export, write_greeting, write_option_reply, write_simple};
 

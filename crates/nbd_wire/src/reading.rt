@@ -1,8 +1,8 @@
-ghost use Rattle.std.specs.Prelude.{◌≡◌, ℕ, ◌<◌, ◌≤◌, List, length, ⊤, vec_len, IfOk};
+ghost use Rattle.std.specs.Prelude.{◌≡◌, ◌<◌, length, ⊤};
 ghost use Rattle.lsvd_fault.specs.Faults.{Counts};
 ghost use Rattle.nbd_wire.specs.Messages.{IsClientFlags, IsOptionHead, IsRequest};
 ghost use Rattle.nbd_wire.specs.Heads.{ReadsHead};
-ghost use Rattle.nbd_wire.specs.Reading.{ReadsMessage, ReadsData, HasMemory, is_link_fault};
+ghost use Rattle.nbd_wire.specs.Reading.{ReadsMessage, ReadsData, is_link_fault};
 
 use crate::decoding::{client_flags_of, option_head_of, request_of};
 use crate::filling::fill;
@@ -10,10 +10,6 @@ use crate::message::{OptionHead, Request};
 use crate::wire_end::WireEnd;
 use crate::{CLIENT_FLAGS_BYTES, OPTION_HEAD_BYTES, REQUEST_BYTES};
 use lsvd_fault::Source;
-use std::alloc::{AllocError, Global};
-
-/// The most bytes of data that an option is read with.
-pub const MAX_OPTION_DATA: u32 = 65_536;
 
 // The most bytes that one read of data to be dropped asks for.
 const PIECE: usize = 4096;
@@ -55,31 +51,11 @@ pub fn read_request<K: Source>(link: &mut K) -> Result<Request, WireEnd>
     request_of(&bytes).ok_or(WireEnd::Closed)
 }
 
-/// Reads the data of an option. They have at most `MAX_OPTION_DATA` bytes (a condition), so that no client
-/// makes a server take more memory. `Closed` comes where the input ends before them all, and `OutOfMemory`
-/// before anything was read.
-pub fn read_option_data<K: Source>(
-    alloc: Global,
-    link: &mut K,
-    size: u32,
-) -> Result<Vec<u8>, WireEnd>
-    requires { size ≤ MAX_OPTION_DATA }
-    ensures bytes { ReadsData size (λ bytes content. content.items ≡ bytes) (K.remaining link.old)
-        (K.remaining link.new) result }
-    ensures other { K.written link.new ≡ K.written link.old }
-    ensures count { Counts (is_link_fault result) (K.faults link.old) (K.faults link.new) }
-{
-    let mut content = zeros(alloc, size as usize)?;
-    read_data(link, content.as_mut_slice())?;
-    Ok(content)
-}
-
-/// Reads data of a message into the whole of `buf`, as those of a write. `Closed` comes where the input ends
-/// before them all; after it and after a fault any bytes stand in `buf`.
+/// Reads data of a message into the whole of `buf`, as those of an option or of a write. `Closed` comes where
+/// the input ends before them all; after it and after a fault any bytes stand in `buf`.
 pub fn read_data<K: Source>(link: &mut K, buf: &mut [u8]) -> Result<(), WireEnd>
     ensures bytes { ReadsData (length buf.new) (λ bytes _. buf.new ≡ bytes) (K.remaining link.old)
         (K.remaining link.new) result }
-    ensures memory { HasMemory result }
     ensures other { K.written link.new ≡ K.written link.old }
     ensures count { Counts (is_link_fault result) (K.faults link.old) (K.faults link.new) }
 {
@@ -95,7 +71,6 @@ pub fn read_data<K: Source>(link: &mut K, buf: &mut [u8]) -> Result<(), WireEnd>
 /// all.
 pub fn drop_data<K: Source>(link: &mut K, size: u32) -> Result<(), WireEnd>
     ensures bytes { ReadsData size (λ _ _. ⊤) (K.remaining link.old) (K.remaining link.new) result }
-    ensures memory { HasMemory result }
     ensures other { K.written link.new ≡ K.written link.old }
     ensures count { Counts (is_link_fault result) (K.faults link.old) (K.faults link.new) }
 {
@@ -120,18 +95,10 @@ fn read_head<K: Source>(link: &mut K, buf: &mut [u8]) -> Result<(), WireEnd>
     Err(WireEnd::Closed)
 }
 
-// So many zeros.
-fn zeros(alloc: Global, count: usize) -> Result<Vec<u8>, AllocError>
-    ensures { IfOk result (λ content. vec_len content ≡ count) }
-{
-    vec![in alloc; 0u8; count]
-}
-
 // Reads data into the piece, again and again, and drops them.
 fn drop_pieces<K: Source>(link: &mut K, piece: &mut [u8], size: u32) -> Result<(), WireEnd>
     requires { 0 < length piece.old }
     ensures bytes { ReadsData size (λ _ _. ⊤) (K.remaining link.old) (K.remaining link.new) result }
-    ensures memory { HasMemory result }
     ensures other { K.written link.new ≡ K.written link.old }
     ensures count { Counts (is_link_fault result) (K.faults link.old) (K.faults link.new) }
 {

@@ -2,7 +2,6 @@ ghost use Rattle.std.specs.Prelude.{◌≡◌};
 ghost use Rattle.nbd_wire.specs.declared.wire_end.WireEnd.TheVariants as ends;
 
 use lsvd_fault::Failed;
-use std::alloc::AllocError;
 use thiserror::Error;
 
 /// Why a message was not read or not written.
@@ -17,9 +16,6 @@ pub enum WireEnd {
     /// A read or a write of the link failed, and was counted there.
     #[error("a read or a write failed")]
     LinkFault,
-    /// Memory ran out for the data. Nothing was read.
-    #[error("out of memory")]
-    OutOfMemory,
 }
 
 impl From<Failed> for WireEnd {
@@ -27,13 +23,5 @@ impl From<Failed> for WireEnd {
 
     fn from(_: Failed) -> WireEnd {
         WireEnd::LinkFault
-    }
-}
-
-impl From<AllocError> for WireEnd {
-    ghost from_gives = { λ _ e. e ≡ ends.OutOfMemory };
-
-    fn from(_: AllocError) -> WireEnd {
-        WireEnd::OutOfMemory
     }
 }

@@ -1,5 +1,6 @@
 ghost use Rattle.std.specs.Prelude.{◌≡◌, ◌+◌, ◌-◌, ◌<◌, ◌≤◌, ◌^◌, ℕ, ◌↔◌, [], length, option_map, Err};
-ghost use Rattle.std.specs.Prelude.{IsTrue, IsErr, IfOk, IfErr, IfSome, IfNone, OnOk, OnErr, true, false};
+ghost use Rattle.std.specs.Prelude.{IsTrue, IsOk, IsErr, IfOk, IfErr, IfSome, IfNone, OnOk, OnErr, true};
+ghost use Rattle.std.specs.Prelude.{false};
 ghost use Rattle.std.specs.List.{sum_by, slice_get};
 ghost use Rattle.lsvd_base.specs.Limits.{is_within_limits};
 ghost use Rattle.lsvd_base.specs.Range.{is_in_range};
@@ -10,7 +11,7 @@ ghost use Rattle.upload_window.specs.Window.{lowest_ready, IsFrontier};
 ghost use Rattle.volume_maps.specs.Places.{volume_on, volume_number};
 ghost use Rattle.volume_maps.specs.Maps.{volume_place_at};
 ghost use Rattle.batcher.specs.Batch.{data_sectors};
-ghost use Rattle.object_uploads.specs.Queue.{FitObject, receipt_of};
+ghost use Rattle.object_uploads.specs.Queue.{FitObject, HasRoomForObject, receipt_of};
 ghost use Rattle.object_uploads.specs.Order.{IsUploads};
 ghost use Rattle.object_uploads.specs.Changes.{with_job, IsJobOf, IsOut, IsPutDone};
 ghost use Rattle.obj_log.specs.declared.error.SealError.TheVariants as errors;
@@ -79,9 +80,11 @@ impl<R: Receipt> ObjLog<R> {
         }
     }
 
-    /// Takes memory for one entry more. The one error is that memory ran out; but for room nothing changes.
+    /// Takes memory for one entry more. The one error is that memory ran out, which comes only where it is
+    /// missing; but for room nothing changes.
     pub fn reserve(&mut self) -> Result<(), AllocError>
         ensures room { OnOk result (HasRoomToAdd self.new) }
+        ensures succeeds { HasRoomToAdd self.old → IsOk result }
         ensures same { IsSame self.old self.new }
     {
         self.batch.reserve()?;
@@ -135,8 +138,8 @@ impl<R: Receipt> ObjLog<R> {
     /// rows, the count of entries up to its end, and the receipt that the store gave for it. The batch goes
     /// on at that end. No object is past the frontier, the batch has no entry, the numbers go on below 2^64 -
     /// 1, the end is not before that of the frontier, and the rows are 65,536 at most, end below 2^63, and
-    /// their places in the object below 2^32 (conditions). The one error is out of memory; then nothing
-    /// changes but room.
+    /// their places in the object below 2^32 (conditions). The one error is out of memory, which comes only
+    /// where room for it is missing; then nothing changes but room.
     pub fn adopt(
         &mut self,
         alloc: Global,
@@ -150,6 +153,7 @@ impl<R: Receipt> ObjLog<R> {
         requires order { self.old.uploads.queue.end ≤ end }
         requires fit { FitObject rows.now }
         ensures adopted { OnOk result (HasAdoptedObject rows.now end (R.state receipt) self.old self.new) }
+        ensures succeeds { HasRoomForObject rows.now self.old.uploads.queue → IsOk result }
         ensures same { OnErr result (IsSame self.old self.new) }
         ensures order { IsUploads self.old.uploads.queue self.old.uploads.window }
     {

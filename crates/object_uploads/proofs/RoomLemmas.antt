@@ -1,6 +1,6 @@
 -- What room there is for the objects past the frontier.
 use Rattle.std.proofs.Common.{◌≡◌, ◌+◌, ◌-◌, ◌<◌, ◌≤◌, ℕ, zero, suc, List, [], ◌∷◌, ◌++◌, length, drop, refl, sym, ◌∙◌, ap}
-use Rattle.std.proofs.Common.{subst, arith}
+use Rattle.std.proofs.Common.{subst, arith, min}
 use Rattle.std.specs.Prelude.{Option, Some, None, IsSome, option_map, option_to_list}
 use Rattle.std.specs.List.{AllByRecursion, sum_by}
 use Rattle.std.proofs.lemmas.List.Sums.{sum_by-cons, sum_by_push}
@@ -159,6 +159,14 @@ kept_with index change list now maps rows receipts frontier room limit is same h
       omega (arith, size, within),
       omega (arith, size, below),
     )
+
+-- ---- room for an object
+
+-- a place for an object is one among the objects, and one among the receipts beside those of the others
+pub place_parts : (sealed capacity receipts receipt_capacity : ℕ)
+    → 1 ≤ min (capacity - sealed) (receipt_capacity - (receipts + sealed))
+    → (sealed < capacity) × (receipts + (sealed + 1) ≤ receipt_capacity)
+place_parts sealed capacity receipts receipt_capacity has = (omega (arith, has), omega (arith, has))
 
 -- ---- the log's map is changed
 

@@ -66,6 +66,13 @@ pub record HasRoomForRows (sealed : List SealedState) (maps : MapsState) : Type 
 abbrev pub HasRoomForEntry : QueueState → Type 0
 HasRoomForEntry queue = sum_by row_count queue.sealed + 1 ≤ queue.maps.log.spare
 
+-- there is room for one object more with these rows: a place for it and for its receipt, and for the changes of its rows beside
+-- those of the others
+pub record HasRoomForObject (rows : List DataRow) (queue : QueueState) : Type 0 where
+  pub place : 1 ≤ queue.places
+  pub settled : sum_by row_count queue.sealed + length rows ≤ queue.maps.settled.spare
+  pub log : sum_by row_count queue.sealed + length rows ≤ queue.maps.log.spare
+
 -- the places are as before
 pub record HasSamePlaces (old new : MapsState) : Type 0 where
   pub settled : new.settled.rows ≡ old.settled.rows

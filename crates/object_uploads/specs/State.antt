@@ -33,6 +33,8 @@ pub record QueueState : Type 0 where
   pub receipts : List ReceiptState
   -- which object up to the frontier has each sector, and where the log has those that later entries changed
   pub maps : MapsState
+  -- for how many more sealed objects, and for as many receipts, there is room
+  pub places : ℕ
 
 -- the objects of a volume, and which of them are on their way to the store
 pub record UploadsState : Type 0 where

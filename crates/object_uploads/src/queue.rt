@@ -1,5 +1,5 @@
 ghost use Rattle.std.specs.Prelude.{◌≡◌, ◌+◌, ◌-◌, ◌<◌, ◌≤◌, ◌^◌, ℕ, ◌++◌, ◌∷◌, [], length, OnOk, OnErr};
-ghost use Rattle.std.specs.Prelude.{IsTrue, IsSome, IfSome, ◌↔◌, false, true, option_map};
+ghost use Rattle.std.specs.Prelude.{IsTrue, IsSome, IfSome, IsOk, ◌↔◌, false, true, option_map};
 ghost use Rattle.std.specs.Prelude.{vec_capacity};
 ghost use Rattle.std.specs.List.{sum_by, slice_get};
 ghost use Rattle.std.specs.VecDeque.{deque_len, deque_capacity};
@@ -9,8 +9,8 @@ ghost use Rattle.object_uploads.specs.Invariant.{IsOpenAt};
 ghost use Rattle.object_uploads.specs.State.{QueueState};
 ghost use Rattle.object_uploads.specs.Queue.{with_at, just_sealed, with_spare, with_receipt, front_of};
 ghost use Rattle.object_uploads.specs.Queue.{FitObject, row_count, HasBytesAt, HasRoomForEntry};
-ghost use Rattle.object_uploads.specs.Queue.{HasSamePlaces, IsEntered, IsSettledBy, IsNextSettled};
-ghost use Rattle.object_uploads.specs.Queue.{FirstWaits, receipt_of};
+ghost use Rattle.object_uploads.specs.Queue.{HasRoomForObject, HasSamePlaces, IsEntered, IsSettledBy};
+ghost use Rattle.object_uploads.specs.Queue.{IsNextSettled, FirstWaits, receipt_of};
 ghost use Rattle.object_uploads.specs.Changes.{HasSameSettled};
 
 use crate::sealed::Sealed;
@@ -35,8 +35,9 @@ pub(crate) struct Queue<R: Receipt> {
 }
 
 impl<R: Receipt> Model for Queue<R> {
-    ghost use Rattle.std.specs.Prelude.{◌≡◌, ◌+◌, ◌≤◌, ◌^◌, ◌<◌, length, map, vec_capacity};
+    ghost use Rattle.std.specs.Prelude.{◌≡◌, ◌+◌, ◌-◌, ◌≤◌, ◌^◌, ◌<◌, min, length, map, vec_capacity};
     ghost use Rattle.std.specs.List.{sum_by};
+    ghost use Rattle.std.specs.VecDeque.{deque_capacity};
     ghost use Rattle.object_uploads.specs.Invariant.{IsOpenAt};
     ghost use Rattle.object_uploads.specs.State.{QueueState};
     ghost use Rattle.object_uploads.specs.Queue.{row_count, HasRoomForRows};
@@ -49,6 +50,8 @@ impl<R: Receipt> Model for Queue<R> {
       sealed = q.sealed.items;
       receipts = map R.state q.receipts.items;
       maps = q.maps;
+      places = min (deque_capacity q.sealed - length q.sealed.items)
+          (vec_capacity q.receipts - (length q.receipts.items + length q.sealed.items));
     } };
 
     ghost invariant = { λ q.
@@ -79,7 +82,8 @@ impl<R: Receipt> Queue<R> {
         }
     }
 
-    // Appends a sealed object, with all the room that it needs later. The one error is out of memory.
+    // Appends a sealed object, with all the room that it needs later. The one error is out of memory, which
+    // comes only where that room is missing.
     pub(crate) fn push(
         &mut self,
         object: ObjectBytes,
@@ -92,6 +96,7 @@ impl<R: Receipt> Queue<R> {
         requires numbers { self.old.frontier + length self.old.sealed + 1 < 2 ^ 64 }
         ensures sealed { OnOk result (self.new.sealed ≡ self.old.sealed ++ just_sealed object rows.items
             end ∷ []) }
+        ensures succeeds { HasRoomForObject rows.items self.old → IsOk result }
         ensures same { OnErr result (self.new.sealed ≡ self.old.sealed) }
         ensures frontier { self.new.frontier ≡ self.old.frontier }
         ensures end { self.new.end ≡ self.old.end }
@@ -99,6 +104,8 @@ impl<R: Receipt> Queue<R> {
         ensures places { HasSamePlaces self.old.maps self.new.maps }
         ensures log_kept { self.old.maps.log.spare ≤ self.new.maps.log.spare }
     {
+        // The room of a map is a `usize`; so rows that there is room for are not too many to be counted.
+        let _spare = self.maps.log_spare();
         let Some(all) = self.rows.checked_add(rows.len()) else {
             return Err(AllocError);
         };
@@ -135,13 +142,14 @@ impl<R: Receipt> Queue<R> {
         self.receipts.push_reserved(receipt.unwrap());
     }
 
-    // Settles the next number's object, where none is past the frontier. The one error is out of memory; then
-    // only room changed.
+    // Settles the next number's object, where none is past the frontier. The one error is out of memory,
+    // which comes only where room for it is missing; then only room changed.
     pub(crate) fn adopt(&mut self, rows: &[DataRow], end: u64, receipt: R) -> Result<(), AllocError>
         requires none { self.old.sealed ≡ [] }
         requires numbers { self.old.frontier + 1 < 2 ^ 64 }
         requires fit { FitObject rows.now }
         ensures settled { OnOk result (IsNextSettled rows.now end (R.state receipt) self.old self.new) }
+        ensures succeeds { HasRoomForObject rows.now self.old → IsOk result }
         ensures sealed { OnErr result (self.new.sealed ≡ self.old.sealed) }
         ensures same { OnErr result (HasSameSettled self.old self.new) }
     {
@@ -209,9 +217,10 @@ impl<R: Receipt> Queue<R> {
     }
 
     // Makes room for a change of the log's map, beside that for the objects' rows. The one error is out of
-    // memory.
+    // memory, which comes only where that room is missing.
     pub(crate) fn reserve_entry(&mut self) -> Result<(), AllocError>
         ensures room { OnOk result (HasRoomForEntry self.new) }
+        ensures succeeds { HasRoomForEntry self.old → IsOk result }
         ensures sealed { self.new.sealed ≡ self.old.sealed }
         ensures frontier { self.new.frontier ≡ self.old.frontier }
         ensures end { self.new.end ≡ self.old.end }
@@ -219,6 +228,9 @@ impl<R: Receipt> Queue<R> {
         ensures places { HasSamePlaces self.old.maps self.new.maps }
         ensures log_kept { self.old.maps.log.spare ≤ self.new.maps.log.spare }
     {
+        if self.rows < self.maps.log_spare() {
+            return Ok(());
+        }
         let Some(changes) = self.rows.checked_add(1) else {
             return Err(AllocError);
         };
@@ -269,7 +281,8 @@ impl<R: Receipt> Queue<R> {
     }
 }
 
-// Makes room for one more object, where all have so many rows then. The one error is out of memory.
+// Makes room for one more object, where all have so many rows then. The one error is out of memory, which
+// comes only where that room is missing.
 fn make_room<R: Receipt>(
     sealed: &mut VecDeque<Sealed<R>>,
     receipts: &mut Vec<R>,
@@ -282,6 +295,9 @@ fn make_room<R: Receipt>(
         (length receipts.old.items + (length sealed.old.items + 1) ≤ vec_capacity receipts.new) }
     ensures settled_room { OnOk result (rows ≤ maps.new.settled.spare) }
     ensures log_room { OnOk result (rows ≤ maps.new.log.spare) }
+    ensures succeeds { length sealed.old.items < deque_capacity sealed.old
+        → length receipts.old.items + (length sealed.old.items + 1) ≤ vec_capacity receipts.old
+        → rows ≤ maps.old.settled.spare → rows ≤ maps.old.log.spare → IsOk result }
     ensures sealed { sealed.new.items ≡ sealed.old.items }
     ensures receipts { receipts.new.items ≡ receipts.old.items }
     ensures receipts_kept { vec_capacity receipts.old ≤ vec_capacity receipts.new }

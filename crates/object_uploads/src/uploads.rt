@@ -1,12 +1,13 @@
 ghost use Rattle.std.specs.Prelude.{◌≡◌, ◌+◌, ◌-◌, ◌<◌, ◌≤◌, ◌^◌, ℕ, ◌↔◌, [], length, option_map, IsTrue};
-ghost use Rattle.std.specs.Prelude.{IsErr, IfOk, IfErr, IfSome, IfNone, OnOk, OnErr, true, false};
+ghost use Rattle.std.specs.Prelude.{IsOk, IsErr, IfOk, IfErr, IfSome, IfNone, OnOk, OnErr, true, false};
 ghost use Rattle.lsvd_base.specs.Laws.{first_sector, sector_count};
 ghost use Rattle.lsvd_names.specs.Names.{numbered_name};
 ghost use Rattle.extent_map.specs.Extents.{place_at, place_in_range, IsShortest, AllFit};
 ghost use Rattle.upload_window.specs.Window.{lowest_ready, IsFrontier};
 ghost use Rattle.volume_maps.specs.Places.{volume_on, volume_number, log_number, row_left_by};
 ghost use Rattle.volume_maps.specs.Maps.{volume_place_at};
-ghost use Rattle.object_uploads.specs.Queue.{FitObject, HasRoomForEntry, IsEntered, receipt_of};
+ghost use Rattle.object_uploads.specs.Queue.{FitObject, HasRoomForEntry, HasRoomForObject, IsEntered};
+ghost use Rattle.object_uploads.specs.Queue.{receipt_of};
 ghost use Rattle.object_uploads.specs.Order.{IsUploads};
 ghost use Rattle.object_uploads.specs.Invariant.{IsOpenAt};
 ghost use Rattle.object_uploads.specs.Changes.{index_of, IsSealedNext, IsNotSealed, with_job, IsJobOf, IsOut};
@@ -70,8 +71,8 @@ impl<R: Receipt> Uploads<R> {
     /// Seals a data object, which is given twice, with its rows and the count of entries up to its end, and
     /// answers its number: the next one. Fewer than 16 objects are open, the numbers go on below 2^64 - 1,
     /// and the rows are 65,536 at most, end below 2^63, and their places in the object below 2^32
-    /// (conditions). The one error is out of memory, after which the objects are as before: all that
-    /// acknowledging it takes is made here.
+    /// (conditions). The one error is out of memory, which comes only where room for one object more is
+    /// missing, and after which the objects are as before: all that acknowledging it takes is made here.
     pub fn seal(
         &mut self,
         object: ObjectBytes,
@@ -85,6 +86,7 @@ impl<R: Receipt> Uploads<R> {
         requires fit { FitObject rows.items }
         ensures number { IfOk result (λ number. number ≡ self.old.window.last + 1) }
         ensures sealed { OnOk result (IsSealedNext object rows.items end self.old self.new) }
+        ensures succeeds { HasRoomForObject rows.items self.old.queue → IsOk result }
         ensures same { OnErr result (IsNotSealed self.old self.new) }
     {
         let number = self.window.last() + 1;
@@ -97,13 +99,15 @@ impl<R: Receipt> Uploads<R> {
     /// rows, the count of entries up to its end, and the receipt that the store gave for it. No object is
     /// past the frontier, the numbers go on below 2^64 - 1, the end is not before that of the frontier, and
     /// the rows are 65,536 at most, end below 2^63, and their places in the object below 2^32 (conditions).
-    /// The one error is out of memory; then nothing changes but room.
+    /// The one error is out of memory, which comes only where room for it is missing; then nothing changes
+    /// but room.
     pub fn adopt(&mut self, rows: &[DataRow], end: u64, receipt: R) -> Result<(), AllocError>
         requires none { self.old.queue.sealed ≡ [] }
         requires numbers { self.old.window.last + 1 < 2 ^ 64 - 1 }
         requires order { self.old.queue.end ≤ end }
         requires fit { FitObject rows.now }
         ensures adopted { OnOk result (IsAdopted rows.now end (R.state receipt) self.old self.new) }
+        ensures succeeds { HasRoomForObject rows.now self.old.queue → IsOk result }
         ensures same { OnErr result (IsNotSealed self.old self.new) }
         ensures order { IsUploads self.old.queue self.old.window }
     {
@@ -172,9 +176,11 @@ impl<R: Receipt> Uploads<R> {
         Ok(())
     }
 
-    /// Makes room to enter an entry. The one error is out of memory; but for room nothing changes.
+    /// Makes room to enter an entry. The one error is out of memory, which comes only where that room is
+    /// missing; but for room nothing changes.
     pub fn reserve(&mut self) -> Result<(), AllocError>
         ensures room { OnOk result (HasRoomForEntry self.new.queue) }
+        ensures succeeds { HasRoomForEntry self.old.queue → IsOk result }
         ensures same { IsNotSealed self.old self.new }
     {
         self.queue.reserve_entry()

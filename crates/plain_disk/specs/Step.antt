@@ -1,9 +1,11 @@
 -- Contract: the plain volume as a machine: what each event answers, and what it leaves.
+use Rattle.std.specs.Prelude.{Bool, true, false}
 use Rattle.lsvd_base.specs.declared.entry.Entry.TheVariants as entries
 use Rattle.plain_disk.specs.declared.event.PlainEvent.{PlainEvent}
 use Rattle.plain_disk.specs.declared.event.PlainEvent.TheVariants.{Write, Zero, Flush, Look, Release, Seal, TakeJob, JobDone}
 use Rattle.plain_disk.specs.declared.event.PlainEvent.TheVariants.{JobFailed, Status}
 use Rattle.plain_disk.specs.declared.event.PlainReply.{PlainReply}
+use Rattle.plain_disk.specs.declared.event.PlainReply.TheVariants as replies
 use Rattle.plain_disk.specs.State.{PlainState}
 use Rattle.plain_disk.specs.Entries.{enter_reply, after_entering, flush_reply, after_flush}
 use Rattle.plain_disk.specs.Reads.{look_reply, after_look, release_reply, after_plan_release}
@@ -22,6 +24,16 @@ plain_reply state TakeJob = take_reply state
 plain_reply state (JobDone job) = done_reply state job
 plain_reply state (JobFailed job) = failed_reply state job
 plain_reply state Status = status_reply state
+
+-- A reply refuses its event by what the volume is, whatever its device does and whatever room its log has: the sectors are not
+-- its own, the batch is full, there is nothing to seal, to put or to give back, or 16 objects are on their way.
+abbrev pub is_refusal : PlainReply → Bool
+is_refusal replies.Range = true
+is_refusal (replies.BatchFull sectors) = true
+is_refusal (replies.EntriesFull count) = true
+is_refusal replies.Nothing = true
+is_refusal replies.Busy = true
+is_refusal reply = false
 
 -- what each event leaves of the volume
 abbrev pub plain_after : PlainEvent → PlainState → PlainState

@@ -140,7 +140,7 @@ module _ (old : VolumeState) (objects : ObjLogState) where
       subst (λ n. HasBytesAt (wanted - (n + 1)) objects.uploads.queue.sealed bytes) (sym frontier) whole
   seal_keeps_bytes told.Nothing seals = roomier_bytes seals.0
   seal_keeps_bytes told.Busy seals = roomier_bytes seals.0
-  seal_keeps_bytes told.OutOfMemory seals = roomier_bytes seals
+  seal_keeps_bytes told.OutOfMemory seals = roomier_bytes seals.0
   seal_keeps_bytes reply seals = absurd seals
 
   pub taking_keeps_bytes : {R : Type 0} (reply : Reply R) → TakesLowestReady reply old.objects objects → KeepsBytes old now

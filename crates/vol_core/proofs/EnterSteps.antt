@@ -25,6 +25,7 @@ use Rattle.object_uploads.specs.Order.{AreOpen, IsUploads}
 use Rattle.object_uploads.specs.Changes.{IsNotSealed}
 use Rattle.obj_log.specs.State.{ObjLogState}
 use Rattle.obj_log.specs.Changes.{IsSame, IsAdded}
+use Rattle.plain_disk.specs.declared.event.PlainEvent.{PlainEvent}
 use Rattle.plain_disk.specs.declared.event.PlainEvent.TheVariants as events
 use Rattle.plain_disk.specs.declared.event.PlainReply.{PlainReply}
 use Rattle.plain_disk.specs.declared.event.PlainReply.TheVariants as replies
@@ -32,6 +33,7 @@ use Rattle.plain_disk.specs.Log.{PlainLog}
 use Rattle.plain_disk.specs.Cache.{PlainCache}
 use Rattle.plain_disk.specs.State.{PlainState, history_length, unsealed_entries}
 use Rattle.plain_disk.specs.Entries.{reply_of_full, batch_refusal, batch_refusal_of, after_entering}
+use Rattle.plain_disk.specs.Step.{plain_reply, is_refusal}
 use Rattle.plain_disk.proofs.EndLemmas.{frontier_ends}
 use Rattle.plain_disk.proofs.EventLemmas.{entering_keeps}
 use Rattle.refine_log.specs.Shows.{ShowsLog}
@@ -48,13 +50,13 @@ use Rattle.vol_core.specs.declared.reply.Reply.{Reply}
 use Rattle.vol_core.specs.declared.reply.Reply.TheVariants as told
 use Rattle.vol_core.specs.Volume.{VolumeState}
 use Rattle.vol_core.specs.Shows.{Shows, NumbersGrow, max_number}
-use Rattle.vol_core.specs.Events.{Tells}
+use Rattle.vol_core.specs.Events.{Asks, Tells}
 use Rattle.vol_core.specs.Step.{passing, most_of_step, may_lack_memory, IsStep, IsNoStep, StepsAsPlain}
 use Rattle.vol_core.specs.Calls.{IsReadyForStep, event_of, MayEnter, fullness_in, ComesToLog, IsRefusedEntry, EntersBoth, Enters}
 use Rattle.vol_core.specs.Calls.{EntersLog}
 use Rattle.vol_core.proofs.CommitLemmas.{shown_next}
 use Rattle.vol_core.proofs.LoggedLemmas.{with_place, own_place, other_place, logged_alike, reaches_on_disk}
-use Rattle.vol_core.proofs.PlainEntering.{EntersPlain, refused_cache, batch_refuses}
+use Rattle.vol_core.proofs.PlainEntering.{EntersPlain, refused_cache, batch_refuses, entry_is_taken}
 use Rattle.vol_core.proofs.AppendLemmas.{reply_to_append, entries_by, places_by, room_for_fewer}
 use Rattle.vol_core.proofs.LogEntering.{most_for, EntersWith, enters_with}
 use Rattle.vol_core.proofs.PendingSteps.{enter_pends}
@@ -221,6 +223,21 @@ tells_full : {R : Type 0} (state : R → ReceiptState) (old : VolumeState) (entr
 tells_full state old entry (full.Sectors sectors) = refl
 tells_full state old entry (full.Entries count) = refl
 
+-- the event of the plain volume that an entry asks for
+abbrev asked_by : Entry → PlainEvent
+asked_by (entries.Write lba body) = events.Write lba body
+asked_by (entries.Zero lba sectors) = events.Zero lba sectors
+
+asks_entry : {R : Type 0} (state : R → ReceiptState) (volume : VolumeState) (entry : Entry)
+    → Asks state volume (event_of entry) (asked_by entry)
+asks_entry state volume (entries.Write lba body) = refl
+asks_entry state volume (entries.Zero lba sectors) = refl
+
+asked_is_taken : (plain : PlainState) (entry : Entry) → batch_refusal plain entry ≡ None
+    → is_refusal (plain_reply plain (asked_by entry)) ≡ false
+asked_is_taken plain (entries.Write lba body) taken = entry_is_taken plain (entries.Write lba body) taken
+asked_is_taken plain (entries.Zero lba sectors) taken = entry_is_taken plain (entries.Zero lba sectors) taken
+
 may_lack : (R : Type 0) (entry : Entry) → may_lack_memory (event_of {R = R} entry) ≡ true
 may_lack R (entries.Write lba body) = refl
 may_lack R (entries.Zero lba sectors) = refl
@@ -383,10 +400,11 @@ module _ {R : Type 0} (state : R → ReceiptState) (entry : Entry) (old : Volume
 
   -- memory ran out
   lacking_step : (back : Entry) (objects : ObjLogState) (log : LogState) → IsSame old.objects objects
-      → log ≡ record old.log { reserved = log.reserved }
-      → IsNoStep {R = R} (event_of entry) (told.NotEntered back refusals.OutOfMemory) plain old (with_both objects log old)
+      → log ≡ record old.log { reserved = log.reserved } → is_in_range old.objects.batch.geometry entry ≡ true
+      → fullness_in old.objects ≡ None
+      → IsNoStep state (event_of entry) (told.NotEntered back refusals.OutOfMemory) plain old (with_both objects log old)
       × NumbersGrow old (with_both objects log old)
-  lacking_step back objects log same is =
+  lacking_step back objects log same is in_range not_full =
       let before : LogState = taken_for old.log log.reserved in
       let next = ap (λ (l : LogState). next_seq l) is in
       let last = ap (λ (w : WindowState). w.last) same.uploads.window in
@@ -394,6 +412,9 @@ module _ {R : Type 0} (state : R → ReceiptState) (entry : Entry) (old : Volume
         record {
           may = may_lack R entry;
           lacks = refl;
+          asked = asked_by entry;
+          asks = asks_entry state old entry;
+          taken = asked_is_taken plain entry (in_range_then true in_range ∙ ap (option_map reply_of_full) not_full);
           shows = record {
             valid = shows.valid;
             data_at = shows.data_at;
@@ -417,7 +438,7 @@ module _ {R : Type 0} (state : R → ReceiptState) (entry : Entry) (old : Volume
   abbrev Outcome : Reply R → ObjLogState → LogState → Type 0
   Outcome reply objects log =
       (IsStep state (event_of entry) reply plain old (with_both objects log old)
-      ⊎ IsNoStep (event_of entry) reply plain old (with_both objects log old))
+      ⊎ IsNoStep state (event_of entry) reply plain old (with_both objects log old))
       × NumbersGrow old (with_both objects log old)
 
   refused_outcome : (back : Entry) (why : EntryRefusal) (objects : ObjLogState) (log : LogState)
@@ -439,7 +460,7 @@ module _ {R : Type 0} (state : R → ReceiptState) (entry : Entry) (old : Volume
       let step = came_step (told.NotEntered back refusals.Fault) errors.DeviceFault objects log is refl in
       (inl step.0, step.1)
   refused_outcome back refusals.OutOfMemory objects log is =
-      let step = lacking_step back objects log is.0 is.1 in
+      let step = lacking_step back objects log is.0 is.1 is.2 is.3 in
       (inr step.0, step.1)
 
   each_outcome : (reply : Reply R) (objects : ObjLogState) (log : LogState) → Enters entry reply old.objects objects old.log log

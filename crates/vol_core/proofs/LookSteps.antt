@@ -19,6 +19,7 @@ use Rattle.plain_disk.specs.declared.event.PlainReply.TheVariants as replies
 use Rattle.plain_disk.specs.Cache.{PlainCache}
 use Rattle.plain_disk.specs.State.{PlainState}
 use Rattle.plain_disk.specs.Reads.{objects_read, look_calls, planned_read, look_reply, after_look}
+use Rattle.plain_disk.specs.Step.{is_refusal}
 use Rattle.plain_disk.specs.Valid.{IsPlainVolume}
 use Rattle.refine_log.specs.Fuses.{fuse_in}
 use Rattle.refine_log.proofs.Shown.{same_shows_same}
@@ -132,6 +133,17 @@ module _ (left : Fuse) (plain : PlainState) (lba sectors : ℕ) (may are_made : 
       ap (λ b. if b then read_reply (passes left (look_calls plain lba sectors)) lba sectors plain else replies.Range) may_is
       ∙ ap (λ made. if may then read_reply made lba sectors plain else replies.Range) lets
 
+-- a look of its sectors is not refused
+look_is_taken : (plain : PlainState) (lba sectors : ℕ) → may_transfer plain.geometry lba sectors ≡ true
+    → is_refusal (look_reply plain lba sectors) ≡ false
+look_is_taken plain lba sectors may =
+    let made = passes plain.cache.left (look_calls plain lba sectors) in
+    ap is_refusal (look_reply_is plain.cache.left plain lba sectors true made may refl) ∙ by_case made plain lba sectors
+  where
+    by_case : (made : Bool) (plain : PlainState) (lba sectors : ℕ) → is_refusal (read_reply made lba sectors plain) ≡ false
+    by_case false plain lba sectors = refl
+    by_case true plain lba sectors = refl
+
 -- ---- a look
 
 module _ {R : Type 0} (state : R → ReceiptState) (old : VolumeState) (lba sectors : ℕ)
@@ -220,13 +232,17 @@ fault_steps state old lba sectors log pins ordered may pinned reads plain shows 
 
 -- memory ran out
 pub memory_steps : {R : Type 0} (state : R → ReceiptState) (old : VolumeState) (lba sectors : ℕ) (log : LogState) (pins : List ℕ)
-    → log ≡ old.log → HasSamePins old.pins pins → StepsAsPlain state (Look lba sectors) told.OutOfMemory old
-    (with_reads log pins old)
-memory_steps state old lba sectors log pins same pinned plain shows =
+    → may_transfer old.objects.batch.geometry lba sectors ≡ true → log ≡ old.log → HasSamePins old.pins pins
+    → StepsAsPlain state (Look lba sectors) told.OutOfMemory old (with_reads log pins old)
+memory_steps state old lba sectors log pins may same pinned plain shows =
+    let may_plain = ap (λ g. may_transfer g lba sectors) (sym shows.objects.geometry) ∙ may in
     inr
     (record {
       may = refl;
       lacks = refl;
+      asked = events.Look lba sectors;
+      asks = refl;
+      taken = look_is_taken plain lba sectors may_plain;
       shows = unlooked_shown old log pins plain shows same pinned;
       pending = λ pends. subst (λ l. ShowsPending l plain.cache) (sym same) pends;
     })

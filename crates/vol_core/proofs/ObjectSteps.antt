@@ -1,7 +1,8 @@
 -- Each call of the list makes the step of the plain volume that was asked for.
-use Rattle.std.proofs.Common.{◌≡◌, ℕ, ◌+◌, ◌≤◌, inl, inr, Bool, true, false, cond, not, ◌&&◌, Option, Some, None, length, refl}
-use Rattle.std.proofs.Common.{sym, ◌∙◌, ap, subst, arith}
+use Rattle.std.proofs.Common.{◌≡◌, ℕ, ◌+◌, ◌<◌, ◌≤◌, inl, inr, Bool, true, false, cond, not, ◌&&◌, Option, Some, None, length}
+use Rattle.std.proofs.Common.{refl, sym, ◌∙◌, ap, subst, arith}
 use Rattle.std.proofs.Math.Path.{subst₂}
+use Rattle.std.proofs.lemmas.Bool.Decides.{nat_tests}
 use Rattle.lsvd_objstore.specs.Store.{ReceiptState}
 use Rattle.upload_window.specs.Window.{WindowState, lowest_ready, is_started, below_open, marked, acknowledged}
 use Rattle.object_uploads.specs.State.{JobState}
@@ -12,11 +13,12 @@ use Rattle.obj_log.specs.State.{ObjLogState}
 use Rattle.obj_log.specs.Changes.{IsSame}
 use Rattle.plain_disk.specs.declared.event.PlainEvent.{PlainEvent}
 use Rattle.plain_disk.specs.declared.event.PlainEvent.TheVariants as events
+use Rattle.plain_disk.specs.declared.event.PlainReply.{PlainReply}
 use Rattle.plain_disk.specs.declared.event.PlainReply.TheVariants as replies
 use Rattle.plain_disk.specs.State.{PlainState, stream_in, history_length, frontier_of}
 use Rattle.plain_disk.specs.Objects.{seal_reply, after_seal, has_unsealed, is_busy, reply_of_taken, window_after_take, after_take}
 use Rattle.plain_disk.specs.Objects.{done_reply, window_after_done, after_done, window_after_failed, after_failed, status_reply}
-use Rattle.plain_disk.specs.Step.{plain_reply, plain_after}
+use Rattle.plain_disk.specs.Step.{plain_reply, plain_after, is_refusal}
 use Rattle.plain_disk.specs.Valid.{IsPlainVolume}
 use Rattle.plain_disk.proofs.EndLemmas.{ends_grow}
 use Rattle.plain_disk.proofs.EventLemmas.{seal_keeps, take_keeps, done_keeps, failed_keeps}
@@ -34,6 +36,18 @@ use Rattle.vol_core.specs.Events.{Asks, Tells}
 use Rattle.vol_core.specs.Step.{IsStep, StepsAsPlain}
 use Rattle.vol_core.specs.Calls.{Seals, TakesLowestReady, Finishes, Returns}
 use Rattle.vol_core.proofs.StepLemmas.{quiet_step, IsOfOtherObjects, with_objects, objects_shown}
+
+-- ---- a seal that is not refused
+
+-- where the batch has an entry, and fewer than 16 objects are on their way, the plain volume refuses no seal
+seal_is_taken : (data_at : ℕ → ℕ) (objects : ObjLogState) (plain : PlainState) → ShowsObjects data_at objects plain
+    → 0 < length objects.batch.entries → (length objects.uploads.window.objects ≡ 16 → ⊥) → is_refusal (seal_reply plain) ≡ false
+seal_is_taken data_at objects plain shows some free =
+    let reply : PlainReply = replies.Sealed (plain.window.last + 1) in
+    let has : has_unsealed plain ≡ true = grind (arith, nat_tests, shows.stream.entries) in
+    let busy : is_busy plain ≡ false = grind (arith, nat_tests, shows.window) in
+    ap (λ b. is_refusal (cond b (cond (is_busy plain) replies.Busy reply) replies.Nothing)) has
+    ∙ ap (λ b. is_refusal (cond b replies.Busy reply)) busy
 
 -- ---- numbers
 
@@ -72,7 +86,7 @@ module _ {R : Type 0} (old : VolumeState) (objects : ObjLogState) where
   sealed_grow (told.Sealed number) seals = by_window old objects _ seals.0.uploads.window (omega arith)
   sealed_grow told.Nothing seals = by_window old objects old.objects.uploads.window seals.0.uploads.window (omega arith)
   sealed_grow told.Busy seals = by_window old objects old.objects.uploads.window seals.0.uploads.window (omega arith)
-  sealed_grow told.OutOfMemory seals = by_window old objects old.objects.uploads.window seals.uploads.window (omega arith)
+  sealed_grow told.OutOfMemory seals = by_window old objects old.objects.uploads.window seals.0.uploads.window (omega arith)
   sealed_grow reply seals = absurd seals
 
 -- ---- the counts are told
@@ -281,5 +295,13 @@ module _ {R : Type 0} (state : R → ReceiptState) (old : VolumeState) (objects 
       let none = (refused_seal_shows_none shows.data_at old.objects plain shows.objects).1 seals.1 seals.2 in
       inl (refused told.Busy plain shows seals.0 none.1 none.0)
   seal_steps told.OutOfMemory uploads seals plain shows =
-      inr (record { may = refl; lacks = refl; shows = room_shown plain shows seals; pending = λ pends. pends })
+      inr (record {
+        may = refl;
+        lacks = refl;
+        asked = events.Seal;
+        asks = refl;
+        taken = seal_is_taken shows.data_at old.objects plain shows.objects seals.1 seals.2;
+        shows = room_shown plain shows seals.0;
+        pending = λ pends. pends;
+      })
   seal_steps reply uploads seals plain shows = absurd seals

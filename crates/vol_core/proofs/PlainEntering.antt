@@ -1,6 +1,6 @@
 -- What an entry answers and leaves in the plain volume, by what is known of its log.
-use Rattle.std.proofs.Common.{◌≡◌, ◌+◌, Bool, true, false, not, ◌&&◌, ◌||◌, if◌then◌else◌, List, [], ◌∷◌, ◌++◌, length, refl, ◌∙◌}
-use Rattle.std.proofs.Common.{ap}
+use Rattle.std.proofs.Common.{◌≡◌, ℕ, ◌+◌, Bool, true, false, not, ◌&&◌, ◌||◌, if◌then◌else◌, List, [], ◌∷◌, ◌++◌, length, refl}
+use Rattle.std.proofs.Common.{◌∙◌, ap}
 use Rattle.std.specs.Prelude.{Some, None, is_some, unwrap_or}
 use Rattle.lsvd_base.specs.declared.entry.Entry.{Entry}
 use Rattle.lsvd_device.specs.Calls.{Fuse, fuse_after}
@@ -13,6 +13,7 @@ use Rattle.plain_disk.specs.Cache.{cache_after_commit}
 use Rattle.plain_disk.specs.State.{PlainState, history_length, frontier_end}
 use Rattle.plain_disk.specs.Entries.{batch_refusal, has_room_for, commits_for_room, commits_are_made, cache_for, comes_to_log}
 use Rattle.plain_disk.specs.Entries.{room_reply, enter_reply, after_entering}
+use Rattle.plain_disk.specs.Step.{is_refusal}
 
 -- an entry answers this, and leaves this log, these calls and these entries
 pub record EntersPlain (state : PlainState) (entry : Entry) (reply : PlainReply) (log : PlainLog) (left : Fuse)
@@ -170,6 +171,22 @@ entry_taken state entry ready comes has passed =
       left_is = ap (λ c. c.left) cache;
       entries_are = entries_by state entry ready true true true comes has passed;
     }
+
+-- memory or not, an entry that the batch takes is not refused
+pub entry_is_taken : (state : PlainState) (entry : Entry) → batch_refusal state entry ≡ None
+    → is_refusal (enter_reply state entry) ≡ false
+entry_is_taken state entry taken =
+    let ready : PlainCache = cache_for state entry in
+    ap (λ r. is_refusal (unwrap_or r (room_reply state ready entry))) taken
+    ∙ by_case (commits_are_made state entry) (has_room_for ready entry) (passes_entry ready entry) ready entry
+    (history_length state + 1)
+  where
+    by_case : (made room passes : Bool) (ready : PlainCache) (entry : Entry) (count : ℕ)
+        → is_refusal (reply_by_case made room passes (no_room_in ready entry) (Entered count)) ≡ false
+    by_case false room passes ready entry count = refl
+    by_case true false passes ready entry count = refl
+    by_case true true false ready entry count = refl
+    by_case true true true ready entry count = refl
 
 -- ---- the cache that is left
 

@@ -94,7 +94,7 @@ small_of old new steps grow ready =
 -- a step leaves a volume that shows some plain volume
 pub shown_after : {R : Type 0} (state : R → ReceiptState) (event : Event R) (reply : Reply R) (plain : PlainState)
     (old new : VolumeState)
-    → IsStep state event reply plain old new ⊎ IsNoStep event reply plain old new → (now : PlainState) × Shows new now
+    → IsStep state event reply plain old new ⊎ IsNoStep state event reply plain old new → (now : PlainState) × Shows new now
 shown_after state event reply plain old new (inl step) = (_, step.shows)
 shown_after state event reply plain old new (inr none) = (plain, none.shows)
 

@@ -41,7 +41,7 @@ sealed_list told.Nothing old new seals =
 sealed_list told.Busy old new seals =
     record { same = record { uuid = seals.0.uploads.uuid; geometry = seals.0.geometry }; back = tt; quiet = refl }
 sealed_list told.OutOfMemory old new seals =
-    record { same = record { uuid = seals.uploads.uuid; geometry = seals.geometry }; back = tt; quiet = refl }
+    record { same = record { uuid = seals.0.uploads.uuid; geometry = seals.0.geometry }; back = tt; quiet = refl }
 sealed_list reply old new seals = absurd seals
 
 taken_list : {R : Type 0} (reply : Reply R) (old new : ObjLogState) → TakesLowestReady reply old new

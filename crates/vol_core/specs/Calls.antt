@@ -15,13 +15,13 @@ use Rattle.cache_log.specs.Committed.{body_of, KeepsCommits, HasSameList, IsRele
 use Rattle.cache_log.specs.Committed.{IsOnDisk}
 use Rattle.object_stream.specs.Replay.{object_name}
 use Rattle.obj_log.specs.State.{ObjLogState}
-use Rattle.obj_log.specs.Changes.{IsSame, IsAdded, HasSealedObject, expected_of_volume}
+use Rattle.obj_log.specs.Changes.{HasRoomToAdd, IsSame, IsAdded, HasSealedObject, expected_of_volume}
 use Rattle.lsvd_objstore.specs.Store.{ReceiptState}
 use Rattle.upload_window.specs.Window.{lowest_ready}
 use Rattle.object_uploads.specs.State.{JobState}
 use Rattle.object_uploads.specs.Changes.{with_job, IsJobOf, IsOut, IsPutDone}
 use Rattle.lsvd_base.specs.Limits.{is_within_limits}
-use Rattle.log_room.specs.Room.{max_log}
+use Rattle.log_room.specs.Room.{max_log, record_sectors}
 use Rattle.lsvd_base.specs.declared.entry.Entry.TheVariants as entries
 use Rattle.vol_core.specs.Volume.{SteppedVolume}
 use Rattle.vol_core.specs.Shows.{IsSmall, IsSound}
@@ -126,7 +126,8 @@ IsRefusedEntry entry (refusals.NoRoom need free) objects after old new =
     ComesToLog entry (Err (NoRoom need free)) objects after old new
 IsRefusedEntry entry refusals.Fault objects after old new = ComesToLog entry (Err DeviceFault) objects after old new
 IsRefusedEntry entry refusals.OutOfMemory objects after old new = IsSame objects after
-    × (new ≡ record old { reserved = new.reserved })
+    × (new ≡ record old { reserved = new.reserved }) × (is_in_range objects.batch.geometry entry ≡ true)
+    × (fullness_in objects ≡ None) × (HasRoomToAdd objects → record_sectors entry ≤ old.reserved → ⊥)
 
 -- an entry was entered
 pub record EntersBoth (entry : Entry) (count : ℕ) (objects after : ObjLogState) (old new : LogState) : Type 0 where
@@ -151,7 +152,8 @@ Seals (replies.Sealed number) old new =
     × (length old.uploads.window.objects ≡ 16 → ⊥)
 Seals replies.Nothing old new = IsSame old new × (old.batch.entries ≡ [])
 Seals replies.Busy old new = IsSame old new × (0 < length old.batch.entries) × (length old.uploads.window.objects ≡ 16)
-Seals replies.OutOfMemory old new = IsSame old new
+Seals replies.OutOfMemory old new = IsSame old new × (0 < length old.batch.entries)
+    × (length old.uploads.window.objects ≡ 16 → ⊥)
 Seals reply old new = ⊥
 
 -- the lowest ready object was asked for

@@ -14,7 +14,7 @@ use Rattle.object_uploads.specs.Image.{IsReceiptFor}
 use Rattle.refine_log.specs.Pending.{ShowsPending}
 use Rattle.plain_disk.specs.declared.event.PlainEvent.{PlainEvent}
 use Rattle.plain_disk.specs.State.{PlainState}
-use Rattle.plain_disk.specs.Step.{plain_reply, plain_after}
+use Rattle.plain_disk.specs.Step.{plain_reply, plain_after, is_refusal}
 use Rattle.refine_log.specs.Fuses.{fuse_in}
 use Rattle.vol_core.specs.declared.event.Event.{Event}
 use Rattle.vol_core.specs.declared.event.Event.TheVariants.{Write, Zero, Flush, Look, Release, Seal, JobDone, JobFailed}
@@ -118,10 +118,15 @@ pub record IsStep {R : Type 0} (state : R → ReceiptState) (event : Event R) (r
   pub pending : HasRoom (most_of_step event).changes (most_of_step event).bytes old.log.commits.disk.budget
       → ShowsPending old.log plain.cache → ShowsPending new.log (plain_after asked (passing left plain)).cache
 
--- nothing was done, since memory ran out
-pub record IsNoStep {R : Type 0} (event : Event R) (reply : Reply R) (plain : PlainState) (old new : VolumeState) : Type 0 where
+-- Nothing was done, since memory ran out. It is taken after each test that refuses an event, and before the device is called: so
+-- the plain volume does not refuse the event.
+pub record IsNoStep {R : Type 0} (state : R → ReceiptState) (event : Event R) (reply : Reply R) (plain : PlainState)
+    (old new : VolumeState) : Type 0 where
   pub may : may_lack_memory event ≡ true
   pub lacks : lacks_memory reply ≡ true
+  pub asked : PlainEvent
+  pub asks : Asks state old event asked
+  pub taken : is_refusal (plain_reply plain asked) ≡ false
   pub shows : Shows new plain
   pub pending : ShowsPending old.log plain.cache → ShowsPending new.log plain.cache
 
@@ -133,7 +138,7 @@ pub record HasSameSizes (old new : VolumeState) : Type 0 where
 -- what the reply to an event and the volume after it are, by each plain volume that the volume showed
 abbrev pub StepsAsPlain : {R : Type 0} → (R → ReceiptState) → Event R → Reply R → (old new : VolumeState) → Type 0
 StepsAsPlain state event reply old new =
-    (plain : PlainState) → Shows old plain → IsStep state event reply plain old new ⊎ IsNoStep event reply plain old new
+    (plain : PlainState) → Shows old plain → IsStep state event reply plain old new ⊎ IsNoStep state event reply plain old new
 
 -- ---- objects on their way
 

@@ -81,14 +81,14 @@ impl<D: Disk, R: Receipt> Volume<D, R> {
     /// is done stands for just the bytes of the job (conditions).
     ///
     /// The reply is that of the plain volume which this one shows, and this one then shows what that becomes.
-    /// A device that fails a call without being told to stop does as one whose fuse ends there. After want of
-    /// memory the volume shows what it showed. A step makes at most the device calls of one commit and one
-    /// record, or one read for each run of sectors that a write past the frontier's end wrote last; `Fault`
-    /// is told exactly where one of them failed, which the device counted once. Where the device has room for
-    /// them, as many writes are pending on it after the step as on the plain volume's cache, if so many were
-    /// before. A step adds an entry and an object at most, and makes two commits at most. What is so of every
-    /// volume is told of the one before the step, with the order of its log and its uploads, and of the one
-    /// after it.
+    /// A device that fails a call without being told to stop does as one whose fuse ends there. Want of
+    /// memory comes where the plain volume does not refuse the event, and then the volume shows what it
+    /// showed. A step makes at most the device calls of one commit and one record, or one read for each run
+    /// of sectors that a write past the frontier's end wrote last; `Fault` is told exactly where one of them
+    /// failed, which the device counted once. Where the device has room for them, as many writes are pending
+    /// on it after the step as on the plain volume's cache, if so many were before. A step adds an entry and
+    /// an object at most, and makes two commits at most. What is so of every volume is told of the one before
+    /// the step, with the order of its log and its uploads, and of the one after it.
     pub fn step(&mut self, event: Event<R>) -> Reply<R>
         requires steps { self.old.steps < max_number }
         requires receipt { HasItsReceipt R.state event }

@@ -1,4 +1,4 @@
-ghost use Rattle.std.specs.Prelude.{◌≡◌, ◌+◌, ◌<◌, ◌≤◌, ◌^◌, ℕ, [], length, IfOk, OnOk};
+ghost use Rattle.std.specs.Prelude.{◌≡◌, ◌+◌, ◌<◌, ◌≤◌, ◌^◌, ℕ, [], length, IfOk, OnOk, IsOk};
 ghost use Rattle.std.specs.Option.{option_or};
 ghost use Rattle.lsvd_base.specs.Laws.{first_sector, sector_count};
 ghost use Rattle.extent_map.specs.Extents.{place_at, place_in_range, IsShortest, AllFit};
@@ -45,11 +45,12 @@ impl VolumeMaps {
         }
     }
 
-    /// Makes room for so many changes of the objects' map, and of the log's. The one error is out of memory.
-    /// The places are as before, and no room is lost.
+    /// Makes room for so many changes of the objects' map, and of the log's. The one error is out of memory,
+    /// which comes only where that room is missing. The places are as before, and no room is lost.
     pub fn reserve(&mut self, settled: usize, log: usize) -> Result<(), AllocError>
         ensures settled_room { OnOk result (settled ≤ self.new.settled.spare) }
         ensures log_room { OnOk result (log ≤ self.new.log.spare) }
+        ensures succeeds { settled ≤ self.old.settled.spare → log ≤ self.old.log.spare → IsOk result }
         ensures settled_rows { self.new.settled.rows ≡ self.old.settled.rows }
         ensures log_rows { self.new.log.rows ≡ self.old.log.rows }
         ensures settled_kept { self.old.settled.spare ≤ self.new.settled.spare }
@@ -57,6 +58,13 @@ impl VolumeMaps {
     {
         self.settled.reserve(settled)?;
         self.log.reserve(log)
+    }
+
+    /// How many changes of the log's map there is room for.
+    pub fn log_spare(&self) -> usize
+        ensures { result ≡ self.now.log.spare }
+    {
+        self.log.spare()
     }
 
     /// Enters an entry with this seq: from then on its sectors are in the log, from the sector `data_at` of

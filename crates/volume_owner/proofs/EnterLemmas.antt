@@ -129,7 +129,7 @@ entering_by state entry reply plain old new left now false shows is tells now_sh
 
 pub entering : {R : Type 0} (state : R → ReceiptState) (entry : Entry) (reply : Reply R) (plain : PlainState)
     (old new : VolumeState)
-    → Shows old plain → IsStep state (event_of entry) reply plain old new ⊎ IsNoStep (event_of entry) reply plain old new
+    → Shows old plain → IsStep state (event_of entry) reply plain old new ⊎ IsNoStep state (event_of entry) reply plain old new
     → IsIn entry reply plain new ⊎ IsOut state entry reply plain old new
 entering state entry reply plain old new shows (inl s) =
     let ready : PlainState = passing s.left plain in

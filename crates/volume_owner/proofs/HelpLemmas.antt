@@ -121,7 +121,7 @@ record IsAfterTake {R : Type 0} (state : R → ReceiptState) (reply : Reply R) (
 
 after_take_by : {R : Type 0} (state : R → ReceiptState) (reply : Reply R) (plain : PlainState) (old new : VolumeState)
     → Shows old plain
-    → IsStep state asks.TakeJob reply plain old new ⊎ IsNoStep asks.TakeJob reply plain old new
+    → IsStep state asks.TakeJob reply plain old new ⊎ IsNoStep state asks.TakeJob reply plain old new
     → IsAfterTake state reply plain old new
 after_take_by state reply plain old new shows (inl s) =
     let ready : PlainState = passing s.left plain in
@@ -267,7 +267,7 @@ module _ {R : Type 0} (state : R → ReceiptState) (job : JobState) (receipt : R
   started_is = ap (λ (w : WindowState). is_started job.name.number w.objects) (sym shows.objects.window) ∙ taken.out.started
 
   after_done_by : IsStep state (asks.JobDone job receipt) reply plain old.volume new.volume
-      ⊎ IsNoStep (asks.JobDone job receipt) reply plain old.volume new.volume
+      ⊎ IsNoStep state (asks.JobDone job receipt) reply plain old.volume new.volume
       → IsAfterPut (acknowledged job.name.number) plain new.volume
   after_done_by (inl s) =
       let ready : PlainState = passing s.left plain in
@@ -317,7 +317,7 @@ module _ {R : Type 0} (state : R → ReceiptState) (job : JobState) (reply : Rep
   was_started_is = ap (λ (w : WindowState). is_started job.name.number w.objects) (sym shows.objects.window) ∙ taken.out.started
 
   after_failed_by : IsStep state (asks.JobFailed job) reply plain old.volume new.volume
-      ⊎ IsNoStep (asks.JobFailed job) reply plain old.volume new.volume
+      ⊎ IsNoStep state (asks.JobFailed job) reply plain old.volume new.volume
       → IsAfterPut (marked job.name.number false) plain new.volume
   after_failed_by (inl s) =
       let ready : PlainState = passing s.left plain in
@@ -461,7 +461,7 @@ module _ {R : Type 0} (state : R → ReceiptState) (reply : Reply R) (old new : 
   seal_faults = silent_faults state asks.Seal reply plain old new (λ asked is. ap is_silent is) shows of
 
   sealing : plain.window.objects ≡ []
-      → IsStep state asks.Seal reply plain old.volume new.volume ⊎ IsNoStep asks.Seal reply plain old.volume new.volume
+      → IsStep state asks.Seal reply plain old.volume new.volume ⊎ IsNoStep state asks.Seal reply plain old.volume new.volume
       → IsAfterSeal reply plain new.volume
   sealing none (inl s) =
       let ready : PlainState = passing s.left plain in

@@ -54,7 +54,7 @@ record IsAfterFlush {R : Type 0} (state : R → ReceiptState) (reply : Reply R) 
   tells : Tells state old reply (flush_reply (passing left plain))
 
 after_flush_by : {R : Type 0} (state : R → ReceiptState) (reply : Reply R) (plain : PlainState) (old new : VolumeState)
-    → IsStep state asks.Flush reply plain old new ⊎ IsNoStep asks.Flush reply plain old new
+    → IsStep state asks.Flush reply plain old new ⊎ IsNoStep state asks.Flush reply plain old new
     → IsAfterFlush state reply plain old new
 after_flush_by state reply plain old new (inl s) = record {
   left = s.left;
@@ -212,7 +212,7 @@ module _ {R : Type 0} (state : R → ReceiptState) (reply : Reply R) (lba sector
 
   after_look_by : (plain : PlainState)
       → IsStep state (asks.Look lba sectors) reply plain old.volume new.volume
-      ⊎ IsNoStep (asks.Look lba sectors) reply plain old.volume new.volume
+      ⊎ IsNoStep state (asks.Look lba sectors) reply plain old.volume new.volume
       → IsAfterLook state reply lba sectors plain old.volume new.volume ⊎ ((lacks_memory reply ≡ true) × Shows new.volume plain)
   after_look_by plain (inl s) =
       let now : Fuse = fuse_in new.volume.log.commits.disk.budget in
@@ -307,7 +307,7 @@ module _ {R : Type 0} (state : R → ReceiptState) (reply : Reply R) (lba sector
 
       released_by : (plain : PlainState) → any_started plain.window.objects ≡ false → plain.pins ≡ plan.objects
           → IsStep state (asks.Release plan) back plain new.volume last.volume
-          ⊎ IsNoStep (asks.Release plan) back plain new.volume last.volume
+          ⊎ IsNoStep state (asks.Release plan) back plain new.volume last.volume
           → IsIdle last.volume
       released_by plain puts pins (inl s) =
           let ready : PlainState = passing s.left plain in

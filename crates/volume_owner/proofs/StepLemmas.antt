@@ -195,7 +195,7 @@ idle_shown volume plain shows idle = record {
 pub quiet_after : {R : Type 0} (state : R → ReceiptState) (event : Event R) (reply : Reply R) (plain : PlainState)
     (old new : VolumeState)
     → ((asked : PlainEvent) → Asks state old event asked → is_quiet asked ≡ true) → Shows old plain
-    → IsStep state event reply plain old new ⊎ IsNoStep event reply plain old new
+    → IsStep state event reply plain old new ⊎ IsNoStep state event reply plain old new
     → (after : PlainState) × Shows new after × GoesOn [] plain after
 quiet_after state event reply plain old new quiet shows (inl s) =
     let ready : PlainState = passing s.left plain in

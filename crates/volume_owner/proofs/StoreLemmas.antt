@@ -114,7 +114,7 @@ module _ {R : Type 0} (state : R → ReceiptState) (reply : Reply R) (old new : 
   uuid = old.objects.uploads.uuid
 
   entry_keeps : (entry : Entry)
-      → IsStep state (event_of entry) reply plain old new ⊎ IsNoStep (event_of entry) reply plain old new
+      → IsStep state (event_of entry) reply plain old new ⊎ IsNoStep state (event_of entry) reply plain old new
       → StepKeeps (entered_if_told entry reply) plain old new store
   entry_keeps entry by =
       elim (entering state entry reply plain old new shows by) [
@@ -258,7 +258,7 @@ module _ {R : Type 0} (state : R → ReceiptState) (reply : Reply R) (old new : 
   its_object name bytes held objects has is = subst (λ h. IfSome h (λ o. found o name ≡ Some bytes)) is has
 
   step_by : (event : Event R) → HasItsObject event old store → IsUploads old.objects.uploads.queue old.objects.uploads.window
-      → IsStep state event reply plain old new ⊎ IsNoStep event reply plain old new
+      → IsStep state event reply plain old new ⊎ IsNoStep state event reply plain old new
       → StepKeeps (entered_by_event event reply) plain old new store
   step_by (asks.Write lba body) object order by = entry_keeps (entries.Write lba body) by
   step_by (asks.Zero lba sectors) object order by = entry_keeps (entries.Zero lba sectors) by

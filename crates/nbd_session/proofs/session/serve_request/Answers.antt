@@ -25,7 +25,7 @@ returns-in_err-body-clause-serves g c =
     let p = err_from_is_err_and c.from_residual-in_err-body.result c.from_residual-in_err-body.ensures.1 in
     rw (p.1, p.2) (data_broken g.B.BlockDevice.io _ _ _ _ c.in_ok-request.request c.in_err-body.field-0.0
     c.a_message_has_one_reading.ensures.request
-    c.in_ok-request.ensures.bytes c.in_err-body.ensures.bytes c.in_err-body.ensures.memory
+    c.in_ok-request.ensures.bytes c.in_err-body.ensures.bytes
     (sym (g.met.K.Link.one_output c.read_content.new.link) ∙ c.read_content.ensures.other ∙ c.read_request.ensures.other
     ∙ g.met.K.Link.one_output c.args.link.now))
 

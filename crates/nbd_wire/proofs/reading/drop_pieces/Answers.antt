@@ -9,7 +9,7 @@ returns-in_err-read_data-clause-bytes g c =
     let p = err_from_is_err_and c.from_residual.result c.from_residual.ensures.1 in
     rw (p.1, p.2)
     (data_end_after {T = Unit {0}} {U = Unit {0}} _ _ _ (λ bytes _. c.read_data.new.buf ≡ bytes) (λ _ _. ⊤) _ _ _
-    c.loop-left.invariant.part (search rules) _ c.in_err-read_data.ensures.bytes c.in_err-read_data.ensures.memory)
+    c.loop-left.invariant.part (search rules) _ c.in_err-read_data.ensures.bytes)
 
 pub loop-left-preserved : goal.loop-left-preserved
 loop-left-preserved g c =

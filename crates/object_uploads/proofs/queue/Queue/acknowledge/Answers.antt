@@ -2,7 +2,7 @@ use Rattle.std.proofs.Common.{rules, ◌≡◌, ◌<◌, sym, refl, subst, lengt
 use Rattle.std.specs.Prelude.{IfSome}
 use Rattle.object_uploads.specs.State.{QueueState}
 use Rattle.object_uploads.specs.Queue.{with_receipt}
-use Rattle.object_uploads.proofs.QueueLemmas.{set_with}
+use Rattle.object_uploads.proofs.QueueLemmas.{set_with, length-with}
 use Rattle.object_uploads.proofs.RoomLemmas.{kept_with}
 use Rattle.object_uploads.proofs.queue.Queue.acknowledge.Goals as goal
 
@@ -28,4 +28,4 @@ returns g c =
     c.get_mut.ensures.value in
     let set = set_with c.args.index (with_receipt (g.R.Receipt.state c.args.receipt)) list c.unwrap.result.now
     c.acknowledge.new.self at c.acknowledge.ensures in
-    rw (set, sym c.self.view_is) refl
+    rw (set, length-with c.args.index (with_receipt (g.R.Receipt.state c.args.receipt)) list, sym c.self.view_is) refl

@@ -1,7 +1,8 @@
-use Rattle.std.proofs.Common.{◌+◌, ◌<◌, ◌^◌, length, refl, sym, ap, subst, arith}
+use Rattle.std.proofs.Common.{rules, ◌+◌, ◌<◌, ◌^◌, length, refl, sym, ap, subst, arith}
 use Rattle.volume_maps.specs.Maps.{RowsFit}
 use Rattle.object_uploads.specs.State.{QueueState}
-use Rattle.object_uploads.proofs.RoomLemmas.{room_kept, counts_kept}
+use Rattle.object_uploads.specs.Queue.{HasRoomForObject}
+use Rattle.object_uploads.proofs.RoomLemmas.{room_kept, counts_kept, place_parts}
 use Rattle.object_uploads.proofs.queue.Queue.adopt.Goals as goal
 
 -- ---- there was no room
@@ -25,6 +26,19 @@ invariant_of-self-in_err-reserve-2 g c =
       counts.1,
       counts.2,
     )
+
+pub returns-in_err-reserve-clause-succeeds : goal.returns-in_err-reserve-clause-succeeds
+returns-in_err-reserve-clause-succeeds g c = λ room.
+    let has = subst (HasRoomForObject c.args.rows.now) (sym c.self.view_is) room in
+    let place = place_parts _ _ _ _ has.place in
+    search rules
+
+pub returns-in_err-reserve-2-clause-succeeds : goal.returns-in_err-reserve-2-clause-succeeds
+returns-in_err-reserve-2-clause-succeeds g c = λ room.
+    let has = subst (HasRoomForObject c.args.rows.now) (sym c.self.view_is) room in
+    let ok = c.in_err-reserve-2.ensures.succeeds (omega (arith, has.settled)) (omega (arith, has.log)) in
+    let bad : ⊥ = cc in
+    absurd bad
 
 -- ---- the object was settled
 

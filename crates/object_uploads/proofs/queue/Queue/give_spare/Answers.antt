@@ -2,7 +2,7 @@ use Rattle.std.proofs.Common.{rules, true, ◌≡◌, ◌<◌, sym, refl, subst,
 use Rattle.std.specs.Prelude.{IfSome}
 use Rattle.object_uploads.specs.State.{QueueState}
 use Rattle.object_uploads.specs.Queue.{with_spare, HasBytesAt}
-use Rattle.object_uploads.proofs.QueueLemmas.{set_with, bytes_of_lent}
+use Rattle.object_uploads.proofs.QueueLemmas.{set_with, length-with, bytes_of_lent}
 use Rattle.object_uploads.proofs.RoomLemmas.{kept_with}
 use Rattle.object_uploads.proofs.queue.Queue.give_spare.Goals as goal
 
@@ -35,4 +35,4 @@ returns g c =
     let at = subst (λ r. IfSome r (λ x. x.now ≡ slice_index_or list c.args.index x.now)) c.unwrap.ensures
     c.get_mut.ensures.value in
     let set = set_with c.args.index (with_spare true) list c.unwrap.result.now c.give_spare.new.self at c.give_spare.ensures in
-    rw (set, sym c.self.view_is) refl
+    rw (set, length-with c.args.index (with_spare true) list, sym c.self.view_is) refl

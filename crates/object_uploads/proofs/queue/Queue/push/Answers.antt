@@ -1,8 +1,9 @@
 use Rattle.std.proofs.Common.{rules, ◌≡◌, ◌+◌, ◌<◌, ◌≤◌, ◌^◌, ℕ, ◌∷◌, ◌++◌, [], length, sym, ◌∙◌, ap, subst, arith, length-append}
 use Rattle.std.specs.Prelude.{map}
 use Rattle.object_uploads.specs.State.{QueueState}
-use Rattle.object_uploads.specs.Queue.{just_sealed, HasSamePlaces}
+use Rattle.object_uploads.specs.Queue.{just_sealed, HasRoomForObject, HasSamePlaces}
 use Rattle.object_uploads.proofs.RoomLemmas.{room_kept, rows_kept, counts_kept, rows_pushed, room_pushed, counts_pushed}
+use Rattle.object_uploads.proofs.RoomLemmas.{place_parts}
 use Rattle.object_uploads.proofs.queue.Queue.push.Given as given
 use Rattle.object_uploads.proofs.queue.Queue.push.Goals.{After-push_back_reserved}
 use Rattle.object_uploads.proofs.queue.Queue.push.Goals as goal
@@ -48,6 +49,25 @@ pub returns-in_err-make_room-clause-log_kept : goal.returns-in_err-make_room-cla
 returns-in_err-make_room-clause-log_kept g c =
     subst (λ (q : QueueState). q.maps.log.spare ≤ c.make_room.new.maps.log.spare) c.self.view_is
     c.in_err-make_room.ensures.log_kept
+
+-- memory was not asked for in vain: where there is room for one object more, the rows can be counted, and each part has it
+pub returns-in_default-clause-succeeds : goal.returns-in_default-clause-succeeds
+returns-in_default-clause-succeeds g c = λ room.
+    let has = subst (HasRoomForObject c.args.rows.items) (sym c.self.view_is) room in
+    let rows = c.self.invariant.1 in
+    search rules
+
+pub returns-in_err-make_room-clause-succeeds : goal.returns-in_err-make_room-clause-succeeds
+returns-in_err-make_room-clause-succeeds g c = λ room.
+    let inside = c.self.inside in
+    let has = subst (HasRoomForObject c.args.rows.items) (sym c.self.view_is) room in
+    let rows = c.self.invariant.1 in
+    let added : c.in-Some.all ≡ inside.rows + length c.args.rows.items = search rules in
+    let place = place_parts _ _ _ _ has.place in
+    let ok = c.in_err-make_room.ensures.succeeds place.0 place.1
+    (omega (arith, has.settled, rows, added)) (omega (arith, has.log, rows, added)) in
+    let bad : ⊥ = cc in
+    absurd bad
 
 -- ---- the object was pushed
 

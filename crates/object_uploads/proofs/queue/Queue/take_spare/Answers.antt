@@ -3,7 +3,7 @@ use Rattle.std.specs.Prelude.{IfSome}
 use Rattle.object_uploads.specs.State.{QueueState}
 use Rattle.object_uploads.specs.Queue.{with_spare}
 use Rattle.object_uploads.specs.Invariant.{IsOpenAt}
-use Rattle.object_uploads.proofs.QueueLemmas.{set_with, lent_has}
+use Rattle.object_uploads.proofs.QueueLemmas.{set_with, length-with, lent_has}
 use Rattle.object_uploads.proofs.RoomLemmas.{kept_with}
 use Rattle.object_uploads.proofs.OpenLemmas.{inside, lent_open, spare_there, some_is}
 use Rattle.object_uploads.proofs.queue.Queue.take_spare.Goals as goal
@@ -52,4 +52,4 @@ returns-clause-taken g c =
     c.get_mut.ensures.value in
     let set = set_with c.args.index (with_spare false) list c.unwrap.result.now c.take_spare.new.self at
     c.take_spare.ensures.taken in
-    rw (set, sym c.self.view_is) refl
+    rw (set, length-with c.args.index (with_spare false) list, sym c.self.view_is) refl

@@ -88,7 +88,8 @@ steps g c =
           let says = w.in-Err-OutOfMemory.ensures in
           subst (λ reply. StepsAsPlain state (events.Look lba sectors) reply volume (with_reads log pins volume))
           (sym w.result-is)
-          (memory_steps state volume lba sectors log pins (says.memory (ap Err w.in-Err-OutOfMemory.field-0-is)) says.same_pins)
+          (memory_steps state volume lba sectors log pins may (says.memory (ap Err w.in-Err-OutOfMemory.field-0-is))
+          says.same_pins)
     ]
 
 grow : (g : given.Over) (c : Joined-look g)
