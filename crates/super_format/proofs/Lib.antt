@@ -2,5 +2,6 @@ pub mod PartLemmas
 pub mod ChainLemmas
 pub mod HeadLemmas
 pub mod TestLemmas
+pub mod LongLemmas
 pub mod LawLemmas
 pub mod EpochLemmas

@@ -41,3 +41,8 @@ pub record IsSuperRefusedAs (bytes uuid : List ℕ) (reason : SuperReason) : Typ
 abbrev pub IsSuperReason : (bytes uuid : List ℕ) → SuperReadError → Type 0
 IsSuperReason bytes uuid (BadSuper reason) = IsSuperRefusedAs bytes uuid reason
 IsSuperReason bytes uuid OutOfMemory = PassesTestsBefore bytes uuid reasons.Ancestors
+
+-- bytes of this length that begin so
+pub record BeginsWith (front : List ℕ) (len : ℕ) (bytes : List ℕ) : Type 0 where
+  pub size : length bytes ≡ len
+  pub front_is : take (length front) bytes ≡ front

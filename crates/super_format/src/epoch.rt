@@ -23,8 +23,8 @@ pub struct Epoch {
 }
 
 impl Epoch {
-    // Its bytes.
-    const BYTES: usize = 32;
+    /// How many bytes it has.
+    pub const BYTES: usize = 32;
 
     // The bytes that it begins with.
     const MAGIC: [u8; 8] = *b"LSVDEPO1";

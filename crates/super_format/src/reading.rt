@@ -1,11 +1,11 @@
-ghost use Rattle.std.specs.Prelude.{◌≡◌, ◌+◌, ◌*◌, ◌^◌, ◌≤◌, ◌↔◌, IsTrue, OnOk, IfOk, IfErr, length, take};
-ghost use Rattle.std.specs.Prelude.{drop, codes};
+ghost use Rattle.std.specs.Prelude.{◌≡◌, ◌+◌, ◌*◌, ◌^◌, ◌<◌, ◌≤◌, ◌↔◌, IsTrue, OnOk, IfOk, IfErr, List, ℕ};
+ghost use Rattle.std.specs.Prelude.{length, take, drop, codes};
 ghost use Rattle.std.specs.Int.{w32};
 ghost use Rattle.lsvd_bytes.specs.Places.{bytes_at, number_at};
 ghost use Rattle.super_format.specs.declared.reading.SuperReadError.TheVariants.{BadSuper, OutOfMemory};
 ghost use Rattle.super_format.specs.declared.reason.SuperReason.TheVariants.{Ancestors};
 ghost use Rattle.super_format.specs.Super.{super_in, geometry_with, keeps_limits, IsSuper};
-ghost use Rattle.super_format.specs.Tests.{PassesTestsBefore, IsSuperRefusedAs, IsSuperReason};
+ghost use Rattle.super_format.specs.Tests.{PassesTestsBefore, IsSuperRefusedAs, IsSuperReason, BeginsWith};
 
 use crate::ancestors::{ANCESTOR_BYTES, read_ancestors};
 use crate::reason::SuperReason;
@@ -48,6 +48,9 @@ impl From<AllocError> for SuperReadError {
 }
 
 impl Super {
+    /// The bytes of the longest super object, which has 15 ancestors.
+    pub const MAX_BYTES: u64 = 408;
+
     /// Reads all bytes of an object as the super object of the volume with this uuid. The error is that
     /// memory ran out, or it comes exactly where they are none, and names the first test that they fail.
     pub fn read(alloc: Global, bytes: &[u8], uuid: Uuid) -> Result<Super, SuperReadError>
@@ -70,6 +73,30 @@ impl Super {
             batch: sizes.batch,
             chain,
         })
+    }
+
+    /// Why an object is no super object of the volume with this uuid that has `len` bytes, more than
+    /// `MAX_BYTES`, and begins with these `MAX_BYTES` (conditions): the first test that it fails.
+    pub fn refusal_of_long(front: &[u8], len: u64, uuid: Uuid) -> SuperReason
+        requires front { length front.now ≡ 408 }
+        requires long { 408 < len }
+        ensures { (bytes : List ℕ) → BeginsWith front.now len bytes → IsSuperRefusedAs bytes uuid result }
+    {
+        let count = u64::from(read_u32(front, COUNT_AT));
+        if len != HEAD_BYTES as u64 + ANCESTOR_BYTES as u64 * count {
+            return SuperReason::Length;
+        }
+        if !has_magic(front) {
+            return SuperReason::Magic;
+        }
+        if !has_version(front) {
+            return SuperReason::Version;
+        }
+        if !has_uuid(front, uuid) {
+            return SuperReason::Uuid;
+        }
+        // So many bytes are those of too many ancestors.
+        SuperReason::Limits
     }
 }
 

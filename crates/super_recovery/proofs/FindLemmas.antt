@@ -20,7 +20,8 @@ use Rattle.super_recovery.specs.declared.error.SuperError.{SuperError}
 use Rattle.super_recovery.specs.declared.error.SuperError.TheVariants as errors
 use Rattle.super_recovery.specs.declared.finding.FoundVolume.{FoundVolume}
 use Rattle.super_recovery.specs.Faults.{IsNoAnswer}
-use Rattle.super_recovery.specs.Found.{IsWholeReadOf, IsGreatestEpoch, IsGreatestIn, HasEpoch, HasNoEpoch, HasBadEpoch}
+use Rattle.super_recovery.specs.Fronts.{IsFrontReadOf}
+use Rattle.super_recovery.specs.Found.{IsGreatestEpoch, IsGreatestIn, HasEpoch, HasNoEpoch, HasBadEpoch}
 use Rattle.super_recovery.specs.Found.{IsWhyNoEpoch}
 use Rattle.super_recovery.specs.Found.{IsWhyVolumeRefused, IsFound, IsVolumeRefused}
 use Rattle.super_recovery.proofs.LawLemmas.{one_super, one_newest, sizes_of_super, epoch_fits}
@@ -237,7 +238,7 @@ module _ (told : Option Objects) (uuid : List ℕ) where
       (λ objects says why. is_refused uuid objects error (why_refused uuid objects volume error says why))
 
 -- where no object has the name of the super object, there is no volume
-pub told_absent : (told : Option Objects) (uuid : List ℕ) (name : ObjName) → name ≡ super_name uuid → IsWholeReadOf told name None
-    → IfSome told (λ objects. IsWhyVolumeRefused uuid objects errors.NoVolume)
-told_absent None uuid name same absent = tt
-told_absent (Some objects) uuid name same absent = sym (ap (found objects) same) ∙ absent
+pub told_absent : (told : Option Objects) (uuid : List ℕ) (name : ObjName) (most : ℕ) → name ≡ super_name uuid
+    → IsFrontReadOf told name most None → IfSome told (λ objects. IsWhyVolumeRefused uuid objects errors.NoVolume)
+told_absent None uuid name most same absent = tt
+told_absent (Some objects) uuid name most same absent = sym (ap (found objects) same) ∙ absent

@@ -1,4 +1,5 @@
 pub mod Results
 pub mod LawLemmas
+pub mod FrontLemmas
 pub mod FindLemmas
 pub mod PutLemmas

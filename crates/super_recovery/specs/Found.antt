@@ -1,7 +1,6 @@
 -- Contract: what is found of a volume as a whole in a store, or why it is refused.
 use Rattle.std.specs.Prelude.{◌≡◌, ℕ, ◌^◌, ◌<◌, ◌≤◌, Option, Some, None, IsSome, List, []}
 use Rattle.std.specs.List.{Contains}
-use Rattle.std.specs.Global.{Vec}
 use Rattle.lsvd_base.specs.declared.geometry.Geometry.{Geometry}
 use Rattle.lsvd_names.specs.declared.name.NameKind.TheVariants as kinds
 use Rattle.lsvd_names.specs.declared.name.ObjName.{ObjName}
@@ -20,12 +19,6 @@ use Rattle.super_recovery.specs.declared.finding.FoundVolume.{FoundVolume}
 use Rattle.super_recovery.specs.Faults.{IsNoAnswer}
 
 -- ---- objects and names
-
--- what was read of the object with a name: all its bytes, or none where no object has the name
-abbrev pub IsWholeReadOf : Option Objects → ObjName → Option (Vec ℕ) → Type 0
-IsWholeReadOf None name bytes = Unit {0}
-IsWholeReadOf (Some objects) name None = found objects name ≡ None
-IsWholeReadOf (Some objects) name (Some bytes) = found objects name ≡ Some bytes.items
 
 -- the greatest number among names of epochs
 pub record IsGreatestEpoch (names : List ObjName) (number : ℕ) : Type 0 where

@@ -1,4 +1,5 @@
 pub mod Faults
+pub mod Fronts
 pub mod Found
 pub mod Put
 pub mod Laws

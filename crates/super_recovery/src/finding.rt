@@ -1,23 +1,28 @@
-ghost use Rattle.std.specs.Prelude.{◌≡◌, ◌↔◌, IsTrue, IsSome, IfOk, IfErr, IfSome, List, [], ◌∷◌, ◌++◌};
+ghost use Rattle.std.specs.Prelude.{◌≡◌, ◌↔◌, ℕ, length, min, IsTrue, IsSome, IfOk, IfErr, IfSome, List, []};
+ghost use Rattle.std.specs.Prelude.{◌∷◌, ◌++◌};
 ghost use Rattle.lsvd_fault.specs.Faults.{Counts};
 ghost use Rattle.lsvd_names.specs.declared.name.ObjName.{ObjName};
 ghost use Rattle.lsvd_names.specs.Names.{super_name};
 ghost use Rattle.lsvd_objstore.specs.Objects.{found};
 ghost use Rattle.lsvd_objstore.specs.Store.{StoreState, ReceiptState, OnlyCounts, has_failed};
-ghost use Rattle.super_format.specs.Super.{MayBeSuper};
+ghost use Rattle.super_format.specs.declared.epoch.Epoch.{Epoch as EpochValue};
+ghost use Rattle.super_format.specs.Epoch.{IsEpoch};
+ghost use Rattle.super_format.specs.Super.{MayBeSuper, IsSuper};
+ghost use Rattle.super_format.specs.Tests.{IsSuperReason};
 ghost use Rattle.stopped_volume.specs.Super.{HasSuper, HasNewestEpoch};
 ghost use Rattle.stopped_volume.specs.Store.{TellsBytes};
 ghost use Rattle.super_recovery.specs.Faults.{ends_by_fault, IsNoAnswer};
+ghost use Rattle.super_recovery.specs.Fronts.{IsFrontOf};
 ghost use Rattle.super_recovery.specs.Found.{HasEpoch, IsGreatestIn, IsFound, IsVolumeRefused, IsWhyNoEpoch};
 ghost use Rattle.super_recovery.specs.Found.{IsWhyVolumeRefused};
 
 use crate::error::SuperError;
-use crate::reading::read_whole;
+use crate::reading::{Front, read_front};
 use lsvd_names::{NameKind, ObjName, a_uuid_has_sixteen_bytes};
 use lsvd_objstore::{Receipt, Store, StoreError};
 use refusals::BadSuper;
 use std::alloc::Global;
-use super_format::{Epoch, Super};
+use super_format::{Epoch, Super, SuperReadError};
 use uuid::Uuid;
 
 /// What a store says of a volume as a whole.
@@ -88,11 +93,28 @@ fn find_super<S: Store>(alloc: Global, store: &mut S, uuid: Uuid) -> Result<Supe
     ensures unchanged { OnlyCounts (S.state store.old) (S.state store.new) }
     ensures faults { Counts (ends_by_fault result) (S.state store.old).faults (S.state store.new).faults }
 {
-    let Some(bytes) = read_whole(alloc, store, &ObjName::super_of(uuid))? else {
+    let Some(front) = read_front(alloc, store, &ObjName::super_of(uuid), Super::MAX_BYTES)? else {
         return Err(SuperError::NoVolume);
     };
-    let volume = Super::read(alloc, bytes.as_slice(), uuid)?;
+    let volume = super_in(alloc, &front, uuid)?;
     Ok(volume)
+}
+
+// What a super object says that begins so. One that is longer than any is refused by its length and its head.
+fn super_in(alloc: Global, front: &Front, uuid: Uuid) -> Result<Super, SuperReadError>
+    requires { length front.now.bytes.items ≡ min front.now.len 408 }
+    ensures says { IfOk result (λ volume. (bytes : List ℕ) → IsFrontOf 408 front.now bytes
+        → IsSuper bytes uuid volume) }
+    ensures why { IfErr result (λ error. (bytes : List ℕ) → IsFrontOf 408 front.now bytes
+        → IsSuperReason bytes uuid error) }
+    ensures stands { IfOk result MayBeSuper }
+    ensures uuid { IfOk result (λ volume. volume.uuid ≡ uuid) }
+{
+    let bytes = front.bytes.as_slice();
+    if Super::MAX_BYTES < front.len {
+        return Err(Super::refusal_of_long(bytes, front.len, uuid).into());
+    }
+    Super::read(alloc, bytes, uuid)
 }
 
 // The greatest number of an epoch of a volume.
@@ -159,8 +181,17 @@ fn has_epoch<S: Store>(
     ensures unchanged { OnlyCounts (S.state store.old) (S.state store.new) }
     ensures faults { Counts (has_failed result) (S.state store.old).faults (S.state store.new).faults }
 {
-    let Some(bytes) = read_whole(alloc, store, &ObjName::epoch(uuid, number))? else {
+    let most = Epoch::BYTES as u64;
+    let Some(front) = read_front(alloc, store, &ObjName::epoch(uuid, number), most)? else {
         return Ok(false);
     };
-    Ok(Epoch::read(bytes.as_slice(), uuid, number).is_ok())
+    Ok(is_epoch(&front, uuid, number))
+}
+
+// Whether an object that begins so is the epoch of this number.
+fn is_epoch(front: &Front, uuid: Uuid, number: u64) -> bool
+    ensures { (bytes : List ℕ) → IsFrontOf 32 front.now bytes
+        → IsTrue result ↔ ((epoch : EpochValue) × IsEpoch bytes uuid number epoch) }
+{
+    front.len == Epoch::BYTES as u64 && Epoch::read(front.bytes.as_slice(), uuid, number).is_ok()
 }
