@@ -70,7 +70,7 @@ digit_value-digit_char : (d : ℕ) → d < 16 → digit_value (digit_char d) ≡
 digit_value-digit_char d small = grind (arith, nat_tests)
 
 -- the number is the value of its digits
-digits_value-hex_digits : (count n : ℕ) → n < 16 ^ count → digits_value 16 (hex_digits count n) ≡ n
+pub digits_value-hex_digits : (count n : ℕ) → n < 16 ^ count → digits_value 16 (hex_digits count n) ≡ n
 unfolding hex_digits
 digits_value-hex_digits zero n small = omega arith
 digits_value-hex_digits (suc count) n small =

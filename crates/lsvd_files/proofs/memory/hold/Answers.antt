@@ -1,0 +1,12 @@
+use Rattle.std.proofs.Common.{arith, ap, sym}
+use Rattle.lsvd_files.specs.Memory.{locked_file}
+use Rattle.lsvd_files.proofs.Kept.{changed_set, changed_past}
+use Rattle.lsvd_files.proofs.memory.hold.Goals as goal
+
+pub returns-then-number-len : goal.returns-then-number-len
+returns-then-number-len c =
+    changed_set c.args.files.now.items c.args.number locked_file c.index_mut-file.result.now _ c.index_mut-file.ensures.value
+    (ap locked_file (sym c.file.view_is))
+
+pub returns-else-number-len : goal.returns-else-number-len
+returns-else-number-len c = changed_past c.args.files.now.items c.args.number locked_file (omega arith)
