@@ -4,5 +4,7 @@ pub mod Device
 pub mod Memory
 pub mod Sequence
 pub mod Fuse
+pub mod RawFile
 pub mod File
+pub mod Held
 pub mod Stop

@@ -5,4 +5,12 @@ mod Plans
 mod Changed
 mod OneList
 mod Temporary
-mod Gathered
+mod Spelled
+mod Filed
+mod Placed
+mod Shelved
+mod Removing
+mod Cleared
+mod Settling
+mod Texts
+mod Naming

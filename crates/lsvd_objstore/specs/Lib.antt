@@ -3,4 +3,6 @@ pub mod Store
 pub mod Memory
 pub mod Faulty
 pub mod Laws
+pub mod Spelled
 pub mod Directory
+pub mod Placing

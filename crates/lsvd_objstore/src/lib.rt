@@ -3,9 +3,10 @@
 //!
 //! Its contract is that of the trait `Store`: what a put, a removal, a search and a list do, acknowledged or
 //! not, and when a call fails. A receipt stands for the bytes that one object had. It stands on `lsvd_names`,
-//! `lsvd_base`, `lsvd_fault` and the kit's `lru`. A store in memory and its receipts share the bytes of an
-//! object with whoever put it. `DirStore` is a store over a directory of the operating system: it counts its
-//! faults, and tells nothing of what it holds.
+//! `lsvd_base`, `lsvd_fault`, `lsvd_files` and the kit's `lru`. A store in memory and its receipts share the
+//! bytes of an object with whoever put it. `DirStore` is a store over a directory: it holds what the files
+//! of that are, where the directory tells it, and each put and removal is durable once it is acknowledged.
+//! One of the operating system tells nothing, and the store then counts its faults alone.
 #![tactic(auto)]
 
 mod directory;
@@ -15,6 +16,7 @@ mod laws;
 mod memory;
 mod names;
 mod object_files;
+mod placing;
 mod store;
 
 pub use directory::{DirReceipt, DirStore};

@@ -1,23 +1,26 @@
-ghost use Rattle.std.specs.Prelude.{◌≡◌, ◌++◌, IfOk, IfSome, IfNone};
+ghost use Rattle.std.specs.Prelude.{◌≡◌, ◌++◌, ◌↔◌, true, false, Contains, IfOk, IfSome, IfNone, OnOk, OnErr};
+ghost use Rattle.std.specs.Prelude.{IsErrOf, is_some};
 ghost use Rattle.std.specs.List.Sorted.{IsStrictlySortedBy};
 ghost use Rattle.std.specs.String.{string_bytes};
+ghost use Rattle.lsvd_files.specs.Calls.{Changes, IsLeft, length_under};
+ghost use Rattle.lsvd_files.specs.Kept.{Stays};
 ghost use Rattle.lsvd_names.specs.Spelling.{IsName, spelling};
-ghost use Rattle.lsvd_objstore.specs.Objects.{name_cmp, AreNamesOf};
-ghost use Rattle.lsvd_objstore.specs.Directory.{ending_of, path_in, IsTemporaryOf};
+ghost use Rattle.lsvd_objstore.specs.Objects.{name_cmp, AreNamesOf, Lists};
+ghost use Rattle.lsvd_objstore.specs.Directory.{ending_of, objects_of, IsTemporaryOf, IsSettled, PutsObject};
+ghost use Rattle.lsvd_objstore.specs.Directory.{MayPutObject, RemovesForGood, MayRemoveFile, Clears};
+ghost use Rattle.lsvd_objstore.specs.Placing.{IsTrusted, IsAsked, Sweeps};
 
 use crate::names::Names;
+use crate::placing::{put_file, remove_file, stands, sync_unless};
 use lru::LruCache;
+use lsvd_files::{Directory, FileNames};
 use lsvd_names::ObjName;
 use std::alloc::{AllocError, AllocFailed, Global};
 use std::collections::BTreeSet;
-use std::fs::{DirEntry, File, OpenOptions};
-use std::io::{ErrorKind, Write};
+use std::io;
+use std::io::ErrorKind;
+use std::marker::Model;
 use std::num::NonZeroUsize;
-use std::os::fd::AsRawFd;
-use std::os::unix::fs::{FileExt, MetadataExt};
-use std::path::Path;
-use std::random::RandomSource;
-use std::{fs, io};
 use thiserror::Error;
 use uuid::Uuid;
 
@@ -67,101 +70,103 @@ impl From<DirectoryError> for io::Error {
 const OPEN_FILES: usize = 32;
 
 /// The objects of a directory: each is a file under the spelling of its name. What is changed stays over a
-/// stop of the machine once the call is done.
+/// stop of the machine once the call is done. Contracts see it as the state of the directory, where that
+/// tells it.
 #[derive(Drop)]
-pub(crate) struct ObjectFiles {
-    rt: HostRuntime,
-    path: String,
-    /// The directory itself, to be synced.
-    directory: File,
-    /// Whether files got or lost their names since the directory was synced.
+pub(crate) struct ObjectFiles<D: Directory> {
+    alloc: Global,
+    directory: D,
+    /// Whether names of objects may have changed since the directory was synced.
     is_unsynced: bool,
-    /// What tells the temporary names of this value from those of any other.
-    mark: u64,
+    /// Why a sync of the directory failed, if one did.
+    sync_error: Option<io::Error>,
     /// The files that were read last.
-    open: LruCache<ObjName, OpenObject>,
+    open: LruCache<ObjName, OpenObject<D::File>>,
 }
 
-impl ObjectFiles {
-    /// Opens the directory, which is made where it is absent. Its own name stays over a stop then.
-    pub(crate) fn create(rt: &HostRuntime, path: &str) -> Result<ObjectFiles, DirectoryError> {
-        match fs::create_dir(rt, path) {
-            Ok(()) => {}
-            Err(error) if error.kind() == ErrorKind::AlreadyExists => {}
-            Err(error) => return Err(error.into()),
-        }
-        sync_parent(rt, path)?;
-        ObjectFiles::open(rt, path)
-    }
+impl<D: Directory> Model for ObjectFiles<D> {
+    ghost use Rattle.std.specs.Prelude.{Option, is_some};
+    ghost use Rattle.lsvd_files.specs.Directory.{DirectoryState};
+    ghost use Rattle.lsvd_objstore.specs.Directory.{IsKnown};
 
-    /// Opens a directory that there is, and syncs it: each name that it has stays over a stop then.
-    pub(crate) fn open(rt: &HostRuntime, path: &str) -> Result<ObjectFiles, DirectoryError> {
-        let alloc = rt.alloc();
-        let directory = open_directory(rt, path)?;
-        let mark = new_mark(rt)?;
-        Ok(ObjectFiles {
-            rt: *rt,
-            path: String::from_str(alloc, path)?,
+    ghost Value = { Option DirectoryState };
+
+    ghost view = { λ f. D.state f.directory };
+
+    ghost invariant = { λ f. IsKnown (is_some f.sync_error) f.is_unsynced (D.state f.directory) };
+}
+
+impl<D: Directory + Drop> ObjectFiles<D> {
+    /// The objects of a directory, which is synced: each name that it has stays over a stop then. No sync of
+    /// it has failed yet (a condition).
+    pub(crate) fn new(alloc: Global, directory: D) -> Result<ObjectFiles<D>, DirectoryError>
+        requires { IsTrusted false (D.state directory) }
+        ensures { IfOk result (λ files. Changes (λ old new. Stays old new × IsSettled new) (D.state directory)
+            files) }
+    {
+        let mut files = ObjectFiles {
+            alloc,
             directory,
-            is_unsynced: false,
-            mark,
+            is_unsynced: true,
+            sync_error: None,
             open: LruCache::new(alloc, NonZeroUsize::new(OPEN_FILES).unwrap())?,
-        })
+        };
+        files.settle()?;
+        Ok(files)
     }
 
-    /// Makes the file of an object, in place of one that there is. It is written under a temporary name, and
-    /// has its own only when it is whole. Where memory ran out nothing was done.
+    /// Makes the file of an object, in place of one that there is. It is written under a temporary name, with
+    /// this mark, and has its own only when it is whole. Where memory ran out nothing was done.
     pub(crate) fn put(
         &mut self,
         alloc: Global,
+        mark: u64,
         name: &ObjName,
         bytes: &[u8],
     ) -> Result<(), DirectoryError>
         requires { IsName name.now }
+        ensures ok { OnOk result (Changes (PutsObject name.now bytes.now) self.old self.new) }
+        ensures err { OnErr result (Changes (MayPutObject name.now bytes.now) self.old self.new) }
+        ensures memory { IsErrOf result DirectoryError.OutOfMemory → self.new ≡ self.old }
     {
-        let path = object_path(alloc, self.path.as_str(), name)?;
-        let temporary = temporary_path(alloc, path.as_str(), self.mark)?;
+        let spelled = name.print(alloc)?;
+        let temporary = temporary_name(alloc, spelled.as_str(), mark)?;
         drop(self.open.pop(name));
-        let outcome = self.put_at(path.as_str(), temporary.as_str(), bytes);
-        if outcome.is_err() {
-            let _ = fs::remove_file(&self.rt, temporary.as_str());
+        match put_file(
+            &mut self.directory,
+            &mut self.sync_error,
+            temporary.as_str(),
+            spelled.as_str(),
+            bytes,
+        ) {
+            Ok(()) => {
+                self.is_unsynced = false;
+                Ok(())
+            }
+            Err(error) => {
+                self.is_unsynced = true;
+                Err(DirectoryError::System(error))
+            }
         }
-        outcome.map_err(DirectoryError::System)
     }
 
-    // Writes a file under a temporary name, and then gives it its own.
-    fn put_at(&mut self, path: &str, temporary: &str, bytes: &[u8]) -> io::Result<()> {
-        let file = write_whole(&self.rt, temporary, bytes)?;
-        self.is_unsynced = true;
-        fs::rename(&self.rt, temporary, path)?;
-        drop(file);
-        self.settle()
-    }
-
-    /// The length of an object's file in bytes; None is where there is no file of this name.
+    /// The length of an object's file in bytes; None is where there is no file of this name. What is told
+    /// stays over a stop.
     pub(crate) fn length(
         &mut self,
         alloc: Global,
         name: &ObjName,
     ) -> Result<Option<u64>, DirectoryError>
         requires { IsName name.now }
+        ensures ok { IfOk result (λ found. Changes (λ old new. Stays old new × IsSettled new
+            × (found ≡ length_under new (spelling name.now))) self.old self.new) }
+        ensures err { OnErr result (Changes Stays self.old self.new) }
     {
-        let path = object_path(alloc, self.path.as_str(), name)?;
-        if let Err(error) = self.settle() {
-            drop(path);
-            return Err(error.into());
-        }
-        let found = fs::metadata(&self.rt, path.as_str());
-        drop(path);
-        match found {
-            Ok(found) if found.is_file() => Ok(Some(found.len())),
-            Ok(_) => Err(not_a_file().into()),
-            Err(error) if error.kind() == ErrorKind::NotFound => {
-                self.stands()?;
-                Ok(None)
-            }
-            Err(error) => Err(error.into()),
-        }
+        let spelled = name.print(alloc)?;
+        self.settle()?;
+        let found = self.directory.length(spelled.as_str())?;
+        stands(&mut self.directory)?;
+        Ok(found)
     }
 
     /// Reads the bytes of an object of `len` bytes from `from` on. A file of another length is not that
@@ -174,13 +179,14 @@ impl ObjectFiles {
         buf: &mut [u8],
     ) -> Result<(), DirectoryError>
         requires { IsName name.now }
+        ensures { Changes Stays self.old self.new }
     {
         if let Some(object) = self.open.get(name) {
-            object.read(len, from, buf)?;
+            read_object(&mut self.directory, object, len, from, buf)?;
             return Ok(());
         }
         let object = self.open_object(name)?;
-        if let Err(error) = object.read(len, from, buf) {
+        if let Err(error) = read_object(&mut self.directory, &object, len, from, buf) {
             drop(object);
             return Err(error.into());
         }
@@ -190,181 +196,125 @@ impl ObjectFiles {
     }
 
     // Opens an object's file to be read.
-    fn open_object(&self, name: &ObjName) -> Result<OpenObject, DirectoryError>
+    fn open_object(&mut self, name: &ObjName) -> Result<OpenObject<D::File>, DirectoryError>
         requires { IsName name.now }
+        ensures { Changes IsLeft self.old self.new }
     {
-        let path = object_path(self.rt.alloc(), self.path.as_str(), name)?;
-        Ok(OpenObject::open(&self.rt, path.as_str())?)
+        let spelled = name.print(self.alloc)?;
+        Ok(open_file(&mut self.directory, spelled.as_str())?)
     }
 
     /// The names of a volume's objects, in ascending order. Files that have no name of an object are passed
-    /// over.
+    /// over. What is told stays over a stop.
     pub(crate) fn names(&mut self, alloc: Global, uuid: Uuid) -> Result<Names, DirectoryError>
-        ensures { IfOk result (AreNamesOf uuid) }
+        ensures names { IfOk result (AreNamesOf uuid) }
+        ensures ok { IfOk result (λ names. Changes (λ old new. Stays old new × IsSettled new
+            × Lists uuid (objects_of new) names) self.old self.new) }
+        ensures err { OnErr result (Changes Stays self.old self.new) }
     {
         self.settle()?;
-        let mut names = BTreeSet::new(alloc);
-        for entry in fs::read_dir(&self.rt, self.path.as_str())? {
-            if let Some(name) = object_of(entry, uuid)? {
-                names.insert(name)?;
-            }
-        }
-        if let Err(error) = self.stands() {
-            drop(names);
-            return Err(error.into());
-        }
-        let listed = listed(alloc, &names);
-        drop(names);
-        Ok(Names::from_vec(listed?))
+        let files = self.directory.names(alloc)?;
+        stands(&mut self.directory)?;
+        let names = names_of(alloc, &files, uuid)?;
+        Ok(Names::from_vec(names))
     }
 
     /// Removes the file of an object, if there is one.
     pub(crate) fn remove(&mut self, name: &ObjName) -> Result<(), DirectoryError>
         requires { IsName name.now }
+        ensures ok { OnOk result (Changes (RemovesForGood (spelling name.now)) self.old self.new) }
+        ensures err { OnErr result (Changes (MayRemoveFile (spelling name.now)) self.old self.new) }
     {
-        let path = object_path(self.rt.alloc(), self.path.as_str(), name)?;
+        let spelled = name.print(self.alloc)?;
         drop(self.open.pop(name));
-        self.is_unsynced = true;
-        let removed = fs::remove_file(&self.rt, path.as_str());
-        drop(path);
-        match removed {
-            Ok(()) => {}
-            Err(error) if error.kind() == ErrorKind::NotFound => self.stands()?,
-            Err(error) => return Err(error.into()),
+        match remove_file(&mut self.directory, &mut self.sync_error, spelled.as_str()) {
+            Ok(()) => {
+                self.is_unsynced = false;
+                Ok(())
+            }
+            Err(error) => {
+                self.is_unsynced = true;
+                Err(DirectoryError::System(error))
+            }
         }
-        self.settle()?;
-        Ok(())
     }
 
     /// Removes the files that puts left under their temporary names, other than those of a put that is under
     /// way.
-    pub(crate) fn clear(&mut self) -> Result<(), DirectoryError> {
-        for entry in fs::read_dir(&self.rt, self.path.as_str())? {
-            clear_if_left(&self.rt, entry)?;
-        }
+    pub(crate) fn clear(&mut self) -> Result<(), DirectoryError>
+        ensures { Changes Clears self.old self.new }
+    {
+        clear_all(&mut self.directory, self.alloc)?;
         Ok(())
     }
 
-    // Syncs the directory, if files got or lost their names since it was synced.
-    fn settle(&mut self) -> io::Result<()> {
+    // Syncs the directory, if names of objects may have changed since it was synced.
+    fn settle(&mut self) -> io::Result<()>
+        ensures ok { OnOk result (Changes (λ old new. Stays old new × IsSettled new) self.old self.new) }
+        ensures err { OnErr result (Changes Stays self.old self.new) }
+    {
         if self.is_unsynced {
-            self.directory.sync_all()?;
+            sync_unless(&mut self.directory, &mut self.sync_error)?;
             self.is_unsynced = false;
         }
         Ok(())
     }
-
-    // That a file is absent is known only while the path leads to the directory that was opened.
-    fn stands(&self) -> io::Result<()> {
-        let opened = self.directory.metadata()?;
-        let found = fs::metadata(&self.rt, self.path.as_str())?;
-        if (opened.dev(), opened.ino()) != (found.dev(), found.ino()) {
-            return Err(io::Error::new(ErrorKind::NotFound, "another directory has its name"));
-        }
-        Ok(())
-    }
-}
-
-// Opens a directory, and syncs it.
-fn open_directory(rt: &HostRuntime, path: &str) -> Result<File, DirectoryError> {
-    if !fs::metadata(rt, path)?.is_dir() {
-        return Err(io::Error::from(ErrorKind::NotADirectory).into());
-    }
-    let directory = File::open(rt, path)?;
-    directory.sync_all()?;
-    Ok(directory)
-}
-
-// A mark that no other value has, as good as chance can tell.
-fn new_mark(rt: &HostRuntime) -> io::Result<u64> {
-    let mut mark = [0; 8];
-    rt.fill_bytes(&mut mark)?;
-    Ok(u64::from_le_bytes(mark))
 }
 
 // An object's file, open to be read.
 #[derive(Drop)]
-struct OpenObject {
-    file: File,
+struct OpenObject<F> {
+    file: F,
     len: u64,
 }
 
-impl OpenObject {
-    fn open(rt: &HostRuntime, path: &str) -> io::Result<OpenObject> {
-        let file = File::open(rt, path)?;
-        let len = file.metadata()?.len();
-        Ok(OpenObject { file, len })
-    }
-
-    fn read(&self, len: u64, from: u64, buf: &mut [u8]) -> io::Result<()> {
-        if self.len != len {
-            return Err(io::Error::new(ErrorKind::InvalidData, "the object has another length"));
-        }
-        self.file.read_exact_at(buf, from)
-    }
-}
-
-// The error of a name that leads to something else than a file.
-fn not_a_file() -> io::Error {
-    io::Error::new(ErrorKind::InvalidInput, "not a regular file")
-}
-
-// Makes a file of these bytes and syncs it. It is locked as long as it is open, so that no one takes it for
-// one that was left; where it cannot be locked, and is taken, it cannot get its name.
-fn write_whole(rt: &HostRuntime, path: &str, bytes: &[u8]) -> io::Result<File> {
-    let mut file = OpenOptions::new()
-        .write(true)
-        .create(true)
-        .truncate(true)
-        .open(rt, path)?;
-    // What is meant for a standard stream that was closed must not be written to the file.
-    if file.as_raw_fd() <= 2 {
-        file = file.try_clone()?;
-    }
-    let _ = file.try_lock();
-    write_pieces(&mut file, bytes)?;
-    file.sync_all()?;
-    Ok(file)
-}
-
-// How many bytes of an object are written at a time.
-const PIECE: usize = 1 << 20;
-
-// Writes the bytes piece by piece, and lets the system send each to its device while the next is written, so
-// that less is left for the sync. Linux begins to write a part of a file that it is told not to keep.
-fn write_pieces(file: &mut File, bytes: &[u8]) -> io::Result<()> {
-    let mut at: u64 = 0;
-    for piece in bytes.chunks(PIECE) {
-        file.write_all(piece)?;
-        send(file, at, piece.len() as u64);
-        at = at.saturating_add(piece.len() as u64);
-    }
-    Ok(())
-}
-
-// Lets the system send a part of a file to its device. It is advice, so nothing is made of a refusal.
-fn send(file: &File, at: u64, len: u64) {
-    let (at, len) = (at.cast_signed(), len.cast_signed());
-    let _ = libc::posix_fadvise(file.as_raw_fd(), at, len, libc::POSIX_FADV_DONTNEED);
-}
-
-// Syncs the directory that has the name of this one, wherever links lead to it.
-fn sync_parent(rt: &HostRuntime, path: &str) -> io::Result<()> {
-    let mut parent = fs::canonicalize(rt, path)?;
-    parent.pop();
-    File::open(rt, parent)?.sync_all()
-}
-
-// The object of a volume whose file an entry is, if it is one.
-fn object_of(entry: io::Result<DirEntry>, uuid: Uuid) -> io::Result<Option<ObjName>>
-    ensures { IfOk result (λ found. IfSome found (λ name. IsName name × (name.uuid ≡ uuid))) }
+// Opens the file under a name to be read.
+fn open_file<D: Directory>(directory: &mut D, name: &str) -> io::Result<OpenObject<D::File>>
+    ensures { Changes IsLeft (D.state directory.old) (D.state directory.new) }
 {
-    match entry {
-        Ok(entry) => Ok(name_in(entry.file_name(), uuid)),
-        // It is no text, and so no name.
-        Err(error) if error.kind() == ErrorKind::InvalidFilename => Ok(None),
-        Err(error) => Err(error),
+    let Some(file) = directory.open(name)? else {
+        return Err(io::Error::from_raw_os_error(libc::ENOENT));
+    };
+    match directory.size(&file) {
+        Ok(len) => Ok(OpenObject { file, len }),
+        Err(error) => {
+            drop(file);
+            Err(error)
+        }
     }
+}
+
+// Reads the bytes of an object of `len` bytes from `from` on.
+fn read_object<D: Directory>(
+    directory: &mut D,
+    object: &OpenObject<D::File>,
+    len: u64,
+    from: u64,
+    buf: &mut [u8],
+) -> io::Result<()>
+    ensures { D.state directory.new ≡ D.state directory.old }
+{
+    if object.len != len {
+        return Err(io::Error::new(ErrorKind::InvalidData, "the object has another length"));
+    }
+    directory.read(&object.file, from, buf)
+}
+
+// The names of a volume's objects that are among names of files, in ascending order.
+fn names_of(alloc: Global, files: &FileNames, uuid: Uuid) -> Result<Vec<ObjName>, AllocError>
+    ensures names { IfOk result (λ names. AreNamesOf uuid names.items) }
+    ensures same { IfOk result (λ names. (name : ObjName) → IsName name → name.uuid ≡ uuid
+        → (Contains names.items name ↔ Contains files.now (spelling name))) }
+{
+    let mut names = BTreeSet::new(alloc);
+    for file in files.as_slice() {
+        if let Some(name) = name_in(file.as_str(), uuid) {
+            names.insert(name)?;
+        }
+    }
+    let listed = listed(alloc, &names);
+    drop(names);
+    listed
 }
 
 // The object of a volume that has this name in a directory. None is for any other name.
@@ -388,53 +338,78 @@ fn listed(alloc: Global, names: &BTreeSet<ObjName>) -> Result<Vec<ObjName>, Allo
     names.iter().copied().collect(alloc)
 }
 
-// Removes an entry, if it is a file that a put left.
-fn clear_if_left(rt: &HostRuntime, entry: io::Result<DirEntry>) -> io::Result<()> {
-    match entry {
-        Ok(entry) if object_of_temporary(entry.file_name()).is_some() => {
-            remove_unless_locked(rt, entry.path())
-        }
-        Ok(_) => Ok(()),
-        Err(error) if error.kind() == ErrorKind::InvalidFilename => Ok(()),
-        Err(error) => Err(error),
-    }
+// Removes the files that puts left.
+fn clear_all<D: Directory>(directory: &mut D, alloc: Global) -> io::Result<()>
+    ensures { Changes Sweeps (D.state directory.old) (D.state directory.new) }
+{
+    let files = directory.names(alloc)?;
+    clear_listed(directory, files.as_slice())
 }
 
-// Removes a file, unless it is gone, or is locked or cannot be.
-fn remove_unless_locked(rt: &HostRuntime, path: Path<'_>) -> io::Result<()> {
-    let outcome = match File::open(rt, path) {
-        Ok(file) if file.try_lock().is_err() => Ok(()),
-        Ok(_) => fs::remove_file(rt, path),
-        Err(error) => Err(error),
+// Removes those of these files that puts left.
+fn clear_listed<D: Directory>(directory: &mut D, files: &[String]) -> io::Result<()>
+    ensures { Changes Sweeps (D.state directory.old) (D.state directory.new) }
+{
+    for file in files {
+        clear_if_left(directory, file.as_str())?;
+    }
+    Ok(())
+}
+
+// Removes a file, if it has a name that a put gave it and is not locked.
+fn clear_if_left<D: Directory>(directory: &mut D, file: &str) -> io::Result<()>
+    ensures { Changes Sweeps (D.state directory.old) (D.state directory.new) }
+{
+    let Some(_) = object_of_temporary(file) else {
+        return Ok(());
     };
-    match outcome {
-        Err(error) if error.kind() == ErrorKind::NotFound => Ok(()),
-        outcome => outcome,
+    let Some(opened) = open_unlocked(directory, file)? else {
+        return Ok(());
+    };
+    // It is locked until it is gone.
+    let removed = directory.remove(file);
+    drop(opened);
+    removed?;
+    Ok(())
+}
+
+// Opens a file, if there is one that no other open has locked, and locks it.
+fn open_unlocked<D: Directory>(directory: &mut D, file: &str) -> io::Result<Option<D::File>>
+    ensures ok { IfOk result (λ opened. Changes (IsAsked file.now (is_some opened))
+        (D.state directory.old) (D.state directory.new)) }
+    ensures err { OnErr result (Changes IsLeft (D.state directory.old) (D.state directory.new)) }
+{
+    if !is_file(directory, file)? {
+        return Ok(None);
+    }
+    let Some(opened) = directory.open(file)? else {
+        return Ok(None);
+    };
+    if directory.lock(&opened).unwrap_or(false) {
+        return Ok(Some(opened));
+    }
+    drop(opened);
+    Ok(None)
+}
+
+// Whether a name leads to a file. Something else was left by no put, and is not opened: at a pipe that may
+// wait forever.
+fn is_file<D: Directory>(directory: &mut D, name: &str) -> io::Result<bool>
+    ensures { Changes IsLeft (D.state directory.old) (D.state directory.new) }
+{
+    match directory.length(name) {
+        Ok(len) => Ok(len.is_some()),
+        Err(error) if error.kind() == ErrorKind::InvalidInput => Ok(false),
+        Err(error) => Err(error),
     }
 }
 
-// The path of an object's file in a directory.
-fn object_path(alloc: Global, directory: &str, name: &ObjName) -> Result<String, AllocError>
-    requires { IsName name.now }
-    ensures { IfOk result (λ path. string_bytes path ≡ path_in directory.now (spelling name.now)) }
-{
-    let spelled = name.print(alloc)?;
-    path_of(alloc, directory, spelled.as_str())
-}
-
-// The path of a file of a directory.
-fn path_of(alloc: Global, directory: &str, file: &str) -> Result<String, AllocError>
-    ensures { IfOk result (λ path. string_bytes path ≡ path_in directory.now file.now) }
-{
-    format!(in alloc; "{directory}/{file}")
-}
-
-/// The path of an object's file until it is whole, as a store with this mark makes it. The one error is that
+/// The name of an object's file until it is whole, as a store with this mark makes it. The one error is that
 /// memory ran out.
-pub(crate) fn temporary_path(alloc: Global, path: &str, mark: u64) -> Result<String, AllocError>
-    ensures { IfOk result (λ temporary. string_bytes temporary ≡ path.now ++ ending_of mark) }
+pub(crate) fn temporary_name(alloc: Global, name: &str, mark: u64) -> Result<String, AllocError>
+    ensures { IfOk result (λ temporary. string_bytes temporary ≡ name.now ++ ending_of mark) }
 {
-    format!(in alloc; "{path}.{mark:016x}.put")
+    format!(in alloc; "{name}.{mark:016x}.put")
 }
 
 // How many bytes `ending_of` has.

@@ -13,15 +13,16 @@ const MOVED: &str = "moved";
 pub fn tell_all(rt: &HostRuntime, store: &mut DirStore) -> Result<(), TestError> {
     tell_replaced(rt, store)?;
     tell_no_file(rt, store)?;
+    let held = put(rt.alloc(), store, HOLD, b"held")?;
     fs::rename(rt, PATH, MOVED)?;
     head(
         rt,
-        "The directory has another name: is a name looked for, are names listed, and the faults",
+        "The directory has another name: what is found, listed, put, removed and cleared, and the faults",
     )?;
-    tell_moved(rt, store)?;
+    tell_moved(rt, store, &held)?;
     fs::create_dir(rt, PATH)?;
     head(rt, "Another directory has its name")?;
-    tell_moved(rt, store)?;
+    tell_moved(rt, store, &held)?;
     let kind = store.last_error().map(|error| error.kind());
     tell(rt, "the last error", &kind)?;
     fs::remove_dir_all(rt, MOVED)?;
@@ -74,9 +75,13 @@ fn is_asked(rt: &HostRuntime, store: &mut DirStore, text: &str) -> Result<bool, 
     }
 }
 
-fn tell_moved(rt: &HostRuntime, store: &mut DirStore) -> Result<(), TestError> {
+fn tell_moved(rt: &HostRuntime, store: &mut DirStore, held: &DirReceipt) -> Result<(), TestError> {
     let is_asked = is_asked(rt, store, HOLD)?;
     let is_listed = store.list(rt.alloc(), name(HOLD)?.uuid).is_ok();
-    println!(rt; "  {is_asked} {is_listed} {}", store.faults())?;
+    let is_put = put(rt.alloc(), store, HOLD, b"another").is_ok();
+    let is_removed = store.remove(held).is_ok();
+    let is_cleared = store.clear().is_ok();
+    let faults = store.faults();
+    println!(rt; "  {is_asked} {is_listed} {is_put} {is_removed} {is_cleared} {faults}")?;
     Ok(())
 }

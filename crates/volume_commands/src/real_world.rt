@@ -185,7 +185,9 @@ impl RealDisk<'_> {
 }
 
 impl Disk for RealDisk<'_> {
-    ghost state = { λ d. d.file };
+    ghost use Rattle.lsvd_device.specs.File.{disk_over};
+
+    ghost state = { λ d. disk_over d.file };
 
     fn len(&self) -> u64 {
         self.file.len()
@@ -244,9 +246,11 @@ impl RealStore<'_> {
 }
 
 impl Store for RealStore<'_> {
+    ghost use Rattle.lsvd_objstore.specs.Directory.{shelf_store};
+
     type Receipt = DirReceipt;
 
-    ghost state = { λ s. s.directory };
+    ghost state = { λ s. shelf_store s.directory };
 
     fn put(
         &mut self,

@@ -1,5 +1,5 @@
 use Rattle.std.proofs.Common.{◌∙◌, sym}
-use Rattle.lsvd_objstore.proofs.Gathered.{of_other_volume}
+use Rattle.lsvd_objstore.proofs.Naming.{of_other_volume}
 use Rattle.lsvd_objstore.proofs.object_files.name_in.Goals as goal
 
 pub returns-then-ne-clause-none : goal.returns-then-ne-clause-none
