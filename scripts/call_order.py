@@ -6,6 +6,7 @@ end of power, which is what was synced.
     lock      a cache, and a file that a put writes, are changed only while locked, and the socket is made its owner's first
     syncing   after a sync of a cache that failed no program asks for another
     opening   no object is looked for, and nothing of a cache is read, before the program has synced the directory, or the file
+    naming    a put's temporary name is not one that a put of an earlier program had
     put       a file gets the name of an object only when all of it was written and synced
     settling  after a put and a removal the directory is synced before anything else is changed
     commit    a slot's body is written where its gate is closed, and its gate is opened after body and next gate were synced
@@ -287,6 +288,8 @@ class Watch:
 
     def __init__(self):
         self.caches, self.store = {}, Store()
+        # The marks in temporary names, with the number of the program that has each.
+        self.marks, self.program = {}, 0
         self.on_begin(None)
 
     def see(self, call):
@@ -300,12 +303,15 @@ class Watch:
         self.cache = self.session = None
         self.is_owners = self.is_listening = False
         self.printed = ""
+        self.program += 1
 
     # files
 
     def on_open(self, call):
         self.need_opened(call)
         if call.result >= 0 and is_temporary(call.path) and call.place() & MAKES:
+            program = self.marks.setdefault(call.path.split(".")[-2], self.program)
+            need(program == self.program, "naming", "a put has a temporary name of an earlier program")
             self.own.add(call.path)
             self.store.files[call.path] = b""
             self.synced.discard(call.path)
@@ -319,7 +325,12 @@ class Watch:
         if is_cache(call.path) and call.kind == "pread":
             need(call.path in self.synced, "opening", "a cache is read before it was synced")
 
-    on_statx = on_pread = need_opened
+    on_pread = need_opened
+
+    def on_statx(self, call):
+        self.need_opened(call)
+        # Where the directory is not found to stand, the put or the removal has failed: the object counts as none then.
+        self.store.is_unsettled &= call.path != STORE or call.result == 0
 
     def on_getdents64(self, _call):
         need(STORE in self.synced, "opening", "a directory is listed before it was synced")
