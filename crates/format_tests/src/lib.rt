@@ -3,12 +3,13 @@
 //!
 //! Its contract is its output, of which each value is the document's; it says no other. The stored output
 //! of the program `area_tests` has these values. The crate stands on `test_output`, the crates of the
-//! formats, and the kit's `hex` and `uuid`.
+//! formats, `extent_map` for the rows of checkpoints, and the kit's `hex` and `uuid`.
 #![tactic(auto)]
 
 mod bodies;
 mod case;
 mod chains;
+mod checkpoints;
 mod epochs;
 mod lines;
 mod names;
@@ -28,5 +29,6 @@ pub fn tell_all(rt: &HostRuntime) -> Result<(), TestError> {
     supers::tell_all(rt)?;
     epochs::tell_all(rt)?;
     objects::tell_all(rt)?;
-    refused_objects::tell_all(rt)
+    refused_objects::tell_all(rt)?;
+    checkpoints::tell_all(rt)
 }
