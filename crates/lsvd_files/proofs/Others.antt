@@ -128,15 +128,6 @@ kept_sync name directory = record {
   left = λ left h. sync_leaves directory.doubted directory.files directory.names directory.before name left h;
 }
 
-pub only_sync : (name : List ℕ) (directory : DirectoryState) → ChangesOnly name directory (after_sync directory)
-only_sync name directory = record { names = refl; others = λ other differ. kept_sync other directory }
-
-pub only_failed_sync : (name : List ℕ) (directory : DirectoryState) → ChangesOnly name directory (after_failed_sync directory)
-only_failed_sync name directory = record {
-  names = refl;
-  others = λ other differ. record { now = refl; left = λ left h. h };
-}
-
 pub only_move : (name : List ℕ) (directory : DirectoryState) → ChangesOnly name directory (after_move directory)
 only_move name directory = record {
   names = refl;

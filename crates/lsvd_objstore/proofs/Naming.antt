@@ -85,12 +85,6 @@ pub record AreGathered (uuid : List ℕ) (texts : List (List ℕ)) (count : ℕ)
   pub complete : (name : ObjName) → IsName name → name.uuid ≡ uuid → Contains (take count texts) (spelling name)
       → Contains names name
 
-pub gathered_none : (uuid : List ℕ) (texts : List (List ℕ)) → AreGathered uuid texts 0 []
-gathered_none uuid texts = record {
-  present = λ k d h. absurd (omega arith);
-  complete = λ name is e h. absurd (omega (arith, h.1));
-}
-
 among_more : (texts : List (List ℕ)) (count : ℕ) (text other : List ℕ) → count < length texts → get_or texts count text ≡ text
     → Contains (take (count + 1) texts) other → Contains (take count texts) other ⊎ (text ≡ other)
 among_more texts count text other less at h =
@@ -138,16 +132,6 @@ gathered_pass uuid text texts count names less at none so_far = record {
   which other is_other e (inr same) = absurd (none other is_other e same)
 
 -- all names, once all texts were read
-pub gathered_names : (uuid : List ℕ) (texts : List (List ℕ)) (count : ℕ) (names : List ObjName) → length texts ≤ count
-    → AreGathered uuid texts count names → IsStrictlySortedBy name_cmp names → AreNamesOf uuid names
-gathered_names uuid texts count names all so_far ascending = record {
-  ascending = ascending;
-  each = λ name h.
-      let is = All-contains (λ (it : ObjName). IsName it × (it.uuid ≡ uuid) × Contains texts (spelling it)) names name
-      so_far.present h in
-      (is.0, is.1);
-}
-
 pub gathered_same : {X : Type 0} (uuid : List ℕ) (text_of : X → List ℕ) (items : List X) (files : List (List ℕ)) (count : ℕ)
     (names listed : List ObjName) → map text_of items ≡ files → listed ≡ names → length items ≤ count
     → AreGathered uuid (map text_of items) count names → (name : ObjName) → IsName name → name.uuid ≡ uuid
