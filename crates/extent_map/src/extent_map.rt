@@ -1,5 +1,5 @@
 ghost use Rattle.std.specs.Prelude.{◌≡◌, ◌+◌, ◌*◌, ◌≤◌, ◌^◌, ◌<◌, ◌↔◌, ℕ, Bool, [], length, IfOk, OnOk, IsOk};
-ghost use Rattle.std.specs.Prelude.{IfSome, IsNone};
+ghost use Rattle.std.specs.Prelude.{◌++◌, IfSome, IsNone};
 ghost use Rattle.page_list.specs.Items.{insert_room};
 ghost use Rattle.page_list.specs.Test.{AnswersBy};
 ghost use Rattle.extent_map.specs.Changes.{MayGrow, IsRow, IsSet, IsTakenOut};
@@ -12,6 +12,7 @@ use crate::clear::clear_rows;
 use crate::cut::take_out;
 use crate::extent::Extent;
 use crate::first::first_between;
+use crate::in_order::RowsInOrder;
 use crate::join::put;
 use crate::look::look;
 use crate::place::Place;
@@ -82,6 +83,33 @@ impl<P: Place> ExtentMap<P> {
         self.rows.room() / ROWS_OF_CHANGE
     }
 
+    /// How many rows it has.
+    pub fn len(&self) -> usize
+        ensures { result ≡ length self.now.rows }
+    {
+        self.rows.len()
+    }
+
+    /// All rows, one by one, without a copy of them. It takes no memory.
+    pub fn in_order(&self) -> RowsInOrder<'_, P>
+        ensures rows { result ≡ self.now.rows }
+        ensures shortest { IsShortest P.on self.now.rows }
+        ensures fits { AllFit P.number self.now.rows }
+    {
+        RowsInOrder::new(&self.rows)
+    }
+
+    /// A map with the same rows, and with room for N changes. Each row is copied once, without a search. The
+    /// one error is out of memory.
+    pub fn copy(&self, alloc: Global, changes: usize) -> Result<ExtentMap<P>, AllocError>
+        ensures { IfOk result (λ map. (map.rows ≡ self.now.rows) × (changes ≤ map.spare)) }
+    {
+        let mut rows = PageList::new(alloc);
+        rows.reserve(room_for(self.len(), changes)?)?;
+        append_rows::<P, Brand>(&mut rows, self.in_order(), Blank::new(1));
+        Ok(ExtentMap { rows })
+    }
+
     /// All rows. The one error is out of memory.
     pub fn rows(&self, alloc: Global) -> Result<Vec<Extent<P>>, AllocError>
         ensures rows { IfOk result (λ rows. rows.items ≡ self.now.rows) }
@@ -101,6 +129,7 @@ impl<P: Place> ExtentMap<P> {
         ensures places { (k : ℕ) → place_at P.on self.new.rows k ≡ place_after_set P.on lba sectors place
             (place_at P.on self.old.rows) k }
         ensures shortest { IsShortest P.on self.new.rows }
+        ensures fits { AllFit P.number self.new.rows }
         ensures count { length self.new.rows ≤ length self.old.rows + 2 }
         ensures none { sectors ≡ 0 → self.new ≡ self.old }
         ensures spare { self.old.spare ≤ self.new.spare + 1 }
@@ -125,6 +154,7 @@ impl<P: Place> ExtentMap<P> {
         ensures places { (k : ℕ) → place_at P.on self.new.rows k ≡ place_after_set P.on lba sectors place
             (place_at P.on self.old.rows) k }
         ensures shortest { IsShortest P.on self.new.rows }
+        ensures fits { AllFit P.number self.new.rows }
         ensures count { length self.new.rows ≤ length self.old.rows + 2 }
         ensures none { sectors ≡ 0 → self.new ≡ self.old }
         ensures spare { self.old.spare ≤ self.new.spare + 1 }
@@ -235,6 +265,17 @@ impl<P: Place> ExtentMap<P> {
     }
 }
 
+// For how many inserts a map with so many rows and room for so many changes has room before its rows are in.
+// The one error is out of memory, where no memory is that large.
+fn room_for(rows: usize, changes: usize) -> Result<usize, AllocError>
+    ensures { IfOk result (λ room. room ≡ rows + 2 * changes) }
+{
+    match changes.checked_mul(ROWS_OF_CHANGE) {
+        Some(more) => rows.checked_add(more).ok_or(AllocError),
+        None => Err(AllocError),
+    }
+}
+
 // Puts a row in place of what is on its sectors. There is room for two rows.
 fn set_rows<P: Place, L: Ledger>(
     rows: &mut PageList<Extent<P>>,
@@ -302,4 +343,24 @@ fn look_uncounted<P: Place, L: Ledger>(
 {
     let mut steps: Steps<L> = Steps::new(blank);
     look(alloc, rows, lba, end, &mut steps)
+}
+
+// Puts the rows that are left of some in order after those of a list. There is room for them.
+fn append_rows<P: Place, L: Ledger>(
+    rows: &mut PageList<Extent<P>>,
+    mut left: RowsInOrder<'_, P>,
+    blank: Blank,
+)
+    requires name { blank.name ≡ L.name }
+    requires parts { blank.parts ≡ L.parts }
+    requires counts { 0 < blank.parts }
+    requires room { length left ≤ insert_room rows.old }
+    ensures rows { rows.new.items ≡ rows.old.items ++ left.entry }
+    ensures room { insert_room rows.old ≤ insert_room rows.new + length left.entry }
+{
+    let mut steps: Steps<L> = Steps::new(blank);
+    while let Some(row) = left.next() {
+        let end = rows.end();
+        rows.insert(end, row, &mut steps);
+    }
 }

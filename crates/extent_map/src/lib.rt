@@ -4,7 +4,8 @@
 //! range and nowhere else, and the rows are always the shortest list in order that says it. The steps of a
 //! look and of a set are bounded: a look makes at most as many comparisons as the number of rows has binary
 //! digits, 16 more, and two for each row that it gives; a set takes at most 512 steps, and one more for each
-//! row that it meets. It stands on `page_list`, which keeps the rows.
+//! row that it meets. The rows are given one by one without a copy of them, and a copy of a map has the same
+//! rows. It stands on `page_list`, which keeps the rows.
 #![tactic(auto)]
 
 mod clear;
@@ -12,6 +13,7 @@ mod cut;
 mod extent;
 mod extent_map;
 mod first;
+mod in_order;
 mod join;
 mod laws;
 mod look;
@@ -20,6 +22,7 @@ mod place;
 
 pub use extent::Extent;
 pub use extent_map::ExtentMap;
+pub use in_order::RowsInOrder;
 pub use laws::{
     a_function_has_one_shortest_list, no_list_in_order_is_shorter,
     sectors_meet_the_rows_that_have_one_of_them,

@@ -1,10 +1,12 @@
 -- What stays of a list in pages where the memory for it grows, and what an empty page more makes of it.
-use Rattle.std.proofs.Common.{ℕ, ◌+◌, ◌^◌, ◌<◌, ◌≤◌, ◌≡◌, List, [], ◌∷◌, ◌++◌, length, get_or, take, sym, ◌∙◌, ap, arith}
+use Rattle.std.proofs.Common.{ℕ, ◌+◌, ◌*◌, ◌^◌, ◌<◌, ◌≤◌, ◌≡◌, List, [], ◌∷◌, ◌++◌, length, get_or, take, sym, ◌∙◌, ap, arith}
 use Rattle.std.proofs.Common.{subst, length-append, append-nil}
 use Rattle.std.proofs.lemmas.List.{length-map, take_more}
+use Rattle.std.proofs.lemmas.List.Sums.{sum_by-le}
 use Rattle.page_list.specs.Items.{ListState, surplus_of}
 use Rattle.page_list.specs.Pages.{items_of, lengths_of, AreFilled, AreKept}
-use Rattle.page_list.proofs.Places.{items_append}
+use Rattle.page_list.proofs.Lengths.{start_bound}
+use Rattle.page_list.proofs.Places.{items_append, start_is}
 use Rattle.page_list.proofs.Seen.{seen}
 
 module _ {T : Type 0} (pages : List (List T)) (free : ℕ) (s : ListState T) (view : seen pages free ≡ s) where
@@ -61,3 +63,17 @@ items_more pages i page inside read =
     ap items_of (take_more pages i page inside)
     ∙ items_append (take i pages) (get_or pages i page ∷ [])
     ∙ ap (λ xs. items_of (take i pages) ++ xs) (append-nil (get_or pages i page) ∙ sym read)
+
+-- how many items they have
+pub count_more : {T : Type 0} (pages : List (List T)) (i : ℕ) (page : List T) → i < length pages → page ≡ get_or pages i page
+    → length (items_of (take (i + 1) pages)) ≡ length (items_of (take i pages)) + length page
+count_more pages i page inside read =
+    ap length (items_more pages i page inside read) ∙ length-append (items_of (take i pages)) page
+
+-- pages up to one have no more items than all, which have 128 each at most
+pub count_bound : {T : Type 0} (pages : List (List T)) (i : ℕ) → AreFilled (lengths_of pages)
+    → length (items_of (take i pages)) ≤ 128 * length pages
+count_bound pages i filled =
+    let ns = lengths_of pages in
+    let most = sum_by-le (λ (n : ℕ). n) 128 ns (λ k d inside. (filled k d inside).1) in
+    omega (arith, start_is pages i, start_bound ns i, most, length-map pages length)

@@ -112,6 +112,17 @@ impl<T: Copy> PageList<T> {
         add_pages(self.alloc, &mut self.free, missing)
     }
 
+    /// How many items it has: the sum over its pages.
+    pub fn len(&self) -> usize
+        ensures { result ≡ length self.now.items }
+    {
+        let mut len = 0;
+        for page in &self.pages {
+            len += page.len();
+        }
+        len
+    }
+
     /// All items. The one error is out of memory.
     pub fn to_vec(&self, alloc: Global) -> Result<Vec<T>, AllocError>
         ensures { IfOk result (λ all. all.items ≡ self.now.items) }
