@@ -7,7 +7,6 @@ use Rattle.object_format.specs.declared.data_row.DataRow.{DataRow}
 use Rattle.object_format.specs.declared.header.Header.{Header}
 use Rattle.object_format.specs.declared.expected.Expected.{Expected}
 use Rattle.object_format.specs.declared.rows.Rows.TheVariants.{Data}
-use Rattle.object_format.specs.Layout.{data_front_sectors}
 use Rattle.object_format.specs.Header.{most_rows}
 use Rattle.object_format.specs.Writing.{object_header_of}
 use Rattle.lsvd_base.specs.Limits.{is_within_limits}
@@ -17,14 +16,10 @@ use Rattle.batcher.specs.State.{BatchState}
 use Rattle.batcher.specs.declared.sealing.SealedBatch.{SealedBatch}
 use Rattle.batcher.specs.Sealing as batches
 use Rattle.object_uploads.specs.State.{UploadsState}
-use Rattle.object_uploads.specs.Queue.{front_of, FitObject}
+use Rattle.object_uploads.specs.Queue.{FitObject}
 use Rattle.object_uploads.specs.Changes as objects
 use Rattle.obj_log.specs.State.{ObjLogState}
 use Rattle.obj_log.specs.Changes.{next_of, HasSealedObject}
-
--- the front of an object with 65,536 rows at most is short
-front_short : (rows : ℕ) → rows ≤ 65536 → data_front_sectors rows < 2 ^ 31
-front_short rows most = omega arith
 
 -- as the header of an object of the grammar says, it has at most that many
 few_rows : (expected : Expected) (bytes : List ℕ) (head : Header) (rows : Vec DataRow) (payload : List ℕ)
@@ -45,11 +40,10 @@ sealed_fit log expected bytes head rows payload next limits parts =
     let same : expected.sectors ≡ log.batch.geometry.sectors = ap (λ (e : Expected). e.sectors) next in
     let low : log.batch.geometry.sectors < 2 ^ 63 = grind (arith, nat_tests) in
     let most : head.payload ≤ 131071 = grind (arith, nat_tests, parts.is_object.head.limits) in
-    let few = few_rows expected bytes head rows payload parts in
     record {
-      count = few;
-      fit = rows_fit (front_of rows.items) expected.sectors head.payload 0 None rows.items (omega (arith, same, low)) most
-          (front_short (length rows.items) few) parts.is_object.rows_are.spelling;
+      count = few_rows expected bytes head rows payload parts;
+      fit = rows_fit expected.sectors head.payload 0 None rows.items (omega (arith, same, low)) most
+          parts.is_object.rows_are.spelling;
     }
 
 -- what was sealed of a batch, entered, and released

@@ -5,13 +5,10 @@ ghost use Rattle.std.specs.List.{sum_by, slice_get};
 ghost use Rattle.lsvd_base.specs.Limits.{is_within_limits};
 ghost use Rattle.lsvd_base.specs.Range.{is_in_range};
 ghost use Rattle.lsvd_base.specs.Laws.{sector_count};
-ghost use Rattle.extent_map.specs.Extents.{place_at, place_in_range, IsShortest, AllFit};
 ghost use Rattle.object_stream.specs.Replay.{object_name};
-ghost use Rattle.upload_window.specs.Window.{lowest_ready, IsFrontier};
-ghost use Rattle.volume_maps.specs.Places.{volume_on, volume_number};
-ghost use Rattle.volume_maps.specs.Maps.{volume_place_at};
+ghost use Rattle.upload_window.specs.Window.{lowest_ready};
 ghost use Rattle.batcher.specs.Batch.{data_sectors};
-ghost use Rattle.object_uploads.specs.Queue.{FitObject, HasRoomForObject, receipt_of};
+ghost use Rattle.object_uploads.specs.Queue.{FitObject, HasRoomForObject};
 ghost use Rattle.object_uploads.specs.Order.{IsUploads};
 ghost use Rattle.object_uploads.specs.Changes.{with_job, IsJobOf, IsOut, IsPutDone};
 ghost use Rattle.obj_log.specs.declared.error.SealError.TheVariants as errors;
@@ -21,7 +18,6 @@ ghost use Rattle.obj_log.specs.Changes.{expected_of_volume, next_of};
 
 use crate::error::SealError;
 use batcher::Batch;
-use extent_map::Extent;
 use lsvd_base::{Entry, Geometry};
 use lsvd_objstore::Receipt;
 use object_format::{DataRow, Expected};
@@ -29,7 +25,6 @@ use object_uploads::{Job, Uploads};
 use std::alloc::{AllocError, Global};
 use std::marker::Model;
 use uuid::Uuid;
-use volume_maps::VolumePlace;
 
 /// The entries of a volume that are in no object yet, its objects on their way to the store, and where each
 /// sector is.
@@ -210,31 +205,11 @@ impl<R: Receipt> ObjLog<R> {
         self.uploads.job_failed(job)
     }
 
-    /// The places of the sectors from `lba` on, as the shortest list of rows in order; a sector without a
-    /// place has zeros. The rows and their places end below 2^63, and so does the range (a condition). The
-    /// one error is out of memory.
-    pub fn look(
-        &self,
-        alloc: Global,
-        lba: u64,
-        sectors: u64,
-    ) -> Result<Vec<Extent<VolumePlace>>, AllocError>
-        requires { lba + sectors < 2 ^ 63 }
-        ensures places { IfOk result (λ rows. (k : ℕ) → place_at volume_on rows.items k ≡ place_in_range lba
-            sectors (volume_place_at self.now.uploads.queue.maps) k) }
-        ensures shortest { IfOk result (λ rows. IsShortest volume_on rows.items) }
-        ensures fits { IfOk result (λ rows. AllFit volume_number rows.items) }
+    /// The objects on their way to the store, and where each sector is.
+    pub fn uploads(&self) -> &Uploads<R>
+        ensures { result.now ≡ self.now.uploads }
     {
-        self.uploads.look(alloc, lba, sectors)
-    }
-
-    /// What the store gave for the object of a number. None is for a number past the frontier, and for one
-    /// whose object was acknowledged before the list began.
-    pub fn receipt(&self, number: u64) -> Option<&R>
-        ensures { option_map (λ receipt. R.state receipt.now) result
-            ≡ receipt_of self.now.uploads.queue number }
-    {
-        self.uploads.receipt(number)
+        &self.uploads
     }
 
     /// The entries that are in no object yet.
@@ -244,44 +219,13 @@ impl<R: Receipt> ObjLog<R> {
         &self.batch
     }
 
-    /// The frontier: the greatest number up to which all objects are acknowledged. The open objects are those
-    /// past it that are not, the first among them.
-    pub fn frontier(&self) -> u64
-        ensures is { result ≡ self.now.uploads.queue.frontier }
-        ensures frontier { IsFrontier self.now.uploads.window result }
-        ensures order { IsUploads self.now.uploads.queue self.now.uploads.window }
-    {
-        self.uploads.frontier()
-    }
-
-    /// The number of the last object that was sealed, or else the one that the list began with.
-    pub fn last(&self) -> u64
-        ensures { result ≡ self.now.uploads.window.last }
-    {
-        self.uploads.window().last()
-    }
-
-    /// How many entries of the history the objects up to the frontier have.
-    pub fn end(&self) -> u64
-        ensures { result ≡ self.now.uploads.queue.end }
-    {
-        self.uploads.end()
-    }
-
-    /// The uuid of the volume.
-    pub fn uuid(&self) -> Uuid
-        ensures { result ≡ self.now.uploads.uuid }
-    {
-        self.uploads.uuid()
-    }
-
     // What is expected of the next object.
     fn next(&self) -> Expected
         requires { self.now.uploads.window.last + 1 < 2 ^ 64 - 1 }
         ensures { result ≡ next_of self.now }
     {
         Expected {
-            uuid: self.uuid().into_bytes(),
+            uuid: self.uploads.uuid().into_bytes(),
             number: self.uploads.window().last() + 1,
             sectors: self.batch.geometry().sectors,
             ancestors: 0,

@@ -1,5 +1,5 @@
 -- An object of the store that is adopted.
-use Rattle.std.proofs.Common.{◌≡◌, ℕ, ◌+◌, ◌-◌, ◌<◌, ◌≤◌, ◌^◌, ◌&&◌, nat_le, Option, Some, None, List, length, refl, sym, subst}
+use Rattle.std.proofs.Common.{◌≡◌, ℕ, ◌<◌, ◌≤◌, ◌^◌, ◌&&◌, nat_le, Option, Some, None, List, length, sym, subst}
 use Rattle.std.proofs.Common.{arith}
 use Rattle.std.specs.Prelude.{IsTrue, IfSome}
 use Rattle.std.specs.Option.{IsSome}
@@ -10,33 +10,17 @@ use Rattle.lsvd_objstore.specs.Store.{ReceiptState, Finds}
 use Rattle.object_format.specs.declared.data_row.DataRow.{DataRow}
 use Rattle.object_format.specs.declared.expected.Expected.{Expected}
 use Rattle.object_format.specs.declared.header.Header.{Header}
-use Rattle.object_format.specs.declared.kind.Kind.TheVariants as kinds
-use Rattle.object_format.specs.declared.reason.BadObject as reason_type
-use Rattle.object_format.specs.declared.rows.Rows.{Rows}
-use Rattle.object_format.specs.declared.rows.Rows.TheVariants as rows_of
 use Rattle.object_format.specs.declared.rows.Rows.TheVariants.{Data}
-use Rattle.object_format.specs.Layout.{data_front_sectors}
 use Rattle.object_format.specs.Header.{most_rows}
-use Rattle.object_format.specs.Rows.{AreObjectRows}
 use Rattle.object_format.specs.Object.{IsObject}
-use Rattle.object_format.specs.Tests.{IsObjectRefusedAs}
 use Rattle.object_stream.specs.Replay.{object_name}
 use Rattle.volume_maps.proofs.FitLemmas.{rows_fit}
-use Rattle.object_uploads.specs.Queue.{front_of, FitObject}
-use Rattle.obj_log.specs.State.{ObjLogState}
+use Rattle.object_uploads.specs.Queue.{FitObject}
 use Rattle.object_recovery.specs.declared.judging.Reached.{Reached}
-use Rattle.object_recovery.specs.declared.judging.ObjectRefusal.TheVariants as refusals
-use Rattle.object_recovery.specs.declared.reading.ReadObject.TheVariants as read
-use Rattle.object_recovery.specs.Judging.{IsEndOf}
-use Rattle.object_recovery.specs.Read.{IsReadOf}
-use Rattle.object_recovery.specs.Adoption.{IsReadAsData, IsStoredAs, IsNotAdopted, IsLeftAt, HasNoNext}
-use Rattle.object_recovery.proofs.EndLemmas.{end_of_object}
+use Rattle.object_recovery.specs.Adoption.{IsReadAsData, IsStoredAs, IsNotAdopted, IsLeftAt}
 use Rattle.object_recovery.proofs.FindLemmas.{of_told}
 
 -- ---- its rows fit the maps
-
-front_short : (rows : ℕ) → rows ≤ 65536 → data_front_sectors rows < 2 ^ 31
-front_short rows most = omega arith
 
 few_rows : (bytes : List ℕ) (size : ℕ) (expected : Expected) (header : Header) (rows : Vec DataRow)
     → IsObject bytes size expected header (Data rows)
@@ -51,12 +35,9 @@ object_fits : (bytes : List ℕ) (size : ℕ) (expected : Expected) (header : He
     → IsObject bytes size expected header (Data rows) → FitObject rows.items
 object_fits bytes size expected header rows low is =
     let most : header.payload ≤ 131071 = grind (arith, nat_tests, is.head.limits) in
-    let few = few_rows bytes size expected header rows is in
     record {
-      count = few;
-      fit =
-          rows_fit (front_of rows.items) expected.sectors header.payload 0 None rows.items low most
-          (front_short (length rows.items) few) is.rows_are.spelling;
+      count = few_rows bytes size expected header rows is;
+      fit = rows_fit expected.sectors header.payload 0 None rows.items low most is.rows_are.spelling;
     }
 
 pub data_fits : (receipt : ReceiptState) (expected : Expected) (rows : List DataRow) (end : ℕ) → expected.sectors < 2 ^ 63

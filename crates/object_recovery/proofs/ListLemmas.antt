@@ -63,7 +63,7 @@ list_more uuid geometry number before end rows receipt old new is adopted =
       frontier = omega (arith, now.settled.frontier, is.frontier, last, was);
       end_is = refl;
       sealed = now.settled.sealed;
-      logged = λ k. now.settled.logged k ∙ ap (λ place. logged_by end rows place k) (is.logged k) ∙ none_logged end rows k;
+      logged = λ k. now.settled.maps.logged k ∙ ap (λ place. logged_by end rows place k) (is.logged k) ∙ none_logged end rows k;
     }
 
 -- ---- the streams

@@ -22,7 +22,7 @@ use Rattle.object_recovery.specs.declared.judging.ObjectRefusal.{ObjectRefusal}
 use Rattle.object_recovery.specs.declared.judging.ObjectRefusal.TheVariants as refusals
 use Rattle.object_recovery.specs.Checkpoints.{expected_of, IsNewestWithEnd}
 use Rattle.object_recovery.specs.Faults.{of_store, of_refusal, is_store_fault, IsNoAnswer}
-use Rattle.object_recovery.specs.Judging.{AreGood, HaveLanded, IsRun}
+use Rattle.object_recovery.specs.Judging.{IsRun}
 use Rattle.object_recovery.specs.Judged.{IsVerdict, IsReached, IsGap, JudgesPast, StaysRefused}
 use Rattle.object_recovery.specs.Adoption.{IsWhyLeft, HasEndedAt, KeepsGood, reached_by, ReachesGap, JudgesRest, RefusesRest}
 use Rattle.object_recovery.specs.Adoption.{IsRecoveryBegun}

@@ -1,5 +1,5 @@
 -- The objects past the first missing number, judged by their names.
-use Rattle.std.proofs.Common.{◌≡◌, ℕ, ◌+◌, ◌^◌, ◌<◌, ◌≤◌, inl, inr, Option, Some, None, List, length, refl, sym, ◌∙◌, ap, subst}
+use Rattle.std.proofs.Common.{◌≡◌, ℕ, ◌+◌, ◌<◌, ◌≤◌, inl, inr, Option, Some, None, List, length, refl, sym, ◌∙◌, ap, subst}
 use Rattle.std.proofs.Common.{arith, rules}
 use Rattle.std.specs.Prelude.{◌⊎◌, IfSome, slice_index_or}
 use Rattle.std.specs.Option.{IsSome}
@@ -12,13 +12,10 @@ use Rattle.lsvd_names.specs.declared.name.ObjName.{ObjName}
 use Rattle.lsvd_names.specs.Names.{numbered_name}
 use Rattle.lsvd_objstore.specs.Objects.{Objects, name_cmp, found, Lists}
 use Rattle.object_format.specs.declared.expected.Expected.{Expected}
-use Rattle.object_format.specs.declared.reason.BadObject.{BadObject}
 use Rattle.object_stream.specs.Replay.{object_name}
-use Rattle.stopped_volume.specs.Objects.{expected_alone}
 use Rattle.object_recovery.specs.declared.judging.Reached.{Reached}
 use Rattle.object_recovery.specs.declared.judging.ObjectRefusal.{ObjectRefusal}
-use Rattle.object_recovery.specs.Judged.{IsBadFor, IsVerdict, IsReached, IsAmong, IsJudgedAlone, JudgesPast, StaysRefused}
-use Rattle.object_recovery.specs.Judged.{refused_with}
+use Rattle.object_recovery.specs.Judged.{IsVerdict, IsReached, IsAmong, IsJudgedAlone, JudgesPast}
 use Rattle.object_recovery.specs.Removal.{IsPast}
 use Rattle.object_recovery.proofs.CheckpointLemmas.{name_order}
 use Rattle.object_recovery.proofs.EndLemmas.{before_past}

@@ -1,8 +1,7 @@
 -- Where the places in the map of a recovered list lie.
-use Rattle.std.proofs.Common.{◌≡◌, ℕ, zero, suc, ◌+◌, ◌-◌, ◌<◌, ◌≤◌, nat_le, cond, Bool, true, false, Option, Some, None, List}
-use Rattle.std.proofs.Common.{[], ◌∷◌, ◌++◌, length, refl, sym, ◌∙◌, ap, subst, arith, length-append}
+use Rattle.std.proofs.Common.{◌≡◌, ℕ, ◌+◌, ◌-◌, ◌<◌, ◌==◌, nat_le, cond, Bool, true, false, Option, Some, None, List, [], ◌∷◌}
+use Rattle.std.proofs.Common.{refl, sym, ◌∙◌, ap, subst, arith}
 use Rattle.std.specs.Prelude.{IsTrue, IfSome}
-use Rattle.std.specs.List.{slice_get}
 use Rattle.std.proofs.lemmas.Bool.Decides.{nat_tests}
 use Rattle.extent_map.specs.Extents.{is_within, place_at}
 use Rattle.lsvd_objstore.specs.Store.{ReceiptState}
@@ -14,8 +13,10 @@ use Rattle.object_format.specs.Rows.{is_at, payload_at, data_payload, data_may_s
 use Rattle.volume_maps.specs.declared.place.ObjectPlace.{ObjectPlace}
 use Rattle.volume_maps.specs.Places.{object_on}
 use Rattle.volume_maps.specs.Maps.{row_object_place, settled_by_row, settled_by, settled_at}
-use Rattle.object_uploads.specs.State.{QueueState}
-use Rattle.object_uploads.specs.Queue.{front_of, receipt_of, IsNextSettled}
+use Rattle.object_uploads.specs.State.{StoredObject, QueueState}
+use Rattle.object_uploads.specs.Queue.{front_of, payload_of, stored_at, IsNextSettled}
+use Rattle.object_uploads.specs.Order.{AreKnown}
+use Rattle.object_uploads.proofs.KnownLemmas.{up_to, known_in, still_stored, next_stored}
 use Rattle.object_recovery.specs.Places.{IsInsideObject, HasPlacesInside}
 use Rattle.object_recovery.specs.Adoption.{IsReadAsData}
 
@@ -29,12 +30,12 @@ some_so P option is x some = subst (λ o. IfSome o P) some is
 
 -- ---- by rows
 
-module _ (volume payload number front k : ℕ) (Holds : ObjectPlace → Type 0)
-    (own : (at i : ℕ) → k < volume → at + i < payload → Holds (record { level = 0; number = number; sector = front + at + i }))
+module _ (volume payload number k : ℕ) (Holds : ObjectPlace → Type 0)
+    (own : (at i : ℕ) → k < volume → at + i < payload → Holds (record { level = 0; number = number; sector = at + i }))
   where
     -- of the place that a row gives a sector which it covers
     by_place : (stand_at sectors i : ℕ) (place : Option ℕ) → k < volume → i < sectors → IsTrue (is_at stand_at place)
-        → IsTrue (nat_le (stand_at + payload_at sectors place) payload) → IfSome (row_object_place number front place i) Holds
+        → IsTrue (nat_le (stand_at + payload_at sectors place) payload) → IfSome (row_object_place number place i) Holds
     by_place stand_at sectors i None inside low stands within = tt
     by_place stand_at sectors i (Some at) inside low stands within =
         let here : at + i < payload = grind (arith, nat_tests) in
@@ -43,7 +44,7 @@ module _ (volume payload number front k : ℕ) (Holds : ObjectPlace → Type 0)
     by_test : (test : Bool) (earlier : Option DataRow) (stand_at : ℕ) (row : DataRow) (before : Option ObjectPlace)
         → is_within row.lba row.sectors k ≡ test → IsTrue (data_may_stand volume payload earlier stand_at row)
         → IfSome before Holds
-        → IfSome (cond test (row_object_place number front row.place (k - row.lba)) before) Holds
+        → IfSome (cond test (row_object_place number row.place (k - row.lba)) before) Holds
     by_test false earlier stand_at row before test stands holds = holds
     by_test true earlier stand_at row before test stands holds =
         by_place stand_at row.sectors (k - row.lba) row.place (grind (arith, nat_tests)) (grind (arith, nat_tests))
@@ -51,59 +52,56 @@ module _ (volume payload number front k : ℕ) (Holds : ObjectPlace → Type 0)
 
     pub holds_by_rows : (earlier : Option DataRow) (stand_at : ℕ) (rows : List DataRow) (before : Option ObjectPlace)
         → IsTrue (data_rows_may_stand volume payload earlier stand_at rows) → IfSome before Holds
-        → IfSome (settled_by number front rows before k) Holds
+        → IfSome (settled_by number rows before k) Holds
     holds_by_rows earlier stand_at [] before stand holds = holds
     holds_by_rows earlier stand_at (row ∷ rows) before stand holds =
         let stands : IsTrue (data_may_stand volume payload earlier stand_at row) = grind (arith, nat_tests) in
-        holds_by_rows (Some row) (stand_at + data_payload row) rows (settled_by_row number front row before k)
+        holds_by_rows (Some row) (stand_at + data_payload row) rows (settled_by_row number row before k)
         (grind (arith, nat_tests))
         (by_test (is_within row.lba row.sectors k) earlier stand_at row before refl stands holds)
 
--- ---- receipts
-
-inside_among : (list more : List ReceiptState) (i at : ℕ) → IsInsideObject (slice_get list i) at
-    → IsInsideObject (slice_get (list ++ more) i) at
-inside_among [] more i at inside = absurd inside
-inside_among (first ∷ list) more zero at inside = inside
-inside_among (first ∷ list) more (suc i) at inside = inside_among list more i at inside
-
-inside_by : (test : Bool) (list more : List ReceiptState) (i at : ℕ) → IsInsideObject (cond test None (slice_get list i)) at
-    → IsInsideObject (cond test None (slice_get (list ++ more) i)) at
-inside_by true list more i at inside = inside
-inside_by false list more i at inside = inside_among list more i at inside
-
-last_given : (list : List ReceiptState) (receipt : ReceiptState) → slice_get (list ++ receipt ∷ []) (length list) ≡ Some receipt
-last_given [] receipt = refl
-last_given (first ∷ list) receipt = last_given list receipt
-
 -- ---- an object that is adopted
 
-module _ (old new : QueueState) (receipt : ReceiptState) (within : length old.receipts ≤ old.frontier)
-    (frontier : new.frontier ≡ old.frontier + 1) (receipts : new.receipts ≡ old.receipts ++ receipt ∷ []) where
-  abbrev base : ℕ
-  base = old.frontier - length old.receipts
+inside_kept : (was is : Option StoredObject) (at : ℕ) → ((object : StoredObject) → was ≡ Some object → is ≡ Some object)
+    → IsInsideObject was at → IsInsideObject is at
+inside_kept None is at kept inside = absurd inside
+inside_kept (Some object) is at kept inside = subst (λ o. IsInsideObject o at) (sym (kept object refl)) inside
 
-  base_same : new.frontier - length new.receipts ≡ base
-  base_same =
-      let size = length-append old.receipts (receipt ∷ []) in
-      let count : length new.receipts ≡ length old.receipts + 1 = ap length receipts ∙ size in
-      omega (arith, count, frontier)
+inside_by : (own : Bool) (was is : Option StoredObject) (at : ℕ)
+    → ((object : StoredObject) → was ≡ Some object → is ≡ Some object)
+    → IsInsideObject (cond own was None) at → IsInsideObject (cond own is None) at
+inside_by true was is at kept inside = inside_kept was is at kept inside
+inside_by false was is at kept inside = absurd inside
 
-  still_inside : (number at : ℕ) → IsInsideObject (receipt_of old number) at → IsInsideObject (receipt_of new number) at
-  still_inside number at inside =
-      rw (base_same, receipts) (inside_by (nat_le number base) old.receipts (receipt ∷ []) (number - base - 1) at inside)
+-- what is in the store with the next object
+module _ (rows : List DataRow) (end : ℕ) (receipt : ReceiptState) (old new : QueueState) (known : AreKnown old)
+    (next : IsNextSettled rows end receipt old new) where
+  abbrev payload : ℕ
+  payload = payload_of receipt.size rows
 
-  own_receipt : receipt_of new (old.frontier + 1) ≡ Some receipt
-  own_receipt =
-      let past : nat_le (old.frontier + 1) base ≡ false = grind (arith, nat_tests) in
-      let index : old.frontier + 1 - base - 1 ≡ length old.receipts = omega arith in
-      rw (base_same, receipts, past, index) (last_given old.receipts receipt)
+  up_to_frontier : AreKnown (up_to old.frontier old.receipts old.maps)
+  up_to_frontier = known_in old (up_to old.frontier old.receipts old.maps) known refl refl refl refl
+
+  still_inside : (place : ObjectPlace) → IsInsideObject (stored_at old place) place.sector
+      → IsInsideObject (stored_at new place) place.sector
+  still_inside place inside =
+      rw next.receipts (
+      inside_by (place.level == 0) _ _ place.sector
+      (still_stored old.frontier payload (front_of rows) old.receipts receipt old.maps new.maps up_to_frontier next.maps.objects
+      place.number) inside
+      )
+
+  own_stored : (sector : ℕ) → stored_at new (record { level = 0; number = old.frontier + 1; sector = sector })
+      ≡ Some (record { receipt = receipt; front = front_of rows })
+  own_stored sector =
+      rw next.receipts
+      (next_stored old.frontier payload (front_of rows) old.receipts receipt old.maps new.maps up_to_frontier next.maps.objects)
 
 pub places_more : (sectors end : ℕ) (rows : List DataRow) (expected : Expected) (receipt : ReceiptState) (old new : QueueState)
-    → length old.receipts ≤ old.frontier → expected.sectors ≡ sectors → IsReadAsData receipt expected rows end
+    → AreKnown old → expected.sectors ≡ sectors → IsReadAsData receipt expected rows end
     → IsNextSettled rows end receipt old new → HasPlacesInside sectors old → HasPlacesInside sectors new
-places_more sectors end rows expected receipt old new within same read next inside k place at =
-    let Holds : ObjectPlace → Type 0 = λ p. (k < sectors) × (p.level ≡ 0) × IsInsideObject (receipt_of new p.number) p.sector in
+places_more sectors end rows expected receipt old new known same read next inside k place at =
+    let Holds : ObjectPlace → Type 0 = λ p. (k < sectors) × (p.level ≡ 0) × IsInsideObject (stored_at new p) p.sector in
     let object = read.read.is_object in
     let payload = read.header.payload in
     let front : front_sectors read.header ≡ front_of rows =
@@ -113,22 +111,20 @@ places_more sectors end rows expected receipt old new within same read next insi
     subst (λ list. IsTrue (data_rows_may_stand sectors payload None 0 list)) read.items
     (subst (λ volume. IsTrue (data_rows_may_stand volume payload None 0 read.list.items)) same object.rows_are.spelling) in
     let own : (stand_at i : ℕ) → k < sectors → stand_at + i < payload
-    → Holds (record { level = 0; number = old.frontier + 1; sector = front_of rows + stand_at + i }) =
+    → Holds (record { level = 0; number = old.frontier + 1; sector = stand_at + i }) =
     λ stand_at i low below. (
       low,
       refl,
-      subst (λ r. IsInsideObject r (front_of rows + stand_at + i))
-          (sym (own_receipt old new receipt within next.frontier next.receipts))
+      subst (λ o. IsInsideObject o (stand_at + i)) (sym (own_stored rows end receipt old new known next (stand_at + i)))
           (omega (arith, object.head.has_size, front, below)),
     ) in
     let before : IfSome (settled_at old.maps k) Holds =
     so_some Holds (settled_at old.maps k) (λ p is.
     let was = inside k p is in
-    (was.0, was.1, still_inside old new receipt within next.frontier next.receipts p.number p.sector was.2)) in
+    (was.0, was.1, still_inside rows end receipt old new known next p was.2)) in
     some_so Holds (settled_at new.maps k)
-    (subst (λ o. IfSome o Holds) (sym (next.settled k))
-    (holds_by_rows sectors payload (old.frontier + 1) (front_of rows) k Holds own None 0 rows (settled_at old.maps k) stand
-    before)) place at
+    (subst (λ o. IfSome o Holds) (sym (next.maps.settled k))
+    (holds_by_rows sectors payload (old.frontier + 1) k Holds own None 0 rows (settled_at old.maps k) stand before)) place at
 
 -- a list without places has them so
 pub no_places : (sectors : ℕ) (queue : QueueState) → queue.maps.settled.rows ≡ [] → HasPlacesInside sectors queue

@@ -1,7 +1,7 @@
 -- What a recovery refuses.
 use Rattle.std.proofs.Common.{◌≡◌, ℕ, ◌+◌, ◌-◌, ◌*◌, ◌^◌, ◌<◌, ◌≤◌, inl, inr, Option, Some, None, List, length, drop, refl, sym}
 use Rattle.std.proofs.Common.{◌∙◌, ap, subst, arith}
-use Rattle.std.specs.Prelude.{◌⊎◌, IfSome, is_some}
+use Rattle.std.specs.Prelude.{◌⊎◌, IfSome}
 use Rattle.std.proofs.lemmas.Bool.{cases_lt}
 use Rattle.lsvd_base.specs.declared.entry.Entry.{Entry}
 use Rattle.lsvd_base.specs.declared.geometry.Geometry.{Geometry}
@@ -15,7 +15,6 @@ use Rattle.object_format.specs.declared.reason.BadObject.{BadObject}
 use Rattle.object_format.specs.declared.rows.Rows.{Rows}
 use Rattle.object_format.specs.declared.rows.Rows.TheVariants as rows_of
 use Rattle.object_format.specs.Rows.{AreObjectRows}
-use Rattle.object_format.specs.Object.{IsObject}
 use Rattle.object_format.specs.Tests.{IsObjectRefusedAs}
 use Rattle.object_format.specs.Layout.{front_sectors}
 use Rattle.object_stream.specs.declared.object.Content.{Content}

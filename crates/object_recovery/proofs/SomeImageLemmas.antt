@@ -3,12 +3,11 @@ use Rattle.std.proofs.Common.{◌≡◌, ℕ, zero, suc, ◌+◌, Option, Some, 
 use Rattle.std.specs.Prelude.{IfSome}
 use Rattle.std.specs.List.{slice_get}
 use Rattle.lsvd_base.specs.Image.{Image, zero_sector}
-use Rattle.lsvd_objstore.specs.Store.{ReceiptState}
 use Rattle.object_stream.specs.Changes.{sector_of}
 use Rattle.volume_maps.specs.declared.place.ObjectPlace.{ObjectPlace}
 use Rattle.volume_maps.specs.Maps.{settled_at}
-use Rattle.object_uploads.specs.State.{QueueState}
-use Rattle.object_uploads.specs.Queue.{receipt_of}
+use Rattle.object_uploads.specs.State.{StoredObject, QueueState}
+use Rattle.object_uploads.specs.Queue.{stored_at}
 use Rattle.object_uploads.specs.Image.{GivesSector, HoldsSector, HasImage}
 use Rattle.object_recovery.specs.Places.{IsInsideObject}
 use Rattle.object_recovery.specs.Laws.{ListHasSomeImage}
@@ -18,29 +17,28 @@ abbrev sector_told : Option (List ℕ) → (at : ℕ) → List ℕ
 sector_told None at = zero_sector
 sector_told (Some bytes) at = sector_of at bytes
 
-abbrev sector_given : Option ReceiptState → (at : ℕ) → List ℕ
+abbrev sector_given : Option StoredObject → (at : ℕ) → List ℕ
 sector_given None at = zero_sector
-sector_given (Some receipt) at = sector_told receipt.told at
+sector_given (Some object) at = sector_told object.receipt.told (object.front + at)
 
 abbrev sector_held : QueueState → Option ObjectPlace → List ℕ
 sector_held queue None = zero_sector
-sector_held queue (Some place) = sector_given (receipt_of queue place.number) place.sector
+sector_held queue (Some place) = sector_given (stored_at queue place) place.sector
 
 told_is : (told : Option (List ℕ)) (at : ℕ) → IfSome told (λ bytes. sector_of at bytes ≡ sector_told told at)
 told_is None at = tt
 told_is (Some bytes) at = refl
 
-gives : (receipt : Option ReceiptState) (at : ℕ) → IsInsideObject receipt at → GivesSector receipt at (sector_given receipt at)
+gives : (object : Option StoredObject) (at : ℕ) → IsInsideObject object at → GivesSector object at (sector_given object at)
 gives None at inside = absurd inside
-gives (Some receipt) at inside = (inside, told_is receipt.told at)
+gives (Some object) at inside = (inside, told_is object.receipt.told (object.front + at))
 
 holds : (queue : QueueState) (held : Option ObjectPlace)
-    → ((place : ObjectPlace) → held ≡ Some place → (place.level ≡ 0)
-    × IsInsideObject (receipt_of queue place.number) place.sector)
+    → ((place : ObjectPlace) → held ≡ Some place → (place.level ≡ 0) × IsInsideObject (stored_at queue place) place.sector)
     → HoldsSector queue held (sector_held queue held)
 holds queue None inside = refl
 holds queue (Some place) inside = let here = inside place refl in
-    (here.0, gives (receipt_of queue place.number) place.sector here.1)
+    (here.0, gives (stored_at queue place) place.sector here.1)
 
 -- so many sectors from one on
 abbrev sectors_from : QueueState → (first count : ℕ) → Image
@@ -66,6 +64,7 @@ sector_is queue first (suc count) (suc k) sector at =
     let here : first + suc k ≡ first + 1 + k = omega arith in
     ap (λ n. sector_held queue (settled_at queue.maps n)) here ∙ sector_is queue (first + 1) count k sector at
 
+-- For the proofs of callers too: the image of a list whose places lie inside objects.
 pub list_has_some_image : ListHasSomeImage
 list_has_some_image sectors log inside =
     let queue = log.uploads.queue in

@@ -1,19 +1,18 @@
 -- Contract: where the places in the map of a recovered list lie.
 use Rattle.std.specs.Prelude.{◌≡◌, ℕ, ◌+◌, ◌*◌, ◌<◌, ◌≤◌, Option, Some, None}
-use Rattle.lsvd_objstore.specs.Store.{ReceiptState}
 use Rattle.volume_maps.specs.declared.place.ObjectPlace.{ObjectPlace}
 use Rattle.volume_maps.specs.Maps.{settled_at}
-use Rattle.object_uploads.specs.State.{QueueState}
-use Rattle.object_uploads.specs.Queue.{receipt_of}
+use Rattle.object_uploads.specs.State.{StoredObject, QueueState}
+use Rattle.object_uploads.specs.Queue.{stored_at}
 
--- there is a receipt, and the sector at a place lies inside its object
-abbrev pub IsInsideObject : Option ReceiptState → (at : ℕ) → Type 0
+-- an object is in the store, and a sector of its payload lies inside it
+abbrev pub IsInsideObject : Option StoredObject → (at : ℕ) → Type 0
 IsInsideObject None at = ⊥
-IsInsideObject (Some receipt) at = 512 * (at + 1) ≤ receipt.size
+IsInsideObject (Some object) at = 512 * (object.front + at + 1) ≤ object.receipt.size
 
 -- Each sector that the objects' map has is one of the volume's, and stands in an object of the volume's own that was adopted,
 -- inside it.
 abbrev pub HasPlacesInside : (sectors : ℕ) → QueueState → Type 0
 HasPlacesInside sectors queue =
     (k : ℕ) (place : ObjectPlace) → settled_at queue.maps k ≡ Some place
-    → (k < sectors) × (place.level ≡ 0) × IsInsideObject (receipt_of queue place.number) place.sector
+    → (k < sectors) × (place.level ≡ 0) × IsInsideObject (stored_at queue place) place.sector

@@ -98,7 +98,7 @@ fn adopt_next<S: Store>(
     ensures unchanged { OnlyCounts (S.state store.old) (S.state store.new) }
     ensures faults { Counts (ends_by_fault result) (S.state store.old).faults (S.state store.new).faults }
 {
-    if log.last() == u64::MAX {
+    if log.uploads().last() == u64::MAX {
         return Ok(Next::Missing);
     }
     let expected = expected_next(log);
@@ -165,8 +165,8 @@ fn expected_next<R: Receipt>(log: &ObjLog<R>) -> Expected
 {
     let batch = log.batch();
     Expected {
-        uuid: log.uuid().into_bytes(),
-        number: log.last() + 1,
+        uuid: log.uploads().uuid().into_bytes(),
+        number: log.uploads().last() + 1,
         sectors: batch.geometry().sectors,
         ancestors: 0,
         end_before: Some(batch.first_seq()),

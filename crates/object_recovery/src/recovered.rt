@@ -49,7 +49,7 @@ impl<R: Receipt> Recovered<R> {
     pub fn greatest_number(&self) -> u64
         ensures { IsGreatestNumber self.now.names self.now.log.uploads.window.last result }
     {
-        greatest_number(self.names.as_slice(), self.log.last())
+        greatest_number(self.names.as_slice(), self.log.uploads().last())
     }
 
     /// Removes the objects of the volume past the list's last. The store has the same objects of the volume
@@ -66,7 +66,12 @@ impl<R: Receipt> Recovered<R> {
         ensures answer { IfErr result IsNoAnswer }
         ensures faults { Counts (ends_by_fault result) (S.state store.old).faults (S.state store.new).faults }
     {
-        remove_past(alloc, store, self.log.last(), self.names.as_slice())
+        remove_past(
+            alloc,
+            store,
+            self.log.uploads().last(),
+            self.names.as_slice(),
+        )
     }
 
     /// The list alone.

@@ -141,7 +141,7 @@ fn expected_of_list<R: Receipt>(log: &ObjLog<R>) -> Expected
     ensures { result ≡ expected_of_volume log.now }
 {
     Expected {
-        uuid: log.uuid().into_bytes(),
+        uuid: log.uploads().uuid().into_bytes(),
         number: 0,
         sectors: log.batch().geometry().sectors,
         ancestors: 0,
@@ -154,8 +154,8 @@ fn adopted<R: Receipt>(log: &ObjLog<R>) -> Reached
     ensures { result ≡ reached_by log.now }
 {
     Reached {
-        number: log.last(),
-        end: Some(log.end()),
+        number: log.uploads().last(),
+        end: Some(log.uploads().end()),
         refused: None,
     }
 }

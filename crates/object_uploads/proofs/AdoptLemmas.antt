@@ -17,7 +17,7 @@ use Rattle.volume_maps.specs.Places.{left_at}
 use Rattle.volume_maps.specs.Maps.{settled_by, logged_by, settled_at, logged_at}
 use Rattle.volume_maps.specs.Laws.{place_owner}
 use Rattle.object_uploads.specs.State.{UploadsState}
-use Rattle.object_uploads.specs.Queue.{just_sealed, front_of}
+use Rattle.object_uploads.specs.Queue.{just_sealed}
 use Rattle.object_uploads.specs.Order.{IsUploads}
 use Rattle.object_uploads.specs.Changes.{IsAdopted}
 use Rattle.object_uploads.specs.Stream.{IsSealedOf, AreOfStream}
@@ -25,6 +25,7 @@ use Rattle.object_uploads.specs.Laws.{with_adopted, AdoptingKeepsStream}
 use Rattle.object_uploads.specs.ImageLaws.{AdoptingMakesImage}
 use Rattle.object_uploads.proofs.KeepLemmas.{settle_one}
 use Rattle.object_uploads.proofs.GrowLemmas.{owners_more, follow_more, all_objects}
+use Rattle.object_uploads.proofs.KnownLemmas.{known_in, up_to}
 use Rattle.object_uploads.proofs.ImageLemmas.{has_one}
 
 -- rows leave a sector that is not in the log out of it
@@ -110,8 +111,8 @@ module _ (volume : Expected) (data_at : ℕ → ℕ) (stream : Stream) (old new 
   now_settled : (k : ℕ) → place_owner (settled_at new.queue.maps k) ≡ owners grown (last + 1) k
   now_settled k =
       let before = are.settled k ∙ ap (λ n. owners stream n k) at_last in
-      ap place_owner (adopted.settled.settled k)
-      ∙ (ap (λ n. place_owner (settled_by (n + 1) (front_of rows) rows (settled_at old.queue.maps k) k)) at_last
+      ap place_owner (adopted.settled.maps.settled k)
+      ∙ (ap (λ n. place_owner (settled_by (n + 1) rows (settled_at old.queue.maps k) k)) at_last
       ∙ (settle_one volume data_at k (last + 1) (end_at stream last) entries object (just_sealed bytes rows end)
       (settled_at old.queue.maps k) (owners stream last) is before
       ∙ sym (grown_owners k)))
@@ -142,7 +143,7 @@ module _ (volume : Expected) (data_at : ℕ → ℕ) (stream : Stream) (old new 
       are.logged k ∙ ap (λ es. left_at data_at old.queue.end es k) same
 
   now_logged : (k : ℕ) → logged_at new.queue.maps k ≡ None
-  now_logged k = adopted.settled.logged k ∙ (ap (λ p. logged_by end rows p k) (old_log k) ∙ none_logged end rows k)
+  now_logged k = adopted.settled.maps.logged k ∙ (ap (λ p. logged_by end rows p k) (old_log k) ∙ none_logged end rows k)
 
   pub now_of_stream : AreOfStream volume data_at grown new
   now_of_stream =
@@ -167,7 +168,8 @@ adopting_keeps_stream volume data_at stream old new entries bytes rows end recei
 pub adopting_makes_image : AdoptingMakesImage
 adopting_makes_image volume end_before entries object bytes rows end receipt old new image uploads is adopted tells ends has k
     sector at =
-    let held = has_one old.queue volume old.queue.frontier end_before entries object (just_sealed bytes rows end)
-    old.queue.receipts receipt (settled_at old.queue.maps) image
-    uploads.receipts is tells ends has k sector at in
-    rw (adopted.settled.settled k, adopted.settled.frontier, adopted.settled.receipts) held
+    let known = known_in old.queue (up_to old.queue.frontier old.queue.receipts old.queue.maps) uploads.known refl refl refl
+    refl in
+    let held = has_one volume old.queue.frontier end_before receipt.size entries object (just_sealed bytes rows end)
+    old.queue.receipts receipt old.queue.maps new.queue.maps image known is tells ends adopted.settled.maps has k sector at in
+    rw adopted.settled.receipts held

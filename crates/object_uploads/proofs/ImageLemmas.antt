@@ -1,10 +1,9 @@
 -- The image that the objects have, object by object.
-use Rattle.std.proofs.Common.{◌≡◌, ℕ, zero, suc, ◌+◌, ◌-◌, ◌*◌, ◌<◌, ◌≤◌, nat_le, not, Bool, true, false, cond, Option, Some}
-use Rattle.std.proofs.Common.{None, List, [], ◌∷◌, ◌++◌, length, take, drop, refl, sym, ◌∙◌, ap, subst, arith, length-append}
-use Rattle.std.specs.Prelude.{IfSome, IsSome, option_to_list}
+use Rattle.std.proofs.Common.{◌≡◌, ℕ, zero, suc, ◌+◌, ◌-◌, ◌*◌, ◌<◌, ◌≤◌, ◌==◌, not, Bool, true, false, cond, Option, Some}
+use Rattle.std.proofs.Common.{None, List, [], ◌∷◌, ◌++◌, length, take, drop, refl, sym, ◌∙◌, ap, subst, arith}
+use Rattle.std.specs.Prelude.{IfSome, IsSome}
 use Rattle.std.specs.List.{AllByRecursion, All, slice_get}
-use Rattle.std.proofs.lemmas.Bool.Decides.{nat_tests}
-use Rattle.std.proofs.lemmas.List.{append-nil, append_assoc}
+use Rattle.std.proofs.lemmas.List.{append-nil, drop-drop}
 use Rattle.std.proofs.lemmas.List.Elements.{All-take, All-drop}
 use Rattle.std.proofs.lemmas.Option.{slice_get_within}
 use Rattle.std.proofs.Math.Seq.{take-add, take-append_seam, drop-append_seam}
@@ -24,7 +23,7 @@ use Rattle.object_format.specs.Rows.{AreObjectRows}
 use Rattle.object_stream.specs.declared.change.Change.{Change}
 use Rattle.object_stream.specs.declared.change.Change.TheVariants.{Put, Clear}
 use Rattle.object_stream.specs.declared.object.StreamObject.{StreamObject}
-use Rattle.object_stream.specs.Changes.{sector_of, change_at, change_in}
+use Rattle.object_stream.specs.Changes.{sector_of, change_at}
 use Rattle.object_stream.specs.Stream.{end_after, last_number, EndsFollow}
 use Rattle.object_stream.specs.Replay.{expected_at}
 use Rattle.object_stream.specs.Laws.{from_object, changed_by}
@@ -32,18 +31,22 @@ use Rattle.object_stream.proofs.ChangeLemmas.{changes_make_image}
 use Rattle.object_stream.proofs.StreamLemmas.{goes_on, end_no_earlier, follow_first}
 use Rattle.object_stream.proofs.ValueLemmas.{length-after}
 use Rattle.volume_maps.specs.declared.place.ObjectPlace.{ObjectPlace}
-use Rattle.volume_maps.specs.Maps.{settled_by, settled_at}
+use Rattle.object_table.specs.Table.{TableState, row_of, new_row, added}
+use Rattle.volume_maps.specs.Maps.{MapsState, settled_by, settled_at}
+use Rattle.volume_maps.specs.Live.{HasSameObjects}
 use Rattle.volume_maps.specs.Laws.{IsPlacedBy}
 use Rattle.volume_maps.proofs.SettleLemmas.{settles_places}
-use Rattle.object_uploads.specs.State.{SealedState, QueueState, UploadsState}
-use Rattle.object_uploads.specs.Queue.{with_at, with_spare, with_receipt, just_sealed, HasBytesAt, front_of, receipts_of}
-use Rattle.object_uploads.specs.Queue.{receipt_of, settled_by_all, end_of_last}
+use Rattle.object_uploads.specs.State.{SealedState, NumberedReceipt, StoredObject, QueueState, UploadsState}
+use Rattle.object_uploads.specs.Queue.{with_at, with_spare, with_receipt, just_sealed, HasBytesAt, front_of, payload_of}
+use Rattle.object_uploads.specs.Queue.{receipts_of, receipt_in, stored_with, end_of_last, SettlesObject, SettlesObjects}
+use Rattle.object_uploads.specs.Order.{AreKnown}
 use Rattle.object_uploads.specs.Changes.{index_of, IsOut}
 use Rattle.object_uploads.specs.Stream.{AreRows, IsSealedOf, AreSealedOf}
 use Rattle.object_uploads.specs.Image.{GivesSector, HoldsSector, HasImage, IsReceiptFor, HasOwnReceipts}
 use Rattle.object_uploads.specs.ImageLaws.{ImageBegins, EnteringKeepsImage, SealingKeepsImage, RoomKeepsImage, JobsKeepImage}
 use Rattle.object_uploads.specs.ImageLaws.{DoneKeepsReceipts, settled_entries, DoneMakesImage}
 use Rattle.object_uploads.proofs.KeepLemmas as keep
+use Rattle.object_uploads.proofs.KnownLemmas.{known_in, up_to, given, known_one, receipts_with, still_stored, next_stored}
 use Rattle.object_uploads.proofs.WholeLemmas.{PutsWhole, puts_whole, lies_inside}
 
 -- the two parts of a list
@@ -95,91 +98,79 @@ told_left zero list told = told
 told_left (suc count) [] told = tt
 told_left (suc count) (first ∷ list) told = told_left count list told.1
 
--- ---- a receipt more
+-- ---- one more object is in the store
 
--- the objects with these receipts up to this number
-abbrev up_to : (number : ℕ) → List ReceiptState → QueueState → QueueState
-up_to number receipts queue = record queue { frontier = number; receipts = receipts }
+gives_kept : (was is : Option StoredObject) (at : ℕ) (sector : List ℕ)
+    → ((object : StoredObject) → was ≡ Some object → is ≡ Some object)
+    → GivesSector was at sector → GivesSector is at sector
+gives_kept None is at sector kept gives = absurd gives
+gives_kept (Some object) is at sector kept gives = subst (λ o. GivesSector o at sector) (sym (kept object refl)) gives
 
-gives_among : (list : List ReceiptState) (more : List ReceiptState) (i at : ℕ) (sector : List ℕ)
-    → GivesSector (slice_get list i) at sector
-    → GivesSector (slice_get (list ++ more) i) at sector
-gives_among [] more i at sector gives = absurd gives
-gives_among (first ∷ list) more zero at sector gives = gives
-gives_among (first ∷ list) more (suc i) at sector gives = gives_among list more i at sector gives
+gives_by : (test : Bool) (was is : Option StoredObject) (at : ℕ) (sector : List ℕ)
+    → ((object : StoredObject) → was ≡ Some object → is ≡ Some object)
+    → GivesSector (cond test was None) at sector → GivesSector (cond test is None) at sector
+gives_by true was is at sector kept gives = gives_kept was is at sector kept gives
+gives_by false was is at sector kept gives = absurd gives
 
-gives_by : (test : Bool) (list more : List ReceiptState) (i at : ℕ) (sector : List ℕ)
-    → GivesSector (cond test None (slice_get list i)) at sector
-    → GivesSector (cond test None (slice_get (list ++ more) i)) at sector
-gives_by true list more i at sector gives = gives
-gives_by false list more i at sector gives = gives_among list more i at sector gives
+-- a sector of the payload is one of the whole object
+payload_sector : (front at : ℕ) (bytes : List ℕ) → sector_of at (drop (512 * front) bytes) ≡ sector_of (front + at) bytes
+payload_sector front at bytes =
+    let sum : 512 * front + 512 * at ≡ 512 * (front + at) = omega arith in
+    ap (take 512) (drop-drop (512 * at) (512 * front) bytes ∙ ap (λ n. drop n bytes) sum)
 
-last_given : (list : List ReceiptState) (receipt : ReceiptState) → slice_get (list ++ receipt ∷ []) (length list) ≡ Some receipt
-last_given [] receipt = refl
-last_given (first ∷ list) receipt = last_given list receipt
+-- the receipt tells what its object's bytes have
+tells_sector : (told : Option (List ℕ)) (bytes sector : List ℕ) (at : ℕ) → IfSome told (λ t. t ≡ bytes)
+    → sector_of at bytes ≡ sector
+    → IfSome told (λ t. sector_of at t ≡ sector)
+tells_sector None bytes sector at tells has = tt
+tells_sector (Some told) bytes sector at tells has = rw tells has
 
-module _ (queue : QueueState) (number : ℕ) (receipts : List ReceiptState) (receipt : ReceiptState)
-    (within : length receipts ≤ number) where
+some_sector : (a b : List ℕ) → Some a ≡ Some b → a ≡ b
+some_sector a b same = ap (sector_or a) same
+
+module _ (number size front : ℕ) (receipts : List NumberedReceipt) (receipt : ReceiptState) (old new : MapsState)
+    (known : AreKnown (up_to number receipts old))
+    (same : HasSameObjects (added (new_row (number + 1) size front) old.objects) new.objects) where
   abbrev before : QueueState
-  before = up_to number receipts queue
+  before = up_to number receipts old
 
   abbrev now : QueueState
-  now = up_to (number + 1) (receipts ++ receipt ∷ []) queue
-
-  size : length (receipts ++ receipt ∷ []) ≡ length receipts + 1
-  size = length-append receipts (receipt ∷ [])
-
-  base_same : number + 1 - length (receipts ++ receipt ∷ []) ≡ number - length receipts
-  base_same = omega (arith, size)
-
-  still_gives : (n at : ℕ) (sector : List ℕ) → GivesSector (receipt_of before n) at sector
-      → GivesSector (receipt_of now n) at sector
-  still_gives n at sector gives =
-      let base = number - length receipts in
-      rw base_same (gives_by (nat_le n base) receipts (receipt ∷ []) (n - base - 1) at sector gives)
-
-  is_given : receipt_of now (number + 1) ≡ Some receipt
-  is_given =
-      let base = number - length receipts in
-      let past : nat_le (number + 1) base ≡ false = grind (arith, nat_tests) in
-      let index : number + 1 - base - 1 ≡ length receipts = omega arith in
-      rw (base_same, past, index) (last_given receipts receipt)
+  now = up_to (number + 1) (receipts ++ record { number = number + 1; receipt = receipt } ∷ []) new
 
   still_holds : (place : Option ObjectPlace) (sector : List ℕ) → HoldsSector before place sector → HoldsSector now place sector
   still_holds None sector holds = holds
-  still_holds (Some place) sector holds = (holds.0, still_gives place.number place.sector sector holds.1)
+  still_holds (Some place) sector holds = (
+    holds.0,
+    gives_by (place.level == 0) (stored_with (receipt_in receipts place.number) (row_of place.number old.objects.rows))
+        (stored_with (receipt_in now.receipts place.number) (row_of place.number new.objects.rows)) place.sector sector
+        (still_stored number size front receipts receipt old new known same place.number) holds.1,
+  )
 
-  -- the receipt tells what its object's bytes have
-  tells_sector : (told : Option (List ℕ)) (bytes sector : List ℕ) (at : ℕ) → IfSome told (λ t. t ≡ bytes)
-      → sector_of at bytes ≡ sector
-      → IfSome told (λ t. sector_of at t ≡ sector)
-  tells_sector None bytes sector at tells has = tt
-  tells_sector (Some told) bytes sector at tells has = rw tells has
-
-  module _ (bytes : List ℕ) (tells : IsReceiptFor bytes receipt) where
-    put_holds : (at : ℕ) (sector : List ℕ) → length sector ≡ 512 → sector_of at bytes ≡ sector
+  module _ (bytes payload : List ℕ) (tells : IsReceiptFor bytes receipt) (payload_is : payload ≡ drop (512 * front) bytes) where
+    put_holds : (at : ℕ) (sector : List ℕ) → length sector ≡ 512 → sector_of at payload ≡ sector
         → HoldsSector now (Some (record { level = 0; number = number + 1; sector = at })) sector
     put_holds at sector whole has =
-        let inside : 512 * (at + 1) ≤ receipt.size = omega (arith, tells.size, lies_inside at bytes sector whole has) in (
+        let there : sector_of (front + at) bytes ≡ sector =
+        sym (payload_sector front at bytes) ∙ (ap (sector_of at) (sym payload_is) ∙ has) in
+        let inside : 512 * (front + at + 1) ≤ receipt.size =
+        omega (arith, tells.size, lies_inside (front + at) bytes sector whole there) in (
           refl,
-          subst (λ r. GivesSector r at sector) (sym is_given)
-              (inside, tells_sector receipt.told bytes sector at tells.told has),
+          subst (λ o. GivesSector o at sector) (sym (next_stored number size front receipts receipt old new known same))
+              (inside, tells_sector receipt.told bytes sector (front + at) tells.told there),
         )
 
-    some_sector : (a b : List ℕ) → Some a ≡ Some b → a ≡ b
-    some_sector a b same = ap (sector_or a) same
-
     -- a sector after what its object did to it
-    changed_holds : (change : Option Change) (old new : Option ObjectPlace) (held : Option (List ℕ)) (sector : List ℕ)
-        → PutsWhole change → IsPlacedBy (number + 1) bytes change old new
-        → ((s : List ℕ) → held ≡ Some s → HoldsSector before old s)
-        → changed_by change held ≡ Some sector → HoldsSector now new sector
-    changed_holds None old new held sector whole placed holds is = rw placed (still_holds old sector (holds sector is))
-    changed_holds (Some (Put put)) old new held sector whole placed holds is =
-        let same = some_sector put sector is in
-        subst (λ p. HoldsSector now p sector) (sym placed.1) (put_holds placed.0 sector (sym (ap length same) ∙ whole)
-        (placed.2 ∙ same))
-    changed_holds (Some Clear) old new held sector whole placed holds is = rw placed (sym (some_sector zero_sector sector is))
+    changed_holds : (change : Option Change) (was is : Option ObjectPlace) (held : Option (List ℕ)) (sector : List ℕ)
+        → PutsWhole change → IsPlacedBy (number + 1) payload change was is
+        → ((s : List ℕ) → held ≡ Some s → HoldsSector before was s)
+        → changed_by change held ≡ Some sector → HoldsSector now is sector
+    changed_holds None was is held sector whole placed holds made = rw placed (still_holds was sector (holds sector made))
+    changed_holds (Some (Put put)) was is held sector whole placed holds made =
+        let sames = some_sector put sector made in
+        subst (λ p. HoldsSector now p sector) (sym placed.1) (put_holds placed.0 sector (sym (ap length sames) ∙ whole)
+        (placed.2 ∙ sames))
+    changed_holds (Some Clear) was is held sector whole placed holds made =
+        rw placed (sym (some_sector zero_sector sector made))
 
 -- ---- an object that is settled
 
@@ -191,63 +182,54 @@ front_is header (rows.Data list) items sectors same are =
 front_is header (rows.Copy list) items sectors same are = absurd same
 front_is header rows.Checkpoint items sectors same are = absurd same
 
-module _ (queue : QueueState) (volume : Expected) where
-  -- the image that objects have where these are the receipts up to a number, and these the places
-  abbrev Has : (number : ℕ) → List ReceiptState → (ℕ → Option ObjectPlace) → Image → Type 0
-  Has number receipts places image = (k : ℕ) (sector : List ℕ) → slice_get image k ≡ Some sector
-      → HoldsSector (up_to number receipts queue) (places k) sector
-
-  pub has_one : (number end : ℕ) (part : List Entry) (object : StreamObject) (sealed : SealedState) (receipts : List ReceiptState)
-      (receipt : ReceiptState)
-      (places : ℕ → Option ObjectPlace) (image : Image) → length receipts ≤ number
+module _ (volume : Expected) where
+  pub has_one : (number end size : ℕ) (part : List Entry) (object : StreamObject) (sealed : SealedState)
+      (receipts : List NumberedReceipt) (receipt : ReceiptState) (old new : MapsState) (image : Image)
+      → AreKnown (up_to number receipts old)
       → IsSealedOf (expected_at volume (number + 1) end) part object sealed
-      → IsReceiptFor sealed.bytes receipt → All (EndsBy (length image)) part → Has number receipts places image
-      → Has (number + 1) (receipts ++ receipt ∷ []) (λ k. settled_by (number + 1) (front_of sealed.rows) sealed.rows (places k) k)
-      (after image part)
-  has_one number end part object sealed receipts receipt places image within is tells ends has k sector at =
+      → IsReceiptFor sealed.bytes receipt → All (EndsBy (length image)) part
+      → SettlesObject (number + 1) size sealed.rows sealed.end old new → HasImage image (up_to number receipts old)
+      → HasImage (after image part) (up_to (number + 1) (receipts ++ record { number = number + 1; receipt = receipt } ∷ []) new)
+  has_one number end size part object sealed receipts receipt old new image known is tells ends settles has k sector at =
       let inside : k < length image = rw (sym (length-after image part ends)) (slice_get_within (after image part) k sector at) in
       let made : changed_by (change_at part k) (slice_get image k) ≡ Some sector =
       sym (changes_make_image image part k ends inside) ∙ at in
       let parts = is.parts.is_object in
       let front = front_is is.header is.rows_of sealed.rows volume.sectors is.rows_are parts.rows_are in
-      let payload : drop (512 * front_of sealed.rows) sealed.bytes ≡ is.payload =
-      ap (λ n. drop (512 * n) sealed.bytes) (sym front) ∙ sym is.parts.payload_is in
+      let payload : is.payload ≡ drop (512 * front_of sealed.rows) sealed.bytes =
+      is.parts.payload_is ∙ ap (λ n. drop (512 * n) sealed.bytes) front in
       let stand = keep.rows_stand volume.sectors is.header is.rows_of sealed.rows is.rows_are parts.rows_are.spelling in
-      let placed = settles_places volume.sectors is.header.payload (number + 1) (front_of sealed.rows) k sealed.rows sealed.bytes
-      (places k) stand in
-      let does = ap (λ p. change_in sealed.rows p k) payload ∙ is.changes k in
-      let by = subst (λ c. IsPlacedBy (number + 1) sealed.bytes c (places k)
-      (settled_by (number + 1) (front_of sealed.rows) sealed.rows (places k) k)) does placed in
-      changed_holds queue number receipts receipt within sealed.bytes tells (change_at part k) (places k)
-      (settled_by (number + 1) (front_of sealed.rows) sealed.rows (places k) k) (slice_get image k) sector
+      let placed = settles_places volume.sectors is.header.payload (number + 1) k sealed.rows is.payload (settled_at old k)
+      stand in
+      let by = subst (λ c. IsPlacedBy (number + 1) is.payload c (settled_at old k)
+      (settled_by (number + 1) sealed.rows (settled_at old k) k)) (is.changes k) placed in
+      rw (settles.settled k) (
+      changed_holds number (payload_of size sealed.rows) (front_of sealed.rows) receipts receipt old new known settles.objects
+      sealed.bytes is.payload tells payload (change_at part k) (settled_at old k)
+      (settled_by (number + 1) sealed.rows (settled_at old k) k) (slice_get image k) sector
       (puts_whole part k) by (λ s held. has k s held) made
-
-  -- what the store gave for an acknowledged object
-  given : (receipt : Option ReceiptState) → IsSome receipt → (r : ReceiptState) × (receipt ≡ Some r)
-  given None some = absurd cc
-  given (Some r) some = (r, refl)
+      )
 
   pub has_all : (count number end : ℕ) (entries : List Entry) (list : List StreamObject) (sealed : List SealedState)
-      (receipts : List ReceiptState)
-      (places : ℕ → Option ObjectPlace) (image : Image) → length receipts ≤ number
+      (receipts : List NumberedReceipt) (old new : MapsState) (image : Image) → AreKnown (up_to number receipts old)
       → AreSealedOf volume number end entries list sealed
       → EndsFollow end list → AllByRecursion (λ (s : SealedState). IsSome s.receipt) (take count sealed)
       → AllByRecursion IsTold sealed
       → count ≤ length list
-      → All (EndsBy (length image)) (take (end_after end (take count list) - end) entries) → Has number receipts places image
-      → Has (number + count) (receipts ++ receipts_of (take count sealed))
-      (λ k. settled_by_all number (take count sealed) (places k) k)
-      (after image (take (end_after end (take count list) - end) entries))
-  has_all zero number end entries list sealed receipts places image within are follow all told most ends has =
+      → All (EndsBy (length image)) (take (end_after end (take count list) - end) entries)
+      → SettlesObjects number (take count sealed) old new → HasImage image (up_to number receipts old)
+      → HasImage (after image (take (end_after end (take count list) - end) entries))
+      (up_to (number + count) (receipts ++ receipts_of number (take count sealed)) new)
+  has_all zero number end entries list sealed receipts old new image known are follow all told most ends settles has =
       let none : end - end ≡ 0 = omega arith in
-      let same : number + 0 ≡ number = omega arith in
-      rw (none, same, append-nil receipts) has
-  has_all (suc count) number end entries [] sealed receipts places image within are follow all told most ends has =
+      rw (none, append-nil receipts, settles) has
+  has_all (suc count) number end entries [] sealed receipts old new image known are follow all told most ends settles has =
       absurd (omega arith)
-  has_all (suc count) number end entries (object ∷ list) [] receipts places image within are follow all told most ends has =
+  has_all (suc count) number end entries (object ∷ list) [] receipts old new image known are follow all told most ends settles
+      has =
       absurd are
-  has_all (suc count) number end entries (object ∷ list) (first ∷ sealed) receipts places image within are follow all told
-      most ends has =
+  has_all (suc count) number end entries (object ∷ list) (first ∷ sealed) receipts old new image known are follow all told
+      most ends settles has =
       let part = take (object.end - end) entries in
       let later = drop (object.end - end) entries in
       let last = end_after object.end (take count list) in
@@ -265,19 +247,15 @@ module _ (queue : QueueState) (volume : Expected) where
       ends_split) in
       let r = given first.receipt all.0 in
       let tells = subst (λ o. IfSome o (IsReceiptFor first.bytes)) r.1 told.0 in
-      let one = has_one number end part object first receipts r.0 places image within are.0 tells part_ends has in
-      let size : length (receipts ++ r.0 ∷ []) ≡ length receipts + 1 = length-append receipts (r.0 ∷ []) in
-      let rest = has_all count (number + 1) object.end later list sealed (receipts ++ r.0 ∷ [])
-      (λ k. settled_by (number + 1) (front_of first.rows) first.rows (places k) k)
-      (after image part) (omega (arith, size, within)) are.1 follow.1 all.1 told.1 (omega (arith, most)) later_ends one in
-      let counted : number + suc count ≡ number + 1 + count = omega arith in
-      let gained : receipts ++ (option_to_list first.receipt ++ receipts_of (take count sealed)) ≡ (receipts ++ r.0 ∷ [])
-      ++ receipts_of (take count sealed) =
-      ap (λ o. receipts ++ (option_to_list o ++ receipts_of (take count sealed))) r.1
-      ∙ sym (append_assoc receipts (r.0 ∷ []) (receipts_of (take count sealed))) in
+      let one = has_one number end (length first.bytes) part object first receipts r.0 old settles.0 image known are.0 tells
+      part_ends settles.1 has in
+      let known_now = known_one number receipts first r.0 old settles.0 settles.1 known in
+      let rest = has_all count (number + 1) object.end later list sealed
+      (receipts ++ record { number = number + 1; receipt = r.0 } ∷ []) settles.0 new (after image part) known_now are.1 follow.1
+      all.1 told.1 (omega (arith, most)) later_ends settles.2 one in
       let image_is : after image (take (last - end) entries) ≡ after (after image part) (take (last - object.end) later) =
       ap (after image) split ∙ applies_in_parts image part (take (last - object.end) later) in
-      rw (counted, gained, image_is) rest
+      rw (receipts_with number receipts first (take count sealed) r.0 r.1, image_is) rest
 
 -- ---- the calls
 
@@ -285,27 +263,30 @@ pub image_begins : ImageBegins
 image_begins queue sectors sealed settled =
     (λ k sector at. rw settled (blank_sector sectors k sector at), rw sealed tt)
 
--- while the places, the frontier and its receipts stay, the image does
-same_image : (old new : QueueState) → new.maps.settled.rows ≡ old.maps.settled.rows → new.frontier ≡ old.frontier
-    → new.receipts ≡ old.receipts
+-- while the places, the objects and their receipts stay, the image does
+same_image : (old new : QueueState) → new.maps.settled.rows ≡ old.maps.settled.rows
+    → new.maps.objects.rows ≡ old.maps.objects.rows → new.receipts ≡ old.receipts
     → (image : Image) → HasImage image old → HasImage image new
-same_image old new settled frontier receipts image has k sector at = rw (settled, frontier, receipts) (has k sector at)
+same_image old new settled objects receipts image has k sector at = rw (settled, objects, receipts) (has k sector at)
 
 pub entering_keeps_image : EnteringKeepsImage
 entering_keeps_image entry seq data_at old new entered = record {
-  image = same_image old new (ap (λ (m : _). m.rows) entered.settled) entered.frontier entered.receipts;
+  image = same_image old new (ap (λ (m : _). m.rows) entered.settled) (ap (λ (t : TableState). t.rows) entered.objects)
+      entered.receipts;
   receipts = λ told. rw entered.sealed told;
 }
 
 pub sealing_keeps_image : SealingKeepsImage
 sealing_keeps_image bytes rows end old new sealed = record {
-  image = same_image old.queue new.queue sealed.settled.places.settled sealed.settled.frontier sealed.settled.receipts;
+  image = same_image old.queue new.queue sealed.settled.places.settled sealed.settled.places.objects
+      sealed.settled.receipts;
   receipts = λ told. rw sealed.sealed (told_more old.queue.sealed (just_sealed bytes rows end) tt told);
 }
 
 pub room_keeps_image : RoomKeepsImage
 room_keeps_image old new same = record {
-  image = same_image old.queue new.queue same.settled.places.settled same.settled.frontier same.settled.receipts;
+  image = same_image old.queue new.queue same.settled.places.settled same.settled.places.objects
+      same.settled.receipts;
   receipts = λ told. rw same.sealed told;
 }
 
@@ -343,11 +324,12 @@ done_makes_image volume data_at stream old new number bytes receipt image upload
     ∙ left.end_is) in
     let entries : settled_entries stream old.queue new.queue ≡ take (last - part.end) part.entries =
     ap (λ e. take (e - old.queue.end) part.entries) last_is ∙ ap (λ e. take (last - e) part.entries) are.end in
-    let all = has_all old.queue volume done.count from part.end part.entries part.objects list old.queue.receipts
-    (settled_at old.queue.maps) image uploads.receipts sealed
+    let known = known_in old.queue (up_to from old.queue.receipts old.queue.maps) uploads.known refl refl refl refl in
+    let all = has_all volume done.count from part.end part.entries part.objects list old.queue.receipts old.queue.maps
+    new.queue.maps image known sealed
     (keep.tail_follow stream from are.valid are.from most) done.settled.acknowledged
     (acknowledged_tell old number bytes receipt out tells told) counted
-    (subst (All (EndsBy (length image))) entries ends) has in
+    (subst (All (EndsBy (length image))) entries ends) done.settled.maps has in
     λ k sector at.
     let held = all k sector (ap (λ es. slice_get (after image es) k) (sym entries) ∙ at) in
-    rw (done.settled.settled k, done.settled.frontier, done.settled.receipts) held
+    rw done.settled.receipts held

@@ -23,11 +23,11 @@ use Rattle.object_stream.specs.Laws.{from_object}
 use Rattle.object_stream.proofs.StreamLemmas.{keeps_owners, goes_on, end_no_earlier, end_in_parts, follow_first}
 use Rattle.volume_maps.specs.declared.place.ObjectPlace.{ObjectPlace}
 use Rattle.volume_maps.specs.Places.{left_at}
-use Rattle.volume_maps.specs.Maps.{settled_by, logged_by, settled_at, logged_at}
+use Rattle.volume_maps.specs.Maps.{MapsState, settled_by, logged_by, settled_at, logged_at}
 use Rattle.volume_maps.specs.Laws.{place_owner}
 use Rattle.volume_maps.proofs.SettleLemmas.{settles_as_replay, log_keeps_later}
 use Rattle.object_uploads.specs.State.{SealedState, UploadsState}
-use Rattle.object_uploads.specs.Queue.{with_at, with_spare, with_receipt, front_of, settled_by_all, logged_by_all, end_of_last}
+use Rattle.object_uploads.specs.Queue.{with_at, with_spare, with_receipt, end_of_last, SettlesObjects}
 use Rattle.upload_window.specs.Window.{WindowState}
 use Rattle.object_uploads.specs.Order.{IsUploads}
 use Rattle.object_uploads.specs.Changes.{index_of, IsPutDone}
@@ -108,29 +108,30 @@ module _ (volume : Expected) (data_at : ℕ → ℕ) (k : ℕ) where
   pub settle_one : (number end : ℕ) (entries : List Entry) (object : StreamObject) (sealed : SealedState)
       (before : Option ObjectPlace) (owned : Owners)
       → IsSealedOf (expected_at volume number end) entries object sealed → place_owner before ≡ owned k
-      → place_owner (settled_by number (front_of sealed.rows) sealed.rows before k) ≡ after_object number object.content
-      entries owned k
+      → place_owner (settled_by number sealed.rows before k) ≡ after_object number object.content entries owned k
   settle_one number end entries object sealed before owned is same =
       let stand = rows_stand volume.sectors is.header is.rows_of sealed.rows is.rows_are is.parts.is_object.rows_are.spelling in
-      settles_as_replay volume.sectors is.header.payload number (front_of sealed.rows) k sealed.rows is.payload before stand
+      settles_as_replay volume.sectors is.header.payload number k sealed.rows is.payload before stand
       ∙ (ap (λ change. owner_by_change number change (place_owner before)) (is.changes k)
       ∙ (ap (owner_by_change number (change_at entries k)) same ∙ data_after number object.content entries owned k is.content))
 
   settle_all : (count number end : ℕ) (entries : List Entry) (list : List StreamObject) (sealed : List SealedState)
-      (before : Option ObjectPlace) (owned : Owners)
-      → AreSealedOf volume number end entries list sealed → place_owner before ≡ owned k
-      → place_owner (settled_by_all number (take count sealed) before k)
-      ≡ after_objects number end entries owned (take count list) k
-  settle_all zero number end entries list sealed before owned are same = same
-  settle_all (suc count) number end entries [] [] before owned are same = same
-  settle_all (suc count) number end entries [] (first ∷ sealed) before owned are same = absurd are
-  settle_all (suc count) number end entries (object ∷ list) [] before owned are same = absurd are
-  settle_all (suc count) number end entries (object ∷ list) (first ∷ sealed) before owned are same =
+      (old new : MapsState) (owned : Owners)
+      → AreSealedOf volume number end entries list sealed → SettlesObjects number (take count sealed) old new
+      → place_owner (settled_at old k) ≡ owned k
+      → place_owner (settled_at new k) ≡ after_objects number end entries owned (take count list) k
+  settle_all zero number end entries list sealed old new owned are settles same =
+      ap (λ (m : MapsState). place_owner (settled_at m k)) settles ∙ same
+  settle_all (suc count) number end entries [] [] old new owned are settles same =
+      ap (λ (m : MapsState). place_owner (settled_at m k)) settles ∙ same
+  settle_all (suc count) number end entries [] (first ∷ sealed) old new owned are settles same = absurd are
+  settle_all (suc count) number end entries (object ∷ list) [] old new owned are settles same = absurd are
+  settle_all (suc count) number end entries (object ∷ list) (first ∷ sealed) old new owned are settles same =
       let part = take (object.end - end) entries in
-      settle_all count (number + 1) object.end (drop (object.end - end) entries) list sealed
-      (settled_by (number + 1) (front_of first.rows) first.rows before k)
-      (after_object (number + 1) object.content part owned) are.1
-      (settle_one (number + 1) end part object first before owned are.0 same)
+      settle_all count (number + 1) object.end (drop (object.end - end) entries) list sealed settles.0 new
+      (after_object (number + 1) object.content part owned) are.1 settles.2
+      (ap place_owner (settles.1.settled k)
+      ∙ settle_one (number + 1) end part object first (settled_at old k) owned are.0 same)
 
   -- the log's map after objects that are settled
   log_one : (end : ℕ) (entries : List Entry) (object : StreamObject) (sealed : SealedState) (number : ℕ)
@@ -155,7 +156,8 @@ pub record IsLeftOf (volume : Expected) (data_at : ℕ → ℕ) (count number en
   pub order : end ≤ end_after end (take count list)
   pub rest : AreSealedOf volume (number + count) (end_after end (take count list))
       (drop (end_after end (take count list) - end) entries) (drop count list) (drop count sealed)
-  pub logged : (k : ℕ) → logged_by_all (take count sealed) (left_at data_at end entries k) k
+  pub logged : (old new : MapsState) → SettlesObjects number (take count sealed) old new
+      → ((k : ℕ) → logged_at old k ≡ left_at data_at end entries k) → (k : ℕ) → logged_at new k
       ≡ left_at data_at (end_after end (take count list)) (drop (end_after end (take count list) - end) entries) k
 
 left_of : (volume : Expected) (data_at : ℕ → ℕ) (count number end : ℕ) (entries : List Entry) (list : List StreamObject)
@@ -170,7 +172,7 @@ left_of volume data_at zero number end entries list sealed are follow within mos
       end_is = refl;
       order = omega arith;
       rest = rw (same, none) are;
-      logged = λ k. rw none refl;
+      logged = λ old new settles same k. rw none (ap (λ (m : MapsState). logged_at m k) settles ∙ same k);
     }
 left_of volume data_at (suc count) number end entries [] sealed are follow within most = absurd (omega arith)
 left_of volume data_at (suc count) number end entries (object ∷ list) [] are follow within most = absurd are
@@ -192,10 +194,11 @@ left_of volume data_at (suc count) number end entries (object ∷ list) (first �
       order = omega (arith, rest.order);
       rest = rw counted (subst (λ es. AreSealedOf volume (number + 1 + count) e es (drop count list) (drop count sealed)) dropped
           rest.rest);
-      logged = λ k.
-          ap (λ p. logged_by_all (take count sealed) p k) (log_one volume data_at k end entries object first (number + 1) are.0
-          order (omega (arith)))
-          ∙ (rest.logged k ∙ ap (λ es. left_at data_at e es k) dropped);
+      logged = λ old new settles same k.
+          rest.logged settles.0 new settles.2 (λ j.
+          settles.1.logged j ∙ (ap (λ p. logged_by first.end first.rows p j) (same j)
+          ∙ log_one volume data_at j end entries object first (number + 1) are.0 order (omega arith))) k
+          ∙ ap (λ es. left_at data_at e es k) dropped;
     }
 
 -- ---- a stream from an object on
@@ -322,10 +325,9 @@ module _ (volume : Expected) (data_at : ℕ → ℕ) (stream : Stream) (old new 
 
   settled_is : (k : ℕ) → place_owner (settled_at new.queue.maps k) ≡ owners stream after k
   settled_is k =
-      ap place_owner (done.settled.settled k)
-      ∙ (settle_all volume data_at k done.count from part.end part.entries part.objects list (settled_at old.queue.maps k)
-      (owners stream from) acknowledged_list (are.settled k)
-      ∙ later_owners stream from are.valid are.from most done.count within k)
+      settle_all volume data_at k done.count from part.end part.entries part.objects list old.queue.maps new.queue.maps
+      (owners stream from) acknowledged_list done.settled.maps (are.settled k)
+      ∙ later_owners stream from are.valid are.from most done.count within k
 
   sealed_is : AreSealedOf volume after (end_at stream after) (from_object after stream).entries (from_object after stream).objects
       new.queue.sealed
@@ -343,11 +345,10 @@ module _ (volume : Expected) (data_at : ℕ → ℕ) (stream : Stream) (old new 
 
   logged_is : (k : ℕ) → logged_at new.queue.maps k ≡ left_at data_at (end_at stream after) (from_object after stream).entries k
   logged_is k =
-      done.settled.logged k
-      ∙ (ap (λ p. logged_by_all (take done.count list) p k) (are.logged k ∙ ap (λ e. left_at data_at e part.entries k) are.end)
-      ∙ (left.logged k
+      left.logged old.queue.maps new.queue.maps done.settled.maps
+      (λ j. are.logged j ∙ ap (λ e. left_at data_at e part.entries j) are.end) k
       ∙ (ap (λ es. left_at data_at (end_after part.end (take done.count part.objects)) es k) entries
-      ∙ ap (λ e. left_at data_at e (from_object after stream).entries k) ends)))
+      ∙ ap (λ e. left_at data_at e (from_object after stream).entries k) ends)
 
 pub done_keeps_stream : DoneKeepsStream
 done_keeps_stream volume data_at stream old new number receipt uploads are done =

@@ -7,3 +7,5 @@ pub mod GrowLemmas
 pub mod WholeLemmas
 pub mod ImageLemmas
 pub mod AdoptLemmas
+pub mod ReceiptLemmas
+pub mod KnownLemmas

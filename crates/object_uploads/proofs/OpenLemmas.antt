@@ -2,19 +2,23 @@
 use Rattle.std.proofs.Common.{◌≡◌, ℕ, zero, suc, ◌+◌, ◌-◌, ◌<◌, ◌≤◌, ◌&&◌, ◌||◌, not, Bool, true, false, cond, Option, Some, None}
 use Rattle.std.proofs.Common.{List, [], ◌∷◌, ◌++◌, length, take, drop, slice_index_or, nat_lt, refl, sym, ◌∙◌, ap, subst, arith}
 use Rattle.std.proofs.Common.{length-append, length-drop}
-use Rattle.std.specs.Prelude.{Result, Ok, Err, OnOk, IsErr, IsSome, option_map, option_to_list, find}
+use Rattle.std.specs.Prelude.{Result, Ok, Err, OnOk, IsErr, IsSome, option_map, find}
 use Rattle.std.specs.List.{AllByRecursion, list_any}
 use Rattle.std.proofs.lemmas.Bool.Decides.{nat_tests}
+use Rattle.std.proofs.lemmas.List.Elements.{All-nil}
 use Rattle.lsvd_objstore.specs.Store.{ReceiptState}
+use Rattle.object_format.specs.declared.data_row.DataRow.{DataRow}
+use Rattle.object_table.specs.declared.row.ObjectRow.{ObjectRow}
 use Rattle.upload_window.specs.declared.object.OpenObject.{OpenObject}
 use Rattle.upload_window.specs.Window.{WindowState, has_number, is_ready, lowest_ready, is_started_with, is_started, with_started}
 use Rattle.upload_window.specs.Window.{without, below_lowest, below_open, entered, marked, acknowledged}
 use Rattle.object_uploads.specs.State.{SealedState, QueueState, UploadsState}
-use Rattle.object_uploads.specs.Queue.{with_at, with_spare, with_receipt, spare_of, receipts_of, IsSettledBy, IsWaiting}
-use Rattle.object_uploads.specs.Queue.{FirstWaits}
-use Rattle.object_uploads.specs.Order.{IsOpenFirst, AreOpen, IsUploads}
+use Rattle.object_uploads.specs.Queue.{with_at, with_spare, with_receipt, spare_of, front_of, payload_of, HasSamePlaces}
+use Rattle.object_uploads.specs.Queue.{IsSettledBy, IsNextSettled, IsWaiting, FirstWaits}
+use Rattle.object_uploads.specs.Order.{IsOpenFirst, AreOpen, AreKnown, IsUploads}
 use Rattle.object_uploads.specs.Invariant.{IsOpenAt}
 use Rattle.object_uploads.proofs.QueueLemmas.{length-with}
+use Rattle.object_uploads.proofs.KnownLemmas.{known_in, known_settled, known_after}
 
 not_started : (started or : Bool) → (not started && or) ≡ true → started ≡ false
 not_started true or ready = absurd cc
@@ -310,19 +314,6 @@ below_by frontier [] objects last are count waits = rw are (omega (arith, count)
 below_by frontier (sealed ∷ more) objects last are count waits =
     below_first frontier last sealed.receipt sealed.has_spare objects (AreOpen (frontier + 1 + 1) more) waits are
 
--- ---- receipts
-
-receipt_or_none : (receipt : Option ReceiptState) → length (option_to_list receipt) ≤ 1
-receipt_or_none None = omega arith
-receipt_or_none (Some receipt) = omega arith
-
-few_receipts : (count : ℕ) (list : List SealedState) → length (receipts_of (take count list)) ≤ count
-few_receipts zero list = omega arith
-few_receipts (suc count) [] = omega arith
-few_receipts (suc count) (first ∷ list) =
-    let sum = length-append (option_to_list first.receipt) (receipts_of (take count list)) in
-    omega (arith, sum, receipt_or_none first.receipt, few_receipts count list)
-
 -- ---- the whole
 
 pub uploads_marked : (queue : QueueState) (window : WindowState) (number : ℕ) (started has_spare : Bool) → IsUploads queue window
@@ -337,7 +328,8 @@ uploads_marked queue window number started has_spare are past opened =
       opened = open_marked number started (queue.frontier + 1) index queue.sealed window.objects has_spare are.opened at opened;
       last = ap (λ n. queue.frontier + n) (length-with index (with_spare (not started)) queue.sealed) ∙ are.last;
       waits = waits_with index (with_spare (not started)) queue.sealed (λ s. refl) are.waits;
-      receipts = are.receipts;
+      known = known_in queue (record queue { sealed = with_at index (with_spare (not started)) queue.sealed }) are.known refl refl
+          refl refl;
     }
 
 pub uploads_done : (queue settled : QueueState) (window : WindowState) (number count : ℕ) (receipt : ReceiptState)
@@ -355,22 +347,20 @@ uploads_done queue settled window number count receipt has_spare are past opened
     let left = open_dropped (queue.frontier + 1) count list (without number window.objects) done by.within by.acknowledged in
     let number_is : queue.frontier + 1 + count ≡ settled.frontier + 1 = omega (arith, by.frontier) in
     let rest : length settled.sealed ≡ length list - count = ap length by.sealed ∙ length-drop count list in
-    let more : length settled.receipts ≡ length queue.receipts + length (receipts_of (take count list)) =
-    ap length by.receipts ∙ length-append queue.receipts (receipts_of (take count list)) in
-    let few = few_receipts count list in
+    let known = known_in queue (record queue { sealed = list }) are.known refl refl refl refl in
     record {
       opened = rw (by.sealed, sym number_is) left;
       last = omega (arith, by.frontier, rest, size, are.last, by.within);
       waits = waits;
-      receipts = omega (arith, more, few, by.frontier, are.receipts);
+      known = known_after count (record queue { sealed = list }) settled by known;
     }
 
 pub uploads_sealed : (queue pushed : QueueState) (window : WindowState) (sealed : SealedState) → IsUploads queue window
     → sealed.receipt ≡ None
     → sealed.has_spare ≡ true → pushed.sealed ≡ queue.sealed ++ sealed ∷ [] → pushed.frontier ≡ queue.frontier
-    → pushed.receipts ≡ queue.receipts
+    → pushed.receipts ≡ queue.receipts → HasSamePlaces queue.maps pushed.maps
     → IsUploads pushed (entered (window.last + 1) false window)
-uploads_sealed queue pushed window sealed are none spare list frontier receipts =
+uploads_sealed queue pushed window sealed are none spare list frontier receipts places =
     let more : OpenObject = record { number = window.last + 1; is_checkpoint = false; is_started = false; was_started = false } in
     let opened = open_push more (queue.frontier + 1) queue.sealed window.objects sealed are.opened none (omega (arith, are.last))
     refl (sym (ap not spare)) in
@@ -379,8 +369,40 @@ uploads_sealed queue pushed window sealed are none spare list frontier receipts 
       opened = rw (list, frontier) opened;
       last = omega (arith, size, frontier, are.last);
       waits = rw list (waits_pushed queue.sealed sealed none are.waits);
-      receipts = rw (receipts, frontier) are.receipts;
+      known = known_in queue pushed are.known frontier receipts places.objects places.checkpoint;
     }
+
+-- where nothing is past the frontier or known up to it, uploads begin
+pub uploads_begin : (queue : QueueState) (window : WindowState) → queue.sealed ≡ [] → queue.receipts ≡ []
+    → queue.maps.objects.rows ≡ [] → queue.maps.objects.checkpoint ≡ 0
+    → window ≡ record { last = queue.frontier; objects = [] } → IsUploads queue window
+uploads_begin queue window sealed receipts objects checkpoint now =
+    let none : length queue.sealed ≡ 0 = ap length sealed in
+    rw now (record {
+      opened = rw sealed refl;
+      last = omega (arith, none);
+      waits = rw sealed tt;
+      known = record {
+        from_one = rw objects (All-nil (λ (object : ObjectRow). 1 ≤ object.number));
+        within = rw objects (All-nil (λ (object : ObjectRow). object.number ≤ queue.frontier));
+        checkpoint = omega (arith, checkpoint);
+        receipts = rw (receipts, objects) refl;
+      };
+    })
+
+-- the next object is adopted
+pub uploads_adopted : (queue settled : QueueState) (window : WindowState) (rows : List DataRow) (end : ℕ) (receipt : ReceiptState)
+    → AreKnown queue → IsNextSettled rows end receipt queue settled
+    → window ≡ record { last = settled.frontier; objects = [] } → IsUploads settled window
+uploads_adopted queue settled window rows end receipt known next now =
+    let none : length settled.sealed ≡ 0 = ap length next.sealed in
+    rw now (record {
+      opened = rw next.sealed refl;
+      last = omega (arith, none);
+      waits = rw next.sealed tt;
+      known = known_settled queue settled (payload_of receipt.size rows) (front_of rows) receipt known next.frontier next.receipts
+          next.maps.objects;
+    })
 
 -- the frontier is below the lowest open number
 pub frontier_below : (queue : QueueState) (window : WindowState) → IsUploads queue window → below_open window ≡ queue.frontier

@@ -1,29 +1,28 @@
 -- The objects of a volume in the order of their numbers: one more that is settled, and one that is changed.
-use Rattle.std.proofs.Common.{◌≡◌, ℕ, zero, suc, ◌+◌, ◌-◌, ◌<◌, ◌≤◌, Option, Some, List, [], ◌∷◌, ◌++◌, length, take, drop}
-use Rattle.std.proofs.Common.{slice_index_or, slice_set, refl, sym, ◌∙◌, ap, arith, length-drop}
-use Rattle.std.specs.Prelude.{IsSome, option_to_list}
+use Rattle.std.proofs.Common.{◌≡◌, ℕ, zero, suc, ◌+◌, ◌-◌, ◌<◌, ◌≤◌, Some, List, [], ◌∷◌, ◌++◌, length, take, drop}
+use Rattle.std.proofs.Common.{slice_index_or, slice_set, refl, sym, ◌∙◌, ap, subst, arith, length-drop}
+use Rattle.std.specs.Prelude.{IsSome, map, option_to_list}
 use Rattle.std.specs.List.{AllByRecursion, sum_by}
 use Rattle.std.proofs.lemmas.List.{append-nil, append_assoc, length-take-le, drop-drop}
 use Rattle.std.proofs.lemmas.List.Sums.{sum_by-cons}
 use Rattle.std.proofs.Math.Seq.{take-add}
 use Rattle.lsvd_objstore.specs.Store.{ReceiptState}
-use Rattle.volume_maps.specs.declared.place.ObjectPlace.{ObjectPlace}
-use Rattle.volume_maps.specs.declared.place.LogPlace.{LogPlace}
-use Rattle.volume_maps.specs.Maps.{settled_at, logged_at, settled_by, logged_by}
-use Rattle.object_uploads.specs.State.{SealedState, QueueState}
-use Rattle.object_uploads.specs.Queue.{with_at, HasBytesAt, front_of, row_count, settled_by_all, logged_by_all, end_of_last}
-use Rattle.object_uploads.specs.Queue.{receipts_of, IsSettledBy}
+use Rattle.object_format.specs.declared.data_row.DataRow.{DataRow}
+use Rattle.volume_maps.specs.Maps.{MapsState}
+use Rattle.object_uploads.specs.State.{SealedState, NumberedReceipt, QueueState}
+use Rattle.object_uploads.specs.Queue.{with_at, HasBytesAt, row_count, end_of_last, receipts_of, SettlesObject, SettlesObjects}
+use Rattle.object_uploads.specs.Queue.{IsSettledBy}
 
 -- ---- settling
 
 -- one object is settled
 pub settles_one : (old new : QueueState) (first : SealedState) (rest : List SealedState) (receipt : ReceiptState)
     → old.sealed ≡ first ∷ rest → first.receipt ≡ Some receipt
-    → new.frontier ≡ old.frontier + 1 → new.end ≡ first.end → new.sealed ≡ rest → new.receipts ≡ old.receipts ++ receipt ∷ []
-    → ((k : ℕ) → settled_at new.maps k ≡ settled_by (old.frontier + 1) (front_of first.rows) first.rows (settled_at old.maps k) k)
-    → ((k : ℕ) → logged_at new.maps k ≡ logged_by first.end first.rows (logged_at old.maps k) k)
+    → new.frontier ≡ old.frontier + 1 → new.end ≡ first.end → new.sealed ≡ rest
+    → new.receipts ≡ old.receipts ++ record { number = old.frontier + 1; receipt = receipt } ∷ []
+    → SettlesObject (old.frontier + 1) (length first.bytes) first.rows first.end old.maps new.maps
     → IsSettledBy 1 old new
-settles_one old new first rest receipt sealed given frontier end left receipts settled logged =
+settles_one old new first rest receipt sealed given frontier end left receipts maps =
     let one : take 1 old.sealed ≡ first ∷ [] = rw sealed refl in
     let count : length old.sealed ≡ suc (length rest) = ap length sealed in
     record {
@@ -33,32 +32,41 @@ settles_one old new first rest receipt sealed given frontier end left receipts s
       frontier = frontier;
       end = rw one end;
       sealed = rw sealed left;
-      settled = rw one settled;
-      logged = rw one logged;
+      maps = rw one (new.maps, maps, refl);
     }
 
--- objects and then others
-pub all_in_parts : (number : ℕ) (a b : List SealedState) (before : Option ObjectPlace) (k : ℕ)
-    → settled_by_all number (a ++ b) before k ≡ settled_by_all (number + length a) b (settled_by_all number a before k) k
-all_in_parts number [] b before k = let same : number + 0 ≡ number = omega arith in rw same refl
-all_in_parts number (sealed ∷ a) b before k =
-    let same : number + suc (length a) ≡ number + 1 + length a = omega arith in
-    rw same (all_in_parts (number + 1) a b (settled_by (number + 1) (front_of sealed.rows) sealed.rows before k) k)
+-- the same object
+pub settles_as : (number size size_as end end_as : ℕ) (rows rows_as : List DataRow) (old new : MapsState) → size ≡ size_as
+    → rows ≡ rows_as → end ≡ end_as → SettlesObject number size rows end old new
+    → SettlesObject number size_as rows_as end_as old new
+settles_as number size size_as end end_as rows rows_as old new same_size same_rows same_end settles =
+    rw (← same_size, ← same_rows, ← same_end) settles
 
-pub log_in_parts : (a b : List SealedState) (before : Option LogPlace) (k : ℕ)
-    → logged_by_all (a ++ b) before k ≡ logged_by_all b (logged_by_all a before k) k
-log_in_parts [] b before k = refl
-log_in_parts (sealed ∷ a) b before k = log_in_parts a b (logged_by sealed.end sealed.rows before k) k
+-- objects and then others
+settles_in_parts : (number : ℕ) (a b : List SealedState) (old middle new : MapsState) → SettlesObjects number a old middle
+    → SettlesObjects (number + length a) b middle new → SettlesObjects number (a ++ b) old new
+settles_in_parts number [] b old middle new first second =
+    let same : number + 0 ≡ number = omega arith in
+    subst (λ m. SettlesObjects number b m new) first (rw same at second)
+settles_in_parts number (sealed ∷ a) b old middle new first second =
+    let same : number + suc (length a) ≡ number + 1 + length a = omega arith in
+    (first.0, first.1, settles_in_parts (number + 1) a b first.0 middle new first.2 (rw same at second))
 
 pub end_in_parts : (end : ℕ) (a b : List SealedState) → end_of_last end (a ++ b) ≡ end_of_last (end_of_last end a) b
 end_in_parts end [] b = refl
 end_in_parts end (sealed ∷ a) b = end_in_parts sealed.end a b
 
-receipts_in_parts : (a b : List SealedState) → receipts_of (a ++ b) ≡ receipts_of a ++ receipts_of b
-receipts_in_parts [] b = refl
-receipts_in_parts (sealed ∷ a) b =
-    ap (λ xs. option_to_list sealed.receipt ++ xs) (receipts_in_parts a b)
-    ∙ sym (append_assoc (option_to_list sealed.receipt) (receipts_of a) (receipts_of b))
+receipts_in_parts : (number : ℕ) (a b : List SealedState)
+    → receipts_of number (a ++ b) ≡ receipts_of number a ++ receipts_of (number + length a) b
+receipts_in_parts number [] b = let same : number + 0 ≡ number = omega arith in rw same refl
+receipts_in_parts number (sealed ∷ a) b =
+    let same : number + suc (length a) ≡ number + 1 + length a = omega arith in
+    let own : List NumberedReceipt =
+    map (λ receipt. record { number = number + 1; receipt = receipt }) (option_to_list sealed.receipt) in
+    rw same (
+    ap (λ xs. own ++ xs) (receipts_in_parts (number + 1) a b)
+    ∙ sym (append_assoc own (receipts_of (number + 1) a) (receipts_of (number + 1 + length a) b))
+    )
 
 acknowledged_in_parts : (a b : List SealedState) → AllByRecursion (λ (sealed : SealedState). IsSome sealed.receipt) a
     → AllByRecursion (λ (sealed : SealedState). IsSome sealed.receipt) b
@@ -75,8 +83,7 @@ settles_none queue = record {
   frontier = omega arith;
   end = refl;
   sealed = refl;
-  settled = λ k. refl;
-  logged = λ k. refl;
+  maps = refl;
 }
 
 pub settles_more : (count more : ℕ) (old middle new : QueueState) → IsSettledBy count old middle → IsSettledBy more middle new
@@ -93,23 +100,16 @@ settles_more count more old middle new first second =
       within = omega (arith, left, first.within, second.within);
       acknowledged = rw split (acknowledged_in_parts a b first.acknowledged second.acknowledged);
       receipts =
-          second.receipts ∙ (ap (λ xs. xs ++ receipts_of b) first.receipts
-          ∙ (append_assoc old.receipts (receipts_of a) (receipts_of b)
-          ∙ ap (λ xs. old.receipts ++ xs) (sym (receipts_in_parts a b) ∙ sym (ap receipts_of split))));
+          second.receipts ∙ (ap (λ xs. xs ++ receipts_of middle.frontier b) first.receipts
+          ∙ (append_assoc old.receipts (receipts_of old.frontier a) (receipts_of middle.frontier b)
+          ∙ ap (λ xs. old.receipts ++ xs) (ap (λ n. receipts_of old.frontier a ++ receipts_of n b) (sym at)
+          ∙ (sym (receipts_in_parts old.frontier a b) ∙ sym (ap (receipts_of old.frontier) split)))));
       frontier = omega (arith, first.frontier, second.frontier);
       end = second.end ∙ (ap (λ e. end_of_last e b) first.end
           ∙ (sym (end_in_parts old.end a b) ∙ sym (ap (end_of_last old.end) split)));
       sealed = second.sealed ∙ (ap (drop more) first.sealed ∙ (drop-drop more count old.sealed ∙ refl));
-      settled = λ k.
-          second.settled k
-          ∙ (ap (λ p. settled_by_all middle.frontier b p k) (first.settled k)
-          ∙ (ap (λ n. settled_by_all n b (settled_by_all old.frontier a (settled_at old.maps k) k) k) (sym at)
-          ∙ (sym (all_in_parts old.frontier a b (settled_at old.maps k) k)
-          ∙ sym (ap (λ xs. settled_by_all old.frontier xs (settled_at old.maps k) k) split))));
-      logged = λ k.
-          second.logged k
-          ∙ (ap (λ p. logged_by_all b p k) (first.logged k)
-          ∙ (sym (log_in_parts a b (logged_at old.maps k) k) ∙ sym (ap (λ xs. logged_by_all xs (logged_at old.maps k) k) split)));
+      maps = rw split (settles_in_parts old.frontier a b old.maps middle.maps new.maps first.maps
+          (subst (λ n. SettlesObjects n b middle.maps new.maps) (sym at) second.maps));
     }
 
 -- fewer are left

@@ -5,9 +5,10 @@ use Rattle.std.specs.Prelude.{Option, Some, None, IsSome, option_map, option_to_
 use Rattle.std.specs.List.{AllByRecursion, sum_by}
 use Rattle.std.proofs.lemmas.List.Sums.{sum_by-cons, sum_by_push}
 use Rattle.lsvd_objstore.specs.Store.{ReceiptState}
+use Rattle.object_format.specs.declared.data_row.DataRow.{DataRow}
 use Rattle.volume_maps.specs.Maps.{MapsState}
-use Rattle.object_uploads.specs.State.{SealedState}
-use Rattle.object_uploads.specs.Queue.{FitObject, row_count, with_at, HasRoomForRows, IsWaiting, FirstWaits}
+use Rattle.object_uploads.specs.State.{SealedState, QueueState}
+use Rattle.object_uploads.specs.Queue.{FitObject, row_count, with_at, HasRoomForRows, HasRoomForObject, IsWaiting, FirstWaits}
 use Rattle.object_uploads.proofs.QueueLemmas.{rows_with, length-with}
 
 -- the same objects, where no room was lost
@@ -20,16 +21,6 @@ room_kept old new before after same settled log room =
       fit = room.fit;
     } in
     subst (λ list. HasRoomForRows list after) (sym same) kept
-
-pub rows_kept : (old new : List SealedState) (rows : ℕ) → new ≡ old → rows ≡ sum_by row_count old → rows ≡ sum_by row_count new
-rows_kept old new rows same counted = rw same counted
-
--- and their counts
-pub counts_kept : (receipts receipts_now sealed sealed_now frontier room room_now limit : ℕ) → receipts_now ≡ receipts
-    → sealed_now ≡ sealed → room ≤ room_now → receipts ≤ frontier → receipts + sealed ≤ room → frontier + sealed < limit
-    → (receipts_now ≤ frontier) × (receipts_now + sealed_now ≤ room_now) × (frontier + sealed_now < limit)
-counts_kept receipts receipts_now sealed sealed_now frontier room room_now limit same_receipts same more most within below =
-    (omega arith, omega arith, omega arith)
 
 fit_pushed : (old : List SealedState) (object : SealedState) → AllByRecursion (λ (s : SealedState). FitObject s.rows) old
     → FitObject object.rows → AllByRecursion (λ (s : SealedState). FitObject s.rows) (old ++ object ∷ [])
@@ -55,10 +46,10 @@ room_pushed old new object all before after same counted fits room settled log =
 }
 
 -- and the counts with it
-pub counts_pushed : (receipts receipts_now sealed sealed_now frontier room_now limit : ℕ) → receipts_now ≡ receipts
-    → sealed_now ≡ sealed + 1 → receipts ≤ frontier → receipts + (sealed + 1) ≤ room_now → frontier + sealed + 1 < limit
-    → (receipts_now ≤ frontier) × (receipts_now + sealed_now ≤ room_now) × (frontier + sealed_now < limit)
-counts_pushed receipts receipts_now sealed sealed_now frontier room_now limit same_receipts one_more most within below =
+pub counts_pushed : (sealed sealed_now frontier receipts objects limit : ℕ) → sealed_now ≡ sealed + 1 → sealed + 1 ≤ receipts
+    → sealed + 1 ≤ objects → frontier + sealed + 1 < limit
+    → (sealed_now ≤ receipts) × (sealed_now ≤ objects) × (frontier + sealed_now < limit)
+counts_pushed sealed sealed_now frontier receipts objects limit one_more fit fit_objects below =
     (omega arith, omega arith, omega arith)
 
 -- ---- the first of the objects leaves
@@ -97,36 +88,69 @@ few_popped rows taken left is = omega arith
 pub left_popped : (rows taken left : ℕ) → rows ≡ taken + left → rows - taken ≡ left
 left_popped rows taken left is = omega arith
 
--- the next number is below the limit
-pub next_popped : (sealed rest frontier limit : ℕ) → sealed ≡ suc rest → frontier + sealed < limit → frontier + 1 < limit
-next_popped sealed rest frontier limit one_less below = omega arith
-
--- the first object has room for its rows and fits, and there is room for the rest after it was settled
+-- the first object fits
 pub first_fits : (old rest : List SealedState) (first : SealedState) (maps : MapsState) → old ≡ first ∷ rest
-    → HasRoomForRows old maps
-    → (length first.rows ≤ maps.settled.spare) × (length first.rows ≤ maps.log.spare) × FitObject first.rows
+    → HasRoomForRows old maps → FitObject first.rows
 first_fits old rest first maps same room =
     let whole : HasRoomForRows (first ∷ rest) maps = subst (λ list. HasRoomForRows list maps) same room in
-    let sum = sum_by-cons row_count first rest in
-    (omega (arith, sum, whole.settled), omega (arith, sum, whole.log), whole.fit.0)
+    whole.fit.0
 
-pub room_popped : (old rest : List SealedState) (first : SealedState) (taken : ℕ) (before after : MapsState)
-    → old ≡ first ∷ rest → taken ≡ length first.rows → before.settled.spare ≤ after.settled.spare + taken
-    → before.log.spare ≤ after.log.spare + taken → HasRoomForRows old before → HasRoomForRows rest after
-room_popped old rest first taken before after same is settled log room =
-    let whole : HasRoomForRows (first ∷ rest) before = subst (λ list. HasRoomForRows list before) same room in
+-- the objects past the first
+pub room_popped : (old rest : List SealedState) (first : SealedState) (maps : MapsState) → old ≡ first ∷ rest
+    → HasRoomForRows old maps → HasRoomForRows rest maps
+room_popped old rest first maps same room =
+    let whole : HasRoomForRows (first ∷ rest) maps = subst (λ list. HasRoomForRows list maps) same room in
     let sum = sum_by-cons row_count first rest in
     record {
-      settled = omega (arith, sum, is, whole.settled, settled);
-      log = omega (arith, sum, is, whole.log, log);
+      settled = omega (arith, sum, whole.settled);
+      log = omega (arith, sum, whole.log);
       fit = whole.fit.1;
     }
 
--- and the counts after it, with its receipt
-pub counts_popped : (receipts receipts_now sealed rest frontier room room_now limit : ℕ) → receipts_now ≡ receipts + 1
-    → sealed ≡ suc rest → room_now ≡ room → receipts ≤ frontier → receipts + sealed ≤ room → frontier + sealed < limit
-    → (receipts_now ≤ frontier + 1) × (receipts_now + rest ≤ room_now) × (frontier + 1 + rest < limit)
-counts_popped receipts receipts_now sealed rest frontier room room_now limit more one_less same most within below =
+-- and their counts
+pub counts_popped : (sealed rest frontier receipts objects limit : ℕ) → sealed ≡ suc rest → sealed ≤ receipts
+    → sealed ≤ objects → frontier + sealed < limit → (rest ≤ receipts) × (rest ≤ objects) × (frontier + rest < limit)
+counts_popped sealed rest frontier receipts objects limit one_less fit fit_objects below =
+    (omega arith, omega arith, omega arith)
+
+-- and a number for it
+pub next_popped : (sealed rest frontier limit : ℕ) → sealed ≡ suc rest → frontier + sealed < limit → frontier + rest + 1 < limit
+next_popped sealed rest frontier limit one_less below = omega arith
+
+-- so there is room for an object with the rows of the first
+pub popped_has_room : (old : List SealedState) (first : SealedState) (queue : QueueState) (rows : List DataRow)
+    (capacity receipts objects : ℕ) → rows ≡ first.rows → old ≡ first ∷ queue.sealed → HasRoomForRows old queue.maps
+    → length old ≤ capacity → length old ≤ receipts → length old ≤ objects
+    → queue.places ≡ min (min (capacity - length queue.sealed) (receipts - length queue.sealed)) (objects - length queue.sealed)
+    → HasRoomForObject rows queue
+popped_has_room old first queue rows capacity receipts objects own same room fit fit_receipts fit_objects places =
+    let whole : HasRoomForRows (first ∷ queue.sealed) queue.maps = subst (λ list. HasRoomForRows list queue.maps) same room in
+    let sum = sum_by-cons row_count first queue.sealed in
+    let size : length old ≡ suc (length queue.sealed) = ap length same in
+    record {
+      place = omega (arith, size, places);
+      settled = rw own (omega (arith, sum, whole.settled));
+      log = rw own (omega (arith, sum, whole.log));
+    }
+
+-- ---- an object is settled
+
+-- there is room for the rows of the others yet, where there was room for those of one more
+pub room_settled : (sealed : List SealedState) (taken : ℕ) (before after : MapsState)
+    → sum_by row_count sealed + taken ≤ before.settled.spare → sum_by row_count sealed + taken ≤ before.log.spare
+    → before.settled.spare ≤ after.settled.spare + taken → before.log.spare ≤ after.log.spare + taken
+    → HasRoomForRows sealed before → HasRoomForRows sealed after
+room_settled sealed taken before after had had_log settled log room = record {
+  settled = omega (arith, had, settled);
+  log = omega (arith, had_log, log);
+  fit = room.fit;
+}
+
+-- and the counts, where one more was settled
+pub counts_settled : (sealed frontier receipts receipts_now objects objects_now limit : ℕ) → sealed + 1 ≤ receipts
+    → receipts ≤ receipts_now + 1 → sealed + 1 ≤ objects → objects_now ≡ objects - 1 → frontier + sealed + 1 < limit
+    → (sealed ≤ receipts_now) × (sealed ≤ objects_now) × (frontier + 1 + sealed < limit)
+counts_settled sealed frontier receipts receipts_now objects objects_now limit fit less fit_objects less_objects below =
     (omega arith, omega arith, omega arith)
 
 -- ---- one of the objects is changed
@@ -140,12 +164,13 @@ fit_with (suc index) change (sealed ∷ more) same fit = (fit.0, fit_with index 
 
 -- what a queue keeps, it keeps where an object has the rows that it had
 pub kept_with : (index : ℕ) (change : SealedState → SealedState) (list now : List SealedState) (maps : MapsState)
-    (rows receipts frontier room limit : ℕ) → now ≡ with_at index change list → ((s : SealedState) → (change s).rows ≡ s.rows)
-    → HasRoomForRows list maps → rows ≡ sum_by row_count list → receipts ≤ frontier → receipts + length list ≤ room
+    (rows frontier receipts objects limit : ℕ) → now ≡ with_at index change list
+    → ((s : SealedState) → (change s).rows ≡ s.rows)
+    → HasRoomForRows list maps → rows ≡ sum_by row_count list → length list ≤ receipts → length list ≤ objects
     → frontier + length list < limit
-    → HasRoomForRows now maps × (rows ≡ sum_by row_count now) × (receipts ≤ frontier) × (receipts + length now ≤ room)
+    → HasRoomForRows now maps × (rows ≡ sum_by row_count now) × (length now ≤ receipts) × (length now ≤ objects)
     × (frontier + length now < limit)
-kept_with index change list now maps rows receipts frontier room limit is same has counted most within below =
+kept_with index change list now maps rows frontier receipts objects limit is same has counted fit fit_objects below =
     let sum = rows_with index change list same in
     let size = ap length is ∙ length-with index change list in
     let kept : HasRoomForRows (with_at index change list) maps = record {
@@ -155,18 +180,18 @@ kept_with index change list now maps rows receipts frontier room limit is same h
     } in (
       subst (λ l. HasRoomForRows l maps) (sym is) kept,
       counted ∙ (sym sum ∙ ap (sum_by row_count) (sym is)),
-      most,
-      omega (arith, size, within),
+      omega (arith, size, fit),
+      omega (arith, size, fit_objects),
       omega (arith, size, below),
     )
 
 -- ---- room for an object
 
--- a place for an object is one among the objects, and one among the receipts beside those of the others
-pub place_parts : (sealed capacity receipts receipt_capacity : ℕ)
-    → 1 ≤ min (capacity - sealed) (receipt_capacity - (receipts + sealed))
-    → (sealed < capacity) × (receipts + (sealed + 1) ≤ receipt_capacity)
-place_parts sealed capacity receipts receipt_capacity has = (omega (arith, has), omega (arith, has))
+-- a place for an object is one among the objects, one among the receipts and one in the table beside those of the others
+pub place_parts : (sealed capacity receipts objects : ℕ)
+    → 1 ≤ min (min (capacity - sealed) (receipts - sealed)) (objects - sealed)
+    → (sealed < capacity) × (sealed + 1 ≤ receipts) × (sealed + 1 ≤ objects)
+place_parts sealed capacity receipts objects has = (omega (arith, has), omega (arith, has), omega (arith, has))
 
 -- ---- the log's map is changed
 
@@ -179,9 +204,3 @@ room_entered sealed before after room log same has = record {
   log = omega (arith, room, log);
   fit = has.fit;
 }
-
--- where no object is past the frontier, there is room for the rows of all
-pub room_none : (sealed : List SealedState) (maps : MapsState) → sealed ≡ [] → HasRoomForRows sealed maps
-room_none sealed maps none =
-    let kept : HasRoomForRows [] maps = record { settled = omega arith; log = omega arith; fit = tt } in
-    subst (λ list. HasRoomForRows list maps) (sym none) kept

@@ -6,20 +6,21 @@ use Rattle.lsvd_objstore.specs.Store.{ReceiptState}
 use Rattle.object_stream.specs.Changes.{sector_of}
 use Rattle.volume_maps.specs.declared.place.ObjectPlace.{ObjectPlace}
 use Rattle.volume_maps.specs.Maps.{settled_at}
-use Rattle.object_uploads.specs.State.{SealedState, QueueState}
-use Rattle.object_uploads.specs.Queue.{receipt_of}
+use Rattle.object_uploads.specs.State.{SealedState, StoredObject, QueueState}
+use Rattle.object_uploads.specs.Queue.{stored_at}
 
--- there is a receipt, the place lies inside its object, and where it tells the object's bytes, they have this sector there
-abbrev pub GivesSector : Option ReceiptState → (at : ℕ) → (sector : List ℕ) → Type 0
+-- an object is in the store, a sector of its payload lies inside it, and where its receipt tells its bytes, they have this there
+abbrev pub GivesSector : Option StoredObject → (at : ℕ) → (sector : List ℕ) → Type 0
 GivesSector None at sector = ⊥
-GivesSector (Some receipt) at sector = (512 * (at + 1) ≤ receipt.size)
-    × IfSome receipt.told (λ bytes. sector_of at bytes ≡ sector)
+GivesSector (Some object) at sector =
+    (512 * (object.front + at + 1) ≤ object.receipt.size)
+    × IfSome object.receipt.told (λ bytes. sector_of (object.front + at) bytes ≡ sector)
 
--- A sector is held at a place: it is zeros where there is none, and else what the store gave for the volume's own object of the
--- place's number gives it there.
+-- A sector is held at a place: it is zeros where there is none, and else what the store gave for the place's object, which is the
+-- volume's own, gives it there.
 abbrev pub HoldsSector : QueueState → Option ObjectPlace → (sector : List ℕ) → Type 0
 HoldsSector queue None sector = sector ≡ zero_sector
-HoldsSector queue (Some place) sector = (place.level ≡ 0) × GivesSector (receipt_of queue place.number) place.sector sector
+HoldsSector queue (Some place) sector = (place.level ≡ 0) × GivesSector (stored_at queue place) place.sector sector
 
 -- each sector of an image is held where the objects' map has it
 abbrev pub HasImage : Image → QueueState → Type 0

@@ -1,6 +1,7 @@
 pub mod State
 pub mod Queue
 pub mod Order
+pub mod Receipts
 pub mod Invariant
 pub mod Changes
 pub mod Stream

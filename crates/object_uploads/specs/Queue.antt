@@ -1,17 +1,20 @@
 -- Contract: what changes the objects of a volume in the order of their numbers.
-use Rattle.std.specs.Prelude.{◌≡◌, ℕ, ◌+◌, ◌-◌, ◌≤◌, nat_le, zero, suc, Bool, true, Option, Some, None, IsSome, List, [], ◌∷◌}
-use Rattle.std.specs.Prelude.{◌++◌, length, take, drop, option_to_list, if◌then◌else◌}
-use Rattle.std.specs.List.{AllByRecursion, sum_by, slice_get}
+use Rattle.std.specs.Prelude.{◌≡◌, ℕ, ◌+◌, ◌-◌, ◌/◌, ◌≤◌, ◌==◌, zero, suc, Bool, true, Option, Some, None, IsSome, List, [], ◌∷◌}
+use Rattle.std.specs.Prelude.{◌++◌, length, map, find, take, drop, option_map, option_to_list, if◌then◌else◌}
+use Rattle.std.specs.List.{AllByRecursion, sum_by}
 use Rattle.std.specs.Option.{option_or}
 use Rattle.lsvd_base.specs.declared.entry.Entry.{Entry}
 use Rattle.lsvd_objstore.specs.Store.{ReceiptState}
 use Rattle.object_format.specs.declared.data_row.DataRow.{DataRow}
 use Rattle.object_format.specs.Layout.{data_front_sectors}
+use Rattle.object_stream.specs.declared.owner.Owner.{Owner}
+use Rattle.object_table.specs.declared.row.ObjectRow.{ObjectRow}
+use Rattle.object_table.specs.Table.{row_of, new_row, added}
 use Rattle.volume_maps.specs.declared.place.ObjectPlace.{ObjectPlace}
-use Rattle.volume_maps.specs.declared.place.LogPlace.{LogPlace}
 use Rattle.volume_maps.specs.Places.{place_left_by}
 use Rattle.volume_maps.specs.Maps.{MapsState, RowsFit, settled_at, logged_at, settled_by, logged_by}
-use Rattle.object_uploads.specs.State.{SealedState, QueueState}
+use Rattle.volume_maps.specs.Live.{HasSameObjects}
+use Rattle.object_uploads.specs.State.{SealedState, NumberedReceipt, StoredObject, QueueState}
 
 -- the objects with the one at an index changed
 abbrev pub with_at : ℕ → (SealedState → SealedState) → List SealedState → List SealedState
@@ -47,10 +50,14 @@ spare_of sealed = if sealed.has_spare then Some sealed.bytes else None
 abbrev pub front_of : List DataRow → ℕ
 front_of rows = data_front_sectors (length rows)
 
--- these may be the rows of an object: it has 65,536 at most, and they and their places in it end below 2^63
+-- the sectors of its payload, where it has so many bytes
+abbrev pub payload_of : (size : ℕ) → List DataRow → ℕ
+payload_of size rows = size / 512 - front_of rows
+
+-- these may be the rows of an object: it has 65,536 at most, and they end below 2^63, and their places in its payload below 2^32
 pub record FitObject (rows : List DataRow) : Type 0 where
   pub count : length rows ≤ 65536
-  pub fit : RowsFit (front_of rows) rows
+  pub fit : RowsFit rows
 
 -- how many rows an object has
 abbrev pub row_count : SealedState → ℕ
@@ -66,23 +73,26 @@ pub record HasRoomForRows (sealed : List SealedState) (maps : MapsState) : Type 
 abbrev pub HasRoomForEntry : QueueState → Type 0
 HasRoomForEntry queue = sum_by row_count queue.sealed + 1 ≤ queue.maps.log.spare
 
--- there is room for one object more with these rows: a place for it and for its receipt, and for the changes of its rows beside
--- those of the others
+-- there is room for one object more with these rows: a place for it, for its receipt and in the table of objects, and for the
+-- changes of its rows beside those of the others
 pub record HasRoomForObject (rows : List DataRow) (queue : QueueState) : Type 0 where
   pub place : 1 ≤ queue.places
   pub settled : sum_by row_count queue.sealed + length rows ≤ queue.maps.settled.spare
   pub log : sum_by row_count queue.sealed + length rows ≤ queue.maps.log.spare
 
--- the places are as before
+-- the places and the objects are as before
 pub record HasSamePlaces (old new : MapsState) : Type 0 where
   pub settled : new.settled.rows ≡ old.settled.rows
   pub log : new.log.rows ≡ old.log.rows
+  pub objects : new.objects.rows ≡ old.objects.rows
+  pub checkpoint : new.objects.checkpoint ≡ old.objects.checkpoint
 
 -- An entry with this seq, whose data begin at a sector of the log, was entered into the log's map: each sector that it covers is
 -- there.
 pub record IsEntered (entry : Entry) (seq data_at : ℕ) (old new : QueueState) : Type 0 where
   pub logged : (k : ℕ) → logged_at new.maps k ≡ option_or (place_left_by seq data_at entry k) (logged_at old.maps k)
   pub settled : new.maps.settled ≡ old.maps.settled
+  pub objects : new.maps.objects ≡ old.maps.objects
   pub sealed : new.sealed ≡ old.sealed
   pub frontier : new.frontier ≡ old.frontier
   pub end : new.end ≡ old.end
@@ -90,51 +100,73 @@ pub record IsEntered (entry : Entry) (seq data_at : ℕ) (old new : QueueState) 
 
 -- ---- settling
 
--- the places after objects were settled that come after one of a number
-abbrev pub settled_by_all : (number : ℕ) → List SealedState → Option ObjectPlace → ℕ → Option ObjectPlace
-settled_by_all number [] before k = before
-settled_by_all number (sealed ∷ more) before k =
-    settled_by_all (number + 1) more (settled_by (number + 1) (front_of sealed.rows) sealed.rows before k) k
-
-abbrev pub logged_by_all : List SealedState → Option LogPlace → ℕ → Option LogPlace
-logged_by_all [] before k = before
-logged_by_all (sealed ∷ more) before k = logged_by_all more (logged_by sealed.end sealed.rows before k) k
-
 -- the end of the last of some objects, or the one before them where there is none
 abbrev pub end_of_last : ℕ → List SealedState → ℕ
 end_of_last end [] = end
 end_of_last end (sealed ∷ more) = end_of_last sealed.end more
 
--- what the store gave for those of some objects that are acknowledged
-abbrev pub receipts_of : List SealedState → List ReceiptState
-receipts_of [] = []
-receipts_of (sealed ∷ more) = option_to_list sealed.receipt ++ receipts_of more
+-- what the store gave for those of some objects that are acknowledged, which come after one of a number
+abbrev pub receipts_of : (number : ℕ) → List SealedState → List NumberedReceipt
+receipts_of number [] = []
+receipts_of number (sealed ∷ more) =
+    map (λ receipt. record { number = number + 1; receipt = receipt }) (option_to_list sealed.receipt)
+    ++ receipts_of (number + 1) more
 
--- what the store gave for the object of a number: the receipts are those of the last numbers up to the frontier
-abbrev pub receipt_of : QueueState → (number : ℕ) → Option ReceiptState
-receipt_of queue number =
-    if nat_le number (queue.frontier - length queue.receipts) then None
-    else slice_get queue.receipts (number - (queue.frontier - length queue.receipts) - 1)
+-- ---- objects that are in the store
+
+-- what the store gave for the object of a number
+abbrev pub receipt_in : List NumberedReceipt → (number : ℕ) → Option ReceiptState
+receipt_in receipts number =
+    option_map (λ (r : NumberedReceipt). r.receipt) (find (λ (r : NumberedReceipt). r.number == number) receipts)
+
+abbrev pub stored_with : Option ReceiptState → Option ObjectRow → Option StoredObject
+stored_with None row = None
+stored_with (Some receipt) None = None
+stored_with (Some receipt) (Some row) = Some (record { receipt = receipt; front = row.front })
+
+-- The object of an owner, where it is in the store. The volume's own objects are known up to the frontier, and no others.
+abbrev pub stored_of : QueueState → Owner → Option StoredObject
+stored_of queue owner =
+    if owner.level == 0
+    then stored_with (receipt_in queue.receipts owner.number) (row_of owner.number queue.maps.objects.rows)
+    else None
+
+-- the object that a place is in
+abbrev pub stored_at : QueueState → ObjectPlace → Option StoredObject
+stored_at queue place = stored_of queue (record { level = place.level; number = place.number })
+
+-- ---- settled objects
+
+-- the data object of a number, which has so many bytes, these rows and this end, was settled in the maps and added to the table
+pub record SettlesObject (number size : ℕ) (rows : List DataRow) (end : ℕ) (old new : MapsState) : Type 0 where
+  pub settled : (k : ℕ) → settled_at new k ≡ settled_by number rows (settled_at old k) k
+  pub logged : (k : ℕ) → logged_at new k ≡ logged_by end rows (logged_at old k) k
+  pub objects : HasSameObjects (added (new_row number (payload_of size rows) (front_of rows)) old.objects) new.objects
+
+-- those after one of a number were, in their order
+abbrev pub SettlesObjects : (number : ℕ) → List SealedState → (old new : MapsState) → Type 0
+SettlesObjects number [] old new = new ≡ old
+SettlesObjects number (sealed ∷ more) old new =
+    (middle : MapsState) × SettlesObject (number + 1) (length sealed.bytes) sealed.rows sealed.end old middle
+    × SettlesObjects (number + 1) more middle new
 
 -- the first objects past the frontier, as many as this, were settled: all of them are acknowledged
 pub record IsSettledBy (count : ℕ) (old new : QueueState) : Type 0 where
   pub within : count ≤ length old.sealed
   pub acknowledged : AllByRecursion (λ sealed. IsSome sealed.receipt) (take count old.sealed)
-  pub receipts : new.receipts ≡ old.receipts ++ receipts_of (take count old.sealed)
+  pub receipts : new.receipts ≡ old.receipts ++ receipts_of old.frontier (take count old.sealed)
   pub frontier : new.frontier ≡ old.frontier + count
   pub end : new.end ≡ end_of_last old.end (take count old.sealed)
   pub sealed : new.sealed ≡ drop count old.sealed
-  pub settled : (k : ℕ) → settled_at new.maps k ≡ settled_by_all old.frontier (take count old.sealed) (settled_at old.maps k) k
-  pub logged : (k : ℕ) → logged_at new.maps k ≡ logged_by_all (take count old.sealed) (logged_at old.maps k) k
+  pub maps : SettlesObjects old.frontier (take count old.sealed) old.maps new.maps
 
 -- The object of the next number, with these rows and this end, was settled, and the store gave this for it. None is past it.
 pub record IsNextSettled (rows : List DataRow) (end : ℕ) (receipt : ReceiptState) (old new : QueueState) : Type 0 where
   pub frontier : new.frontier ≡ old.frontier + 1
   pub ends : new.end ≡ end
   pub sealed : new.sealed ≡ []
-  pub receipts : new.receipts ≡ old.receipts ++ receipt ∷ []
-  pub settled : (k : ℕ) → settled_at new.maps k ≡ settled_by (old.frontier + 1) (front_of rows) rows (settled_at old.maps k) k
-  pub logged : (k : ℕ) → logged_at new.maps k ≡ logged_by end rows (logged_at old.maps k) k
+  pub receipts : new.receipts ≡ old.receipts ++ record { number = old.frontier + 1; receipt = receipt } ∷ []
+  pub maps : SettlesObject (old.frontier + 1) receipt.size rows end old.maps new.maps
 
 -- an acknowledged object does not stand first
 abbrev pub IsWaiting : Option ReceiptState → Type 0

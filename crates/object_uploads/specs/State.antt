@@ -22,6 +22,16 @@ pub record SealedState : Type 0 where
   -- what the store gave for it, once it is acknowledged
   pub receipt : Option ReceiptState
 
+-- what the store gave for the object of a number
+pub record NumberedReceipt : Type 0 where
+  pub number : ℕ
+  pub receipt : ReceiptState
+
+-- an object that is in the store: what this gave for it, and how many sectors it has before its payload
+pub record StoredObject : Type 0 where
+  pub receipt : ReceiptState
+  pub front : ℕ
+
 -- the objects of a volume in the order of their numbers
 pub record QueueState : Type 0 where
   -- the frontier, and that object's end
@@ -29,11 +39,12 @@ pub record QueueState : Type 0 where
   pub end : ℕ
   -- the objects past the frontier, each numbered one more than the one before it
   pub sealed : List SealedState
-  -- what the store gave for objects up to the frontier, in their order
-  pub receipts : List ReceiptState
-  -- which object up to the frontier has each sector, and where the log has those that later entries changed
+  -- what the store gave for objects up to the frontier, by ascending number
+  pub receipts : List NumberedReceipt
+  -- which object up to the frontier has each sector, where the log has those that later entries changed, and the objects up to
+  -- the frontier
   pub maps : MapsState
-  -- for how many more sealed objects, and for as many receipts, there is room
+  -- for how many more sealed objects, and for as many receipts and objects of the table, there is room
   pub places : ℕ
 
 -- the objects of a volume, and which of them are on their way to the store

@@ -11,6 +11,7 @@
 mod job;
 mod laws;
 mod queue;
+mod receipts;
 mod sealed;
 mod uploads;
 

@@ -1,7 +1,7 @@
 ghost use Rattle.std.specs.Prelude.{◌≡◌, ◌+◌, ◌-◌, ◌<◌, ◌≤◌, ◌^◌, ℕ, ◌++◌, ◌∷◌, [], length, OnOk, OnErr};
 ghost use Rattle.std.specs.Prelude.{IsTrue, IsSome, IfSome, IsOk, ◌↔◌, false, true, option_map};
-ghost use Rattle.std.specs.Prelude.{vec_capacity};
-ghost use Rattle.std.specs.List.{sum_by, slice_get};
+ghost use Rattle.std.specs.Prelude.{◌/◌};
+ghost use Rattle.std.specs.List.{sum_by};
 ghost use Rattle.std.specs.VecDeque.{deque_len, deque_capacity};
 ghost use Rattle.lsvd_base.specs.Laws.{first_sector, sector_count};
 ghost use Rattle.volume_maps.specs.Places.{log_number, row_left_by};
@@ -10,17 +10,18 @@ ghost use Rattle.object_uploads.specs.State.{QueueState};
 ghost use Rattle.object_uploads.specs.Queue.{with_at, just_sealed, with_spare, with_receipt, front_of};
 ghost use Rattle.object_uploads.specs.Queue.{FitObject, row_count, HasBytesAt, HasRoomForEntry};
 ghost use Rattle.object_uploads.specs.Queue.{HasRoomForObject, HasSamePlaces, IsEntered, IsSettledBy};
-ghost use Rattle.object_uploads.specs.Queue.{IsNextSettled, FirstWaits, receipt_of};
+ghost use Rattle.object_uploads.specs.Queue.{SettlesObject, IsNextSettled, FirstWaits, stored_at};
 ghost use Rattle.object_uploads.specs.Changes.{HasSameSettled};
 
+use crate::receipts::Receipts;
 use crate::sealed::Sealed;
-use lsvd_base::{Entry, ObjectBytes};
+use lsvd_base::{Entry, ObjectBytes, SECTOR_BYTES};
 use lsvd_objstore::Receipt;
 use object_format::{DataRow, data_front_sectors};
 use std::alloc::{AllocError, Global};
 use std::collections::VecDeque;
 use std::marker::Model;
-use volume_maps::VolumeMaps;
+use volume_maps::{ObjectPlace, VolumeMaps};
 
 // The objects of a volume in the order of their numbers, with room for all that acknowledging them takes.
 #[derive(Drop)]
@@ -30,17 +31,17 @@ pub(crate) struct Queue<R: Receipt> {
     sealed: VecDeque<Sealed<R>>,
     // The rows of the sealed objects, counted here so that a seal need not go over them.
     rows: usize,
-    receipts: Vec<R>,
+    receipts: Receipts<R>,
     maps: VolumeMaps,
 }
 
 impl<R: Receipt> Model for Queue<R> {
-    ghost use Rattle.std.specs.Prelude.{◌≡◌, ◌+◌, ◌-◌, ◌≤◌, ◌^◌, ◌<◌, min, length, map, vec_capacity};
+    ghost use Rattle.std.specs.Prelude.{◌≡◌, ◌+◌, ◌-◌, ◌≤◌, ◌^◌, ◌<◌, min, length};
     ghost use Rattle.std.specs.List.{sum_by};
     ghost use Rattle.std.specs.VecDeque.{deque_capacity};
-    ghost use Rattle.object_uploads.specs.Invariant.{IsOpenAt};
     ghost use Rattle.object_uploads.specs.State.{QueueState};
     ghost use Rattle.object_uploads.specs.Queue.{row_count, HasRoomForRows};
+    ghost use Rattle.object_uploads.specs.Order.{AreKnown};
 
     ghost Value = { QueueState };
 
@@ -48,17 +49,26 @@ impl<R: Receipt> Model for Queue<R> {
       frontier = q.frontier;
       end = q.end;
       sealed = q.sealed.items;
-      receipts = map R.state q.receipts.items;
+      receipts = q.receipts.list;
       maps = q.maps;
-      places = min (deque_capacity q.sealed - length q.sealed.items)
-          (vec_capacity q.receipts - (length q.receipts.items + length q.sealed.items));
+      places = min
+          (min (deque_capacity q.sealed - length q.sealed.items) (q.receipts.spare - length q.sealed.items))
+          (q.maps.objects.spare - length q.sealed.items);
     } };
 
     ghost invariant = { λ q.
         HasRoomForRows q.sealed.items q.maps
         × (q.rows ≡ sum_by row_count q.sealed.items)
-        × (length q.receipts.items ≤ q.frontier)
-        × (length q.receipts.items + length q.sealed.items ≤ vec_capacity q.receipts)
+        × AreKnown (record {
+          frontier = q.frontier;
+          end = q.end;
+          sealed = q.sealed.items;
+          receipts = q.receipts.list;
+          maps = q.maps;
+          places = 0;
+        })
+        × (length q.sealed.items ≤ q.receipts.spare)
+        × (length q.sealed.items ≤ q.maps.objects.spare)
         × (q.frontier + length q.sealed.items < 2 ^ 64) };
 }
 
@@ -71,13 +81,15 @@ impl<R: Receipt> Queue<R> {
         ensures receipts { result.receipts ≡ [] }
         ensures settled { result.maps.settled.rows ≡ [] }
         ensures log { result.maps.log.rows ≡ [] }
+        ensures objects { result.maps.objects.rows ≡ [] }
+        ensures checkpoint { result.maps.objects.checkpoint ≡ 0 }
     {
         Queue {
             frontier: number,
             end,
             sealed: VecDeque::new(alloc),
             rows: 0,
-            receipts: Vec::new(alloc),
+            receipts: Receipts::new(alloc),
             maps: VolumeMaps::new(alloc),
         }
     }
@@ -132,14 +144,33 @@ impl<R: Receipt> Queue<R> {
         requires { FirstWaits self.old.sealed → ⊥ }
         ensures { IsSettledBy 1 self.old self.new }
     {
-        let (rows, end, receipt) = self.sealed.pop_front().unwrap().into_parts();
-        let slice = rows.as_slice();
-        self.rows -= slice.len();
+        let sealed = self.sealed.pop_front().unwrap();
+        let size = sealed.size();
+        let (rows, end, receipt) = sealed.into_parts();
+        self.rows -= rows.len();
+        self.settle_object(size, rows.as_slice(), end, receipt.unwrap());
+    }
+
+    // Settles an object of so many bytes that comes after the frontier and before all that are past it. There
+    // is room for one object more, and it fits.
+    fn settle_object(&mut self, size: u64, rows: &[DataRow], end: u64, receipt: R)
+        requires room { HasRoomForObject rows.now self.old }
+        requires fit { FitObject rows.now }
+        requires numbers { self.old.frontier + length self.old.sealed + 1 < 2 ^ 64 }
+        ensures frontier { self.new.frontier ≡ self.old.frontier + 1 }
+        ensures end { self.new.end ≡ end }
+        ensures sealed { self.new.sealed ≡ self.old.sealed }
+        ensures receipts { self.new.receipts ≡ self.old.receipts
+            ++ record { number = self.old.frontier + 1; receipt = R.state receipt } ∷ [] }
+        ensures maps { SettlesObject (self.old.frontier + 1) size rows.now end self.old.maps self.new.maps }
+    {
+        let front = front_of(rows);
         self.frontier += 1;
         self.end = end;
-        let front = front_of(slice);
-        self.maps.settle(self.frontier, front, end, slice);
-        self.receipts.push_reserved(receipt.unwrap());
+        self.maps
+            .add_object(self.frontier, payload_of(size, front), front);
+        self.maps.settle(self.frontier, end, rows);
+        self.receipts.push(self.frontier, receipt);
     }
 
     // Settles the next number's object, where none is past the frontier. The one error is out of memory,
@@ -153,12 +184,14 @@ impl<R: Receipt> Queue<R> {
         ensures sealed { OnErr result (self.new.sealed ≡ self.old.sealed) }
         ensures same { OnErr result (HasSameSettled self.old self.new) }
     {
-        self.receipts.reserve(1)?;
-        self.maps.reserve(rows.len(), rows.len())?;
-        self.frontier += 1;
-        self.end = end;
-        self.maps.settle(self.frontier, front_of(rows), end, rows);
-        self.receipts.push_reserved(receipt);
+        make_room(
+            &mut self.sealed,
+            &mut self.receipts,
+            &mut self.maps,
+            rows.len(),
+        )?;
+        let size = receipt.len();
+        self.settle_object(size, rows, end, receipt);
         Ok(())
     }
 
@@ -234,7 +267,7 @@ impl<R: Receipt> Queue<R> {
         let Some(changes) = self.rows.checked_add(1) else {
             return Err(AllocError);
         };
-        self.maps.reserve(0, changes)
+        self.maps.reserve(0, changes, 0)
     }
 
     // Enters an entry with this seq, whose data begin at a sector of the log.
@@ -248,15 +281,25 @@ impl<R: Receipt> Queue<R> {
         self.maps.enter(entry, seq, data_at);
     }
 
-    // What the store gave for the object of a number, where that is one of those whose receipts are kept.
-    pub(crate) fn receipt(&self, number: u64) -> Option<&R>
-        ensures { option_map (λ receipt. R.state receipt.now) result ≡ receipt_of self.now number }
+    // What the store gave for the object that a place is in, where it is in the store.
+    pub(crate) fn receipt(&self, place: &ObjectPlace) -> Option<&R>
+        ensures { option_map (λ receipt. R.state receipt.now) result ≡ option_map (λ object. object.receipt)
+            (stored_at self.now place.now) }
     {
-        let before = self.frontier - self.receipts.len() as u64;
-        if number <= before {
+        if place.level != 0 {
             return None;
         }
-        self.receipts.get((number - before - 1) as usize)
+        self.receipts.get(place.number)
+    }
+
+    // How many sectors that object has before its payload, where it is in the store.
+    pub(crate) fn front(&self, place: &ObjectPlace) -> u64
+        ensures { IfSome (stored_at self.now place.now) (λ object. result ≡ object.front) }
+    {
+        match self.maps.object(place.number) {
+            Some(object) => object.front,
+            None => 0,
+        }
     }
 
     // The maps.
@@ -285,29 +328,31 @@ impl<R: Receipt> Queue<R> {
 // comes only where that room is missing.
 fn make_room<R: Receipt>(
     sealed: &mut VecDeque<Sealed<R>>,
-    receipts: &mut Vec<R>,
+    receipts: &mut Receipts<R>,
     maps: &mut VolumeMaps,
     rows: usize,
 ) -> Result<(), AllocError>
     requires { length sealed.old.items + 1 < 2 ^ 64 }
     ensures place { OnOk result (deque_len sealed.new < deque_capacity sealed.new) }
-    ensures receipts_room { OnOk result
-        (length receipts.old.items + (length sealed.old.items + 1) ≤ vec_capacity receipts.new) }
+    ensures receipt_room { OnOk result (length sealed.old.items + 1 ≤ receipts.new.spare) }
+    ensures object_room { OnOk result (length sealed.old.items + 1 ≤ maps.new.objects.spare) }
     ensures settled_room { OnOk result (rows ≤ maps.new.settled.spare) }
     ensures log_room { OnOk result (rows ≤ maps.new.log.spare) }
     ensures succeeds { length sealed.old.items < deque_capacity sealed.old
-        → length receipts.old.items + (length sealed.old.items + 1) ≤ vec_capacity receipts.old
+        → length sealed.old.items + 1 ≤ receipts.old.spare
+        → length sealed.old.items + 1 ≤ maps.old.objects.spare
         → rows ≤ maps.old.settled.spare → rows ≤ maps.old.log.spare → IsOk result }
     ensures sealed { sealed.new.items ≡ sealed.old.items }
-    ensures receipts { receipts.new.items ≡ receipts.old.items }
-    ensures receipts_kept { vec_capacity receipts.old ≤ vec_capacity receipts.new }
+    ensures receipts { receipts.new.list ≡ receipts.old.list }
+    ensures receipts_kept { receipts.old.spare ≤ receipts.new.spare }
     ensures places { HasSamePlaces maps.old maps.new }
     ensures settled_kept { maps.old.settled.spare ≤ maps.new.settled.spare }
     ensures log_kept { maps.old.log.spare ≤ maps.new.log.spare }
+    ensures object_kept { maps.old.objects.spare ≤ maps.new.objects.spare }
 {
     sealed.reserve(1)?;
     receipts.reserve(sealed.len() + 1)?;
-    maps.reserve(rows, rows)
+    maps.reserve(rows, rows, sealed.len() + 1)
 }
 
 // The sectors of an object with these rows before its payload.
@@ -316,4 +361,11 @@ fn front_of(rows: &[DataRow]) -> u64
     ensures { result ≡ front_of rows.now }
 {
     data_front_sectors(rows.len() as u64)
+}
+
+// The sectors of payload of an object of so many bytes that has so many sectors before it.
+fn payload_of(size: u64, front: u64) -> u64
+    ensures { result ≡ size / 512 - front }
+{
+    (size / SECTOR_BYTES).saturating_sub(front)
 }

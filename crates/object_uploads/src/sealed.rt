@@ -1,4 +1,5 @@
 ghost use Rattle.std.specs.Prelude.{◌≡◌, true, false, None, Some, IsTrue, IsSome, IfSome, option_map, ◌↔◌};
+ghost use Rattle.std.specs.Prelude.{length};
 ghost use Rattle.object_uploads.specs.Queue.{spare_of, just_sealed, with_spare, with_receipt};
 
 use lsvd_base::ObjectBytes;
@@ -62,6 +63,13 @@ impl<R: Receipt> Sealed<R> {
         ensures { IsTrue result ↔ (bytes.now ≡ self.now.bytes) }
     {
         self.object == *bytes
+    }
+
+    // How many bytes it has.
+    pub(crate) fn size(&self) -> u64
+        ensures { result ≡ length self.now.bytes }
+    {
+        self.object.len()
     }
 
     // Whether it is acknowledged.

@@ -7,7 +7,7 @@ ghost use Rattle.upload_window.specs.Window.{lowest_ready, IsFrontier};
 ghost use Rattle.volume_maps.specs.Places.{volume_on, volume_number, log_number, row_left_by};
 ghost use Rattle.volume_maps.specs.Maps.{volume_place_at};
 ghost use Rattle.object_uploads.specs.Queue.{FitObject, HasRoomForEntry, HasRoomForObject, IsEntered};
-ghost use Rattle.object_uploads.specs.Queue.{receipt_of};
+ghost use Rattle.object_uploads.specs.Queue.{stored_at};
 ghost use Rattle.object_uploads.specs.Order.{IsUploads};
 ghost use Rattle.object_uploads.specs.Invariant.{IsOpenAt};
 ghost use Rattle.object_uploads.specs.Changes.{index_of, IsSealedNext, IsNotSealed, with_job, IsJobOf, IsOut};
@@ -24,7 +24,7 @@ use std::alloc::{AllocError, Global};
 use std::marker::Model;
 use upload_window::Window;
 use uuid::Uuid;
-use volume_maps::VolumePlace;
+use volume_maps::{ObjectPlace, VolumePlace};
 
 /// The objects of a volume on their way to the store, and the maps of what the log and the objects have.
 ///
@@ -60,6 +60,8 @@ impl<R: Receipt> Uploads<R> {
         ensures receipts { result.queue.receipts ≡ [] }
         ensures settled { result.queue.maps.settled.rows ≡ [] }
         ensures log { result.queue.maps.log.rows ≡ [] }
+        ensures objects { result.queue.maps.objects.rows ≡ [] }
+        ensures checkpoint { result.queue.maps.objects.checkpoint ≡ 0 }
     {
         Uploads {
             uuid,
@@ -220,12 +222,21 @@ impl<R: Receipt> Uploads<R> {
         self.queue.maps().look(alloc, lba, sectors)
     }
 
-    /// What the store gave for the object of a number. None is for a number past the frontier, and for one
-    /// whose object was acknowledged before the objects were taken up.
-    pub fn receipt(&self, number: u64) -> Option<&R>
-        ensures { option_map (λ receipt. R.state receipt.now) result ≡ receipt_of self.now.queue number }
+    /// What the store gave for the object that a place is in. None is for an object past the frontier, for
+    /// one of another volume, and for one that was acknowledged before the objects were taken up.
+    pub fn receipt(&self, place: &ObjectPlace) -> Option<&R>
+        ensures { option_map (λ receipt. R.state receipt.now) result ≡ option_map (λ object. object.receipt)
+            (stored_at self.now.queue place.now) }
     {
-        self.queue.receipt(number)
+        self.queue.receipt(place)
+    }
+
+    /// How many sectors the object that a place is in has before its payload. Nothing is said of a place
+    /// whose object has no receipt.
+    pub fn front(&self, place: &ObjectPlace) -> u64
+        ensures { IfSome (stored_at self.now.queue place.now) (λ object. result ≡ object.front) }
+    {
+        self.queue.front(place)
     }
 
     /// The uuid of the volume.
@@ -243,6 +254,13 @@ impl<R: Receipt> Uploads<R> {
         ensures order { IsUploads self.now.queue self.now.window }
     {
         self.window.frontier()
+    }
+
+    /// The number of the last object that was sealed, or else the one that the objects began with.
+    pub fn last(&self) -> u64
+        ensures { result ≡ self.now.window.last }
+    {
+        self.window.last()
     }
 
     /// How many entries of the history the objects up to the frontier have.

@@ -11,8 +11,8 @@ use Rattle.lsvd_objstore.specs.Store.{ReceiptState}
 use Rattle.object_stream.specs.Changes.{sector_of}
 use Rattle.volume_maps.specs.declared.place.ObjectPlace.{ObjectPlace}
 use Rattle.volume_maps.specs.declared.place.VolumePlace.TheVariants.{Log, Object}
-use Rattle.object_uploads.specs.State.{QueueState}
-use Rattle.object_uploads.specs.Queue.{receipt_of}
+use Rattle.object_uploads.specs.State.{StoredObject, QueueState}
+use Rattle.object_uploads.specs.Queue.{stored_at}
 use Rattle.read_plan.specs.Plan.{PieceState, PieceFits, pasted, GivesOver}
 use Rattle.read_plan.specs.Places.{IsLogged, Misses, Fetches, OneFetches}
 use Rattle.read_plan.specs.Laws.{TellsAll, GivesSectors}
@@ -52,7 +52,8 @@ missed size i told bytes piece is whole misses =
 -- one that fetches it has it there
 fetched : (size i : ℕ) (queue : QueueState) (place : ObjectPlace) (told bytes : List ℕ) (piece : PieceState)
     → IsPiece size told piece
-    → length bytes ≡ size → Fetches queue place i piece → sector_of i (pasted piece told bytes) ≡ sector_of place.sector told
+    → length bytes ≡ size → (fetches : Fetches queue place i piece)
+    → sector_of i (pasted piece told bytes) ≡ sector_of (fetches.object.front + place.sector) told
 fetched size i queue place told bytes piece is whole fetches =
     let part = part_size size told piece is in
     let read = is.read in
@@ -97,8 +98,8 @@ gives_size size (piece ∷ pieces) under bytes inside told whole gives =
     gives_size size pieces (pasted piece told.0.bytes under) bytes inside.1 told.1 after
     (next pieces piece under bytes told.0 gives)
 
-same_receipt : (a b : ReceiptState) → ◌≡◌ {A = Option ReceiptState} (Some a) (Some b) → a ≡ b
-same_receipt a b is = cc
+same_object : (a b : StoredObject) → ◌≡◌ {A = Option StoredObject} (Some a) (Some b) → a ≡ b
+same_object a b is = cc
 
 -- what the object's receipt tells
 tells_sector : (receipt : ReceiptState) (sector : List ℕ) (at : ℕ) (told : TellsAll receipt) → sector ≡ sector_of at told.bytes
@@ -107,23 +108,28 @@ tells_sector receipt sector at told is = subst (λ given. IfSome given (λ bytes
 
 one_fetched : (size i : ℕ) (queue : QueueState) (place : ObjectPlace) (pieces : List PieceState) (under bytes : List ℕ)
     → AllByRecursion (PieceFits size) pieces → AllByRecursion (λ piece. TellsAll piece.receipt) pieces → length under ≡ size
-    → OneFetches queue place i pieces → GivesOver pieces under bytes → (receipt : ReceiptState)
-    → receipt_of queue place.number ≡ Some receipt
-    → IfSome receipt.told (λ told. sector_of i bytes ≡ sector_of place.sector told)
-one_fetched size i queue place [] under bytes inside told whole one gives receipt given = absurd one
-one_fetched size i queue place (piece ∷ pieces) under bytes inside told whole one gives receipt given =
+    → OneFetches queue place i pieces → GivesOver pieces under bytes → (object : StoredObject)
+    → stored_at queue place ≡ Some object
+    → IfSome object.receipt.told (λ told. sector_of i bytes ≡ sector_of (object.front + place.sector) told)
+one_fetched size i queue place [] under bytes inside told whole one gives object given = absurd one
+one_fetched size i queue place (piece ∷ pieces) under bytes inside told whole one gives object given =
     let is = is_piece size piece told.0 inside.0 in
     let after = pasted_size size told.0.bytes under piece is whole in
     let more = next pieces piece under bytes told.0 gives in
     elim one [
       | inl this ↦
-          let same = same_receipt piece.receipt receipt (sym this.0.receipt ∙ given) in
-          subst (λ r. IfSome r.told (λ all. sector_of i bytes ≡ sector_of place.sector all)) same
-          (tells_sector piece.receipt (sector_of i bytes) place.sector told.0
-          (all_missed size i pieces (pasted piece told.0.bytes under) bytes inside.1 told.1 after this.1 more
-          ∙ fetched size i queue place told.0.bytes under piece is whole this.0))
+          let fetches = this.0 in
+          let at = fetches.object.front + place.sector in
+          let there : sector_of i bytes ≡ sector_of at told.0.bytes =
+          all_missed size i pieces (pasted piece told.0.bytes under) bytes inside.1 told.1 after this.1 more
+          ∙ fetched size i queue place told.0.bytes under piece is whole fetches in
+          let by_piece : IfSome fetches.object.receipt.told (λ all. sector_of i bytes ≡ sector_of at all) =
+          subst (λ (r : ReceiptState). IfSome r.told (λ all. sector_of i bytes ≡ sector_of at all)) fetches.receipt
+          (tells_sector piece.receipt (sector_of i bytes) at told.0 there) in
+          subst (λ (o : StoredObject). IfSome o.receipt.told (λ all. sector_of i bytes ≡ sector_of (o.front + place.sector) all))
+          (same_object fetches.object object (sym fetches.stored ∙ given)) by_piece
       | inr later ↦ one_fetched size i queue place pieces (pasted piece told.0.bytes under) bytes inside.1 told.1 after later.1
-          more receipt given
+          more object given
     ]
 
 pub gives_sectors : GivesSectors

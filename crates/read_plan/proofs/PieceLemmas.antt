@@ -3,7 +3,6 @@ use Rattle.std.proofs.Common.{◌≡◌, ℕ, ◌+◌, ◌-◌, ◌*◌, ◌<◌
 use Rattle.std.proofs.Common.{subst, arith}
 use Rattle.std.specs.List.{AllByRecursion}
 use Rattle.std.proofs.lemmas.Bool.{cases_lt}
-use Rattle.lsvd_objstore.specs.Store.{ReceiptState}
 use Rattle.extent_map.specs.declared.extent.Extent.{Extent}
 use Rattle.extent_map.specs.Extents.{place_at, IsShortest}
 use Rattle.extent_map.specs.Laws.{StartsFrom}
@@ -13,10 +12,10 @@ use Rattle.volume_maps.specs.declared.place.ObjectPlace.{ObjectPlace}
 use Rattle.volume_maps.specs.declared.place.VolumePlace.{VolumePlace}
 use Rattle.volume_maps.specs.declared.place.VolumePlace.TheVariants.{Log, Object}
 use Rattle.volume_maps.specs.Places.{object_on, volume_on}
-use Rattle.object_uploads.specs.State.{QueueState}
-use Rattle.object_uploads.specs.Queue.{receipt_of}
+use Rattle.object_uploads.specs.State.{StoredObject, QueueState}
+use Rattle.object_uploads.specs.Queue.{stored_at}
 use Rattle.read_plan.specs.Plan.{PieceState, PieceFits}
-use Rattle.read_plan.specs.Places.{Misses, OneFetches, FetchPlace}
+use Rattle.read_plan.specs.Places.{Misses, Fetches, OneFetches, FetchPlace}
 use Rattle.read_plan.specs.Rows.{piece_by, piece_from, row_pieces}
 use Rattle.read_plan.proofs.RowLemmas.{IsReadablePlace, IsGood, HasObject, has_object}
 
@@ -37,24 +36,37 @@ missed_first queue (Some (Object place)) i [] back missed fetched = fetched
 missed_first queue (Some (Object place)) i (piece ∷ front) back missed fetched =
     inr (missed.0, missed_first queue (Some (Object place)) i front back missed.1 fetched)
 
-misses_by : (given : Option ReceiptState) (at count from i : ℕ) → (at + count ≤ 512 * i) ⊎ (512 * (i + 1) ≤ at)
-    → AllByRecursion (Misses i) (piece_by given at count from)
-misses_by None at count from i apart = tt
-misses_by (Some receipt) at count from i apart = (apart, tt)
+misses_by : (given : Option StoredObject) (at count sector i : ℕ) → (at + count ≤ 512 * i) ⊎ (512 * (i + 1) ≤ at)
+    → AllByRecursion (Misses i) (piece_by given at count sector)
+misses_by None at count sector i apart = tt
+misses_by (Some object) at count sector i apart = (apart, tt)
 
 misses_from : (queue : QueueState) (at count i : ℕ) (place : VolumePlace) → (at + count ≤ 512 * i) ⊎ (512 * (i + 1) ≤ at)
     → AllByRecursion (Misses i) (piece_from queue at count place)
 misses_from queue at count i (Log place) apart = tt
 misses_from queue at count i (Object place) apart =
-    misses_by (receipt_of queue place.number) at count (512 * place.sector) i apart
+    misses_by (stored_at queue place) at count place.sector i apart
 
-fetches_by : (queue : QueueState) (given : Option ReceiptState) (start count j : ℕ) (place : ObjectPlace) (rest : List PieceState)
-    → receipt_of queue place.number ≡ given → HasObject given place.sector count → j < count
+fetches_by : (queue : QueueState) (given : Option StoredObject) (start count j : ℕ) (place : ObjectPlace) (rest : List PieceState)
+    → stored_at queue place ≡ given → HasObject given place.sector count → j < count
     → AllByRecursion (Misses (start + j)) rest
-    → OneFetches queue (object_on j place) (start + j) (piece_by given (512 * start) (512 * count) (512 * place.sector) ++ rest)
+    → OneFetches queue (object_on j place) (start + j) (piece_by given (512 * start) (512 * count) place.sector ++ rest)
 fetches_by queue None start count j place rest is has less missed = absurd (let none = has.is in cc)
-fetches_by queue (Some receipt) start count j place rest is has less missed =
-    inl (record { from = omega arith; to = omega (arith, less); receipt = is; byte = omega arith }, missed)
+fetches_by queue (Some object) start count j place rest is has less missed =
+    let piece : Fetches queue (object_on j place) (start + j) (record {
+      at = 512 * start;
+      count = 512 * count;
+      receipt = object.receipt;
+      from = 512 * (object.front + place.sector);
+    }) = record {
+      from = omega arith;
+      to = omega (arith, less);
+      object = object;
+      stored = is;
+      receipt = refl;
+      byte = omega arith;
+    } in
+    inl (piece, missed)
 
 fetches_from : (log : LogState) (queue : QueueState) (start count j : ℕ) (place : VolumePlace) (rest : List PieceState)
     → j < count
@@ -62,17 +74,17 @@ fetches_from : (log : LogState) (queue : QueueState) (start count j : ℕ) (plac
     → FetchPlace queue (Some (volume_on j place)) (start + j) (piece_from queue (512 * start) (512 * count) place ++ rest)
 fetches_from log queue start count j (Log place) rest less places missed = missed
 fetches_from log queue start count j (Object place) rest less places missed =
-    fetches_by queue (receipt_of queue place.number) start count j place rest refl
-    (has_object (receipt_of queue place.number) place.sector count (omega (arith, less)) places) less missed
+    fetches_by queue (stored_at queue place) start count j place rest refl
+    (has_object (stored_at queue place) place.sector count (omega (arith, less)) places) less missed
 
-inside_by : (given : Option ReceiptState) (size at count sector sectors : ℕ) → HasObject given sector sectors
+inside_by : (given : Option StoredObject) (size at count sector sectors : ℕ) → HasObject given sector sectors
     → count ≡ 512 * sectors
-    → at + count ≤ size → AllByRecursion (PieceFits size) (piece_by given at count (512 * sector))
+    → at + count ≤ size → AllByRecursion (PieceFits size) (piece_by given at count sector)
 inside_by None size at count sector sectors has is room = tt
-inside_by (Some receipt) size at count sector sectors has is room =
-    let one : ◌≡◌ {A = Option ReceiptState} (Some receipt) (Some has.receipt) = has.is in
-    let same : receipt ≡ has.receipt = cc in
-    let covers = subst (λ (r : ReceiptState). 512 * sector + 512 * sectors ≤ r.size) (sym same) has.covers in
+inside_by (Some object) size at count sector sectors has is room =
+    let one : ◌≡◌ {A = Option StoredObject} (Some object) (Some has.object) = has.is in
+    let same : object ≡ has.object = cc in
+    let covers = subst (λ (o : StoredObject). 512 * (o.front + sector) + 512 * sectors ≤ o.receipt.size) (sym same) has.covers in
     (record { read = room; object = omega (arith, covers, is) }, tt)
 
 inside_from : (log : LogState) (queue : QueueState) (size at sectors : ℕ) (place : VolumePlace) → 0 < sectors
@@ -81,8 +93,8 @@ inside_from : (log : LogState) (queue : QueueState) (size at sectors : ℕ) (pla
     → AllByRecursion (PieceFits size) (piece_from queue at (512 * sectors) place)
 inside_from log queue size at sectors (Log place) some room places = tt
 inside_from log queue size at sectors (Object place) some room places =
-    inside_by (receipt_of queue place.number) size at (512 * sectors) place.sector sectors
-    (has_object (receipt_of queue place.number) place.sector sectors some places) refl room
+    inside_by (stored_at queue place) size at (512 * sectors) place.sector sectors
+    (has_object (stored_at queue place) place.sector sectors some places) refl room
 
 -- ---- all rows
 

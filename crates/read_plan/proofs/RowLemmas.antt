@@ -2,10 +2,8 @@
 use Rattle.std.proofs.Common.{◌≡◌, ℕ, zero, suc, ◌+◌, ◌-◌, ◌*◌, ◌<◌, ◌≤◌, ◌^◌, inl, inr, cond, Option, Some, None, List, [], ◌∷◌}
 use Rattle.std.proofs.Common.{refl, sym, ◌∙◌, ap}
 use Rattle.std.proofs.Common.{subst, arith}
-use Rattle.std.specs.Prelude.{IsSome}
 use Rattle.std.specs.List.{AllByRecursion, slice_get}
 use Rattle.std.proofs.lemmas.Bool.{cases_lt}
-use Rattle.lsvd_objstore.specs.Store.{ReceiptState}
 use Rattle.extent_map.specs.declared.extent.Extent.{Extent}
 use Rattle.extent_map.specs.Extents.{place_at, place_in_range, IsShortest}
 use Rattle.extent_map.specs.Laws.{StartsFrom}
@@ -21,10 +19,10 @@ use Rattle.volume_maps.specs.declared.place.VolumePlace.{VolumePlace}
 use Rattle.volume_maps.specs.declared.place.VolumePlace.TheVariants.{Log, Object}
 use Rattle.volume_maps.specs.Places.{volume_on, place_in}
 use Rattle.volume_maps.specs.Maps.{MapsState, logged_at, settled_at, volume_place_at}
-use Rattle.object_uploads.specs.State.{QueueState}
-use Rattle.object_uploads.specs.Queue.{receipt_of}
+use Rattle.object_uploads.specs.State.{StoredObject, QueueState}
+use Rattle.object_uploads.specs.Queue.{stored_at}
 use Rattle.read_plan.specs.Places.{IsDataSector, LogHasPlaces, HasObjectSector, ObjectsHavePlaces}
-use Rattle.read_plan.specs.Rows.{IsInRange, AreDataAt, IsReadable, HasReceiptAt, IsFetchable}
+use Rattle.read_plan.specs.Rows.{IsInRange, AreDataAt, IsReadable, HasSectorAt, IsFetchable}
 use Rattle.read_plan.specs.Look.{AreRowsIn}
 
 -- ---- a row by its sectors
@@ -87,7 +85,7 @@ in_place lba sectors k places from to = ap (λ b. cond b (places k) None) (withi
 abbrev pub IsReadablePlace : LogState → QueueState → VolumePlace → Type 0
 IsReadablePlace log queue (Log (Data seq sector)) = IsDataSector log seq sector
 IsReadablePlace log queue (Log (Zeros seq)) = Unit {0}
-IsReadablePlace log queue (Object place) = HasObjectSector (receipt_of queue place.number) place.sector
+IsReadablePlace log queue (Object place) = HasObjectSector (stored_at queue place) place.sector
 
 -- a row lies inside the range, and the place of each of its sectors can be read
 pub record IsGood (lba sectors : ℕ) (log : LogState) (queue : QueueState) (row : Extent VolumePlace) : Type 0 where
@@ -212,34 +210,30 @@ all_readable lba sectors log queue (row ∷ rows) good = (
 
 -- ---- by objects
 
--- what the store gave for an object is there, and covers so many sectors from one on
-pub record HasObject (given : Option ReceiptState) (sector count : ℕ) : Type 0 where
-  pub receipt : ReceiptState
-  pub is : given ≡ Some receipt
-  pub covers : 512 * sector + 512 * count ≤ receipt.size
+-- an object is in the store, and its payload has so many sectors from one on
+pub record HasObject (given : Option StoredObject) (sector count : ℕ) : Type 0 where
+  pub object : StoredObject
+  pub is : given ≡ Some object
+  pub covers : 512 * (object.front + sector) + 512 * count ≤ object.receipt.size
 
-pub has_object : (given : Option ReceiptState) (sector count : ℕ) → 0 < count
+pub has_object : (given : Option StoredObject) (sector count : ℕ) → 0 < count
     → ((i : ℕ) → i < count → HasObjectSector given (sector + i))
     → HasObject given sector count
 has_object None sector count some places = absurd (places 0 some)
-has_object (Some receipt) sector count some places =
+has_object (Some object) sector count some places =
     record {
-      receipt = receipt;
+      object = object;
       is = refl;
       covers = (let last = places (count - 1) (omega (arith, some)) in
           omega (arith, last, some));
     }
 
-is_some_of : (given : Option ReceiptState) (receipt : ReceiptState) → given ≡ Some receipt → IsSome given
-is_some_of None receipt is = absurd cc
-is_some_of (Some other) receipt is = refl
-
-receipt_at : (log : LogState) (queue : QueueState) (place : VolumePlace) (count : ℕ) → 0 < count
-    → ((i : ℕ) → i < count → IsReadablePlace log queue (volume_on i place)) → HasReceiptAt queue place
-receipt_at log queue (Log place) count some places = tt
-receipt_at log queue (Object place) count some places =
-    let has = has_object (receipt_of queue place.number) place.sector count some places in
-    is_some_of (receipt_of queue place.number) has.receipt has.is
+first_sector : (log : LogState) (queue : QueueState) (place : VolumePlace) (count : ℕ) → 0 < count
+    → ((i : ℕ) → i < count → IsReadablePlace log queue (volume_on i place)) → HasSectorAt queue place
+first_sector log queue (Log place) count some places = tt
+first_sector log queue (Object place) count some places =
+    let first : place.sector + 0 ≡ place.sector = omega arith in
+    subst (λ (n : ℕ). HasObjectSector (stored_at queue place) n) first (places 0 some)
 
 pub all_fetchable : (lba sectors : ℕ) (log : LogState) (queue : QueueState) (rows : List (Extent VolumePlace))
     → lba + sectors ≤ 2 ^ 31
@@ -249,7 +243,7 @@ all_fetchable lba sectors log queue (row ∷ rows) below good = (
   record {
     from = good.0.inside.from;
     to = (let to = good.0.inside.to in omega (arith, to, below));
-    receipt = receipt_at log queue row.place row.sectors good.0.some good.0.places;
+    stored = first_sector log queue row.place row.sectors good.0.some good.0.places;
   },
   all_fetchable lba sectors log queue rows below good.1,
 )

@@ -1,13 +1,13 @@
 -- Contract: what a plan gives for each sector.
-use Rattle.std.specs.Prelude.{◌≡◌, ℕ, Option, Some, None, IfSome, List, length}
+use Rattle.std.specs.Prelude.{◌≡◌, ℕ, ◌+◌, Option, Some, None, IfSome, List, length}
 use Rattle.std.specs.List.{AllByRecursion}
 use Rattle.lsvd_objstore.specs.Store.{ReceiptState}
 use Rattle.cache_log.specs.Log.{LogState}
 use Rattle.object_stream.specs.Changes.{sector_of}
 use Rattle.volume_maps.specs.declared.place.VolumePlace.{VolumePlace}
 use Rattle.volume_maps.specs.declared.place.VolumePlace.TheVariants.{Log, Object}
-use Rattle.object_uploads.specs.State.{QueueState}
-use Rattle.object_uploads.specs.Queue.{receipt_of}
+use Rattle.object_uploads.specs.State.{StoredObject, QueueState}
+use Rattle.object_uploads.specs.Queue.{stored_at}
 use Rattle.read_plan.specs.Plan.{PlanState, PiecesFit, Gives}
 use Rattle.read_plan.specs.Places.{IsLogged, HoldsPlace}
 
@@ -22,8 +22,8 @@ abbrev pub IsSectorAt : LogState → QueueState → Option VolumePlace → (sect
 IsSectorAt log queue None sector = IsLogged log None sector
 IsSectorAt log queue (Some (Log place)) sector = IsLogged log (Some (Log place)) sector
 IsSectorAt log queue (Some (Object place)) sector =
-    (receipt : ReceiptState) → receipt_of queue place.number ≡ Some receipt
-    → IfSome receipt.told (λ told. sector ≡ sector_of place.sector told)
+    (object : StoredObject) → stored_at queue place ≡ Some object
+    → IfSome object.receipt.told (λ told. sector ≡ sector_of (object.front + place.sector) told)
 
 -- where the receipts of a plan tell all bytes, it gives each sector that it holds
 abbrev pub GivesSectors : Type 0

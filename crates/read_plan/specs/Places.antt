@@ -3,7 +3,6 @@ use Rattle.std.specs.Prelude.{◌≡◌, ℕ, ◌+◌, ◌-◌, ◌*◌, ◌<◌
 use Rattle.std.specs.List.{AllByRecursion, slice_get}
 use Rattle.lsvd_base.specs.declared.entry.Entry.{Entry}
 use Rattle.lsvd_base.specs.Image.{zero_sector}
-use Rattle.lsvd_objstore.specs.Store.{ReceiptState}
 use Rattle.log_record.specs.Grammar.{data_of}
 use Rattle.cache_log.specs.declared.row.Row.{Row}
 use Rattle.cache_log.specs.Rows.{seq_of, position_of, record_size}
@@ -14,8 +13,8 @@ use Rattle.volume_maps.specs.declared.place.LogPlace.TheVariants.{Data, Zeros}
 use Rattle.volume_maps.specs.declared.place.VolumePlace.{VolumePlace}
 use Rattle.volume_maps.specs.declared.place.VolumePlace.TheVariants.{Log, Object}
 use Rattle.volume_maps.specs.Maps.{MapsState, logged_at, volume_place_at}
-use Rattle.object_uploads.specs.State.{QueueState}
-use Rattle.object_uploads.specs.Queue.{receipt_of}
+use Rattle.object_uploads.specs.State.{StoredObject, QueueState}
+use Rattle.object_uploads.specs.Queue.{stored_at}
 use Rattle.read_plan.specs.Plan.{PieceState, PlanState}
 
 -- ---- which can be read
@@ -33,16 +32,16 @@ abbrev pub LogHasPlaces : (lba sectors : ℕ) → MapsState → LogState → Typ
 LogHasPlaces lba sectors maps log =
     (k seq sector : ℕ) → lba ≤ k → k < lba + sectors → logged_at maps k ≡ Some (Data seq sector) → IsDataSector log seq sector
 
--- what the store gave for an object is there, and the object has this sector
-abbrev pub HasObjectSector : Option ReceiptState → (sector : ℕ) → Type 0
+-- an object is in the store, and its payload has this sector
+abbrev pub HasObjectSector : Option StoredObject → (sector : ℕ) → Type 0
 HasObjectSector None sector = ⊥
-HasObjectSector (Some receipt) sector = 512 * (sector + 1) ≤ receipt.size
+HasObjectSector (Some object) sector = 512 * (object.front + sector + 1) ≤ object.receipt.size
 
 -- the volume's own objects have each sector of a range that the objects' map alone places
 abbrev pub ObjectsHavePlaces : (lba sectors : ℕ) → QueueState → Type 0
 ObjectsHavePlaces lba sectors queue =
     (k : ℕ) (place : ObjectPlace) → lba ≤ k → k < lba + sectors → volume_place_at queue.maps k ≡ Some (Object place)
-    → (place.level ≡ 0) × HasObjectSector (receipt_of queue place.number) place.sector
+    → (place.level ≡ 0) × HasObjectSector (stored_at queue place) place.sector
 
 -- ---- what a plan has for a sector
 
@@ -68,8 +67,10 @@ Misses i piece = (piece.at + piece.count ≤ 512 * i) ⊎ (512 * (i + 1) ≤ pie
 pub record Fetches (queue : QueueState) (place : ObjectPlace) (i : ℕ) (piece : PieceState) : Type 0 where
   pub from : piece.at ≤ 512 * i
   pub to : 512 * (i + 1) ≤ piece.at + piece.count
-  pub receipt : receipt_of queue place.number ≡ Some piece.receipt
-  pub byte : piece.from + (512 * i - piece.at) ≡ 512 * place.sector
+  pub object : StoredObject
+  pub stored : stored_at queue place ≡ Some object
+  pub receipt : piece.receipt ≡ object.receipt
+  pub byte : piece.from + (512 * i - piece.at) ≡ 512 * (object.front + place.sector)
 
 -- one of some pieces does, and no other has a byte of it
 abbrev pub OneFetches : QueueState → ObjectPlace → (i : ℕ) → List PieceState → Type 0

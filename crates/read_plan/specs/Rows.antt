@@ -1,17 +1,17 @@
 -- For this crate's own clauses: what the rows of a look are read as, one after the other.
-use Rattle.std.specs.Prelude.{◌≡◌, ℕ, ◌+◌, ◌-◌, ◌*◌, ◌≤◌, ◌^◌, Option, Some, None, IsSome, List, [], ◌∷◌, ◌++◌, length}
+use Rattle.std.specs.Prelude.{◌≡◌, ℕ, ◌+◌, ◌-◌, ◌*◌, ◌≤◌, ◌^◌, Option, Some, None, List, [], ◌∷◌, ◌++◌, length}
 use Rattle.std.specs.List.{filter_map}
 use Rattle.lsvd_bytes.specs.Places.{with_bytes}
-use Rattle.lsvd_objstore.specs.Store.{ReceiptState}
 use Rattle.extent_map.specs.declared.extent.Extent.{Extent}
 use Rattle.cache_log.specs.declared.row.Row.{Row}
 use Rattle.cache_log.specs.Log.{LogState, AreData, IsReadFrom}
 use Rattle.volume_maps.specs.declared.place.LogPlace.TheVariants.{Data, Zeros}
 use Rattle.volume_maps.specs.declared.place.VolumePlace.{VolumePlace}
 use Rattle.volume_maps.specs.declared.place.VolumePlace.TheVariants.{Log, Object}
-use Rattle.object_uploads.specs.State.{QueueState}
-use Rattle.object_uploads.specs.Queue.{receipt_of}
+use Rattle.object_uploads.specs.State.{StoredObject, QueueState}
+use Rattle.object_uploads.specs.Queue.{stored_at}
 use Rattle.read_plan.specs.Plan.{PieceState}
+use Rattle.read_plan.specs.Places.{HasObjectSector}
 
 -- a row lies inside a range
 pub record IsInRange (lba sectors : ℕ) (row : Extent VolumePlace) : Type 0 where
@@ -50,27 +50,28 @@ AreRowsRead log lba (row ∷ rows) old new = (middle : List ℕ) × IsRowRead lo
 
 -- ---- by objects
 
--- where a place is in an object, what the store gave for that is there
-abbrev pub HasReceiptAt : QueueState → VolumePlace → Type 0
-HasReceiptAt queue (Log place) = Unit {0}
-HasReceiptAt queue (Object place) = IsSome (receipt_of queue place.number)
+-- where a place is in an object, that is in the store, and has the place's sector
+abbrev pub HasSectorAt : QueueState → VolumePlace → Type 0
+HasSectorAt queue (Log place) = Unit {0}
+HasSectorAt queue (Object place) = HasObjectSector (stored_at queue place) place.sector
 
--- a row of a read from `lba` on can be fetched: it ends below 2^31, and where an object has it, what the store gave for that is
--- there
+-- a row of a read from `lba` on can be fetched: it ends below 2^31, and where an object has it, that is in the store, and has its
+-- first sector
 pub record IsFetchable (lba : ℕ) (queue : QueueState) (row : Extent VolumePlace) : Type 0 where
   pub from : lba ≤ row.lba
   pub to : row.lba + row.sectors ≤ 2 ^ 31
-  pub receipt : HasReceiptAt queue row.place
+  pub stored : HasSectorAt queue row.place
 
--- the piece of an object, where it has a receipt
-abbrev pub piece_by : Option ReceiptState → (at count from : ℕ) → List PieceState
-piece_by None at count from = []
-piece_by (Some receipt) at count from = record { at = at; count = count; receipt = receipt; from = from } ∷ []
+-- the piece of an object that begins at a sector of its payload, where it is in the store
+abbrev pub piece_by : Option StoredObject → (at count sector : ℕ) → List PieceState
+piece_by None at count sector = []
+piece_by (Some object) at count sector =
+    record { at = at; count = count; receipt = object.receipt; from = 512 * (object.front + sector) } ∷ []
 
 -- the piece from a place on, where an object has it
 abbrev pub piece_from : QueueState → (at count : ℕ) → VolumePlace → List PieceState
 piece_from queue at count (Log place) = []
-piece_from queue at count (Object place) = piece_by (receipt_of queue place.number) at count (512 * place.sector)
+piece_from queue at count (Object place) = piece_by (stored_at queue place) at count place.sector
 
 -- the piece of a row, in a read from `lba` on, and the pieces of rows
 abbrev pub row_piece : QueueState → (lba : ℕ) → Extent VolumePlace → List PieceState

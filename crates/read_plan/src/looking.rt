@@ -46,7 +46,7 @@ pub fn look<D: Disk, R: Receipt>(
         → ReadsRange lba sectors objects.now.uploads.queue.maps (is_ok result) log.old log.new }
     ensures memory { IsErrOf result errors.OutOfMemory → log.new ≡ log.old }
 {
-    let rows = objects.look(alloc, lba, sectors)?;
+    let rows = objects.uploads().look(alloc, lba, sectors)?;
     let pieces = pieces_of(alloc, objects, &rows, lba)?;
     let numbers = numbers_of(alloc, &rows)?;
     let bytes = vec![in alloc; 0; (SECTOR_BYTES * sectors) as usize]?;

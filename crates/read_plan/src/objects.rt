@@ -49,12 +49,16 @@ fn piece_of<R: Receipt>(
     let VolumePlace::Object(place) = row.place else {
         return Ok(None);
     };
-    let receipt = objects.receipt(place.number).unwrap().copy(alloc)?;
+    let uploads = objects.uploads();
+    let receipt = uploads.receipt(&place).unwrap().copy(alloc)?;
+    // The object has the place's sector, so that its length bounds the byte where that stands.
+    let _size = receipt.len();
+    let front = uploads.front(&place);
     Ok(Some(Piece {
         at: (SECTOR_BYTES * (row.lba - lba)) as usize,
         count: (SECTOR_BYTES * row.sectors) as usize,
         receipt,
-        from: SECTOR_BYTES * place.sector as u64,
+        from: SECTOR_BYTES * (front + place.sector as u64),
     }))
 }
 

@@ -23,6 +23,7 @@ use Rattle.object_uploads.specs.State.{SealedState}
 use Rattle.object_uploads.specs.Queue.{FirstWaits}
 use Rattle.object_uploads.specs.Order.{AreOpen, IsUploads}
 use Rattle.object_uploads.specs.Changes.{IsNotSealed}
+use Rattle.object_uploads.proofs.KnownLemmas.{known_in}
 use Rattle.obj_log.specs.State.{ObjLogState}
 use Rattle.obj_log.specs.Changes.{IsSame, IsAdded}
 use Rattle.plain_disk.specs.declared.event.PlainEvent.{PlainEvent}
@@ -100,10 +101,8 @@ uploads_same old new same is =
     let settled = same.settled in
     let front : new.uploads.queue.frontier ≡ old.uploads.queue.frontier = settled.frontier in
     let many = ap length same.sealed in
-    let given = ap length settled.receipts in
     let last = ap (λ (w : WindowState). w.last) same.window in
     let counted = is.last in
-    let most = is.receipts in
     record {
       opened =
           subst₂ (λ n (w : WindowState). AreOpen (n + 1) new.uploads.queue.sealed w.objects) (sym front) (sym same.window)
@@ -111,7 +110,8 @@ uploads_same old new same is =
           (sym same.sealed) is.opened);
       last = omega (arith, front, many, last, counted);
       waits = subst FirstWaits (sym same.sealed) is.waits;
-      receipts = omega (arith, front, given, most);
+      known = known_in old.uploads.queue new.uploads.queue is.known front settled.receipts settled.places.objects
+          settled.places.checkpoint;
     }
 
 -- ---- room for the calls

@@ -9,7 +9,6 @@ use Rattle.lsvd_base.specs.declared.geometry.Geometry.{Geometry}
 use Rattle.lsvd_base.specs.Limits.{may_transfer}
 use Rattle.lsvd_device.specs.Calls.{Fuse, Budget, passes, fuse_after, Takes}
 use Rattle.lsvd_device.specs.Memory.{HasRoom}
-use Rattle.lsvd_objstore.specs.Store.{ReceiptState}
 use Rattle.extent_map.specs.declared.extent.Extent.{Extent}
 use Rattle.cache_log.specs.Log.{LogState}
 use Rattle.cache_log.specs.Reads.{reads_cost}
@@ -19,7 +18,8 @@ use Rattle.volume_maps.specs.declared.place.VolumePlace.TheVariants.{Log, Object
 use Rattle.volume_maps.specs.Places.{place_in}
 use Rattle.volume_maps.specs.Maps.{settled_at, volume_place_at}
 use Rattle.object_uploads.specs.Order.{IsUploads}
-use Rattle.object_uploads.specs.Queue.{receipt_of}
+use Rattle.object_uploads.specs.State.{StoredObject}
+use Rattle.object_uploads.specs.Queue.{stored_at}
 use Rattle.object_uploads.specs.Image.{GivesSector}
 use Rattle.obj_log.specs.State.{ObjLogState}
 use Rattle.plain_disk.specs.State.{PlainState, image_now}
@@ -65,16 +65,16 @@ module _ (data_at : ℕ → ℕ) (objects : ObjLogState) (log : LogState) (plain
       (held_in_range k high) in
       record { row = held.row; stands = held.there; has_seq = held.numbered; from = held.from; to = held.to }
 
-  object_has : (at : ℕ) (sector : List ℕ) (receipt : Option ReceiptState) → GivesSector receipt at sector
-      → HasObjectSector receipt at
+  object_has : (at : ℕ) (sector : List ℕ) (object : Option StoredObject) → GivesSector object at sector
+      → HasObjectSector object at
   object_has at sector None gives = gives
-  object_has at sector (Some receipt) gives = gives.0
+  object_has at sector (Some object) gives = gives.0
 
   objects_have_places : ObjectsHavePlaces lba sectors objects.uploads.queue
   objects_have_places k place low high is =
       let sector = get_or (image_now plain) k [] in
       let held = subst (λ p. IsHeldAt log objects.uploads.queue p sector) is (held_in_range k high) in
-      (held.0, object_has place.sector sector (receipt_of objects.uploads.queue place.number) held.1)
+      (held.0, object_has place.sector sector (stored_at objects.uploads.queue place) held.1)
 
   -- ---- its calls
 

@@ -1,21 +1,26 @@
 -- The objects of a plan are those that the plain volume reads.
-use Rattle.std.proofs.Common.{◌≡◌, ℕ, suc, ◌+◌, ◌-◌, ◌<◌, ◌≤◌, inl, inr, Bool, true, cond, List, [], ◌∷◌, length, get_or, refl}
+use Rattle.std.proofs.Common.{◌≡◌, ℕ, suc, ◌+◌, ◌-◌, ◌<◌, ◌≤◌, ◌==◌, inl, inr, Bool, true, cond, List, [], ◌∷◌, get_or, refl}
 use Rattle.std.proofs.Common.{sym, ◌∙◌, ap, subst, arith}
-use Rattle.std.specs.Prelude.{Option, Some, None, nat_le}
-use Rattle.std.specs.List.{Contains, filter, list_any, range_with_len, slice_get}
-use Rattle.std.proofs.lemmas.Bool.{cases_eq, cases_lt, cases_order, cases_Bool, leb-false}
+use Rattle.std.specs.Prelude.{Option, Some, None}
+use Rattle.std.specs.List.{Contains, filter, list_any, range_with_len}
+use Rattle.std.proofs.lemmas.Bool.{cases_eq, cases_lt, cases_order, cases_Bool}
 use Rattle.std.proofs.lemmas.Grind.{get_or_default_zero}
 use Rattle.std.proofs.lemmas.List.Folds.{list_any_at, Any-from_list_any}
 use Rattle.std.proofs.lemmas.List.FromFn.{length-range_with_len, get_or-range_with_len}
 use Rattle.std.proofs.lemmas.List.Kept.{AllPairs-filter, AllPairs-from_increasing}
-use Rattle.std.proofs.lemmas.Option.{slice_get_within, slice_get-get_or}
+use Rattle.std.proofs.lemmas.Option.{slice_get-get_or}
 use Rattle.lsvd_objstore.specs.Store.{ReceiptState}
 use Rattle.cache_log.specs.Log.{LogState}
 use Rattle.volume_maps.specs.declared.place.ObjectPlace.{ObjectPlace}
 use Rattle.volume_maps.specs.declared.place.VolumePlace.TheVariants.{Object}
 use Rattle.volume_maps.specs.Maps.{volume_place_at}
-use Rattle.object_uploads.specs.State.{QueueState}
-use Rattle.object_uploads.specs.Queue.{receipt_of}
+use Rattle.object_table.specs.declared.row.ObjectRow.{ObjectRow}
+use Rattle.object_table.specs.Table.{row_of}
+use Rattle.object_table.proofs.Rows.{its_number}
+use Rattle.object_table.proofs.Listed.{found_holds}
+use Rattle.object_uploads.specs.State.{StoredObject, QueueState}
+use Rattle.object_uploads.specs.Queue.{receipt_in, stored_with, stored_at}
+use Rattle.object_uploads.specs.Order.{AreKnown}
 use Rattle.object_uploads.specs.Image.{GivesSector}
 use Rattle.obj_log.specs.State.{ObjLogState}
 use Rattle.plain_disk.specs.State.{PlainState, frontier_of, image_now}
@@ -173,28 +178,43 @@ where_any test from n any =
     let at : is.1 ≡ from + is.0 = sym is.3 ∙ get_or-range_with_len from n is.0 is.1 (omega (arith, inside, count)) in
     record { k = is.1; low = omega (arith, at); high = omega (arith, at, inside, count); passes = is.4 }
 
--- ---- receipts
+-- ---- the objects that are in the store
 
--- there is one only for a number up to the frontier
-receipt_number : (queue : QueueState) (number : ℕ) (receipt : ReceiptState) → length queue.receipts ≤ queue.frontier
-    → receipt_of queue number ≡ Some receipt → (1 ≤ number) × (number ≤ queue.frontier)
-receipt_number queue number receipt fit given =
-    let before = queue.frontier - length queue.receipts in
-    let there = slice_get queue.receipts (number - before - 1) in
-    elim (cases_Bool (nat_le number before)) [
-      | inl below ↦ (let none = sym (ap (λ b. cond b None there) below) ∙ given in let bad : ⊥ = cc in absurd bad)
-      | inr past ↦
-          let is : there ≡ Some receipt = sym (ap (λ b. cond b None there) past) ∙ given in
-          let inside = slice_get_within queue.receipts (number - before - 1) receipt is in
-          let above = leb-false number before past in
-          (omega (arith, above), omega (arith, inside, above, fit))
+-- one is there only where the table has it
+stored_row : (receipt : Option ReceiptState) (row : Option ObjectRow) (object : StoredObject)
+    → stored_with receipt row ≡ Some object → (r : ObjectRow) × (row ≡ Some r)
+stored_row None row object is = absurd cc
+stored_row (Some receipt) None object is = absurd cc
+stored_row (Some receipt) (Some row) object is = (row, refl)
+
+-- and that has numbers from 1 up to the frontier
+known_number : (queue : QueueState) (number : ℕ) (row : ObjectRow) → AreKnown queue
+    → row_of number queue.maps.objects.rows ≡ Some row → (1 ≤ number) × (number ≤ queue.frontier)
+known_number queue number row known is =
+    let rows = queue.maps.objects.rows in
+    let named = its_number number rows row is in
+    let low = found_holds (λ (object : ObjectRow). 1 ≤ object.number) number rows row is known.from_one in
+    let high = found_holds (λ (object : ObjectRow). object.number ≤ queue.frontier) number rows row is known.within in
+    (omega (arith, named, low), omega (arith, named, high))
+
+stored_number : (queue : QueueState) (place : ObjectPlace) (object : StoredObject) → AreKnown queue
+    → stored_at queue place ≡ Some object → (1 ≤ place.number) × (place.number ≤ queue.frontier)
+stored_number queue place object known is =
+    let row = row_of place.number queue.maps.objects.rows in
+    let there = stored_with (receipt_in queue.receipts place.number) row in
+    elim (cases_Bool (place.level == 0)) [
+      | inl own ↦
+          let has = stored_row (receipt_in queue.receipts place.number) row object
+          (sym (ap (λ b. cond b there None) own) ∙ is) in
+          known_number queue place.number has.0 known has.1
+      | inr other ↦ (let none = sym (ap (λ b. cond b there None) other) ∙ is in let bad : ⊥ = cc in absurd bad)
     ]
 
-given_number : (queue : QueueState) (number at : ℕ) (sector : List ℕ) (receipt : Option ReceiptState)
-    → length queue.receipts ≤ queue.frontier
-    → receipt_of queue number ≡ receipt → GivesSector receipt at sector → (1 ≤ number) × (number ≤ queue.frontier)
-given_number queue number at sector None fit given gives = absurd gives
-given_number queue number at sector (Some receipt) fit given gives = receipt_number queue number receipt fit given
+given_number : (queue : QueueState) (place : ObjectPlace) (sector : List ℕ) (object : Option StoredObject) → AreKnown queue
+    → stored_at queue place ≡ object → GivesSector object place.sector sector
+    → (1 ≤ place.number) × (place.number ≤ queue.frontier)
+given_number queue place sector None known is gives = absurd gives
+given_number queue place sector (Some object) known is gives = stored_number queue place object known is
 
 -- ---- the objects that are read
 
@@ -211,8 +231,7 @@ module _ (data_at : ℕ → ℕ) (objects : ObjLogState) (log : LogState) (plain
       let there = slice_get-get_or (image_now plain) k [] (omega (arith, within, image_has_sectors plain shows.valid)) in
       let held = subst (λ p. IsHeldAt log queue p sector) is (places_hold_sectors data_at objects log plain k sector
       shows there) in
-      let number = given_number queue place.number place.sector sector (receipt_of queue place.number) shows.ordered.receipts
-      refl held.1 in
+      let number = given_number queue place sector (stored_at queue place) shows.ordered.known refl held.1 in
       let reached = (counts data_at objects log plain shows).frontier in
       (number.0, (let most = number.1 in omega (arith, most, reached)))
 

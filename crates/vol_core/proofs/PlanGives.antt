@@ -17,8 +17,8 @@ use Rattle.volume_maps.specs.declared.place.LogPlace.TheVariants.{Data, Zeros}
 use Rattle.volume_maps.specs.declared.place.VolumePlace.{VolumePlace}
 use Rattle.volume_maps.specs.declared.place.VolumePlace.TheVariants.{Log, Object}
 use Rattle.volume_maps.specs.Maps.{volume_place_at}
-use Rattle.object_uploads.specs.State.{QueueState}
-use Rattle.object_uploads.specs.Queue.{receipt_of}
+use Rattle.object_uploads.specs.State.{StoredObject, QueueState}
+use Rattle.object_uploads.specs.Queue.{stored_at}
 use Rattle.object_uploads.specs.Image.{GivesSector}
 use Rattle.obj_log.specs.State.{ObjLogState}
 use Rattle.plain_disk.specs.State.{PlainState, image_now}
@@ -78,17 +78,18 @@ give_or_tell_none (piece ∷ pieces) under whole =
 
 -- ---- one sector
 
--- the receipt of the piece that has a sector
+-- the object of the piece that has a sector
 record IsFetched (queue : QueueState) (place : ObjectPlace) : Type 0 where
-  receipt : ReceiptState
-  given : receipt_of queue place.number ≡ Some receipt
-  tells : TellsAll receipt
+  object : StoredObject
+  stored : stored_at queue place ≡ Some object
+  tells : TellsAll object.receipt
 
 fetched_told : (queue : QueueState) (place : ObjectPlace) (i : ℕ) (pieces : List PieceState) → OneFetches queue place i pieces
     → AllByRecursion (λ piece. TellsAll piece.receipt) pieces → IsFetched queue place
 fetched_told queue place i [] one told = absurd one
 fetched_told queue place i (piece ∷ pieces) (inl this) told =
-    record { receipt = piece.receipt; given = this.0.receipt; tells = told.0 }
+    let piece_of = this.0 in
+    record { object = piece_of.object; stored = piece_of.stored; tells = subst TellsAll piece_of.receipt told.0 }
 fetched_told queue place i (piece ∷ pieces) (inr later) told = fetched_told queue place i pieces later.1 told.1
 
 -- a sector that a plan gives is the one that is held at its place
@@ -110,10 +111,11 @@ same_sector log queue (Some (Log (Data seq place))) i plan list given sector lis
     each held.row held.entry held.there entry ∙ sym held.part
 same_sector log queue (Some (Object place)) i plan list given sector listed told holds at held =
     let fetched = fetched_told queue place i plan.pieces holds.fetched told in
-    let is = subst (λ t. IfSome t (λ all. given ≡ sector_of place.sector all)) fetched.tells.told
-    (at fetched.receipt fetched.given) in
-    let gives = subst (λ r. GivesSector r place.sector sector) fetched.given held.1 in
-    is ∙ subst (λ t. IfSome t (λ all. sector_of place.sector all ≡ sector)) fetched.tells.told gives.1
+    let there = fetched.object.front + place.sector in
+    let is = subst (λ t. IfSome t (λ all. given ≡ sector_of there all)) fetched.tells.told
+    (at fetched.object fetched.stored) in
+    let gives = subst (λ object. GivesSector object place.sector sector) fetched.stored held.1 in
+    is ∙ subst (λ t. IfSome t (λ all. sector_of there all ≡ sector)) fetched.tells.told gives.1
 
 -- ---- all sectors
 

@@ -52,7 +52,7 @@ fn append_record<D: Disk, R: Receipt>(
     }
     objects.reserve()?;
     log.reserve(entry)?;
-    Ok(append_or_commit(log, entry, objects.end())?)
+    Ok(append_or_commit(log, entry, objects.uploads().end())?)
 }
 
 // Appends an entry's record, which memory was reserved for, and answers the sector at which it stands. Where

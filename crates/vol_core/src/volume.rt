@@ -117,7 +117,7 @@ impl<D: Disk, R: Receipt> Volume<D, R> {
     pub fn uuid(&self) -> Uuid
         ensures { result ≡ self.now.volume.objects.uploads.uuid }
     {
-        self.objects.uuid()
+        self.objects.uploads().uuid()
     }
 
     /// What is so of every volume, as facts for the proofs of callers: it shows a plain volume, its numbers
@@ -127,7 +127,7 @@ impl<D: Disk, R: Receipt> Volume<D, R> {
         ensures order { IsSound self.now.volume }
     {
         self.log.on_disk();
-        self.objects.frontier();
+        self.objects.uploads().frontier();
     }
 
     /// The device.
@@ -229,7 +229,7 @@ impl<D: Disk, R: Receipt> Volume<D, R> {
         ensures step { StepOf R.state events.Flush result self.old.volume self.new.volume }
         ensures steps { self.new.steps ≡ self.old.steps }
     {
-        match commit(&mut self.log, self.objects.end()) {
+        match commit(&mut self.log, self.objects.uploads().end()) {
             Ok(()) => Reply::Flushed(self.objects.batch().next_seq()),
             Err(Failed) => Reply::Fault,
         }
@@ -307,10 +307,11 @@ impl<D: Disk, R: Receipt> Volume<D, R> {
     fn status(&self) -> Reply<R>
         ensures { StepOf R.state events.Status result self.now.volume self.now.volume }
     {
+        let uploads = self.objects.uploads();
         Reply::Told {
             writes: self.objects.batch().next_seq(),
-            sealed: self.objects.last(),
-            frontier: self.objects.frontier(),
+            sealed: uploads.last(),
+            frontier: uploads.frontier(),
             checkpoint: self.checkpoint,
         }
     }

@@ -35,7 +35,12 @@ same_self log = record {
     uuid = refl;
     sealed = refl;
     window = refl;
-    settled = record { frontier = refl; end = refl; receipts = refl; places = record { settled = refl; log = refl } };
+    settled = record {
+      frontier = refl;
+      end = refl;
+      receipts = refl;
+      places = record { settled = refl; log = refl; objects = refl; checkpoint = refl };
+    };
   };
 }
 
@@ -55,6 +60,8 @@ same_then old middle new first second = record {
       places = record {
         settled = second.uploads.settled.places.settled ∙ first.uploads.settled.places.settled;
         log = second.uploads.settled.places.log ∙ first.uploads.settled.places.log;
+        objects = second.uploads.settled.places.objects ∙ first.uploads.settled.places.objects;
+        checkpoint = second.uploads.settled.places.checkpoint ∙ first.uploads.settled.places.checkpoint;
       };
     };
   };

@@ -80,7 +80,7 @@ pub fn mount_with_cache<D: Disk, S: Store>(
         uuid,
         geometry,
         epoch,
-        end: recovered.log().end(),
+        end: recovered.log().uploads().end(),
         greatest: recovered.greatest_number(),
     };
     let mut log = match open_log(alloc, disk, &known) {
@@ -124,7 +124,7 @@ fn complete<D: Disk, S: Store>(
     ensures err { IfErr result IsFault }
     ensures faults { Counts (ends_by_store result) (S.state store.old).faults (S.state store.new).faults }
 {
-    let end = recovered.log().end();
+    let end = recovered.log().uploads().end();
     log.trim_to(end);
     let entries = match log.entries_from(alloc, end) {
         Ok(entries) => entries,

@@ -60,7 +60,8 @@ pub fn mount_without_cache<D: Disk, S: Store>(
         Ok(recovered) => recovered,
         Err(error) => return Err((disk, error)),
     };
-    match CacheLog::format(alloc, disk, uuid.into_bytes(), epoch + 1, objects.end()) {
+    let end = objects.uploads().end();
+    match CacheLog::format(alloc, disk, uuid.into_bytes(), epoch + 1, end) {
         Ok(log) => Ok(assemble(alloc, objects, log, checkpoint)),
         Err((disk, failed)) => {
             drop(objects);
@@ -118,7 +119,8 @@ fn recover_alone<S: Store>(
     ensures faults { Counts (ends_by_store result) (S.state store.old).faults (S.state store.new).faults }
 {
     let recovered = recover_list(alloc, store, uuid, geometry)?;
-    let numbers = [epoch, recovered.greatest_number(), recovered.log().end()];
+    let end = recovered.log().uploads().end();
+    let numbers = [epoch, recovered.greatest_number(), end];
     if let Some(value) = worn_number(&numbers) {
         drop(recovered);
         return Err(MountError::Refused(Refusal::Worn { value }));

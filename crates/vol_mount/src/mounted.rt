@@ -43,7 +43,7 @@ pub(crate) fn assemble<D: Disk, R: Receipt>(
     requires small { IsSmall (volume_of objects log [] checkpoint) 0 }
     ensures { result ≡ mounted_of objects log checkpoint }
 {
-    let (entries, number) = (objects.batch().next_seq(), objects.last());
+    let (entries, number) = (objects.batch().next_seq(), objects.uploads().last());
     let volume = Volume::new(alloc, objects, log, checkpoint);
     Mounted {
         volume,

@@ -1,3 +1,7 @@
+pub mod Counts
 pub mod FitLemmas
+pub mod KeptLemmas
 pub mod LookLemmas
+pub mod LossLemmas
 pub mod SettleLemmas
+pub mod TableLemmas

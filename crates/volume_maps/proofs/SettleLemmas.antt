@@ -1,10 +1,9 @@
 -- The rows of a data object, settled one after the other, and what they have to do with its entries.
-use Rattle.std.proofs.Common.{◌≡◌, ℕ, suc, ◌+◌, ◌-◌, ◌*◌, ◌/◌, ◌<◌, ◌≤◌, nat_lt, cond, Bool, true, false, Option, Some, None}
-use Rattle.std.proofs.Common.{List, [], ◌∷◌, ◌++◌, length, take, drop, refl, sym, ◌∙◌, ap, arith}
+use Rattle.std.proofs.Common.{◌≡◌, ℕ, suc, ◌+◌, ◌-◌, ◌/◌, ◌<◌, ◌≤◌, nat_lt, cond, Bool, true, false, Option, Some, None}
+use Rattle.std.proofs.Common.{List, [], ◌∷◌, ◌++◌, length, refl, sym, ◌∙◌, ap, arith}
 use Rattle.std.specs.Prelude.{IsTrue}
 use Rattle.std.specs.Option.{option_or}
 use Rattle.std.proofs.lemmas.Bool.Decides.{nat_tests}
-use Rattle.std.proofs.lemmas.List.{drop-drop}
 use Rattle.lsvd_base.specs.declared.entry.Entry.{Entry}
 use Rattle.extent_map.specs.Extents.{is_within}
 use Rattle.extent_map.proofs.Places.{not_below}
@@ -24,12 +23,12 @@ use Rattle.lsvd_base.specs.declared.entry.Entry.TheVariants.{Write, Zero}
 use Rattle.volume_maps.specs.Maps.{row_object_place, settled_by_row, settled_by, from_seq, logged_by_row, logged_by}
 
 -- one row more
-pub settled_push : (number front : ℕ) (rows : List DataRow) (row : DataRow) (before : Option ObjectPlace) (k : ℕ)
-    → settled_by number front (rows ++ row ∷ []) before k ≡ settled_by_row number front row
-    (settled_by number front rows before k) k
-settled_push number front [] row before k = refl
-settled_push number front (first ∷ rows) row before k =
-    settled_push number front rows row (settled_by_row number front first before k) k
+pub settled_push : (number : ℕ) (rows : List DataRow) (row : DataRow) (before : Option ObjectPlace) (k : ℕ)
+    → settled_by number (rows ++ row ∷ []) before k ≡ settled_by_row number row
+    (settled_by number rows before k) k
+settled_push number [] row before k = refl
+settled_push number (first ∷ rows) row before k =
+    settled_push number rows row (settled_by_row number first before k) k
 
 pub logged_push : (end : ℕ) (rows : List DataRow) (row : DataRow) (before : Option LogPlace) (k : ℕ)
     → logged_by end (rows ++ row ∷ []) before k ≡ logged_by_row end row (logged_by end rows before k) k
@@ -53,93 +52,86 @@ rest_stand : (volume payload place : ℕ) (before : Option DataRow) (row : DataR
     → IsTrue (data_rows_may_stand volume payload (Some row) (place + data_payload row) rows)
 rest_stand volume payload place before row rows stand = grind (arith, nat_tests)
 
-module _ (volume payload number front k : ℕ) (bytes : List ℕ) where
+module _ (volume payload number k : ℕ) (bytes : List ℕ) where
   -- rows after one that ends past a sector do not cover it
   settled_past : (place : ℕ) (row : DataRow) (rows : List DataRow) (before : Option ObjectPlace)
       → IsTrue (data_rows_may_stand volume payload (Some row) place rows) → k < row.lba + row.sectors
-      → settled_by number front rows before k ≡ before
+      → settled_by number rows before k ≡ before
   settled_past place row [] before stand low = refl
   settled_past place row (next ∷ rows) before stand low =
       let after : row.lba + row.sectors ≤ next.lba =
       follows volume payload place row next (first_stands volume payload place (Some row) next rows stand) in
       let out : is_within next.lba next.sectors k ≡ false = not_below next.lba next.sectors k (omega arith) in
-      ap (λ b. settled_by number front rows (cond b (row_object_place number front next.place (k - next.lba)) before) k) out
+      ap (λ b. settled_by number rows (cond b (row_object_place number next.place (k - next.lba)) before) k) out
       ∙ settled_past (place + data_payload next) next rows before (rest_stand volume payload place (Some row) next rows stand)
       (omega arith)
 
   owner_of_row : (place : Option ℕ) (i : ℕ) (before : Option Owner)
-      → place_owner (row_object_place number front place i) ≡ owner_by_change number (Some (change_from place bytes i)) before
+      → place_owner (row_object_place number place i) ≡ owner_by_change number (Some (change_from place bytes i)) before
   owner_of_row None i before = refl
   owner_of_row (Some place) i before = refl
 
   by_row : (test : Bool) (place : ℕ) (earlier : Option DataRow) (row : DataRow) (rows : List DataRow)
       (before : Option ObjectPlace)
       → is_within row.lba row.sectors k ≡ test → IsTrue (data_rows_may_stand volume payload earlier place (row ∷ rows))
-      → place_owner (settled_by number front rows before k) ≡ owner_by_change number (change_in rows bytes k) (place_owner before)
-      → place_owner (settled_by number front rows (cond test (row_object_place number front row.place (k - row.lba)) before) k)
+      → place_owner (settled_by number rows before k) ≡ owner_by_change number (change_in rows bytes k) (place_owner before)
+      → place_owner (settled_by number rows (cond test (row_object_place number row.place (k - row.lba)) before) k)
       ≡ owner_by_change number (cond test (Some (change_from row.place bytes (k - row.lba))) (change_in rows bytes k))
       (place_owner before)
   by_row false place earlier row rows before test stand rest = rest
   by_row true place earlier row rows before test stand rest =
       let low : k < row.lba + row.sectors = grind (arith, nat_tests) in
-      ap place_owner (settled_past (place + data_payload row) row rows (row_object_place number front row.place (k - row.lba))
+      ap place_owner (settled_past (place + data_payload row) row rows (row_object_place number row.place (k - row.lba))
       (rest_stand volume payload place earlier row rows stand) low)
       ∙ owner_of_row row.place (k - row.lba) (place_owner before)
 
   settles : (place : ℕ) (earlier : Option DataRow) (rows : List DataRow) (before : Option ObjectPlace)
       → IsTrue (data_rows_may_stand volume payload earlier place rows)
-      → place_owner (settled_by number front rows before k) ≡ owner_by_change number (change_in rows bytes k) (place_owner before)
+      → place_owner (settled_by number rows before k) ≡ owner_by_change number (change_in rows bytes k) (place_owner before)
   settles place earlier [] before stand = refl
   settles place earlier (row ∷ rows) before stand =
       by_row (is_within row.lba row.sectors k) place earlier row rows before refl stand
       (settles (place + data_payload row) (Some row) rows before (rest_stand volume payload place earlier row rows stand))
 
 pub settles_as_replay : SettlesAsReplay
-settles_as_replay volume sectors number front k rows payload before stand =
-    settles volume sectors number front k payload 0 None rows before stand
+settles_as_replay volume sectors number k rows payload before stand =
+    settles volume sectors number k payload 0 None rows before stand
 
--- ---- places in the object's bytes
+-- ---- places in the object's payload
 
--- a sector of the payload is one of the whole object
-payload_sector : (front place i : ℕ) (bytes : List ℕ) → sector_of (front + place + i) bytes ≡ sector_of (place + i)
-    (drop (512 * front) bytes)
-payload_sector front place i bytes =
-    let sum : 512 * front + 512 * (place + i) ≡ 512 * (front + place + i) = omega arith in
-    sym (ap (take 512) (drop-drop (512 * (place + i)) (512 * front) bytes ∙ ap (λ n. drop n bytes) sum))
-
-module _ (volume payload number front k : ℕ) (bytes : List ℕ) where
+module _ (volume payload number k : ℕ) (bytes : List ℕ) where
   placed_by_row : (place : Option ℕ) (i : ℕ) (before : Option ObjectPlace)
-      → IsPlacedBy number bytes (Some (change_from place (drop (512 * front) bytes) i)) before
-      (row_object_place number front place i)
+      → IsPlacedBy number bytes (Some (change_from place bytes i)) before
+      (row_object_place number place i)
   placed_by_row None i before = refl
-  placed_by_row (Some place) i before = (front + place + i, refl, payload_sector front place i bytes)
+  placed_by_row (Some place) i before = (place + i, refl, refl)
 
   placed_by_test : (test : Bool) (place : ℕ) (earlier : Option DataRow) (row : DataRow) (rows : List DataRow)
       (before : Option ObjectPlace)
       → is_within row.lba row.sectors k ≡ test → IsTrue (data_rows_may_stand volume payload earlier place (row ∷ rows))
-      → IsPlacedBy number bytes (change_in rows (drop (512 * front) bytes) k) before (settled_by number front rows before k)
-      → IsPlacedBy number bytes (cond test (Some (change_from row.place (drop (512 * front) bytes) (k - row.lba)))
-      (change_in rows (drop (512 * front) bytes) k)) before
-      (settled_by number front rows (cond test (row_object_place number front row.place (k - row.lba)) before) k)
+      → IsPlacedBy number bytes (change_in rows bytes k) before (settled_by number rows before k)
+      → IsPlacedBy number bytes (cond test (Some (change_from row.place bytes (k - row.lba)))
+      (change_in rows bytes k)) before
+      (settled_by number rows (cond test (row_object_place number row.place (k - row.lba)) before) k)
   placed_by_test false place earlier row rows before test stand rest = rest
   placed_by_test true place earlier row rows before test stand rest =
       let low : k < row.lba + row.sectors = grind (arith, nat_tests) in
-      let own = row_object_place number front row.place (k - row.lba) in
-      let stays = settled_past volume payload number front k bytes (place + data_payload row) row rows own
+      let own = row_object_place number row.place (k - row.lba) in
+      let stays = settled_past volume payload number k bytes (place + data_payload row) row rows own
       (rest_stand volume payload place earlier row rows stand) low in
       rw stays (placed_by_row row.place (k - row.lba) before)
 
   placed : (place : ℕ) (earlier : Option DataRow) (rows : List DataRow) (before : Option ObjectPlace)
       → IsTrue (data_rows_may_stand volume payload earlier place rows)
-      → IsPlacedBy number bytes (change_in rows (drop (512 * front) bytes) k) before (settled_by number front rows before k)
+      → IsPlacedBy number bytes (change_in rows bytes k) before (settled_by number rows before k)
   placed place earlier [] before stand = refl
   placed place earlier (row ∷ rows) before stand =
       placed_by_test (is_within row.lba row.sectors k) place earlier row rows before refl stand
       (placed (place + data_payload row) (Some row) rows before (rest_stand volume payload place earlier row rows stand))
 
 pub settles_places : SettlesPlaces
-settles_places volume sectors number front k rows bytes before stand =
-    placed volume sectors number front k bytes 0 None rows before stand
+settles_places volume sectors number k rows bytes before stand =
+    placed volume sectors number k bytes 0 None rows before stand
 
 -- ---- the log's map
 

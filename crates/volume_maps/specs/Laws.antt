@@ -1,5 +1,5 @@
 -- Contract: what the maps have to do with the stream of objects.
-use Rattle.std.specs.Prelude.{◌≡◌, ℕ, ◌+◌, ◌*◌, IsTrue, Option, Some, None, option_map, List, ◌++◌, length, drop}
+use Rattle.std.specs.Prelude.{◌≡◌, ℕ, ◌+◌, IsTrue, Option, Some, None, option_map, List, ◌++◌, length}
 use Rattle.lsvd_base.specs.declared.entry.Entry.{Entry}
 use Rattle.object_format.specs.declared.data_row.DataRow.{DataRow}
 use Rattle.object_format.specs.Rows.{data_rows_may_stand}
@@ -19,24 +19,24 @@ place_owner place = option_map (λ (p : ObjectPlace). record { level = p.level; 
 -- the owner of a sector after the rows of a data object are settled is that after the object's replay
 abbrev pub SettlesAsReplay : Type 0
 SettlesAsReplay =
-    (volume sectors number front k : ℕ) (rows : List DataRow) (payload : List ℕ) (before : Option ObjectPlace)
+    (volume sectors number k : ℕ) (rows : List DataRow) (payload : List ℕ) (before : Option ObjectPlace)
     → IsTrue (data_rows_may_stand volume sectors None 0 rows)
-    → place_owner (settled_by number front rows before k) ≡ owner_by_change number (change_in rows payload k) (place_owner before)
+    → place_owner (settled_by number rows before k) ≡ owner_by_change number (change_in rows payload k) (place_owner before)
 
--- A sector's place before and after an object of this number and these bytes did this to it: a sector that it put is at a place
--- of the object, one that it cleared has none, and any other is where it was.
-abbrev pub IsPlacedBy : (number : ℕ) (bytes : List ℕ) → Option Change → (before after : Option ObjectPlace) → Type 0
-IsPlacedBy number bytes None before after = after ≡ before
-IsPlacedBy number bytes (Some Clear) before after = after ≡ None
-IsPlacedBy number bytes (Some (Put sector)) before after =
-    (at : ℕ) × (after ≡ Some (record { level = 0; number = number; sector = at })) × (sector_of at bytes ≡ sector)
+-- A sector's place before and after an object of this number and this payload did this to it: a sector that it put is at a place
+-- of the payload, one that it cleared has none, and any other is where it was.
+abbrev pub IsPlacedBy : (number : ℕ) (payload : List ℕ) → Option Change → (before after : Option ObjectPlace) → Type 0
+IsPlacedBy number payload None before after = after ≡ before
+IsPlacedBy number payload (Some Clear) before after = after ≡ None
+IsPlacedBy number payload (Some (Put sector)) before after =
+    (at : ℕ) × (after ≡ Some (record { level = 0; number = number; sector = at })) × (sector_of at payload ≡ sector)
 
--- so is each sector after the rows of a data object with these bytes are settled, whose payload stands after so many sectors
+-- so is each sector after the rows of a data object with this payload are settled
 abbrev pub SettlesPlaces : Type 0
 SettlesPlaces =
-    (volume sectors number front k : ℕ) (rows : List DataRow) (bytes : List ℕ) (before : Option ObjectPlace)
+    (volume sectors number k : ℕ) (rows : List DataRow) (payload : List ℕ) (before : Option ObjectPlace)
     → IsTrue (data_rows_may_stand volume sectors None 0 rows)
-    → IsPlacedBy number bytes (change_in rows (drop (512 * front) bytes) k) before (settled_by number front rows before k)
+    → IsPlacedBy number payload (change_in rows payload k) before (settled_by number rows before k)
 
 -- Where rows do to each sector what some entries do, the log's map keeps after them just what the entries after these left.
 abbrev pub LogKeepsLaterEntries : Type 0

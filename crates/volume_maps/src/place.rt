@@ -14,8 +14,7 @@ pub struct ObjectPlace {
     pub number: u64,
     /// How many clones lie between the volume and the object: 0 is for an object of the volume's own.
     pub level: u32,
-    /// The sector of the whole object, header and rows counted: the sector N is its 512 bytes from byte 512 N
-    /// on.
+    /// The sector of the object's payload: the sector N is its 512 bytes from byte 512 N of the payload on.
     pub sector: u32,
 }
 

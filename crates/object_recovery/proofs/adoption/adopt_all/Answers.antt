@@ -51,7 +51,7 @@ loop-reached-preserved g c =
       places =
           places_more begun.batch.geometry.sectors adopts.end adopts.rows (next_of old) adopts.receipt old.uploads.queue
           new.uploads.queue
-          adopts.order.receipts (ap (λ (sizes : Geometry). sizes.sectors) is.geometry_is) adopts.read
+          adopts.order.known (ap (λ (sizes : Geometry). sizes.sectors) is.geometry_is) adopts.read
           adopts.adopted.uploads.settled before.places;
       from = omega (arith, next, before.from);
       same = after ∙ before.same;

@@ -1,11 +1,11 @@
-use Rattle.std.proofs.Common.{◌≡◌, ◌+◌, ◌<◌, ◌^◌, Some, subst, sym, ap, ◌∙◌, refl, arith}
+use Rattle.std.proofs.Common.{◌<◌, ◌^◌, Some, subst, sym, ap, ◌∙◌, refl, arith}
 use Rattle.std.proofs.lemmas.Bool.Decides.{nat_tests}
 use Rattle.lsvd_objstore.specs.Store.{Finds}
 use Rattle.object_format.specs.declared.expected.Expected.{Expected}
 use Rattle.object_stream.specs.Replay.{object_name}
 use Rattle.object_uploads.specs.Queue.{FitObject}
 use Rattle.obj_log.specs.Changes.{next_of, HasAdoptedObject}
-use Rattle.object_recovery.specs.Adoption.{IsReadAsData, IsNextRead}
+use Rattle.object_recovery.specs.Adoption.{IsNextRead}
 use Rattle.object_recovery.proofs.AdoptionLemmas.{data_fits, stored_as, left_at}
 use Rattle.object_recovery.proofs.adoption.adopt_next.Goals as goal
 

@@ -1,4 +1,4 @@
-use Rattle.std.proofs.Common.{◌≡◌, ◌+◌, ◌∙◌, refl, subst, arith, Some, None}
+use Rattle.std.proofs.Common.{◌∙◌, refl, subst, arith, Some, None}
 use Rattle.std.specs.Prelude.{IfSome}
 use Rattle.lsvd_objstore.specs.Store.{StoreState}
 use Rattle.object_recovery.specs.Judged.{IsJudgedNext}

@@ -1,4 +1,4 @@
-use Rattle.std.proofs.Common.{subst, sym, arith, ap, ◌∙◌}
+use Rattle.std.proofs.Common.{subst, sym, arith}
 use Rattle.object_format.specs.Header.{IsObjectHeader}
 use Rattle.object_format.specs.Tests.{IsObjectRefusedAs}
 use Rattle.object_recovery.specs.Read.{AreFirstOf}

@@ -1,7 +1,6 @@
-use Rattle.std.proofs.Common.{◌∙◌, subst, Some, None, ap}
+use Rattle.std.proofs.Common.{subst, Some, None}
 use Rattle.std.specs.Prelude.{IfSome}
 use Rattle.lsvd_objstore.specs.Store.{StoreState}
-use Rattle.lsvd_fault.specs.Faults.{Counts}
 use Rattle.object_recovery.specs.Judged.{JudgesPast, StaysRefused}
 use Rattle.object_recovery.proofs.FindLemmas.{same_store}
 use Rattle.object_recovery.proofs.OutcomeLemmas.{told_rest, told_refusal}

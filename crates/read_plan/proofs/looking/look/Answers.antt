@@ -15,7 +15,7 @@ rows_can g c =
     let looked = c.in_ok-rows.ensures in
     can_read c.args.lba c.args.sectors c.args.log.now c.args.objects.now.uploads.queue c.in_ok-rows.rows.items c.requires.log
     c.requires.objects
-    looked.shortest looked.places
+    looked.shortest (rw c.uploads.ensures at looked.places)
 
 pub pieces_of-requires : goal.pieces_of-requires
 pieces_of-requires g c =

@@ -8,7 +8,6 @@ use Rattle.cache_log.specs.declared.row.Row.{Row}
 use Rattle.cache_log.specs.Rows.{record_size}
 use Rattle.cache_log.specs.Reads.{reads_without_fault}
 use Rattle.cache_log.specs.Log.{AreRowsOf, IsTrimmed, IsReadOnly}
-use Rattle.obj_log.specs.State.{ObjLogState}
 use Rattle.vol_mount.specs.Refusals.{IsFault, is_device_fault, is_store_fault_of}
 use Rattle.vol_mount.specs.Costs.{again_cost}
 use Rattle.vol_mount.specs.Steps.{LeavesFrom}
@@ -25,7 +24,7 @@ use Rattle.vol_mount.proofs.kept.complete.Goals as goal
 
 -- the end of the list is asked of it
 end_failed : (g : given.Over) (c : In-Err g) → c.end-end.result ≡ c.args.recovered.log.uploads.queue.end
-end_failed g c = c.end-end.ensures ∙ ap (λ (l : ObjLogState). l.uploads.queue.end) c.log.ensures
+end_failed g c = cc (c.end-end.ensures, c.uploads.ensures, c.log.ensures)
 
 trims_failed : (g : given.Over) (c : In-Err g) → IsTrimmed c.args.recovered.log.uploads.queue.end c.args.log.now
     c.trim_to.new.self
@@ -42,7 +41,7 @@ fails g c =
     (end_failed g c) c.in-Err.ensures.err
 
 end_is : (g : given.Over) (c : In-Ok g) → c.end-end.result ≡ c.args.recovered.log.uploads.queue.end
-end_is g c = c.end-end.ensures ∙ ap (λ (l : ObjLogState). l.uploads.queue.end) c.log.ensures
+end_is g c = cc (c.end-end.ensures, c.uploads.ensures, c.log.ensures)
 
 trims : (g : given.Over) (c : In-Ok g) → IsTrimmed c.args.recovered.log.uploads.queue.end c.args.log.now
     c.trim_to.new.self

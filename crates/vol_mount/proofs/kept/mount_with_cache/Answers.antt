@@ -64,9 +64,10 @@ not_opened : (g : given.Over) (c : In-Err-open_log g)
     → IsNotOpened (owner_with c.args.uuid c.args.epoch) c.args.geometry c.in-Ok.recovered.log.uploads.queue.end
     c.greatest_number.result c.in-Err-open_log.refused.1 (g.D.Disk.state c.args.disk) (g.D.Disk.state c.in-Err-open_log.refused.0)
 not_opened g c =
+    let same : c.end.result ≡ c.in-Ok.recovered.log.uploads.queue.end = cc (c.end.ensures, c.uploads.ensures, c.log.ensures) in
     subst (λ end. IsNotOpened (owner_with c.args.uuid c.args.epoch) c.args.geometry end c.greatest_number.result
     c.in-Err-open_log.refused.1 (g.D.Disk.state c.args.disk) (g.D.Disk.state c.in-Err-open_log.refused.0))
-    (c.end.ensures ∙ ap (λ (l : ObjLogState). l.uploads.queue.end) c.log.ensures) c.in-Err-open_log.ensures.err
+    same c.in-Err-open_log.ensures.err
 
 pub returns-in-Err-open_log : goal.returns-in-Err-open_log
 returns-in-Err-open_log g c =
@@ -123,9 +124,10 @@ opened : (g : given.Over) (c : In-Ok-open_log g)
     → IsOpenedOf (owner_with c.args.uuid c.args.epoch) c.args.geometry c.in-Ok.recovered.log.uploads.queue.end
     (g.D.Disk.state c.args.disk) c.in-Ok-open_log.log
 opened g c =
+    let same : c.end.result ≡ c.in-Ok.recovered.log.uploads.queue.end = cc (c.end.ensures, c.uploads.ensures, c.log.ensures) in
     subst (λ end. IsOpenedOf (owner_with c.args.uuid c.args.epoch) c.args.geometry end (g.D.Disk.state c.args.disk)
     c.in-Ok-open_log.log)
-    (c.end.ensures ∙ ap (λ (l : ObjLogState). l.uploads.queue.end) c.log.ensures) c.in-Ok-open_log.ensures.ok
+    same c.in-Ok-open_log.ensures.ok
 
 list_low : (g : given.Over) (c : In-Ok-open_log g) → c.in-Ok.recovered.log.uploads.window.last < max_number
 list_low g c =

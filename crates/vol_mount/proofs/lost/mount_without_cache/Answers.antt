@@ -1,9 +1,10 @@
-use Rattle.std.proofs.Common.{◌+◌, true, false, refl, sym, subst}
+use Rattle.std.proofs.Common.{◌+◌, true, false, refl, sym, ◌∙◌, ap, subst}
 use Rattle.std.proofs.Math.Path.{subst₂}
 use Rattle.lsvd_fault.specs.Faults.{Counts}
 use Rattle.commit_slot.specs.Formatting.{format_cost, format_calls}
 use Rattle.commit_slot.specs.Sequence.{Costs}
 use Rattle.cache_log.specs.Committed.{first_body, IsFormattedLog}
+use Rattle.object_uploads.specs.State.{UploadsState}
 use Rattle.stopped_volume.specs.Store.{TellsBytes}
 use Rattle.vol_mount.specs.Costs.{CostsNewLog, FailsToFormat}
 use Rattle.vol_mount.specs.Mounts.{MakesWithoutCache, LeavesWithoutCache}
@@ -43,7 +44,7 @@ formatted : (g : given.Over) (c : In-Ok-format g)
     c.in-Ok-format.log
 formatted g c =
     subst₂ (λ uuid end. IsFormattedLog uuid (c.args.epoch + 1) end (g.D.Disk.state c.args.disk) c.in-Ok-format.log)
-    c.into_bytes.ensures c.end.ensures
+    c.into_bytes.ensures (c.end-end.ensures ∙ ap (λ (u : UploadsState). u.queue.end) c.uploads.ensures)
     c.in-Ok-format.ensures.ok
 
 pub assemble-requires-clause-shows : goal.assemble-requires-clause-shows
@@ -88,9 +89,9 @@ returns-in-Ok-format g c =
       synced = c.in-Ok-format.ensures.ok.synced;
       number = c.in-Ok-format.ensures.ok.commits.same_number;
       costs = record {
-        end = c.end.result;
+        end = c.end-end.result;
         calls =
-            subst (λ u. Costs format_cost (format_calls (first_body u next c.end.result)) true disk log.commits.disk)
+            subst (λ u. Costs format_cost (format_calls (first_body u next c.end-end.result)) true disk log.commits.disk)
             c.into_bytes.ensures c.in-Ok-format.ensures.calls;
       };
     } in
@@ -115,9 +116,9 @@ returns-in-Err-format g c =
     let recovers = c.in-Ok.ensures.ok in
     let Tells : Type 0 = TellsBytes g.S.Receipt.Receipt.state in
     let fails : CostsNewLog uuid next false disk left = record {
-      end = c.end.result;
+      end = c.end-end.result;
       calls =
-          subst (λ u. Costs format_cost (format_calls (first_body u next c.end.result)) false disk left) c.into_bytes.ensures
+          subst (λ u. Costs format_cost (format_calls (first_body u next c.end-end.result)) false disk left) c.into_bytes.ensures
           c.in-Err-format.ensures.err;
     } in
     record {

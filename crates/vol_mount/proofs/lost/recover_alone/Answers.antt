@@ -1,4 +1,4 @@
-use Rattle.std.proofs.Common.{◌≡◌, ◌<◌, ◌∷◌, [], refl, sym, ◌∙◌, ap, subst, arith}
+use Rattle.std.proofs.Common.{◌≡◌, ◌<◌, ◌∷◌, [], refl, sym, subst, arith}
 use Rattle.std.proofs.Math.Path.{subst₂}
 use Rattle.lsvd_objstore.specs.Store.{Becomes}
 use Rattle.obj_log.specs.State.{ObjLogState}
@@ -15,7 +15,7 @@ use Rattle.vol_mount.proofs.ExtentLemmas.{extent_of}
 use Rattle.vol_mount.proofs.RecoveryLemmas.{why_lost_too, removal_faults, faults_refuse_none, why_faulted, no_device_fault}
 use Rattle.vol_mount.proofs.RecoveryLemmas.{last_landed, good_objects, good_up_to, counts_on}
 use Rattle.vol_mount.proofs.lost.recover_alone.Given as given
-use Rattle.vol_mount.proofs.lost.recover_alone.Goals.{After-end, In_default}
+use Rattle.vol_mount.proofs.lost.recover_alone.Goals.{After-greatest_number, In_default}
 use Rattle.vol_mount.proofs.lost.recover_alone.Goals as goal
 
 -- ---- the list was not recovered
@@ -41,10 +41,10 @@ returns-in_err-recovered-clause-err g c =
 
 -- ---- the volume is worn out, or not
 
-end_is : (g : given.Over) (c : After-end g) → c.end.result ≡ c.in_ok-recovered.recovered.log.uploads.queue.end
-end_is g c = c.end.ensures ∙ ap (λ (l : ObjLogState). l.uploads.queue.end) c.log.ensures
+end_is : (g : given.Over) (c : After-greatest_number g) → c.end-end.result ≡ c.in_ok-recovered.recovered.log.uploads.queue.end
+end_is g c = cc (c.end-end.ensures, c.uploads.ensures, c.log.ensures)
 
-extent : (g : given.Over) (c : After-end g) → TellsBytes g.S.Receipt.Receipt.state
+extent : (g : given.Over) (c : After-greatest_number g) → TellsBytes g.S.Receipt.Receipt.state
     → HasExtent c.args.uuid c.args.geometry (g.S.Store.state c.args.store.now).objects c.greatest_number.result
     c.in_ok-recovered.recovered.log.uploads.queue.end
 extent g c tells =
@@ -58,7 +58,7 @@ returns-in-Some-clause-err g c =
     let new = g.S.Store.state c.recover_list.new.store in
     let recovered = c.in_ok-recovered.recovered in
     let greatest = c.greatest_number.result in
-    let at = (goal.at.returns-in-Some-clause-err g c).After-end in
+    let at = (goal.at.returns-in-Some-clause-err g c).After-greatest_number in
     let same = same_objects old new c.in_ok-recovered.ensures.unchanged in
     record {
       why = λ tells. (
@@ -81,12 +81,14 @@ list_low g c =
     let low = c.in_default.ensures.none in
     let epoch : c.args.epoch < max_number = low 0 0 (omega arith) in
     let greatest : c.greatest_number.result < max_number = low 1 0 (omega arith) in
-    let end : c.end.result < max_number = low 2 0 (omega arith) in
+    let end : c.end-end.result < max_number = low 2 0 (omega arith) in
     let less = c.greatest_number.ensures.no_less in
+    let same : c.end-end.result ≡ c.in_ok-recovered.recovered.log.uploads.queue.end =
+    cc (c.end-end.ensures, c.uploads.ensures, c.log.ensures) in
     record {
       epoch_low = epoch;
       last = omega (arith, greatest, less);
-      end = subst (λ n. n < max_number) (c.end.ensures ∙ ap (λ (l : ObjLogState). l.uploads.queue.end) c.log.ensures) end;
+      end = subst (λ n. n < max_number) same end;
     }
 
 -- ---- the removal failed
@@ -150,7 +152,7 @@ returns-clause-ok g c =
             good_up_to c.args.uuid c.args.geometry told list recovered.checkpoint low.last c.in_ok-recovered.ensures.list
             (c.in_ok-recovered.ensures.told tells);
         greatest = c.greatest_number.result;
-        extent = extent g at.After-end tells;
+        extent = extent g at.After-greatest_number tells;
         low = (low.epoch_low, (greatest, (low.end, tt)));
       };
     })

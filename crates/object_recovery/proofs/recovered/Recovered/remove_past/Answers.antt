@@ -2,6 +2,7 @@ use Rattle.std.proofs.Common.{◌≡◌, ℕ, List, length, subst, sym, ap, ◌�
 use Rattle.lsvd_names.specs.declared.name.ObjName.{ObjName}
 use Rattle.lsvd_objstore.specs.Objects.{AreNamesOf}
 use Rattle.lsvd_objstore.specs.Store.{Becomes}
+use Rattle.object_uploads.specs.State.{UploadsState}
 use Rattle.object_recovery.specs.State.{RecoveredState}
 use Rattle.object_recovery.specs.Removal.{Removes, IsListedPast, RemovesFirst}
 use Rattle.object_recovery.specs.Recovery.{RemovesAllPast}
@@ -23,7 +24,8 @@ returns-clause-removed g c =
     let old = (g.S.Store.state c.args.store.now).objects in
     let new = (g.S.Store.state c.remove_past.new.store).objects in
     let number_is : c.last.result ≡ number = c.last.ensures
-    ∙ ap (λ (r : RecoveredState). r.log.uploads.window.last) c.self.view_is in
+    ∙ (ap (λ (u : UploadsState). u.window.last) c.uploads.ensures
+    ∙ ap (λ (r : RecoveredState). r.log.uploads.window.last) c.self.view_is) in
     let names_is : c.as_slice.result.now ≡ found.names = c.as_slice.ensures
     ∙ ap (λ (r : RecoveredState). r.names) c.self.view_is in
     let First : List ObjName → ℕ → Type 0 = λ names n. Becomes (RemovesFirst names n (length names)) old new in
@@ -38,7 +40,9 @@ returns-clause-some g c =
     let old = (g.S.Store.state c.args.store.now).objects in
     let new = (g.S.Store.state c.remove_past.new.store).objects in
     let number_is : c.last.result ≡ found.log.uploads.window.last =
-    c.last.ensures ∙ ap (λ (r : RecoveredState). r.log.uploads.window.last) c.self.view_is in
+    c.last.ensures
+    ∙ (ap (λ (u : UploadsState). u.window.last) c.uploads.ensures
+    ∙ ap (λ (r : RecoveredState). r.log.uploads.window.last) c.self.view_is) in
     let names_is : c.as_slice.result.now ≡ found.names = c.as_slice.ensures
     ∙ ap (λ (r : RecoveredState). r.names) c.self.view_is in
     let Some_of : List ObjName → ℕ → Type 0 = λ names n. Becomes (Removes (IsListedPast names n)) old new in

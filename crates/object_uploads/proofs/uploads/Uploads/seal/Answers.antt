@@ -13,5 +13,5 @@ invariant_of-self-2 g c =
     rw (entered_, c.last-number.ensures) (
     uploads_sealed c.self.inside.queue c.push.new.self window (just_sealed c.args.object c.args.rows.items c.args.end)
     c.self.invariant refl refl
-    c.in_ok-push.ensures.sealed c.in_ok-push.ensures.frontier c.in_ok-push.ensures.receipts
+    c.in_ok-push.ensures.sealed c.in_ok-push.ensures.frontier c.in_ok-push.ensures.receipts c.in_ok-push.ensures.places
     )

@@ -14,7 +14,8 @@ invariant_of-self g c =
     let inside = c.self.inside in
     let volume : VolumeState = volume_of inside.objects inside.log inside.pins inside.checkpoint in
     let ready = subst IsReadyForStep (sym c.self.view_is) c.requires in
-    flush_keeps_volume volume c.commit.new.log _ c.end.result inside.steps ready.order.uploads c.end.ensures c.commit.ensures
+    let end_is = rw c.uploads.ensures at c.end.ensures in
+    flush_keeps_volume volume c.commit.new.log _ c.end.result inside.steps ready.order.uploads end_is c.commit.ensures
     ready c.self.invariant
 
 pub returns-clause-step : goal.returns-clause-step
@@ -29,23 +30,24 @@ returns-clause-step g c =
     let reply = c.match-commit.result in
     let ready = subst IsReadyForStep (sym c.self.view_is) c.requires in
     let is = c.self.invariant in
+    let end_is = rw c.uploads.ensures at c.end.ensures in
     step_seen state events.Flush reply (with_log log volume) _ _ c.self.view_is
     (record {
       step = elim c.match-commit.branch [
         | in-Ok w ↦
             flush_steps state volume log w.batch.result.now true end w.next_seq.result reply ready.order.uploads
-            ready.order.on_disk c.end.ensures w.in-Ok.ensures
+            ready.order.on_disk end_is w.in-Ok.ensures
             w.batch.ensures w.next_seq.ensures w.result-is
         | in-Err w ↦ flush_steps state volume log batch false end count reply ready.order.uploads ready.order.on_disk
-            c.end.ensures w.in-Err.ensures
+            end_is w.in-Err.ensures
             refl refl w.result-is
       ];
       back = tt;
       plan = tt;
       sizes = record { geometry = refl; uuid = refl };
-      numbers = flush_grow volume log _ end is.plain is.shows ready.order.uploads c.end.ensures c.commit.ensures;
+      numbers = flush_grow volume log _ end is.plain is.shows ready.order.uploads end_is c.commit.ensures;
       stops = flushing_keeps events.Flush refl volume log _ end ready.order.uploads ready.order.on_disk
-          c.end.ensures c.commit.ensures;
+          end_is c.commit.ensures;
       faults = search rules;
       bytes = same_bytes volume (with_log log volume) refl refl;
     })

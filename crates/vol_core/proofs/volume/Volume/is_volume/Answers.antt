@@ -7,7 +7,10 @@ pub returns : goal.returns
 returns g c =
     let inside = c.self.inside in
     let volume : VolumeState = volume_of inside.objects inside.log inside.pins inside.checkpoint in
-    let order : IsSound volume = record { on_disk = c.on_disk.ensures; uploads = c.frontier.ensures.order } in
+    let order : IsSound volume = record {
+      on_disk = c.on_disk.ensures;
+      uploads = rw c.uploads.ensures at c.frontier.ensures.order;
+    } in
     record {
       shown = subst IsVolume c.self.view_is c.self.invariant;
       order = subst (λ (s : SteppedVolume). IsSound s.volume) c.self.view_is order;

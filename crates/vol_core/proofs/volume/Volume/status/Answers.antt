@@ -17,8 +17,8 @@ returns g c =
     let frontier = c.frontier.result in
     let reply = replies.Told writes sealed frontier inside.checkpoint in
     let steps =
-    status_steps state volume c.batch.result.now writes sealed frontier c.frontier.ensures.order c.batch.ensures
-    c.next_seq.ensures c.last.ensures
-    c.frontier.ensures.is in
+    status_steps state volume c.batch.result.now writes sealed frontier (rw c.uploads-uploads.ensures at c.frontier.ensures.order)
+    c.batch.ensures c.next_seq.ensures (rw c.uploads-uploads.ensures at c.last.ensures)
+    (rw c.uploads-uploads.ensures at c.frontier.ensures.is) in
     subst (λ (s : SteppedVolume). StepOf state events.Status reply s.volume s.volume) c.self.view_is
     (step_of_pins state events.Status reply volume volume.pins steps tt tt refl)

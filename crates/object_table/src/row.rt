@@ -1,0 +1,57 @@
+ghost use Rattle.std.specs.Prelude.{◌≡◌};
+ghost use Rattle.object_table.specs.Table.{new_row, numbers};
+ghost use Rattle.object_table.specs.Lists.{Climbs, IsPlaceOf, is_dead, is_free};
+
+/// What is known of an object that stands in the store.
+#[derive(Clone, Copy, Debug, PartialEq, Eq)]
+pub struct ObjectRow {
+    /// Its number, from 1 on.
+    pub number: u64,
+    /// How many sectors of payload it has; 0 where nothing maps it, and nobody asked.
+    pub payload: u64,
+    /// How many sectors it has before the payload; 0 where it has none.
+    pub front: u64,
+    /// How many sectors of the settled map are in it.
+    pub live: u64,
+    /// How often it is pinned.
+    pub pins: u64,
+    /// Whether the newest acknowledged checkpoint has a greater number and does not map it.
+    pub is_unmapped: bool,
+}
+
+// The row of an object without a live sector, that is not pinned, and that no acknowledged checkpoint has
+// passed.
+pub(crate) fn new_row(number: u64, payload: u64, front: u64) -> ObjectRow
+    ensures { result ≡ new_row number payload front }
+{
+    ObjectRow {
+        number,
+        payload,
+        front,
+        live: 0,
+        pins: 0,
+        is_unmapped: false,
+    }
+}
+
+// Whether the object has no live sector, and no acknowledged checkpoint has passed it since it lost the last.
+pub(crate) fn is_dead(row: &ObjectRow) -> bool
+    ensures { result ≡ is_dead row.now }
+{
+    row.live == 0 && !row.is_unmapped
+}
+
+// Whether the newest acknowledged checkpoint does not map the object, and no pin is on it.
+pub(crate) fn is_free(row: &ObjectRow) -> bool
+    ensures { result ≡ is_free row.now }
+{
+    row.is_unmapped && row.pins == 0
+}
+
+// The place of the row of this number.
+pub(crate) fn place_of(rows: &[ObjectRow], number: u64) -> Option<usize>
+    requires { Climbs 0 (numbers rows.now) }
+    ensures { IsPlaceOf number rows.now result }
+{
+    rows.binary_search_by_key(&number, |row| row.number).ok()
+}
